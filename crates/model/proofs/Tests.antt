@@ -1,0 +1,37 @@
+-- The native tests, as paths.
+use mathlib.Core.Path.{_≡_, refl, ap, sym, subst, _∙_}
+use mathlib.Core.Logic.{_≢_}
+use mathlib.Core.Bool.{Bool, true, false, not, So, false≢true}
+use Prim.Native.Nat.{ℕ, zero, suc, _+_, _≤_, _<_}
+use lib.Dec.{T, eqb, ltb, leb, leb→le, le→leb, eqb→eq, eqb-refl, ltb→lt, lt→ltb, nltb→le}
+
+pub of-T : (b : Bool) → T b → So b
+of-T true h = refl
+of-T false h = absurd h
+
+pub to-T : {b : Bool} → So b → T b
+to-T e = subst T (sym e) tt
+
+pub eqb-so : {m n : ℕ} → So (eqb m n) → m ≡ n
+eqb-so {m} {n} h = eqb→eq m n (to-T h)
+
+pub eqb-self : (n : ℕ) → So (eqb n n)
+eqb-self n = of-T (eqb n n) (eqb-refl n)
+
+pub eqb-no : {m n : ℕ} → eqb m n ≡ false → m ≢ n
+eqb-no {m} {n} e p = false≢true (sym e ∙ subst (λ x. So (eqb m x)) p (eqb-self m))
+
+pub ltb-so : {m n : ℕ} → So (ltb m n) → m < n
+ltb-so {m} {n} h = ltb→lt m n (to-T h)
+
+pub so-ltb : {m n : ℕ} → m < n → So (ltb m n)
+so-ltb {m} {n} h = of-T (ltb m n) (lt→ltb m n h)
+
+pub ltb-no : {m n : ℕ} → ltb m n ≡ false → n ≤ m
+ltb-no {m} {n} h = nltb→le m n (subst (λ b. T (not b)) (sym h) tt)
+
+pub leb-so : {m n : ℕ} → So (leb m n) → m ≤ n
+leb-so {m} {n} h = leb→le m n (to-T h)
+
+pub so-leb : {m n : ℕ} → m ≤ n → So (leb m n)
+so-leb {m} {n} h = of-T (leb m n) (le→leb m n h)

@@ -1,0 +1,164 @@
+-- Document 01: "A state or table handed in gets 2 before all else if a count is outside its limits, a record names a number not below that number's count
+-- (a category above the last), the table breaks a rule of the first section, a cell's type isn't a sheet ref type, an object's class isn't a sheet class,
+-- an adapter's type isn't ref, or an adapter's place behind isn't below it."
+-- What is handed in is a record of numbers: counts, and codes in arrays. Its meaning and the check are both total, so that any numbers have an answer.
+use mathlib.Core.Bool.{Bool, true, false, _&&_, _||_, cond}
+use mathlib.Core.List.{List, [], _∷_}
+use mathlib.Core.Option.{Option, none, some}
+use Prim.Native.Nat.{ℕ, zero, suc}
+use lib.Dec.{eqb, ltb, leb}
+use lib.IntN.{ℤ}
+use lib.ListN.{length, getD, take}
+use Rattle.model.specs.Basics.{Res, need, _⇒_, all, every, from}
+use Rattle.model.specs.Table.{State, denied, optional, avail, unavail, Rep, ref, w32, w64, Kind, sub, sup, closed, Method, Ty, Table, size, typeAt, isRef, permit, isClass, maxArguments, between, tableFits}
+use Rattle.model.specs.Relations.{Answers, compare}
+use Rattle.model.specs.Crossing.{Place, object, adapter, noPlace, maxPlaces}
+use Rattle.model.specs.Requests.{Cell, Call, System, Request, Result, maxCells, maxCalls, noCell, noCall, serve}
+
+-- A state: every number below its count, and what cells, objects and adapters must be besides.
+abbrev pub cellFits : System → Cell → Bool
+cellFits s c = ltb (c .holder) (s .table .subjects) && (ltb (c .place) (length (s .places)) && (ltb (c .type) (s .table .sheet) && isRef (typeAt (s .table) (c .type) .rep)))
+
+abbrev pub placeFits : System → ℕ → Place → Bool
+placeFits s p (object c o) = ltb o (s .table .subjects) && (ltb c (s .table .sheet) && isClass (typeAt (s .table) c))
+placeFits s p (adapter b c) = ltb b p && (ltb c (size (s .table)) && isRef (typeAt (s .table) c .rep))
+
+abbrev pub callFits : System → Call → Bool
+callFits s c = ltb (c .caller) (s .table .subjects) && (ltb (c .cell) (length (s .cells)) && ltb (c .method) (s .table .methods))
+
+unfoldable pub systemFits : System → Bool
+unfolding tableFits
+systemFits s = tableFits (s .table) && (leb (length (s .cells)) maxCells && (leb (length (s .places)) maxPlaces && (leb (length (s .calls)) maxCalls
+    && (all (cellFits s) (s .cells) && (every (placeFits s) 0 (s .places) && all (callFits s) (s .calls))))))
+
+-- The records as they are handed in. A method's `answer` is 0 for none, else the type's number plus 1.
+pub record RawMethod : Type 0 where
+  pub state : ℕ
+  pub count : ℕ
+  pub args : List ℕ
+  pub answer : ℕ
+
+pub record RawType : Type 0 where
+  pub rep : ℕ
+  pub cat : ℕ
+  pub own : ℕ
+  pub kind : ℕ
+  pub left : ℕ
+  pub right : ℕ
+  pub methods : List RawMethod
+
+-- a category's broader ones: how many, and their numbers
+pub record RawLinks : Type 0 where
+  pub count : ℕ
+  pub first : ℕ
+  pub second : ℕ
+
+pub record RawTable : Type 0 where
+  pub subjects : ℕ
+  pub methods : ℕ
+  pub cats : ℕ
+  pub sheet : ℕ
+  pub types : ℕ
+  pub links : List RawLinks
+  pub records : List RawType
+
+pub record RawSystem : Type 0 where
+  pub table : RawTable
+  pub cells : ℕ
+  pub places : ℕ
+  pub calls : ℕ
+  pub cellRecords : List Cell
+  pub placeRecords : List Place
+  pub callRecords : List Call
+
+-- What codes mean. A code that names nothing is read as one that does; the check refuses it.
+abbrev pub stateOf : ℕ → State
+stateOf zero = denied
+stateOf (suc zero) = optional
+stateOf (suc (suc zero)) = avail
+stateOf (suc (suc (suc n))) = unavail
+
+abbrev pub repOf : ℕ → Rep
+repOf zero = ref
+repOf (suc zero) = w32
+repOf (suc (suc n)) = w64
+
+abbrev pub kindOf : ℕ → Kind
+kindOf zero = sub
+kindOf (suc zero) = sup
+kindOf (suc (suc n)) = closed
+
+abbrev pub answerOf : ℕ → Option ℕ
+answerOf zero = none
+answerOf (suc n) = some n
+
+abbrev pub noRawMethod : RawMethod
+noRawMethod = record { state = 0; count = 0; args = []; answer = 0 }
+
+abbrev pub noRawType : RawType
+noRawType = record { rep = 0; cat = 0; own = 0; kind = 0; left = 0; right = 0; methods = [] }
+
+abbrev pub noRawLinks : RawLinks
+noRawLinks = record { count = 0; first = 0; second = 0 }
+
+-- a method that isn't permitted has no signature, whatever its record holds
+abbrev pub methodOf : RawMethod → Method
+methodOf m = record { state = stateOf (m .state); args = cond (permit (stateOf (m .state))) (take (m .count) (m .args)) []; answer = cond (permit (stateOf (m .state))) (answerOf (m .answer)) none }
+
+-- a number type has no methods and own=no, whatever its record holds; only the types after the sheet's have a key
+abbrev pub typeOf : ℕ → ℕ → ℕ → RawType → Ty
+typeOf methods sheet i x = record {
+  rep = repOf (x .rep);
+  cat = x .cat;
+  own = isRef (repOf (x .rep)) && eqb (x .own) 1;
+  methods = cond (isRef (repOf (x .rep))) (from methods 0 (λ j. methodOf (getD (x .methods) j noRawMethod))) [];
+  key = cond (ltb i sheet) none (some (record { kind = kindOf (x .kind); left = x .left; right = x .right }));
+}
+
+abbrev pub linksOf : RawLinks → List ℕ
+linksOf x = cond (eqb (x .count) 2) (x .first ∷ x .second ∷ []) (x .first ∷ [])
+
+abbrev pub typesOf : RawTable → List Ty
+typesOf r = from (r .types) 0 (λ i. typeOf (r .methods) (r .sheet) i (getD (r .records) i noRawType))
+
+-- the counted records; their lists are as long as the counts say
+unfoldable pub tableOf : RawTable → Table
+tableOf r = record { subjects = r .subjects; methods = r .methods; cats = from (r .cats) 1 (λ k. linksOf (getD (r .links) k noRawLinks)); sheet = r .sheet; types = typesOf r }
+
+unfoldable pub systemOf : RawSystem → System
+unfolding tableOf
+systemOf r = record {
+  table = tableOf (r .table);
+  cells = from (r .cells) 0 (λ k. getD (r .cellRecords) k noCell);
+  places = from (r .places) 0 (λ k. getD (r .placeRecords) k noPlace);
+  calls = from (r .calls) 0 (λ k. getD (r .callRecords) k noCall);
+}
+
+-- Every counted code names something: a state, a representation, yes or no, a number of arguments or of broader categories, a kind.
+abbrev pub rawMethodFits : RawMethod → Bool
+rawMethodFits m = ltb (m .state) 4 && (permit (stateOf (m .state)) ⇒ leb (m .count) maxArguments)
+
+abbrev pub rawTypeFits : ℕ → ℕ → ℕ → RawType → Bool
+rawTypeFits methods sheet i x = ltb (x .rep) 3 && ((isRef (repOf (x .rep)) ⇒ (ltb (x .own) 2 && all rawMethodFits (from methods 0 (λ j. getD (x .methods) j noRawMethod))))
+    && (ltb i sheet || ltb (x .kind) 3))
+
+unfoldable pub codesFit : RawTable → Bool
+codesFit r = all (λ x. between 1 2 (x .count)) (from (r .cats) 1 (λ k. getD (r .links) k noRawLinks))
+    && every (rawTypeFits (r .methods) (r .sheet)) 0 (from (r .types) 0 (λ i. getD (r .records) i noRawType))
+
+unfoldable pub tableAccepted : RawTable → Bool
+unfolding codesFit tableFits tableOf
+tableAccepted r = codesFit r && tableFits (tableOf r)
+
+unfoldable pub systemAccepted : RawSystem → Bool
+unfolding codesFit systemFits systemOf
+systemAccepted r = codesFit (r .table) && systemFits (systemOf r)
+
+-- What the entry points answer to what is handed in: 2 before all else. For 2 what is returned is the record handed in; else what `serve` leaves.
+unfoldable pub compareHanded : RawTable → ℤ → ℤ → Res Answers
+unfolding tableAccepted compare
+compareHanded r a b = need (tableAccepted r) 2 λ _. compare (tableOf r) a b
+
+unfoldable pub serveHanded : RawSystem → Request → Res (System × Result)
+unfolding systemAccepted serve
+serveHanded r q = need (systemAccepted r) 2 λ _. serve (systemOf r) q

@@ -1,0 +1,10 @@
+pub mod Basics
+pub mod Table
+pub mod Relations
+pub mod Restriction
+pub mod Crossing
+pub mod Requests
+pub mod Check
+pub mod Chains
+pub mod Book
+pub mod Claim

@@ -1,0 +1,260 @@
+-- Document 01, "The four requests": new, move, call and answer.
+use mathlib.Core.Bool.{Bool, true, false, not, _&&_, _||_, cond}
+use mathlib.Core.List.{List, [], _∷_, _++_, map, reverse}
+use mathlib.Core.Option.{Option, none, some}
+use Prim.Native.Nat.{ℕ, zero, suc, _-_}
+use lib.Dec.{eqb, ltb}
+use lib.IntN.{ℤ, pos, negsuc}
+use lib.ListN.{length, getD, set}
+use Rattle.model.specs.Basics.{Res, refuse, ok, try, need, names, named}
+use Rattle.model.specs.Table.{ref, w32, w64, Table, typeAt, methodAt, argumentAt, answerAt, isRef, isAvail, isClass}
+use Rattle.model.specs.Crossing.{Place, object, adapter, maxPlaces, placeAt, baseOwner, base, Reference, cross}
+
+-- "A cell is a holder, a sheet type and a place": a reference as a subject holds it.
+pub record Cell : Type 0 where
+  pub holder : ℕ
+  pub type : ℕ
+  pub place : ℕ
+
+-- "a call is a caller, a cell, a method and whether it is answered"
+pub record Call : Type 0 where
+  pub caller : ℕ
+  pub cell : ℕ
+  pub method : ℕ
+  pub answered : Bool
+
+-- "Cells, places and calls are numbered in order and never reused."
+pub record System : Type 0 where
+  pub table : Table
+  pub cells : List Cell
+  pub places : List Place
+  pub calls : List Call
+
+-- "At most 256 cells, 128 places, 256 calls."
+abbrev pub maxCells : ℕ
+maxCells = 256
+
+abbrev pub maxCalls : ℕ
+maxCalls = 256
+
+-- the state of a loaded sheet
+abbrev pub loaded : Table → System
+loaded t = record { table = t; cells = []; places = []; calls = [] }
+
+-- The requests with their operands in order, each a signed number; an answer gives a value or nothing.
+pub data Request : Type 0 where
+  new : (subject class type : ℤ) → Request
+  move : (subject cell receiver type : ℤ) → Request
+  call : (subject cell method : ℤ) → List ℤ → Request
+  answer : (subject call : ℤ) → Option ℤ → Request
+
+-- What an accepted request gives: cell and place, or call and adapters; the number answered; or nothing.
+pub data Result : Type 0 where
+  pair : (first second : ℕ) → Result
+  number : ℤ → Result
+  nothing : Result
+
+abbrev pub noCell : Cell
+noCell = record { holder = 0; type = 0; place = 0 }
+
+abbrev pub noCall : Call
+noCall = record { caller = 0; cell = 0; method = 0; answered = false }
+
+abbrev pub cellAt : System → ℕ → Cell
+cellAt s k = getD (s .cells) k noCell
+
+abbrev pub callAt : System → ℕ → Call
+callAt s j = getD (s .calls) j noCall
+
+-- the number of a sheet ref type
+abbrev pub isSheetRef : Table → ℤ → Bool
+isSheetRef t a = names a (t .sheet) && isRef (typeAt t (named a) .rep)
+
+-- the number of a cell that the subject holds
+abbrev pub held : System → ℤ → ℤ → Bool
+held s subject k = names k (length (s .cells)) && eqb (named subject) (cellAt s (named k) .holder)
+
+-- the reference in cell k, before it crosses
+abbrev pub leaving : System → ℕ → Reference
+leaving s k = record { table = s .table; places = s .places; type = cellAt s k .type; place = cellAt s k .place }
+
+-- The reference that arrived becomes a cell of r; 13 cells full.
+unfoldable pub addCell : System → ℕ → Reference → Res (System × Result)
+addCell s r f = need (ltb (length (s .cells)) maxCells) 13 λ _.
+    ok (
+      record { table = f .table; cells = s .cells ++ (record { holder = r; type = f .type; place = f .place } ∷ []); places = f .places; calls = s .calls },
+      pair (length (s .cells)) (f .place),
+    )
+
+-- "New (subject, class, cell type): 5 subject unknown; 7 class number not a sheet class, or cell type not a sheet ref type; 12 places full; the crossing
+-- from class to cell type; 13 cells full."
+unfoldable pub newRequest : System → ℤ → ℤ → ℤ → Res (System × Result)
+unfolding cross addCell
+newRequest s subject class to =
+    need (names subject (s .table .subjects)) 5 λ _.
+    need (names class (s .table .sheet) && isClass (typeAt (s .table) (named class))) 7 λ _.
+    need (isSheetRef (s .table) to) 7 λ _.
+    need (ltb (length (s .places)) maxPlaces) 12 λ _.
+    try (cross (record { table = s .table; places = s .places ++ (object (named class) (named subject) ∷ []); type = named class; place = length (s .places) }) (named to) (named subject)) λ f.
+    addCell s (named subject) f
+
+-- "Move (subject, cell, receiver, type): 5 for either subject; 6 cell unknown or another's; 7; the crossing; 13."
+unfoldable pub moveRequest : System → ℤ → ℤ → ℤ → ℤ → Res (System × Result)
+unfolding cross addCell
+moveRequest s subject k receiver to =
+    need (names subject (s .table .subjects) && names receiver (s .table .subjects)) 5 λ _.
+    need (held s subject k) 6 λ _.
+    need (isSheetRef (s .table) to) 7 λ _.
+    try (cross (leaving s (named k)) (named to) (named receiver)) λ f.
+    addCell s (named receiver) f
+
+-- The layers of a place: "each place's type from the outermost adapter down, and .. the class's"
+unfoldable pub layers : ℕ → List Place → ℕ → List ℕ
+layers zero ps p = []
+layers (suc f) ps p = elim (placeAt ps p) [ object c o ↦ c ∷ [] | adapter b c ↦ c ∷ layers f ps b ]
+
+abbrev pub layersOf : List Place → ℕ → List ℕ
+layersOf ps p = layers (length ps) ps p
+
+-- "the adapters behind the cell, counted"
+abbrev pub adapterCount : List Place → ℕ → ℕ
+adapterCount ps p = length (layersOf ps p) - 1
+
+-- what a value meets on its way: the cell's type, then the layers of its place
+abbrev pub wayOf : System → Cell → List ℕ
+wayOf s c = c .type ∷ layersOf (s .places) (c .place)
+
+-- "8 or 10 at its first crossing, 19 for either at a later one, 11, 12"
+abbrev pub atLayer : Bool → ℕ → ℕ
+atLayer true e = e
+atLayer false e = cond (eqb e 8 || eqb e 10) 19 e
+
+abbrev pub renumber {ℓ} : {A : Type ℓ} → Bool → Res A → Res A
+renumber first (refuse e) = refuse (atLayer first e)
+renumber first (ok a) = ok a
+
+-- A reference crosses to each type in turn. "where a handed-in state has a layer without that argument or answer, or with a number for a reference ..,
+-- the value meets 8 there at its first crossing, 19 later": a number type is refused by the crossing itself.
+unfoldable pub crossLayers : Bool → Reference → ℕ → List (Option ℕ) → Res Reference
+unfolding cross
+crossLayers first f r [] = ok f
+crossLayers first f r (none ∷ ts) = refuse (atLayer first 8)
+crossLayers first f r (some t ∷ ts) = try (renumber first (cross f t r)) λ g. crossLayers false g r ts
+
+-- the signed numbers from -h to h - 1, half of the range of a width on each side of 0: `negsuc n` is -(n + 1)
+abbrev pub within : ℕ → ℤ → Bool
+within h (pos n) = ltb n h
+within h (negsuc n) = ltb n h
+
+-- "A number meets 16 at a w32 type unless in -2147483648 to 2147483647, and no other refusal but this": every value is one of 64 bits
+
+unfoldable pub passLayers : Bool → Table → ℤ → List (Option ℕ) → Res (Unit {0})
+passLayers first t v [] = ok tt
+passLayers first t v (none ∷ ts) = refuse (atLayer first 8)
+passLayers first t v (some a ∷ ts) = elim (typeAt t a .rep) [
+  | ref ↦ refuse (atLayer first 8)
+  | w32 ↦ need (within 2147483648 v) 16 λ _. passLayers false t v ts
+  | w64 ↦ passLayers false t v ts
+]
+
+-- The reference in cell k crosses to each of the types and becomes a cell of r.
+unfoldable pub send : System → ℕ → ℕ → List (Option ℕ) → Res (System × Result)
+unfolding crossLayers addCell
+send s r k ts = try (crossLayers true (leaving s k) r ts) λ f. addCell s r f
+
+-- "15 wrong argument count, or an argument cell unknown or another's"
+abbrev pub argumentsHeld : System → ℤ → List ℕ → List ℤ → Bool
+argumentsHeld s subject [] [] = true
+argumentsHeld s subject [] (v ∷ vs) = false
+argumentsHeld s subject (a ∷ xs) [] = false
+argumentsHeld s subject (a ∷ xs) (v ∷ vs) = (not (isRef (typeAt (s .table) a .rep)) || held s subject v) && argumentsHeld s subject xs vs
+
+-- "Each argument in order then crosses ..": argument i and those after it, whose types in the cell type's signature are `xs`. "Each reference becomes a cell
+-- of the owner, of the class's argument type (13), before the next argument is taken."
+unfoldable pub sendArguments : System → ℕ → List ℕ → ℕ → ℕ → List ℕ → List ℤ → Res System
+unfolding send passLayers
+sendArguments s r way m i [] vs = ok s
+sendArguments s r way m i (a ∷ xs) [] = ok s
+sendArguments s r way m i (a ∷ xs) (v ∷ vs) = elim (isRef (typeAt (s .table) a .rep)) [
+  | true ↦ try (send s r (named v) (map (argumentAt (s .table) m i) way)) λ x. sendArguments (x .0) r way m (suc i) xs vs
+  | false ↦ try (passLayers true (s .table) v (map (argumentAt (s .table) m i) way)) λ _. sendArguments s r way m (suc i) xs vs
+]
+
+abbrev pub withCall : System → Call → System
+withCall s c = record { table = s .table; cells = s .cells; places = s .places; calls = s .calls ++ (c ∷ []) }
+
+-- "Call (subject, cell, method, arguments): 5; 6; 14 method unknown or not avail in the cell's type (optional isn't enough); 15 ..; 18 calls full. ..
+-- The result is the call number and the adapters behind the cell, counted."
+unfoldable pub callRequest : System → ℤ → ℤ → ℤ → List ℤ → Res (System × Result)
+unfolding sendArguments base layers
+callRequest s subject k m vs =
+    need (names subject (s .table .subjects)) 5 λ _.
+    need (held s subject k) 6 λ _.
+    let c = cellAt s (named k) in
+    need (names m (s .table .methods) && isAvail (methodAt (s .table) (c .type) (named m) .state)) 14 λ _.
+    let xs = methodAt (s .table) (c .type) (named m) .args in
+    need (argumentsHeld s subject xs vs) 15 λ _.
+    need (ltb (length (s .calls)) maxCalls) 18 λ _.
+    try (sendArguments s (baseOwner (s .places) (c .place)) (wayOf s c) (named m) 0 xs vs) λ x.
+    ok (withCall x (record { caller = named subject; cell = named k; method = named m; answered = false }), pair (length (s .calls)) (adapterCount (s .places) (c .place)))
+
+-- call j, answered
+abbrev pub withAnswer : System → ℕ → System
+withAnswer s j = record {
+  table = s .table;
+  cells = s .cells;
+  places = s .places;
+  calls = set (s .calls) j
+      (record { caller = callAt s j .caller; cell = callAt s j .cell; method = callAt s j .method; answered = true });
+}
+
+-- What is due and what is given. "15 a cell not held, or nothing where something is due or the reverse .. The value crosses the answer types from the class's
+-- outward to the cell type's, the caller receiving, refusals as for arguments; a reference becomes the caller's cell, of the cell type's answer type (13)."
+unfoldable pub give : System → ℤ → ℕ → Option ℕ → Option ℤ → Res (System × Result)
+unfolding send passLayers layers
+give s subject j none none = ok (withAnswer s j, nothing)
+give s subject j none (some v) = refuse 15
+give s subject j (some a) none = refuse 15
+give s subject j (some a) (some v) =
+    let ts = reverse (map (answerAt (s .table) (callAt s j .method)) (wayOf s (cellAt s (callAt s j .cell)))) in
+    elim (isRef (typeAt (s .table) a .rep)) [
+      | true ↦ need (held s subject v) 15 λ _. try (send s (callAt s j .caller) (named v) ts) λ x. ok (withAnswer (x .0) j, x .1)
+      | false ↦ try (passLayers true (s .table) v ts) λ _. ok (withAnswer s j, number v)
+    ]
+
+-- "Answer (subject, call, value): 5; 6 call unknown or subject not the base's owner; 17 already answered; 15 .. (due is the answer in the cell type's
+-- signature; without one, nothing)."
+unfoldable pub answerRequest : System → ℤ → ℤ → Option ℤ → Res (System × Result)
+unfolding give base
+answerRequest s subject j v =
+    need (names subject (s .table .subjects)) 5 λ _.
+    let c = cellAt s (callAt s (named j) .cell) in
+    need (names j (length (s .calls)) && eqb (named subject) (baseOwner (s .places) (c .place))) 6 λ _.
+    need (not (callAt s (named j) .answered)) 17 λ _.
+    give s subject (named j) (answerAt (s .table) (callAt s (named j) .method) (c .type)) v
+
+unfoldable pub serve : System → Request → Res (System × Result)
+unfolding newRequest moveRequest callRequest answerRequest
+serve s (new subject class to) = newRequest s subject class to
+serve s (move subject k receiver to) = moveRequest s subject k receiver to
+serve s (call subject k m vs) = callRequest s subject k m vs
+serve s (answer subject j v) = answerRequest s subject j v
+
+-- "A refusal returns its number alone; all counts and every counted record are as before."
+abbrev pub after : System → Res (System × Result) → System
+after s (refuse e) = s
+after s (ok x) = x .0
+
+-- what each request of a list comes to, and the state at the end
+pub data Outcome : Type 0 where
+  got : Result → Outcome
+  refused : ℕ → Outcome
+
+abbrev pub outcome : Res (System × Result) → Outcome
+outcome (refuse e) = refused e
+outcome (ok x) = got (x .1)
+
+unfoldable pub run : System → List Request → List Outcome × System
+unfolding serve
+run s [] = ([], s)
+run s (q ∷ qs) = let a = serve s q in let r = run (after s a) qs in (outcome a ∷ r .0, r .1)

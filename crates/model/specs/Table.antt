@@ -1,0 +1,183 @@
+-- Document 01, "The table": types, categories, and what a table must keep to.
+use mathlib.Core.Bool.{Bool, true, false, not, _&&_, cond}
+use mathlib.Core.List.{List, [], _∷_}
+use mathlib.Core.Option.{Option, none, some}
+use Prim.Native.Nat.{ℕ}
+use lib.Dec.{eqb, ltb, leb}
+use lib.ListN.{length, getD, getElem?}
+use Rattle.model.specs.Basics.{_⇒_, all, every, unlessMissing}
+
+-- "1 to 16 subjects (modules), 1 to 16 methods, 0 to 31 categories, 1 to 48 sheet types"
+abbrev pub maxSubjects : ℕ
+maxSubjects = 16
+
+abbrev pub maxMethods : ℕ
+maxMethods = 16
+
+abbrev pub maxCategories : ℕ
+maxCategories = 31
+
+abbrev pub maxSheetTypes : ℕ
+maxSheetTypes = 48
+
+-- "Derived types bring the table to at most 128."
+abbrev pub maxTypes : ℕ
+maxTypes = 128
+
+-- "0 to 2 argument types"
+abbrev pub maxArguments : ℕ
+maxArguments = 2
+
+-- "A type has a representation: ref, w32 or w64 (signed whole numbers of 32 or 64 bits)"
+pub data Rep : Type 0 where
+  ref w32 w64 : Rep
+
+-- "for each method, a state: denied, optional, avail or unavail"
+pub data State : Type 0 where
+  denied optional avail unavail : State
+
+-- the three ways in which a type is derived from two others
+pub data Kind : Type 0 where
+  sub sup closed : Kind
+
+-- "A derived type is known by kind, left and right number."
+pub record Key : Type 0 where
+  pub kind : Kind
+  pub left : ℕ
+  pub right : ℕ
+
+-- A method of a type: its state and, where that permits the method, its signature: the argument types and the answer type, if any.
+pub record Method : Type 0 where
+  pub state : State
+  pub args : List ℕ
+  pub answer : Option ℕ
+
+-- A type. A number type has no methods and own=no; a sheet type has no key.
+pub record Ty : Type 0 where
+  pub rep : Rep
+  pub cat : ℕ
+  pub own : Bool
+  pub methods : List Method
+  pub key : Option Key
+
+-- The table. `cats` has for each category, from 1 on, the broader categories that it names; `sheet` is the number of sheet types.
+pub record Table : Type 0 where
+  pub subjects : ℕ
+  pub methods : ℕ
+  pub cats : List (List ℕ)
+  pub sheet : ℕ
+  pub types : List Ty
+
+-- what is read where there is no such method, or no such type
+abbrev pub noMethod : Method
+noMethod = record { state = denied; args = []; answer = none }
+
+abbrev pub noType : Ty
+noType = record { rep = w32; cat = 0; own = false; methods = []; key = none }
+
+abbrev pub size : Table → ℕ
+size t = length (t .types)
+
+abbrev pub typeAt : Table → ℕ → Ty
+typeAt t i = getD (t .types) i noType
+
+abbrev pub methodAt : Table → ℕ → ℕ → Method
+methodAt t i m = getD (typeAt t i .methods) m noMethod
+
+-- argument i of method m, and its answer, in type l's signature
+abbrev pub argumentAt : Table → ℕ → ℕ → ℕ → Option ℕ
+argumentAt t m i l = getElem? (methodAt t l m .args) i
+
+abbrev pub answerAt : Table → ℕ → ℕ → Option ℕ
+answerAt t m l = methodAt t l m .answer
+
+abbrev pub withTypes : Table → List Ty → Table
+withTypes t ts = record { subjects = t .subjects; methods = t .methods; cats = t .cats; sheet = t .sheet; types = ts }
+
+abbrev pub isRef : Rep → Bool
+isRef ref = true
+isRef w32 = false
+isRef w64 = false
+
+-- "Optional and avail carry a signature ..; they permit the method, the other two don't."
+abbrev pub permit : State → Bool
+permit denied = false
+permit optional = true
+permit avail = true
+permit unavail = false
+
+abbrev pub isAvail : State → Bool
+isAvail denied = false
+isAvail optional = false
+isAvail avail = true
+isAvail unavail = false
+
+-- avail or unavail
+abbrev pub isSettled : State → Bool
+isSettled denied = false
+isSettled optional = false
+isSettled avail = true
+isSettled unavail = true
+
+-- "A class is a ref type without own whose every state is avail or unavail."
+abbrev pub isClass : Ty → Bool
+isClass x = isRef (x .rep) && (not (x .own) && all (λ m. isSettled (m .state)) (x .methods))
+
+-- a count in its range
+abbrev pub between : ℕ → ℕ → ℕ → Bool
+between low high n = leb low n && leb n high
+
+abbrev pub countsFit : Table → Bool
+countsFit t = between 1 maxSubjects (t .subjects) && (between 1 maxMethods (t .methods) && (leb (length (t .cats)) maxCategories
+    && (between 1 maxSheetTypes (t .sheet) && (leb (t .sheet) (size t) && leb (size t) maxTypes))))
+
+-- "Category k, from 1, names one or two broader categories below k, 0 allowed."
+abbrev pub linksFit : ℕ → List ℕ → Bool
+linksFit k links = between 1 2 (length links) && all (λ c. ltb c k) links
+
+-- A type that may stand in a signature whose types are the first n. "A type with own=yes stands in no signature"
+abbrev pub standsIn : Table → ℕ → ℕ → Bool
+standsIn t n a = ltb a n && not (typeAt t a .own)
+
+abbrev pub isNone {ℓ} : {A : Type ℓ} → Option A → Bool
+isNone none = true
+isNone (some x) = false
+
+abbrev pub isNil {ℓ} : {A : Type ℓ} → List A → Bool
+isNil [] = true
+isNil (x ∷ xs) = false
+
+-- "Optional and avail carry a signature, 0 to 2 argument types and one answer type or none"; the other two carry none.
+abbrev pub signatureFits : Table → ℕ → Method → Bool
+signatureFits t n m = elim (permit (m .state)) [
+  | true ↦ leb (length (m .args)) maxArguments && (all (standsIn t n) (m .args) && unlessMissing (m .answer) (standsIn t n))
+  | false ↦ isNil (m .args) && isNone (m .answer)
+]
+
+-- "A ref type also has an own flag and, for each method, a state"; a number type has neither.
+abbrev pub methodCount : Rep → ℕ → ℕ
+methodCount ref n = n
+methodCount w32 n = 0
+methodCount w64 n = 0
+
+-- Only a derived type, from the number of sheet types on, has a key, of types in the table.
+abbrev pub keyFits : Table → ℕ → Option Key → Bool
+keyFits t i none = ltb i (t .sheet)
+keyFits t i (some k) = leb (t .sheet) i && (ltb (k .left) (size t) && ltb (k .right) (size t))
+
+-- "a derived type [stands] in none of a sheet type": the types that may stand in the signatures of type i are the first so many
+abbrev pub signatureBound : Table → ℕ → ℕ
+signatureBound t i = cond (ltb i (t .sheet)) (t .sheet) (size t)
+
+abbrev pub typeFits : Table → ℕ → Ty → Bool
+typeFits t i x = leb (x .cat) (length (t .cats)) && ((x .own ⇒ isRef (x .rep)) && (eqb (length (x .methods)) (methodCount (x .rep) (t .methods))
+    && (all (signatureFits t (signatureBound t i)) (x .methods) && keyFits t i (x .key))))
+
+-- A table within its limits that keeps every rule of the section.
+unfoldable pub tableFits : Table → Bool
+tableFits t = countsFit t && (every linksFit 1 (t .cats) && every (typeFits t) 0 (t .types))
+
+-- What a sheet describes: such a table with sheet types only.
+unfoldable pub validSheet : Table → Bool
+unfolding tableFits
+validSheet t = tableFits t && eqb (t .sheet) (size t)

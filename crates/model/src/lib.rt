@@ -1,0 +1,1 @@
+// The model of document 01: definitions in specs/, what is proved of them in proofs/. No code.

@@ -1,0 +1,390 @@
+//! Tables and states as they are handed in: counts and codes as plain
+//! integers, any of which may be wrong. This is the one place that knows the
+//! byte layout.
+//!
+//! A table's types are 128 bytes each: byte 0 representation (0 ref, 1 w32,
+//! 2 w64), 1 category, 2 own (0 no, 1 yes), 3 derived kind (0 Sub, 1 Sup,
+//! 2 Closed), 4 left, 5 right, 6 to 15 spare, then for each of 16 methods
+//! seven bytes: state (0 denied, 1 optional, 2 avail, 3 unavail), argument
+//! count, four argument types, answer (0 none, else type number + 1).
+//! Broader links are three bytes for each category from 0 (unused): how many
+//! (1 or 2), first, second.
+//! A cell is three bytes: holder, type, place. A place is three bytes: 0 for
+//! an object, class, owner; 1 for an adapter, place behind, closed type. A
+//! call is four bytes: caller, cell, method, answered (0 no, 1 yes).
+
+use crate::check;
+use crate::pairs;
+use crate::refusal::{Refusal, RANGE};
+use crate::requests::{Got, Request};
+use crate::sheet;
+use crate::state::{Call, Cell, Model, Place, State, MAX_CALLS, MAX_CELLS, MAX_PLACES};
+use crate::table::{
+    Broader, Key, Kind, MethodState, Representation, Signature, Table, MAX_CATEGORIES, MAX_METHODS,
+    MAX_TYPES,
+};
+
+pub const TYPE_BYTES: usize = 128;
+pub const METHODS_AT: usize = 16;
+pub const METHOD_BYTES: usize = 7;
+pub const ARGUMENT_SLOTS: usize = 4;
+pub const BROADER_BYTES: usize = 3;
+pub const CELL_BYTES: usize = 3;
+pub const PLACE_BYTES: usize = 3;
+pub const CALL_BYTES: usize = 4;
+
+pub const TYPES_LENGTH: usize = MAX_TYPES * TYPE_BYTES;
+pub const BROADER_LENGTH: usize = (MAX_CATEGORIES + 1) * BROADER_BYTES;
+pub const CELLS_LENGTH: usize = MAX_CELLS * CELL_BYTES;
+pub const PLACES_LENGTH: usize = MAX_PLACES * PLACE_BYTES;
+pub const CALLS_LENGTH: usize = MAX_CALLS * CALL_BYTES;
+
+/// A table of any counts and codes.
+#[derive(Clone, PartialEq, Eq)]
+pub struct RawTable {
+    pub subjects: u32,
+    pub methods: u32,
+    pub categories: u32,
+    pub sheet_types: u32,
+    pub types: u32,
+    pub broader: [u8; BROADER_LENGTH],
+    pub type_bytes: [u8; TYPES_LENGTH],
+}
+
+/// A state of any counts and codes.
+#[derive(Clone, PartialEq, Eq)]
+pub struct RawState {
+    pub table: RawTable,
+    pub cells: u32,
+    pub places: u32,
+    pub calls: u32,
+    pub cell_bytes: [u8; CELLS_LENGTH],
+    pub place_bytes: [u8; PLACES_LENGTH],
+    pub call_bytes: [u8; CALLS_LENGTH],
+}
+
+impl Default for RawTable {
+    /// "here with every count 0".
+    fn default() -> RawTable {
+        RawTable {
+            subjects: 0,
+            methods: 0,
+            categories: 0,
+            sheet_types: 0,
+            types: 0,
+            broader: [0; BROADER_LENGTH],
+            type_bytes: [0; TYPES_LENGTH],
+        }
+    }
+}
+
+impl RawTable {
+    /// The bytes of a table that is right.
+    pub fn of(table: &Table) -> RawTable {
+        let mut raw = RawTable {
+            subjects: count(table.subjects),
+            methods: count(table.methods),
+            categories: count(table.categories()),
+            sheet_types: count(table.sheet_types),
+            types: count(table.types.len()),
+            ..RawTable::default()
+        };
+        for (index, broader) in table.broader.iter().enumerate() {
+            raw.put_broader(index + 1, *broader);
+        }
+        for number in 0..table.types.len() {
+            raw.put_type(table, number);
+        }
+        raw
+    }
+
+    fn put_broader(&mut self, category: usize, broader: Broader) {
+        let at = category * BROADER_BYTES;
+        self.broader[at] = if broader.second.is_some() { 2 } else { 1 };
+        self.broader[at + 1] = byte(broader.first);
+        self.broader[at + 2] = byte(broader.second.unwrap_or(0));
+    }
+
+    fn put_type(&mut self, table: &Table, number: usize) {
+        let one = &table.types[number];
+        let entry = self.entry_mut(number);
+        entry.fill(0);
+        entry[0] = match one.representation {
+            Representation::Ref => 0,
+            Representation::W32 => 1,
+            Representation::W64 => 2,
+        };
+        entry[1] = byte(one.category);
+        entry[2] = u8::from(one.own);
+        if let Some(index) = number.checked_sub(table.sheet_types) {
+            let key = table.keys[index];
+            entry[3] = key.kind as u8;
+            entry[4] = byte(key.left);
+            entry[5] = byte(key.right);
+        }
+        for (method, state) in one.methods.iter().enumerate() {
+            let at = METHODS_AT + method * METHOD_BYTES;
+            put_method(&mut entry[at..at + METHOD_BYTES], state);
+        }
+    }
+
+    /// The 128 bytes of a type.
+    pub fn entry(&self, number: usize) -> &[u8] {
+        &self.type_bytes[number * TYPE_BYTES..(number + 1) * TYPE_BYTES]
+    }
+
+    pub fn entry_mut(&mut self, number: usize) -> &mut [u8] {
+        &mut self.type_bytes[number * TYPE_BYTES..(number + 1) * TYPE_BYTES]
+    }
+
+    /// The seven bytes of a type's method.
+    pub fn method(&self, number: usize, method: usize) -> &[u8] {
+        let at = METHODS_AT + method * METHOD_BYTES;
+        &self.entry(number)[at..at + METHOD_BYTES]
+    }
+
+    pub fn method_mut(&mut self, number: usize, method: usize) -> &mut [u8] {
+        let at = METHODS_AT + method * METHOD_BYTES;
+        &mut self.entry_mut(number)[at..at + METHOD_BYTES]
+    }
+}
+
+fn put_method(bytes: &mut [u8], state: &MethodState) {
+    bytes[0] = match state {
+        MethodState::Denied => 0,
+        MethodState::Optional(_) => 1,
+        MethodState::Avail(_) => 2,
+        MethodState::Unavail => 3,
+    };
+    if let Some(signature) = state.signature() {
+        bytes[1] = byte(signature.arguments.len());
+        for (slot, argument) in signature.arguments.iter().enumerate() {
+            bytes[2 + slot] = byte(*argument);
+        }
+        bytes[2 + ARGUMENT_SLOTS] = signature.answer.map_or(0, |answer| byte(answer + 1));
+    }
+}
+
+impl RawState {
+    /// The bytes of a state that is right.
+    pub fn of(state: &State) -> RawState {
+        let mut raw = RawState {
+            table: RawTable::of(&state.table),
+            cells: 0,
+            places: 0,
+            calls: 0,
+            cell_bytes: [0; CELLS_LENGTH],
+            place_bytes: [0; PLACES_LENGTH],
+            call_bytes: [0; CALLS_LENGTH],
+        };
+        raw.put_records(state, 0, 0, 0);
+        raw
+    }
+
+    /// Writes the records from the given numbers on, and the counts.
+    fn put_records(&mut self, state: &State, cells: usize, places: usize, calls: usize) {
+        for number in cells..state.cells.len() {
+            self.cell_mut(number)
+                .copy_from_slice(&cell_bytes(state.cells[number]));
+        }
+        for number in places..state.places.len() {
+            self.place_mut(number)
+                .copy_from_slice(&place_bytes(state.places[number]));
+        }
+        for number in calls..state.calls.len() {
+            self.call_mut(number)
+                .copy_from_slice(&call_bytes(state.calls[number]));
+        }
+        self.cells = count(state.cells.len());
+        self.places = count(state.places.len());
+        self.calls = count(state.calls.len());
+    }
+
+    /// Takes in what an accepted request changed from `before` to `after`:
+    /// records are added at the end, and one call may have been answered.
+    fn update(&mut self, before: &State, after: &State) {
+        for number in before.table.types.len()..after.table.types.len() {
+            self.table.put_type(&after.table, number);
+        }
+        self.table.types = count(after.table.types.len());
+        for (number, call) in before.calls.iter().enumerate() {
+            if after.calls[number].answered != call.answered {
+                self.call_mut(number)[3] = 1;
+            }
+        }
+        self.put_records(
+            after,
+            before.cells.len(),
+            before.places.len(),
+            before.calls.len(),
+        );
+    }
+
+    pub fn cell(&self, number: usize) -> &[u8] {
+        &self.cell_bytes[number * CELL_BYTES..(number + 1) * CELL_BYTES]
+    }
+
+    pub fn cell_mut(&mut self, number: usize) -> &mut [u8] {
+        &mut self.cell_bytes[number * CELL_BYTES..(number + 1) * CELL_BYTES]
+    }
+
+    pub fn place(&self, number: usize) -> &[u8] {
+        &self.place_bytes[number * PLACE_BYTES..(number + 1) * PLACE_BYTES]
+    }
+
+    pub fn place_mut(&mut self, number: usize) -> &mut [u8] {
+        &mut self.place_bytes[number * PLACE_BYTES..(number + 1) * PLACE_BYTES]
+    }
+
+    pub fn call(&self, number: usize) -> &[u8] {
+        &self.call_bytes[number * CALL_BYTES..(number + 1) * CALL_BYTES]
+    }
+
+    pub fn call_mut(&mut self, number: usize) -> &mut [u8] {
+        &mut self.call_bytes[number * CALL_BYTES..(number + 1) * CALL_BYTES]
+    }
+}
+
+fn cell_bytes(cell: Cell) -> [u8; CELL_BYTES] {
+    [byte(cell.holder), byte(cell.cell_type), byte(cell.place)]
+}
+
+fn place_bytes(place: Place) -> [u8; PLACE_BYTES] {
+    match place {
+        Place::Object { class, owner } => [0, byte(class), byte(owner)],
+        Place::Adapter { behind, closed } => [1, byte(behind), byte(closed)],
+    }
+}
+
+fn call_bytes(call: Call) -> [u8; CALL_BYTES] {
+    [
+        byte(call.caller),
+        byte(call.cell),
+        byte(call.method),
+        u8::from(call.answered),
+    ]
+}
+
+fn byte(number: usize) -> u8 {
+    u8::try_from(number).expect("numbers of a right table fit a byte")
+}
+
+fn count(number: usize) -> u32 {
+    u32::try_from(number).expect("counts of a right table are small")
+}
+
+/// The representation of a code.
+pub fn representation(code: u8) -> Option<Representation> {
+    match code {
+        0 => Some(Representation::Ref),
+        1 => Some(Representation::W32),
+        2 => Some(Representation::W64),
+        _ => None,
+    }
+}
+
+/// The kind of a code.
+pub fn kind(code: u8) -> Option<Kind> {
+    match code {
+        0 => Some(Kind::Sub),
+        1 => Some(Kind::Sup),
+        2 => Some(Kind::Closed),
+        _ => None,
+    }
+}
+
+/// The key in a type's bytes.
+pub fn key(entry: &[u8]) -> Option<Key> {
+    Some(Key {
+        kind: kind(entry[3])?,
+        left: usize::from(entry[4]),
+        right: usize::from(entry[5]),
+    })
+}
+
+/// The signature in a method's bytes, its argument count not above four.
+pub fn signature(bytes: &[u8]) -> Signature {
+    let arguments = usize::from(bytes[1]).min(ARGUMENT_SLOTS);
+    Signature {
+        arguments: bytes[2..2 + arguments]
+            .iter()
+            .map(|one| usize::from(*one))
+            .collect(),
+        answer: usize::from(bytes[2 + ARGUMENT_SLOTS]).checked_sub(1),
+    }
+}
+
+/// Sheet read into a new table: on a refusal it has every count 0.
+pub fn read(input: &[u8]) -> (RawTable, Result<(), (Refusal, usize)>) {
+    match sheet::read(input) {
+        Ok(table) => (RawTable::of(&table), Ok(())),
+        Err(refusal) => (RawTable::default(), Err(refusal)),
+    }
+}
+
+/// Sheet write of a handed-in table: 2, then 4, the buffer unchanged in both.
+pub fn write(raw: &RawTable, buffer: &mut [u8]) -> Result<usize, Refusal> {
+    let table = check::table(raw).map_err(|_| RANGE)?;
+    sheet::write(&table, buffer)
+}
+
+/// Compare on a handed-in table: 2, then 7, else the four answers.
+pub fn compare(raw: &RawTable, t: i64, s: i64) -> Result<[bool; 4], Refusal> {
+    let table = check::table(raw).map_err(|_| RANGE)?;
+    pairs::compare(&table, t, s)
+}
+
+/// A request on a handed-in state: 2 before all else. A refusal leaves the
+/// whole record as it was; an acceptance adds records and changes no other
+/// byte but the answered one of a call.
+pub fn request(raw: &mut RawState, request: &Request) -> Result<Got, Refusal> {
+    let state = check::state(raw).map_err(|_| RANGE)?;
+    let mut model = Model::new(state.clone());
+    let got = model.request(request)?;
+    raw.update(&state, &model.state);
+    Ok(got)
+}
+
+impl std::fmt::Debug for RawTable {
+    fn fmt(&self, out: &mut std::fmt::Formatter<'_>) -> std::fmt::Result {
+        writeln!(
+            out,
+            "subjects {} methods {} categories {} sheet types {} types {}",
+            self.subjects, self.methods, self.categories, self.sheet_types, self.types
+        )?;
+        let categories = (self.categories as usize).min(MAX_CATEGORIES);
+        for category in 1..=categories {
+            let at = category * BROADER_BYTES;
+            writeln!(out, "broader {category} {:?}", &self.broader[at..at + 3])?;
+        }
+        for number in 0..(self.types as usize).min(MAX_TYPES) {
+            write!(out, "type {number} {:?}", &self.entry(number)[..6])?;
+            for method in 0..(self.methods as usize).min(MAX_METHODS) {
+                write!(out, " {:?}", self.method(number, method))?;
+            }
+            writeln!(out)?;
+        }
+        Ok(())
+    }
+}
+
+impl std::fmt::Debug for RawState {
+    fn fmt(&self, out: &mut std::fmt::Formatter<'_>) -> std::fmt::Result {
+        write!(out, "{:?}", self.table)?;
+        writeln!(
+            out,
+            "cells {} places {} calls {}",
+            self.cells, self.places, self.calls
+        )?;
+        for number in 0..(self.places as usize).min(MAX_PLACES) {
+            writeln!(out, "place {number} {:?}", self.place(number))?;
+        }
+        for number in 0..(self.cells as usize).min(MAX_CELLS) {
+            writeln!(out, "cell {number} {:?}", self.cell(number))?;
+        }
+        for number in 0..(self.calls as usize).min(MAX_CALLS) {
+            writeln!(out, "call {number} {:?}", self.call(number))?;
+        }
+        Ok(())
+    }
+}

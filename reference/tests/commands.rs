@@ -1,0 +1,77 @@
+//! The commands, run as programs, against the library.
+
+use reference::external::{difference, run};
+use reference::faults::Fault;
+use reference::gen::{generate, Profile, PROFILES};
+use reference::script::run_with;
+use reference::{dump, pairs, script};
+use std::path::Path;
+
+fn command(arguments: &[&str], input: &[u8]) -> Vec<u8> {
+    let program = Path::new(env!("CARGO_BIN_EXE_reference"));
+    run(program, arguments, input).unwrap()
+}
+
+/// A command and what the library says for an input.
+type Pair = (&'static str, fn(&[u8]) -> Vec<u8>);
+
+#[test]
+fn commands_print_what_the_library_says() {
+    let pairs: [Pair; 4] = [
+        ("script", script::run),
+        ("sheet", pairs::run_sheet),
+        ("pairs", pairs::run),
+        ("dump", dump::run),
+    ];
+    for profile in PROFILES {
+        for seed in 0..4 {
+            let input = generate(seed, profile);
+            let (sheet, _) = script::split(&input);
+            for (name, ours) in pairs {
+                let input = if name == "script" || name == "dump" {
+                    &input
+                } else {
+                    sheet
+                };
+                let found = difference(input, &|input| command(&[name], input), &ours);
+                assert_eq!(found, None);
+            }
+        }
+    }
+}
+
+#[test]
+fn sheets_and_pairs() {
+    let sheet =
+        b"guide=1\nsubjects=1\nmethods=1\ncats=0\ntypes=1\ntype=0\nrep=w32\ncat=0\nend=sheet\n";
+    assert_eq!(command(&["sheet"], sheet), b"ok\n");
+    assert_eq!(command(&["pairs"], sheet), b"0 0 1 1 1 1\n");
+    assert_eq!(
+        command(&["sheet"], b"guide=1\nsubjects=0\n"),
+        b"no=2 at=8\n"
+    );
+    assert_eq!(
+        command(&["pairs"], b"guide=1\nsubjects=0\n"),
+        b"no=2 at=8\n"
+    );
+    assert_eq!(command(&["pairs"], &[b'x'; 32_769]), b"no=2\n");
+    assert_eq!(command(&["sheet"], b""), b"no=1 at=0\n");
+}
+
+#[test]
+fn generated_inputs_and_states_print() {
+    let input = command(&["gen", "3", "medium"], b"");
+    assert_eq!(input, generate(3, Profile::Medium));
+    assert!(!command(&["hostile", "3"], b"").is_empty());
+    assert!(command(&["gen", "3", "huge"], b"").is_empty());
+}
+
+#[test]
+fn a_difference_comes_with_a_small_input() {
+    let faulty = |input: &[u8]| run_with(input, Fault::WrapsFirstPassesLater).output;
+    let found = (0..400)
+        .find_map(|seed| difference(&generate(seed, Profile::Medium), &faulty, &script::run))
+        .unwrap();
+    assert_ne!(found.theirs, found.ours);
+    assert!(found.input.len() < 700, "{found:?}");
+}

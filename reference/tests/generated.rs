@@ -1,0 +1,432 @@
+//! Generated inputs: demand 3, coverage, and facts that hold of every model.
+
+use reference::chains::{first_difference, All};
+use reference::check::{self, REASONS};
+use reference::coverage;
+use reference::demand;
+use reference::faults::Fault;
+use reference::gen::{self, generate, Profile, PROFILES};
+use reference::hostile;
+use reference::random::Random;
+use reference::raw::{self, RawState, RawTable};
+use reference::relations::{Relation, Relations, RELATIONS};
+use reference::script;
+use reference::sheet;
+use reference::table::{Kind, Table};
+
+/// Demand 3, and book and state agreeing in every type and adapter.
+fn demand_3(profile: Profile, seeds: std::ops::Range<u64>) {
+    for seed in seeds {
+        let (_, found) = demand::run(&generate(seed, profile));
+        assert_eq!(found, Ok(()), "{} {seed}", profile.name());
+    }
+}
+
+#[test]
+fn demand_3_on_small_inputs() {
+    demand_3(Profile::Small, 0..6000);
+}
+
+#[test]
+fn demand_3_on_medium_inputs() {
+    demand_3(Profile::Medium, 0..2000);
+}
+
+#[test]
+fn demand_3_on_big_and_full_inputs() {
+    demand_3(Profile::Big, 0..150);
+    demand_3(Profile::Full, 0..100);
+}
+
+/// Inputs of a long run: REFERENCE_LONG in the environment, or two millions.
+fn long() -> u64 {
+    std::env::var("REFERENCE_LONG")
+        .ok()
+        .and_then(|text| text.parse().ok())
+        .unwrap_or(2_000_000)
+}
+
+#[test]
+#[ignore = "millions of inputs"]
+fn demand_3_at_length() {
+    let count = long();
+    demand_3(Profile::Small, 0..count);
+    demand_3(Profile::Medium, 0..count / 10);
+    demand_3(Profile::Big, 0..count / 200);
+    demand_3(Profile::Full, 0..count / 200);
+}
+
+/// Each number 1 to 18 from sheets and scripts, 19 on handed-in states, each
+/// reason of 2, each situation.
+#[test]
+fn coverage_is_whole() {
+    let report = coverage::collect(0..150);
+    assert_eq!(report.broken, []);
+    assert_eq!(report.missing(), Vec::<String>::new(), "{}", report.text());
+    assert_eq!(report.scripts.number(19), 0);
+    for (number, least) in [
+        (9, 20),
+        (10, 200),
+        (11, 50),
+        (12, 50),
+        (13, 50),
+        (16, 50),
+        (18, 50),
+    ] {
+        assert!(report.scripts.number(number) >= least, "{number}");
+    }
+    assert!(report.requests.number(19) >= 20);
+}
+
+#[test]
+fn generation_is_repeatable() {
+    for profile in PROFILES {
+        assert_eq!(generate(7, profile), generate(7, profile));
+        assert_ne!(generate(7, profile), generate(8, profile));
+        assert_eq!(Profile::of_name(profile.name()), Some(profile));
+    }
+    assert_eq!(hostile::generate(5).state, hostile::generate(5).state);
+}
+
+#[test]
+fn generated_inputs_keep_their_limits() {
+    for profile in [Profile::Small, Profile::Medium, Profile::Big, Profile::Full] {
+        for seed in 0..40 {
+            let input = generate(seed, profile);
+            assert!(input.len() <= script::MAX_INPUT);
+            let run = script::run_with(&input, Fault::None);
+            assert!(run.model.is_some(), "{} {seed}", profile.name());
+            let lines = run.output.iter().filter(|byte| **byte == b'\n').count();
+            assert_eq!(lines, run.requests.len());
+        }
+    }
+}
+
+fn tables(count: u64) -> impl Iterator<Item = Table> {
+    (0..count).map(|seed| {
+        let plan = if seed % 4 == 0 { gen::BIG } else { gen::MEDIUM };
+        gen::table(&mut Random::new(seed), &plan)
+    })
+}
+
+#[test]
+fn what_is_written_reads_back() {
+    for table in tables(400) {
+        let text = sheet::text(&table);
+        assert_eq!(sheet::read(&text), Ok(table.clone()));
+        let raw = RawTable::of(&table);
+        assert_eq!(raw::read(&text), (raw.clone(), Ok(())));
+        assert_eq!(check::table(&raw), Ok(table));
+    }
+}
+
+#[test]
+fn the_buffer_behind_and_a_short_one_stay() {
+    for table in tables(60) {
+        let raw = RawTable::of(&table);
+        let text = sheet::text(&table);
+        for length in [0, 1, text.len() / 2, text.len() - 1] {
+            let mut buffer = vec![170; length];
+            assert_eq!(raw::write(&raw, &mut buffer), Err(4));
+            assert!(buffer.iter().all(|byte| *byte == 170));
+        }
+        for length in [text.len(), text.len() + 1, text.len() + 999] {
+            let mut buffer = vec![170; length];
+            assert_eq!(raw::write(&raw, &mut buffer), Ok(text.len()));
+            assert_eq!(buffer[..text.len()], text[..]);
+            assert!(buffer[text.len()..].iter().all(|byte| *byte == 170));
+        }
+    }
+}
+
+/// Reading is right or refused, whatever the bytes; what reads is written back
+/// as it was.
+#[test]
+fn damaged_sheets() {
+    for seed in 0..3000 {
+        let input = generate(seed, Profile::Damaged);
+        let (text, _) = script::split(&input);
+        match sheet::read(text) {
+            Ok(table) => assert_eq!(sheet::text(&table), text),
+            Err((number, offset)) => {
+                assert!((1..=3).contains(&number));
+                assert!(offset <= text.len());
+                assert!(offset == 0 || text[offset - 1] == b'\n');
+                assert_eq!(raw::read(text).0, RawTable::default());
+            }
+        }
+    }
+}
+
+/// Every kind of line is met with every number it can be refused with.
+#[test]
+fn damaged_lines_cover_the_reader() {
+    let mut met = std::collections::BTreeSet::new();
+    for seed in 0..6_000 {
+        let input = generate(seed, Profile::Damaged);
+        let (text, _) = script::split(&input);
+        if let Err((number, offset)) = sheet::read(text) {
+            met.insert((number, coverage::line_kind(&text[offset..])));
+        }
+    }
+    let numbered = [
+        "guide", "subjects", "methods", "cats", "under", "types", "type", "cat", "m",
+    ];
+    for kind in numbered {
+        assert!(met.contains(&(2, kind.to_string())), "2 at {kind}");
+    }
+    for kind in numbered.into_iter().chain(["rep", "own", "end"]) {
+        assert!(met.contains(&(1, kind.to_string())), "1 at {kind}");
+    }
+    for kind in ["a line without LF", "another line", "the end"] {
+        assert!(met.contains(&(1, kind.to_string())), "1 at {kind}");
+    }
+    for kind in ["under", "end"] {
+        assert!(met.contains(&(3, kind.to_string())), "3 at {kind}");
+    }
+}
+
+/// A run's table with derived types.
+fn grown(seed: u64) -> Table {
+    let run = script::run_with(&generate(seed, Profile::Medium), Fault::None);
+    run.model.unwrap().state.table
+}
+
+#[test]
+fn relations_follow_from_one_another() {
+    for seed in 0..200 {
+        let table = grown(seed);
+        let relations = Relations::of(&table, Fault::None);
+        let count = table.types.len();
+        for t in 0..count {
+            assert!(relations.holds(Relation::Subtype, t, t));
+            for s in 0..count {
+                let answers = RELATIONS.map(|relation| relations.holds(relation, t, s));
+                assert!(answers.windows(2).all(|two| !two[0] || two[1]), "{t} {s}");
+                if answers[0] {
+                    for u in 0..count {
+                        let above = relations.holds(Relation::Subtype, u, t);
+                        assert!(!above || relations.holds(Relation::Subtype, u, s));
+                    }
+                }
+            }
+        }
+    }
+}
+
+/// The relations taken in step by step are those of the whole table.
+#[test]
+fn relations_grow_with_the_table() {
+    for seed in 0..200 {
+        let run = script::run_with(&generate(seed, Profile::Medium), Fault::None);
+        let model = run.model.unwrap();
+        let fresh = Relations::of(&model.state.table, Fault::None);
+        let count = model.state.table.types.len();
+        for relation in RELATIONS {
+            for t in 0..count {
+                for s in 0..count {
+                    assert_eq!(
+                        fresh.holds(relation, t, s),
+                        model.relations.holds(relation, t, s)
+                    );
+                }
+            }
+        }
+    }
+}
+
+/// The relations once more, by another way: assume a pair, follow its rules,
+/// and refute it if a broken rule is reached.
+#[test]
+fn relations_by_refutation() {
+    for table in tables(24).chain((0..24).map(grown)) {
+        let relations = Relations::of(&table, Fault::None);
+        for relation in RELATIONS {
+            for t in 0..table.types.len() {
+                for s in 0..table.types.len() {
+                    let holds = not_refuted(&table, relation, t, s);
+                    assert_eq!(
+                        relations.holds(relation, t, s),
+                        holds,
+                        "{relation:?} {t} {s}"
+                    );
+                }
+            }
+        }
+    }
+}
+
+fn not_refuted(table: &Table, relation: Relation, t: usize, s: usize) -> bool {
+    let mut assumed = vec![(t, s)];
+    let mut at = 0;
+    while at < assumed.len() {
+        let (t, s) = assumed[at];
+        at += 1;
+        let (one, other) = (&table.types[t], &table.types[s]);
+        let category = table.category_le(one.category, other.category);
+        let right = match relation {
+            Relation::Subtype => {
+                one.representation == other.representation && category && (!one.own || other.own)
+            }
+            Relation::Strict => one.is_ref() == other.is_ref() && category,
+            _ => one.is_ref() == other.is_ref(),
+        };
+        if !right {
+            return false;
+        }
+        for method in 0..one.methods.len().min(other.methods.len()) {
+            // 0 denied, 1 optional, 2 avail, 3 unavail.
+            let code = |state: &reference::table::MethodState| match state {
+                reference::table::MethodState::Denied => 0,
+                reference::table::MethodState::Optional(_) => 1,
+                reference::table::MethodState::Avail(_) => 2,
+                reference::table::MethodState::Unavail => 3,
+            };
+            let (a, b) = (code(&one.methods[method]), code(&other.methods[method]));
+            let kept = match relation {
+                Relation::Subtype => a == 0 || a == b || (a == 1 && b != 0),
+                Relation::Strict => a != 2 || b == 2,
+                Relation::Loose => a != 2 || b == 1 || b == 2,
+                Relation::Free => true,
+            };
+            if !kept {
+                return false;
+            }
+            if let (Some(of_t), Some(of_s)) = (one.permits(method), other.permits(method)) {
+                if of_t.arguments.len() != of_s.arguments.len()
+                    || of_t.answer.is_some() != of_s.answer.is_some()
+                {
+                    return false;
+                }
+                let mut next: Vec<(usize, usize)> = of_s
+                    .arguments
+                    .iter()
+                    .copied()
+                    .zip(of_t.arguments.iter().copied())
+                    .collect();
+                next.extend(of_t.answer.zip(of_s.answer));
+                for pair in next {
+                    if !assumed.contains(&pair) {
+                        assumed.push(pair);
+                    }
+                }
+            }
+        }
+    }
+    true
+}
+
+/// "Sub, Sup and Closed permit exactly the chains that both operands permit",
+/// and have the categories 01 gives them.
+#[test]
+fn derived_types_permit_what_both_permit() {
+    for seed in 0..400 {
+        let table = grown(seed);
+        for (index, key) in table.keys.iter().enumerate() {
+            let number = table.sheet_types + index;
+            let derived = All {
+                table: &table,
+                types: &[number],
+            };
+            let both = All {
+                table: &table,
+                types: &[key.left, key.right],
+            };
+            assert_eq!(first_difference(derived, both), None, "{seed} {number}");
+            let from = match key.kind {
+                Kind::Sub | Kind::Closed => key.left,
+                Kind::Sup => key.right,
+            };
+            assert_eq!(table.types[number].category, table.types[from].category);
+            assert!(!table.types[number].own);
+            assert!(key.kind != Kind::Closed || table.types[number].is_class());
+        }
+    }
+}
+
+/// The invariant behind demand 3: a place's type is a subtype, own not
+/// compared, of the cell's type.
+#[test]
+fn a_place_type_is_a_subtype_of_the_cell_type() {
+    for seed in 0..500 {
+        let run = script::run_with(&generate(seed, Profile::Medium), Fault::None);
+        let model = run.model.unwrap();
+        for cell in &model.state.cells {
+            let place_type = model.state.place_type(cell.place);
+            assert!(model.relations.subtype_own_not_compared(
+                &model.state.table,
+                cell.cell_type,
+                place_type
+            ));
+        }
+    }
+}
+
+/// On handed-in states: a refusal leaves every byte, an acceptance leaves the
+/// earlier records, and noise in bytes without meaning changes nothing.
+#[test]
+fn handed_in_states() {
+    for seed in 0..1500 {
+        let hostile = hostile::generate(seed);
+        let mut state = hostile.state.clone();
+        let plain = check::state(&hostile.state).ok();
+        let mut plain = plain.map(|state| RawState::of(&state));
+        for request in &hostile.requests {
+            let before = state.clone();
+            let result = raw::request(&mut state, request);
+            if let Some(plain) = &mut plain {
+                assert_eq!(raw::request(plain, request), result, "{seed}");
+                assert_eq!(check::state(plain), check::state(&state), "{seed}");
+            } else {
+                assert_eq!(result, Err(2));
+            }
+            match result {
+                Err(_) => assert!(state == before, "{seed}"),
+                Ok(_) => assert_earlier_records_stay(&before, &state),
+            }
+        }
+    }
+}
+
+fn assert_earlier_records_stay(before: &RawState, after: &RawState) {
+    for number in 0..before.table.types as usize {
+        assert_eq!(before.table.entry(number), after.table.entry(number));
+    }
+    for number in 0..before.cells as usize {
+        assert_eq!(before.cell(number), after.cell(number));
+    }
+    for number in 0..before.places as usize {
+        assert_eq!(before.place(number), after.place(number));
+    }
+    let answered = (0..before.calls as usize)
+        .filter(|number| before.call(*number) != after.call(*number))
+        .count();
+    assert!(answered <= 1);
+    assert!(check::state(after).is_ok());
+}
+
+/// Each way to break a state gives the reason it aims at, for some state.
+#[test]
+fn each_reason_is_met_alone() {
+    for reason in REASONS {
+        let met = (0..400).any(|seed| {
+            let mut random = Random::new(seed);
+            let input = generate(seed, Profile::Medium);
+            let model = script::run_with(&input, Fault::None).model.unwrap();
+            let mut raw = RawState::of(&model.state);
+            assert_eq!(check::state(&raw), Ok(model.state));
+            hostile::break_one(&mut random, &mut raw, reason);
+            check::state(&raw) == Err(reason)
+        });
+        assert!(met, "{reason:?}");
+    }
+}
+
+#[test]
+#[ignore = "a hundred thousand states"]
+fn handed_in_states_at_length() {
+    let report = coverage::collect(0..long() / 200);
+    assert_eq!(report.broken, []);
+    assert_eq!(report.missing(), Vec::<String>::new());
+    print!("{}", report.text());
+}
