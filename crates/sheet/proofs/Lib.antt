@@ -1,0 +1,10 @@
+pub mod Cases
+pub mod Steps
+pub mod Numbers
+pub mod Lines
+pub mod LineKinds
+pub mod Readers
+pub mod Types
+pub mod Valid
+pub mod Exact
+pub mod Offsets

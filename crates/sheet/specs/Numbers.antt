@@ -1,0 +1,68 @@
+-- Document 01, "Sheet text": "decimal without leading zeros". Decimals read from the left of what is left of a line, and written.
+use mathlib.Core.Bool.{Bool, _&&_, cond}
+use mathlib.Core.List.{List, [], _∷_, _++_}
+use Prim.Native.Nat.{ℕ, zero, suc, _+_, _-_, _*_, _/_, _%_, min}
+use Prim.Native.Char.{code}
+use lib.Dec.{eqb, ltb, leb}
+use Rattle.model.specs.Basics.{Res, refuse, ok}
+
+-- What a scan gives: a value and the bytes behind it; or the form is wrong.
+pub data Scan (A : Type 0) : Type 0 where
+  fail : Scan A
+  took : A → List ℕ → Scan A
+
+abbrev pub andThen : {A B : Type 0} → Scan A → (A → List ℕ → Scan B) → Scan B
+andThen fail k = fail
+andThen (took x r) k = k x r
+
+-- "each line by 1 (form)": the scan must have gone right, to the line's end
+abbrev pub whole : {A : Type 0} → Scan A → Res A
+whole fail = refuse 1
+whole (took x []) = ok x
+whole (took x (b ∷ r)) = refuse 1
+
+-- 48 is the byte of 0, 57 that of 9
+abbrev pub isDigit : ℕ → Bool
+isDigit b = leb 48 b && leb b 57
+
+-- A longer number counts as 10,000, which is above every range: its form is right and its value outside, 2 (READINGS S2).
+abbrev pub limit : ℕ → ℕ
+limit n = min n 10000
+
+unfoldable pub digits : ℕ → List ℕ → Scan ℕ
+digits a [] = took a []
+digits a (b ∷ bs) = cond (isDigit b) (digits (limit (a * 10 + (b - 48))) bs) (took a (b ∷ bs))
+
+-- A 0 is the whole number: what follows it is not its digit. No digit, or a sign, is no number (S3).
+unfoldable pub number : List ℕ → Scan ℕ
+unfolding digits
+number [] = fail
+number (b ∷ bs) = cond (eqb b 48) (took 0 bs) (cond (isDigit b) (digits (b - 48) bs) fail)
+
+-- One number or more with commas between, at most n of them, behind those of acc. One too many is a fault of form (S11).
+abbrev pub comma : List ℕ → (List ℕ → Scan (List ℕ)) → List ℕ → Scan (List ℕ)
+comma xs k [] = took xs []
+comma xs k (b ∷ r) = cond (eqb b (code ",")) (k r) (took xs (b ∷ r))
+
+unfoldable pub numbers : ℕ → List ℕ → List ℕ → Scan (List ℕ)
+unfolding number
+numbers zero acc l = fail
+numbers (suc n) acc l = andThen (number l) (λ a r. comma (acc ++ a ∷ []) (λ q. numbers n (acc ++ a ∷ []) q) r)
+
+-- The decimal of a number, with at most f digits.
+unfoldable pub decimalIn : ℕ → ℕ → List ℕ
+decimalIn zero n = []
+decimalIn (suc f) n = cond (ltb n 10) ((48 + n) ∷ []) (decimalIn f (n / 10) ++ (48 + n % 10) ∷ [])
+
+-- numbers below 10,000, as all of a sheet's are
+abbrev pub decimal : ℕ → List ℕ
+decimal n = decimalIn 4 n
+
+-- numbers, each behind a comma; and with commas between
+abbrev pub tails : List ℕ → List ℕ
+tails [] = []
+tails (a ∷ r) = code "," ∷ decimal a ++ tails r
+
+abbrev pub commas : List ℕ → List ℕ
+commas [] = []
+commas (a ∷ r) = decimal a ++ tails r

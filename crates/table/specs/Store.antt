@@ -1,0 +1,90 @@
+-- How a table stands in bytes. Type i has 128 bytes from i * 128 on: six numbers, ten spare bytes, and from 16 on seven bytes for each of 16 methods:
+-- state, count of arguments, four arguments, answer. The broader links of category k are three bytes from k * 3 on. What the records mean is the model's (Check).
+use Prim.Native.Nat.{ℕ, _+_, _*_}
+use mathlib.Core.List.{List, [], _∷_, _++_, map}
+use lib.ListN.{getD, replicate}
+use Rattle.model.specs.Basics.{from}
+use Rattle.model.specs.Table.{Ty, Table}
+use Rattle.model.specs.Check.{RawMethod, RawType, RawLinks, RawTable, noRawType, typeOf, tableOf}
+use Rattle.table.specs.declared.Counts.{Counts}
+use Rattle.table.specs.declared.Method.{Method}
+use Rattle.table.specs.declared.TypeRec.{TypeRec}
+use Rattle.table.specs.declared.Head.{Head}
+use Rattle.table.specs.declared.Links.{Links}
+
+-- The method whose bytes start at `at`, and a type's methods.
+abbrev pub rawMethodAt : List ℕ → ℕ → RawMethod
+rawMethodAt b at =
+    record { state = getD b at 0; count = getD b (at + 1) 0; args = getD b (at + 2) 0 ∷ getD b (at + 3) 0 ∷ getD b (at + 4) 0 ∷ getD b (at + 5) 0 ∷ []; answer = getD b (at + 6) 0 }
+
+unfoldable pub rawMethodsAt : List ℕ → ℕ → List RawMethod
+rawMethodsAt b at = from 16 0 (λ j. rawMethodAt b (at + 16 + j * 7))
+
+-- the type whose bytes start at `at`
+abbrev pub rawTypeAt : List ℕ → ℕ → RawType
+rawTypeAt b at =
+    record { rep = getD b at 0; cat = getD b (at + 1) 0; own = getD b (at + 2) 0; kind = getD b (at + 3) 0; left = getD b (at + 4) 0; right = getD b (at + 5) 0; methods = rawMethodsAt b at }
+
+abbrev pub rawLinksAt : List ℕ → ℕ → RawLinks
+rawLinksAt l at = record { count = getD l at 0; first = getD l (at + 1) 0; second = getD l (at + 2) 0 }
+
+-- The records that the bytes hold: 128 types, and the links of 32 categories.
+unfoldable pub typesIn : List ℕ → List RawType
+typesIn b = from 128 0 (λ i. rawTypeAt b (i * 128))
+
+unfoldable pub linksIn : List ℕ → List RawLinks
+linksIn l = from 32 0 (λ k. rawLinksAt l (k * 3))
+
+-- The code's records as the model's.
+abbrev pub rawMethod : Method → RawMethod
+rawMethod m = record { state = m .state; count = m .count; args = m .args; answer = m .answer }
+
+abbrev pub rawOf : TypeRec → RawType
+rawOf t = record { rep = t .rep; cat = t .cat; own = t .own; kind = t .kind; left = t .left; right = t .right; methods = map rawMethod (t .methods) }
+
+abbrev pub headOf : RawType → Head
+headOf t = record { rep = t .rep; cat = t .cat; own = t .own; kind = t .kind; left = t .left; right = t .right }
+
+abbrev pub rawLinks : Links → RawLinks
+rawLinks x = record { count = x .count; first = x .first; second = x .second }
+
+-- The table handed in: bytes of the types, bytes of the links, and counts.
+abbrev pub rawTable : List ℕ → List ℕ → Counts → RawTable
+rawTable b l c = record { subjects = c .subjects; methods = c .methods; cats = c .cats; sheet = c .sheet; types = c .types; links = linksIn l; records = typesIn b }
+
+-- What it means: the table of the model.
+unfoldable pub tableIn : List ℕ → List ℕ → Counts → Table
+unfolding tableOf
+tableIn b l c = tableOf (rawTable b l c)
+
+-- The first n records as the model's types, in a table of so many methods and sheet types.
+unfoldable pub typesTo : ℕ → ℕ → ℕ → List RawType → List Ty
+typesTo methods sheet n rs = from n 0 (λ i. typeOf methods sheet i (getD rs i noRawType))
+
+-- The bytes of a record, as they are stored.
+abbrev pub methodBytes : Method → List ℕ
+methodBytes m =
+    m .state ∷ m .count ∷ getD (m .args) 0 0 ∷ getD (m .args) 1 0 ∷ getD (m .args) 2 0 ∷ getD (m .args) 3 0 ∷ m .answer ∷ []
+
+abbrev pub methodsBytes : List Method → List ℕ
+methodsBytes [] = []
+methodsBytes (m ∷ ms) = methodBytes m ++ methodsBytes ms
+
+abbrev pub headBytes : TypeRec → List ℕ
+headBytes t = t .rep ∷ t .cat ∷ t .own ∷ t .kind ∷ t .left ∷ t .right ∷ []
+
+-- An empty table, and a type that denies every method.
+abbrev pub emptyCounts : Counts
+emptyCounts = record { subjects = 0; methods = 0; cats = 0; sheet = 0; types = 0 }
+
+abbrev pub emptyMethod : Method
+emptyMethod = record { state = 0; count = 0; args = 0 ∷ 0 ∷ 0 ∷ 0 ∷ []; answer = 0 }
+
+abbrev pub emptyType : TypeRec
+emptyType = record { rep = 0; cat = 0; own = 0; kind = 0; left = 0; right = 0; methods = replicate 16 emptyMethod }
+
+unfoldable pub emptyTypes : List ℕ
+emptyTypes = replicate 16384 0
+
+unfoldable pub emptyLinks : List ℕ
+emptyLinks = replicate 96 0
