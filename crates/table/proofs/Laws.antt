@@ -1,12 +1,12 @@
 -- From bytes to records: where a record stands, and what storing one does to the list of records.
 use mathlib.Core.Path.{_≡_, refl, sym, ap, _∙_, subst}
-use mathlib.Core.Logic.{⊎-elim, _⊎_}
+use mathlib.Core.Logic.{⊎-elim}
 use mathlib.Core.List.{List, [], _∷_, _++_, map}
 use Prim.Native.Nat.{ℕ, zero, suc, _+_, _*_, _≤_, _<_}
 use native.Mathlib.Nat.{le-of-suc-le-suc, not-suc-le-zero}
 use native.Mathlib.Numerals.{add-one}
 use native.Mathlib.Omega.{arith}
-use lib.ListN.{length, getD, set, length-set, take, replicate, length-map, length-replicate, List·getD-append, List·getD-map}
+use lib.ListN.{length, getD, set, length-set, take, length-map, length-replicate, List·getD-append, List·getD-map}
 use lib.Seq.{sets, ext-getD, getD-set-same, getD-set-other, length-sets, getD-append-add, length-take-le}
 use Rattle.model.specs.Basics.{from}
 use Rattle.model.specs.Check.{RawMethod, RawType, RawLinks, noRawType, noRawMethod}

@@ -1,18 +1,18 @@
 -- What a store does to the table that the bytes mean, for whoever stores types, and what the table's parts are, for whoever reads them.
 use mathlib.Core.Path.{_≡_, refl, ap, sym, subst, _∙_}
-use mathlib.Core.Logic.{_⊎_, ⊎-elim}
+use mathlib.Core.Logic.{⊎-elim}
 use mathlib.Core.List.{List, [], _∷_, _++_}
-use Prim.Native.Nat.{ℕ, zero, suc, _+_, _≤_, _<_}
+use Prim.Native.Nat.{ℕ, suc, _≤_, _<_}
 use native.Mathlib.Nat.{zero-add}
 use native.Mathlib.Omega.{arith}
 use lib.ListN.{length, getD, set, length-set}
 use lib.Seq.{ext-getD, getD-set-same, getD-set-other}
 use Rattle.model.specs.Basics.{from}
-use Rattle.model.specs.Table.{Ty, Table, noType, size, typeAt, withTypes}
+use Rattle.model.specs.Table.{Ty, noType, size, typeAt, withTypes}
 use Rattle.model.specs.Check.{RawType, noRawType, noRawLinks, linksOf, typeOf, tableOf}
 use Rattle.model.proofs.Largest.{getD-from-out}
 use Rattle.table.specs.declared.Counts.{Counts}
-use Rattle.table.specs.Store.{typesIn, linksIn, rawTable, tableIn, typesTo}
+use Rattle.table.specs.Store.{typesIn, linksIn, tableIn, typesTo}
 use Rattle.table.proofs.Lists.{same-or, length-from, from-first, from-last, from-same}
 use Rattle.table.proofs.Laws.{types-length}
 

@@ -114,6 +114,13 @@ pub struct Links {
     pub second: u8,
 }
 
+// A byte as a number.
+pub fn wide(x: u8) -> usize
+    ensures { λ r. ⌜ (r ≡ x) × (r < 256) ⌝ }
+{
+    x as usize
+}
+
 // Bytes for the types of an empty table, and for its links.
 pub fn empty_types() -> [u8; 16384]
     ensures { λ r. ⌜ r ≡ emptyTypes ⌝ }

@@ -1,0 +1,158 @@
+-- One law for each return of the code: the tests on the way, and what the part of the check then is.
+use mathlib.Core.Path.{_≡_, refl, ap, sym, _∙_}
+use mathlib.Core.Bool.{Bool, true, false, not, _&&_, _||_, and-true}
+use mathlib.Core.List.{List}
+use Prim.Native.Nat.{ℕ, zero, suc, _-_, _≤_, _<_}
+use native.Mathlib.Omega.{arith}
+use lib.Dec.{eqb, ltb, leb}
+use lib.ListN.{length, getD, take}
+use borrow.Author.Tests.{leb-true, lt-ltb, le-ltb, eq-eqb, ne-eqb, not-true, not-false}
+use Rattle.model.specs.Basics.{_⇒_, all, unlessMissing}
+use Rattle.model.specs.Table.{isRef, permit, between, linksFit}
+use Rattle.model.specs.Check.{RawLinks, stateOf, repOf, answerOf, linksOf}
+use Rattle.model.proofs.Rules.{first, second}
+use Rattle.table.specs.declared.Counts.{Counts}
+use Rattle.table.specs.declared.Head.{Head}
+use Rattle.tablecheck.specs.Parts.{eachFrom, Limited, countsAccepted, linkAccepted, headAccepted, boundOf}
+use Rattle.tablecheck.proofs.Each.{all-take}
+
+-- A test in an `if`, and the part of the check that it stands for.
+pub refused : (r x : Bool) → r ≡ x → not r ≡ true → x ≡ false
+refused r x e h = sym e ∙ not-true r h
+
+pub passed : (r x : Bool) → r ≡ x → not r ≡ false → x ≡ true
+passed r x e h = sym e ∙ not-false r h
+
+-- A conjunction that ends at its first part, or goes on; a disjunction.
+pub ends : (a b : Bool) → a ≡ false → false ≡ (a && b)
+ends a b e = rw e
+
+pub goes : (a b r : Bool) → a ≡ true → r ≡ b → r ≡ (a && b)
+goes a b r e f = rw e f
+
+pub holds : (a b : Bool) → a ≡ true → true ≡ (a || b)
+holds a b e = rw e
+
+pub leaves : (a b r : Bool) → a ≡ false → r ≡ b → r ≡ (a || b)
+leaves a b r e f = rw e f
+
+-- Counts.
+pub counts-limited : (c : Counts) → countsAccepted c ≡ true → Limited c
+counts-limited c e =
+    let e₁ = second (between 1 16 (c .subjects)) _ e in
+    let e₂ = second (between 1 16 (c .methods)) _ e₁ in
+    let e₃ = second (leb (c .cats) 31) _ e₂ in
+    let e₄ = second (between 1 48 (c .sheet)) _ e₃ in
+    record {
+      methods = leb-true (c .methods) 16 (second (leb 1 (c .methods)) _ (first (between 1 16 (c .methods)) _ e₁));
+      cats = leb-true (c .cats) 31 (first (leb (c .cats) 31) _ e₂);
+      sheet = leb-true (c .sheet) (c .types) (first (leb (c .sheet) (c .types)) _ e₄);
+      types = leb-true (c .types) 128 (second (leb (c .sheet) (c .types)) _ e₄);
+    }
+
+pub bound-sheet : (c : Counts) (i : ℕ) → i < c .sheet → c .sheet ≡ boundOf c i
+bound-sheet c i h = rw (lt-ltb i (c .sheet) h)
+
+pub bound-all : (c : Counts) (i : ℕ) → c .sheet ≤ i → c .types ≡ boundOf c i
+bound-all c i h = rw (le-ltb i (c .sheet) h)
+
+-- The links of category k: n of them, a and d.
+abbrev pub linksBy : ℕ → ℕ → ℕ → RawLinks
+linksBy n a d = record { count = n; first = a; second = d }
+
+-- the numbers as they are read, and the record
+pub links-eq : (n a d : ℕ) (x y : RawLinks) → n ≡ x .count → a ≡ x .first → d ≡ x .second → x ≡ y → linksBy n a d ≡ y
+links-eq n a d x y p q r e = ap (λ (z : ℕ). linksBy z a d) p ∙ ap (λ (z : ℕ). linksBy (x .count) z d) q ∙ ap (linksBy (x .count) (x .first)) r ∙ e
+
+module _ (k n a d : ℕ) where
+  pub link-count : between 1 2 n ≡ false → false ≡ linkAccepted k (linksBy n a d)
+  link-count e = ends (between 1 2 n) _ e
+
+  module _ (e : between 1 2 n ≡ true) where
+    pub link-high : k ≤ a → false ≡ linkAccepted k (linksBy n a d)
+    link-high h = goes (between 1 2 n) _ _ e (go (eqb n 2) refl)
+      where
+        go : (t : Bool) → eqb n 2 ≡ t → false ≡ linksFit k (linksOf (linksBy n a d))
+        go true f = rw f (ends (ltb a k) _ (le-ltb a k h))
+        go false f = rw f (ends (ltb a k) _ (le-ltb a k h))
+
+    pub link-two : a < k → n ≡ 2 → ltb d k ≡ linkAccepted k (linksBy n a d)
+    link-two h f = goes (between 1 2 n) _ _ e (rw (eq-eqb n 2 f) (goes (ltb a k) _ _ (lt-ltb a k h) (sym (and-true (ltb d k)))))
+
+    pub link-one : a < k → (n ≡ 2 → ⊥) → true ≡ linkAccepted k (linksBy n a d)
+    link-one h f = goes (between 1 2 n) _ _ e (rw (ne-eqb n 2 f) (goes (ltb a k) _ _ (lt-ltb a k h) refl))
+
+-- Representation.
+pub not-ref : (r : ℕ) → (r ≡ 0 → ⊥) → isRef (repOf r) ≡ false
+not-ref zero h = absurd (h refl)
+not-ref (suc zero) h = refl
+not-ref (suc (suc r)) h = refl
+
+pub is-ref : (r : ℕ) → r ≡ 0 → isRef (repOf r) ≡ true
+is-ref r e = rw e
+
+-- Type a, whose head is h, in a signature.
+module _ (n a : ℕ) (h : Head) where
+  abbrev pub Stands : Head → Bool
+  Stands g = ltb a n && not (isRef (repOf (g .rep)) && eqb (g .own) 1)
+
+  module _ (g : Head) (e : h ≡ g) (l : a < n) where
+    pub stands-number : (h .rep ≡ 0 → ⊥) → true ≡ Stands g
+    stands-number r = goes (ltb a n) _ _ (lt-ltb a n l) (rw (not-ref (h .rep) r)) ∙ ap Stands e
+
+    pub stands-ref : h .rep ≡ 0 → not (eqb (h .own) 1) ≡ Stands g
+    stands-ref r = goes (ltb a n) _ _ (lt-ltb a n l) (rw (is-ref (h .rep) r)) ∙ ap Stands e
+
+-- The arguments: as many as the count says.
+pub args-start : (p : ℕ → Bool) (n w : ℕ) (xs : List ℕ) → w ≡ n → n ≤ length xs → all p (take n xs) ≡ eachFrom (w - 0) 0 (λ k. p (getD xs k 0))
+args-start p n w xs e h = let z : n ≡ w - 0 = omega arith in all-take p n xs h ∙ ap (λ (m : ℕ). eachFrom m 0 (λ k. p (getD xs k 0))) z
+
+-- The answer.
+module _ (F : ℕ → Bool) where
+  pub answer-none : (a w : ℕ) → w ≡ a → w ≡ 0 → true ≡ unlessMissing (answerOf a) F
+  answer-none zero w e f = refl
+  answer-none (suc a) w e f = let z : ⊥ = omega arith in absurd z
+
+  pub answer-some : (a w : ℕ) → w ≡ a → (w ≡ 0 → ⊥) → F (w - 1) ≡ unlessMissing (answerOf a) F
+  answer-some zero w e f = absurd (f e)
+  answer-some (suc a) w e f = let z : w - 1 ≡ a = omega arith in ap F z
+
+-- A state, with a signature that is accepted or not.
+module _ (q : Bool) where
+  abbrev pub Stated : ℕ → Bool
+  Stated s = ltb s 4 && (permit (stateOf s) ⇒ q)
+
+  pub stated-none : (s w : ℕ) → w ≡ s → 4 ≤ w → false ≡ Stated s
+  stated-none s w e h = ends (ltb s 4) _ (le-ltb s 4 (omega arith))
+
+  pub stated-denied : (s w : ℕ) → w ≡ s → w ≡ 0 → true ≡ Stated s
+  stated-denied s w e f = let z : s ≡ 0 = omega arith in rw z
+
+  pub stated-unavail : (s w : ℕ) → w ≡ s → w ≡ 3 → true ≡ Stated s
+  stated-unavail s w e f = let z : s ≡ 3 = omega arith in rw z
+
+  pub stated-permit : (s w : ℕ) → w ≡ s → w < 4 → (w ≡ 0 → ⊥) → (w ≡ 3 → ⊥) → q ≡ Stated s
+  stated-permit zero w e l d u = absurd (d e)
+  stated-permit (suc zero) w e l d u = refl
+  stated-permit (suc (suc zero)) w e l d u = refl
+  stated-permit (suc (suc (suc zero))) w e l d u = absurd (u e)
+  stated-permit (suc (suc (suc (suc s)))) w e l d u = let z : ⊥ = omega arith in absurd z
+
+-- A type's head h, and the methods' test m.
+module _ (c : Counts) (i : ℕ) (h g : Head) (e : h ≡ g) (m : Bool) where
+  abbrev pub Typed : Head → Bool
+  Typed x = headAccepted c i x && (isRef (repOf (x .rep)) ⇒ (ltb (x .own) 2 && m))
+
+  pub typed-head : headAccepted c i h ≡ false → false ≡ Typed g
+  typed-head f = ends (headAccepted c i h) _ f ∙ ap Typed e
+
+  module _ (f : headAccepted c i h ≡ true) where
+    pub typed-number : (h .rep ≡ 0 → ⊥) → true ≡ Typed g
+    typed-number r = goes (headAccepted c i h) _ _ f (rw (not-ref (h .rep) r)) ∙ ap Typed e
+
+    module _ (r : h .rep ≡ 0) where
+      pub typed-own : 2 ≤ h .own → false ≡ Typed g
+      typed-own o = goes (headAccepted c i h) _ _ f (rw (is-ref (h .rep) r, le-ltb (h .own) 2 o)) ∙ ap Typed e
+
+      pub typed-ref : h .own < 2 → m ≡ Typed g
+      typed-ref o = goes (headAccepted c i h) _ _ f (rw (is-ref (h .rep) r, lt-ltb (h .own) 2 o)) ∙ ap Typed e

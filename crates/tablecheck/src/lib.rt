@@ -1,0 +1,249 @@
+// Document 01: "A state or table handed in gets 2 before all else if a count is outside its limits, a record names a number not below that number's
+// count (a category above the last), the table breaks a rule of the first section". This is that check, of any bytes and any counts: counts first, so
+// that every index is below its count, then the broader links, then each type with its signatures.
+ghost use mathlib.Core.Path.{_≡_};
+ghost use mathlib.Core.Bool.{true};
+ghost use Prim.Native.Nat.{_≤_, _<_};
+ghost use lib.ListN.{getD};
+ghost use Rattle.model.specs.Table.{between};
+ghost use Rattle.model.specs.Check.{noRawType, noRawLinks, tableAccepted};
+ghost use Rattle.table.specs.Store.{typesIn, linksIn, rawTable, rawMethod};
+ghost use Rattle.tablecheck.specs.Parts.{Limited, countsAccepted, linkAccepted, linksAccepted, mayStand, signatureAccepted, methodAccepted, methodsAccepted, keyAccepted, headAccepted, boundOf, typeAccepted, typesAccepted, argsAccepted};
+use table::Counts;
+use table::Head;
+use table::Method;
+
+// A count in its range.
+fn within(low: usize, high: usize, n: usize) -> bool
+    ensures { λ r. ⌜ r ≡ between low high n ⌝ }
+{
+    if n < low {
+        return false;
+    }
+    n <= high
+}
+
+fn counts_fit(c: Counts) -> bool
+    ensures { λ r. ⌜ r ≡ countsAccepted c ⌝ }
+{
+    if !within(1, Counts::SUBJECTS, c.subjects) {
+        return false;
+    }
+    if !within(1, Counts::METHODS, c.methods) {
+        return false;
+    }
+    if Counts::CATEGORIES < c.cats {
+        return false;
+    }
+    if !within(1, Counts::SHEET_TYPES, c.sheet) {
+        return false;
+    }
+    if c.types < c.sheet {
+        return false;
+    }
+    c.types <= Counts::TYPES
+}
+
+// "Category k, from 1, names one or two broader categories below k, 0 allowed."
+fn link_fits(l: &[u8; 96], k: usize) -> bool
+    requires { ⌜ k < 32 ⌝ }
+    ensures { λ r. ⌜ r ≡ linkAccepted k (getD (linksIn (now (l .entry))) k noRawLinks) ⌝ }
+{
+    let x = table::get_links(l, k);
+    let count = table::wide(x.count);
+    let first = table::wide(x.first);
+    let second = table::wide(x.second);
+    if !within(1, 2, count) {
+        return false;
+    }
+    if k <= first {
+        return false;
+    }
+    if count == 2 {
+        return second < k;
+    }
+    true
+}
+
+fn links_fit(l: &[u8; 96], cats: usize) -> bool
+    requires { ⌜ cats ≤ 31 ⌝ }
+    ensures { λ r. ⌜ r ≡ linksAccepted cats (linksIn (now (l .entry))) ⌝ }
+{
+    let mut k: usize = 1;
+    while k < cats + 1 {
+        if !link_fits(l, k) {
+            return false;
+        }
+        k += 1;
+    }
+    true
+}
+
+// Type a stands in a signature whose types are the first n. "A type with own=yes stands in no signature"
+fn stands_in(b: &[u8; 16384], n: usize, a: usize) -> bool
+    requires { ⌜ n ≤ 128 ⌝ }
+    ensures { λ r. ⌜ r ≡ mayStand (typesIn (now (b .entry))) n a ⌝ }
+{
+    if n <= a {
+        return false;
+    }
+    let h = table::get_head(b, a);
+    if h.rep != 0 {
+        return true;
+    }
+    h.own != 1
+}
+
+// The argument types of a method.
+fn args_fit(b: &[u8; 16384], n: usize, m: Method) -> bool
+    requires { ⌜ (n ≤ 128) × (m .count ≤ 4) ⌝ }
+    ensures { λ r. ⌜ r ≡ argsAccepted (typesIn (now (b .entry))) n (rawMethod m) ⌝ }
+{
+    let count = table::wide(m.count);
+    let mut i: usize = 0;
+    while i < count {
+        let x = m.args[i];
+        if !stands_in(b, n, table::wide(x)) {
+            return false;
+        }
+        i += 1;
+    }
+    true
+}
+
+// "a signature, 0 to 2 argument types and one answer type or none"
+fn signature_fits(b: &[u8; 16384], n: usize, m: Method) -> bool
+    requires { ⌜ n ≤ 128 ⌝ }
+    ensures { λ r. ⌜ r ≡ signatureAccepted (typesIn (now (b .entry))) n (rawMethod m) ⌝ }
+{
+    let count = table::wide(m.count);
+    if Counts::ARGUMENTS < count {
+        return false;
+    }
+    if !args_fit(b, n, m) {
+        return false;
+    }
+    let answer = table::wide(m.answer);
+    if answer == 0 {
+        return true;
+    }
+    stands_in(b, n, answer - 1)
+}
+
+// "Optional and avail carry a signature", denied and unavail do not.
+fn method_fits(b: &[u8; 16384], n: usize, m: Method) -> bool
+    requires { ⌜ n ≤ 128 ⌝ }
+    ensures { λ r. ⌜ r ≡ methodAccepted (typesIn (now (b .entry))) n (rawMethod m) ⌝ }
+{
+    let state = table::wide(m.state);
+    if 4 <= state {
+        return false;
+    }
+    if state == 0 {
+        return true;
+    }
+    if state == 3 {
+        return true;
+    }
+    signature_fits(b, n, m)
+}
+
+// The methods of type i, whose signatures hold types below n.
+fn methods_fit(b: &[u8; 16384], i: usize, n: usize, methods: usize) -> bool
+    requires { ⌜ (i < 128) × (n ≤ 128) × (methods ≤ 16) ⌝ }
+    ensures { λ r. ⌜ r ≡ methodsAccepted (typesIn (now (b .entry))) n methods (getD (typesIn (now (b .entry))) i noRawType) ⌝ }
+{
+    let mut j: usize = 0;
+    while j < methods {
+        if !method_fits(b, n, table::get_method(b, i, j)) {
+            return false;
+        }
+        j += 1;
+    }
+    true
+}
+
+// Only a derived type has a kind, a left and a right.
+fn key_fits(h: Head, c: Counts, i: usize) -> bool
+    ensures { λ r. ⌜ r ≡ keyAccepted c i h ⌝ }
+{
+    if i < c.sheet {
+        return true;
+    }
+    if 3 <= h.kind {
+        return false;
+    }
+    if c.types <= table::wide(h.left) {
+        return false;
+    }
+    table::wide(h.right) < c.types
+}
+
+fn head_fits(h: Head, c: Counts, i: usize) -> bool
+    ensures { λ r. ⌜ r ≡ headAccepted c i h ⌝ }
+{
+    if 3 <= h.rep {
+        return false;
+    }
+    if c.cats < table::wide(h.cat) {
+        return false;
+    }
+    key_fits(h, c, i)
+}
+
+// "a derived type [stands] in none of a sheet type": the types that may stand in the signatures of type i are the first so many.
+fn bound(c: Counts, i: usize) -> usize
+    requires { ⌜ Limited c ⌝ }
+    ensures { λ r. ⌜ (r ≡ boundOf c i) × (r ≤ 128) ⌝ }
+{
+    if i < c.sheet {
+        return c.sheet;
+    }
+    c.types
+}
+
+// Type i: a number type has neither own flag nor methods.
+fn type_fits(b: &[u8; 16384], c: Counts, i: usize) -> bool
+    requires { ⌜ Limited c × (i < c .types) ⌝ }
+    ensures { λ r. ⌜ r ≡ typeAccepted (typesIn (now (b .entry))) c i (getD (typesIn (now (b .entry))) i noRawType) ⌝ }
+{
+    let h = table::get_head(b, i);
+    if !head_fits(h, c, i) {
+        return false;
+    }
+    if h.rep != 0 {
+        return true;
+    }
+    if 2 <= h.own {
+        return false;
+    }
+    methods_fit(b, i, bound(c, i), c.methods)
+}
+
+fn types_fit(b: &[u8; 16384], c: Counts) -> bool
+    requires { ⌜ Limited c ⌝ }
+    ensures { λ r. ⌜ r ≡ typesAccepted (typesIn (now (b .entry))) c ⌝ }
+{
+    let n = c.types;
+    let mut i: usize = 0;
+    while i < n {
+        if !type_fits(b, c, i) {
+            return false;
+        }
+        i += 1;
+    }
+    true
+}
+
+// Whether a table that is handed in is taken: b the bytes of the types, l those of the broader links.
+pub fn table_fits(b: &[u8; 16384], l: &[u8; 96], c: Counts) -> bool
+    ensures { λ r. ⌜ r ≡ tableAccepted (rawTable (now (b .entry)) (now (l .entry)) c) ⌝ }
+{
+    if !counts_fit(c) {
+        return false;
+    }
+    if !links_fit(l, c.cats) {
+        return false;
+    }
+    types_fit(b, c)
+}
