@@ -1,0 +1,30 @@
+-- Rests on the check of the table, and on Compare in a checked one; a signed local is kept as 64 bits, from which `toZ-ofZ` reads it back.
+use mathlib.Core.Path.{_≡_, sym, _∙_}
+use mir.Facts.{toZ-ofZ}
+use borrow.Author.Needs.{needs}
+use Rattle.search.proofs.Accepted.{accepted-checked}
+use Rattle.compare.proofs.Laws.{compare-fit, compare-unfit}
+use Rattle.compare.proofs.compare_types.Statement.{statement}
+use Rattle.compare.proofs.compare_types.Tie as tie
+
+table-fits-requires : tie.Need-table-fits-requires
+table-fits-requires c κs = search needs
+
+compare-checked-requires : tie.Need-compare-checked-requires
+compare-checked-requires c κs =
+    let a = c .before .before .args in
+    accepted-checked (a .b .now) (a .l .now) (a .c) (sym (c .before .table-fits .ensures) ∙ c .if1 .taken)
+
+returns : tie.Need-returns
+returns c =
+    let a = c .before .before .before .args in
+    let f = c .before .before .before .fits in
+    compare-fit (a .b .now) (a .l .now) (a .c) (a .t) (a .s) (c .compare-checked .result) (sym (c .before .before .table-fits .ensures) ∙ c .before .if1 .taken) (rw (toZ-ofZ (f .t), toZ-ofZ (f .s)) at (c .compare-checked .ensures))
+
+returns-2 : tie.Need-returns-2
+returns-2 c =
+    let a = c .before .before .args in
+    compare-unfit (a .b .now) (a .l .now) (a .c) (a .t) (a .s) (sym (c .before .table-fits .ensures) ∙ c .if1 .left)
+
+pub compare-types-spec : {M : Type 1} → statement M
+compare-types-spec = tie.close (tie.spec table-fits-requires compare-checked-requires returns returns-2)

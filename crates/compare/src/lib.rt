@@ -1,0 +1,112 @@
+// Document 01: "Compare (T, S): 7 if either number isn't in the table, else the four answers", and the same four for every pair of a sheet's types.
+ghost use mathlib.Core.Path.{_≡_};
+ghost use mathlib.Core.Bool.{Bool};
+ghost use Prim.Native.Nat.{_+_, _*_, _≤_};
+ghost use Rattle.model.specs.Relations.{bit, compare};
+ghost use Rattle.model.specs.Check.{compareHanded};
+ghost use Rattle.table.specs.Store.{rawTable, tableIn};
+ghost use Rattle.search.specs.Checked.{Checked};
+ghost use Rattle.compare.specs.Answered.{comparedOf};
+ghost use Rattle.compare.specs.Pairs.{pairCode, pairEntry, pairTable};
+use rules::Relation;
+use table::Counts;
+
+// What Compare answers: 2 for a table that is not fit, 7 for a number that names no type, or the four answers.
+pub enum Compared {
+    Unfit,
+    Unknown,
+    Answers {
+        subtype: bool,
+        strict: bool,
+        loose: bool,
+        free: bool,
+    },
+}
+
+// Compare, in a table that is checked.
+pub fn compare_checked(b: &[u8; 16384], l: &[u8; 96], c: Counts, t: i64, s: i64) -> Compared
+    requires { ⌜ Checked (now l) c ⌝ }
+    ensures { λ r. ⌜ comparedOf r ≡ compare (tableIn (now (b .entry)) (now (l .entry)) c) t s ⌝ }
+{
+    let x = operand::index_of(t, c.types);
+    if c.types <= x {
+        return Compared::Unknown;
+    }
+    let y = operand::index_of(s, c.types);
+    if c.types <= y {
+        return Compared::Unknown;
+    }
+    let subtype = relation::related_at(b, l, c, Relation::Subtype, x, y);
+    let strict = relation::related_at(b, l, c, Relation::Strict, x, y);
+    let loose = relation::related_at(b, l, c, Relation::Loose, x, y);
+    let free = relation::related_at(b, l, c, Relation::Free, x, y);
+    Compared::Answers {
+        subtype,
+        strict,
+        loose,
+        free,
+    }
+}
+
+// Compare, on any table handed in: 2 before all else.
+pub fn compare_types(b: &[u8; 16384], l: &[u8; 96], c: Counts, t: i64, s: i64) -> Compared
+    ensures { λ r. ⌜ comparedOf r ≡ compareHanded (rawTable (now (b .entry)) (now (l .entry)) c) t s ⌝ }
+{
+    if tablecheck::table_fits(b, l, c) {
+        return compare_checked(b, l, c, t, s);
+    }
+    Compared::Unfit
+}
+
+fn bit_of(x: bool) -> u8
+    ensures { λ r. ⌜ (r ≡ bit x) × (r ≤ 1) ⌝ }
+{
+    if x {
+        return 1;
+    }
+    0
+}
+
+// The four answers in one byte.
+fn pair_code(subtype: bool, strict: bool, loose: bool, free: bool) -> u8
+    ensures { λ r. ⌜ r ≡ pairCode subtype strict loose free ⌝ }
+{
+    let w = bit_of(subtype);
+    let x = bit_of(strict);
+    let y = bit_of(loose);
+    let z = bit_of(free);
+    w + 2 * x + 4 * y + 8 * z
+}
+
+// The four answers at a pair of sheet types; 0 where one is no sheet type.
+fn pair_entry(b: &[u8; 16384], l: &[u8; 96], c: Counts, t: usize, s: usize) -> u8
+    requires { ⌜ Checked (now l) c ⌝ }
+    ensures { λ r. ⌜ r ≡ pairEntry (tableIn (now (b .entry)) (now (l .entry)) c) t s ⌝ }
+{
+    if c.sheet <= t {
+        return 0;
+    }
+    if c.sheet <= s {
+        return 0;
+    }
+    let subtype = relation::related_at(b, l, c, Relation::Subtype, t, s);
+    let strict = relation::related_at(b, l, c, Relation::Strict, t, s);
+    let loose = relation::related_at(b, l, c, Relation::Loose, t, s);
+    let free = relation::related_at(b, l, c, Relation::Free, t, s);
+    pair_code(subtype, strict, loose, free)
+}
+
+// The four answers at every pair of sheet types, that of (T, S) at T * 48 + S.
+pub fn pair_table(b: &[u8; 16384], l: &[u8; 96], c: Counts) -> [u8; 2304]
+    requires { ⌜ Checked (now l) c ⌝ }
+    ensures { λ r. ⌜ r ≡ pairTable (tableIn (now (b .entry)) (now (l .entry)) c) ⌝ }
+{
+    let mut out = [0u8; 2304];
+    let mut p: usize = 0;
+    while p < 2304 {
+        let e = pair_entry(b, l, c, p / 48, p % 48);
+        out[p] = e;
+        p += 1;
+    }
+    out
+}

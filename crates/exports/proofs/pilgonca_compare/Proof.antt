@@ -1,0 +1,21 @@
+-- Rests on Compare; a signed local is kept as 64 bits, from which `toZ-ofZ` reads it back.
+use mathlib.Core.Path.{_≡_, ap, _∙_}
+use mir.Facts.{toZ-ofZ}
+use borrow.Author.Needs.{needs}
+use Rattle.exports.specs.Codes.{comparedCode}
+use Rattle.exports.proofs.pilgonca_compare.Statement.{statement}
+use Rattle.exports.proofs.pilgonca_compare.Tie as tie
+
+compare-types-requires : tie.Need-compare-types-requires
+compare-types-requires c κs = search needs
+
+compared-code-requires : tie.Need-compared-code-requires
+compared-code-requires c κs = search needs
+
+returns : tie.Need-returns
+returns c =
+    let f = c .before .before .fits in
+    c .compared-code .ensures ∙ ap comparedCode (rw (toZ-ofZ (f .t), toZ-ofZ (f .s)) at (c .before .compare-types .ensures))
+
+pub pilgonca-compare-spec : {M : Type 1} → statement M
+pilgonca-compare-spec = tie.close (tie.spec compare-types-requires compared-code-requires returns)

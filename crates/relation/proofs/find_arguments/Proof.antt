@@ -1,0 +1,129 @@
+-- Invariant: what is found passes the first i arguments. One law for each way in which it returns.
+use mathlib.Core.Path.{_≡_}
+use Prim.Native.Nat.{_-_, _≤_}
+use native.Mathlib.Omega.{arith}
+use lib.ListN.{length, take}
+use borrow.Author.Needs.{needs}
+use Rattle.model.specs.Relations.{argsRule}
+use Rattle.search.specs.Found.{Grew}
+use Rattle.search.proofs.Steps.{arguments-differ, arguments-start, arguments-broke, arguments-more, arguments-end}
+use Rattle.relation.proofs.find_arguments.Statement.{statement}
+use Rattle.relation.proofs.find_arguments.Tie as tie
+
+abbrev Inv-loop : tie.InvT-loop
+Inv-loop seen₀ queue₀ tail n x y used other t₀ i₀ seen queue t i = (i ≤ used) × Grew n (λ M. argsRule M (take i (x .args)) (take i (y .args))) seen₀ queue₀ tail seen queue t
+
+abbrev μ-loop : tie.MeasureT-loop
+μ-loop seen₀ queue₀ tail n x y used other t₀ i₀ seen queue t i = used - i
+
+slots-used-requires : tie.Need-slots-used-requires Inv-loop μ-loop
+slots-used-requires c κs = search needs
+
+slots-used-requires-2 : tie.Need-slots-used-requires-2 Inv-loop μ-loop
+slots-used-requires-2 c κs = search needs
+
+returns : tie.Need-returns Inv-loop μ-loop
+returns c =
+    let a = c .before .before .before .args in
+    let lx : length (a .t5 .args) ≡ 4 = search needs in
+    let ly : length (a .t6 .args) ≡ 4 = search needs in
+    let slots-used = c .before .before .slots-used in
+    let slots-used2 = c .before .slots-used2 in
+    let if1 = c .if1 in
+    arguments-differ (a .n) (a .seen .now) (a .queue .now) (a .tail) (a .t5 .args) (a .t6 .args) lx ly (a .t5 .count) (a .t6 .count) (slots-used .result) (slots-used2 .result) (slots-used .ensures .0) (slots-used2 .ensures .0) (slots-used .ensures .1 (a .t5 .args) lx) (slots-used2 .ensures .1 (a .t6 .args) ly) (a .seen .now) (a .queue .now) (if1 .taken)
+
+loop-holds : tie.Need-loop-holds Inv-loop μ-loop
+loop-holds c =
+    let a = c .before .before .before .args in
+    let lx : length (a .t5 .args) ≡ 4 = search needs in
+    let ly : length (a .t6 .args) ≡ 4 = search needs in
+    let slots-used = c .before .before .slots-used in
+    let slots-used2 = c .before .slots-used2 in
+    let pre = c .before .before .before .pre in
+    (omega arith, arguments-start (a .n) (a .seen .now) (a .queue .now) (a .tail) (a .t5 .args) (a .t6 .args) lx ly (a .t5 .count) (a .t6 .count) (slots-used .result) (slots-used2 .result) (slots-used .ensures .0) (slots-used2 .ensures .0) (slots-used .ensures .1 (a .t5 .args) lx) (slots-used2 .ensures .1 (a .t6 .args) ly) pre)
+
+element-copy-out-wide : tie.Need-element-copy-out-wide Inv-loop μ-loop
+element-copy-out-wide c = search needs
+
+wide-requires : tie.Need-wide-requires Inv-loop μ-loop
+wide-requires c κs = search needs
+
+element-copy-out-wide-2 : tie.Need-element-copy-out-wide-2 Inv-loop μ-loop
+element-copy-out-wide-2 c = search needs
+
+wide-requires-2 : tie.Need-wide-requires-2 Inv-loop μ-loop
+wide-requires-2 c κs = search needs
+
+find-pair-requires : tie.Need-find-pair-requires Inv-loop μ-loop
+find-pair-requires c κs = c .before .before .before .before .before .before .before .loop .inv .1 .sound
+
+returns-2 : tie.Need-returns-2 Inv-loop μ-loop
+returns-2 c =
+    let a = c .before .before .before .before .before .before .before .before .before .before .before .before .before .args in
+    let lx : length (a .t5 .args) ≡ 4 = search needs in
+    let ly : length (a .t6 .args) ≡ 4 = search needs in
+    let slots-used = c .before .before .before .before .before .before .before .before .before .before .before .before .slots-used in
+    let slots-used2 = c .before .before .before .before .before .before .before .before .before .before .before .slots-used2 in
+    let if1 = c .before .before .before .before .before .before .before .before .before .before .if1 in
+    let loop = c .before .before .before .before .before .before .before .before .before .loop in
+    let loop-test = c .before .before .before .before .before .before .before .before .loop-test in
+    let wide = c .before .before .before .before .before .before .wide in
+    let wide2 = c .before .before .before .before .wide2 in
+    let find-pair = c .before .find-pair in
+    let if2 = c .if2 in
+    arguments-broke (a .n) (a .seen .now) (a .queue .now) (a .tail) (a .t5 .args) (a .t6 .args) lx ly (a .t5 .count) (a .t6 .count) (slots-used .result) (slots-used2 .result) (slots-used .ensures .0) (slots-used2 .ensures .0) (slots-used .ensures .1 (a .t5 .args) lx) (slots-used2 .ensures .1 (a .t6 .args) ly) (if1 .left) (loop .i) (loop .seen) (loop .queue) (loop .t) (loop .inv .1) (loop-test .taken) (wide .result) (wide2 .result) (wide .ensures .0) (wide2 .ensures .0) (find-pair .last .0) (find-pair .last .1 .0) (find-pair .result) (find-pair .ensures) (if2 .taken)
+
+add-i : tie.Need-add-i Inv-loop μ-loop
+add-i c = search needs
+
+loop-less : tie.Need-loop-less Inv-loop μ-loop
+loop-less c = search needs
+
+loop-again : tie.Need-loop-again Inv-loop μ-loop
+loop-again c =
+    let a = c .before .before .before .before .before .before .before .before .before .before .before .before .before .args in
+    let lx : length (a .t5 .args) ≡ 4 = search needs in
+    let ly : length (a .t6 .args) ≡ 4 = search needs in
+    let loop-test = c .before .before .before .before .before .before .before .before .loop-test in
+    let slots-used = c .before .before .before .before .before .before .before .before .before .before .before .before .slots-used in
+    let slots-used2 = c .before .before .before .before .before .before .before .before .before .before .before .slots-used2 in
+    let if1 = c .before .before .before .before .before .before .before .before .before .before .if1 in
+    let loop = c .before .before .before .before .before .before .before .before .before .loop in
+    let wide = c .before .before .before .before .before .before .wide in
+    let wide2 = c .before .before .before .before .wide2 in
+    let find-pair = c .before .find-pair in
+    let if2 = c .if2 in
+    (omega (arith, loop-test .taken), arguments-more (a .n) (a .seen .now) (a .queue .now) (a .tail) (a .t5 .args) (a .t6 .args) lx ly (a .t5 .count) (a .t6 .count) (slots-used .result) (slots-used2 .result) (slots-used .ensures .0) (slots-used2 .ensures .0) (slots-used .ensures .1 (a .t5 .args) lx) (slots-used2 .ensures .1 (a .t6 .args) ly) (if1 .left) (loop .i) (loop .seen) (loop .queue) (loop .t) (loop .inv .1) (loop-test .taken) (wide .result) (wide2 .result) (wide .ensures .0) (wide2 .ensures .0) (find-pair .last .0) (find-pair .last .1 .0) (find-pair .result) (find-pair .ensures) (if2 .left))
+
+returns-3 : tie.Need-returns-3 Inv-loop μ-loop
+returns-3 c =
+    let a = c .before .before .before .before .before .args in
+    let lx : length (a .t5 .args) ≡ 4 = search needs in
+    let ly : length (a .t6 .args) ≡ 4 = search needs in
+    let slots-used = c .before .before .before .before .slots-used in
+    let slots-used2 = c .before .before .before .slots-used2 in
+    let if1 = c .before .before .if1 in
+    let loop = c .before .loop in
+    let loop-test = c .loop-test in
+    arguments-end (a .n) (a .seen .now) (a .queue .now) (a .tail) (a .t5 .args) (a .t6 .args) lx ly (a .t5 .count) (a .t6 .count) (slots-used .result) (slots-used2 .result) (slots-used .ensures .0) (slots-used2 .ensures .0) (slots-used .ensures .1 (a .t5 .args) lx) (slots-used2 .ensures .1 (a .t6 .args) ly) (if1 .left) (loop .i) (loop .seen) (loop .queue) (loop .t) (loop .inv .1) (loop-test .left) (loop .inv .0)
+
+pub find-arguments-spec : {M : Type 1} → statement M
+find-arguments-spec =
+    tie.close
+    (tie.spec
+    Inv-loop
+    μ-loop
+    slots-used-requires
+    slots-used-requires-2
+    returns
+    loop-holds
+    element-copy-out-wide
+    wide-requires
+    element-copy-out-wide-2
+    wide-requires-2
+    find-pair-requires
+    returns-2
+    add-i
+    loop-less
+    loop-again
+    returns-3)

@@ -1,0 +1,63 @@
+-- "Each is the largest relation that keeps its rules": a pair is in it unless a pair that breaks its rule can be reached from it. So a search finds pairs, each once,
+-- and asks the rule of each, which finds more. Here is what is found so far, and what a step of the search promises.
+use mathlib.Core.Path.{_≡_}
+use mathlib.Core.Logic.{_⊎_}
+use mathlib.Core.Bool.{Bool, true, false, _&&_, So}
+use mathlib.Core.List.{List}
+use Prim.Native.Nat.{ℕ, zero, suc, _+_, _*_, _/_, _%_, _≤_, _<_}
+use lib.Dec.{ltb}
+use lib.ListN.{length, getD}
+use Rattle.model.specs.Relations.{yeses}
+
+-- The pair (x, y) has the number x * 128 + y. `seen` says of each number whether its pair is found: a relation of the n types, as the model has them.
+abbrev pub found : ℕ → List Bool → ℕ → ℕ → Bool
+found n seen x y = ltb x n && (ltb y n && getD seen (x * 128 + y) false)
+
+unfoldable pub Within : (ℕ → ℕ → Bool) → (ℕ → ℕ → Bool) → Type 0
+Within M N = (x y : ℕ) → So (M x y) → So (N x y)
+
+-- p is one of the first t numbers in the queue
+pub record Queued (queue : List ℕ) (t p : ℕ) : Type 0 where
+  pub place : ℕ
+  pub below : place < t
+  pub there : getD queue place 0 ≡ p
+
+-- p is the number of a pair that is found
+pub record Pair (n : ℕ) (seen : List Bool) (p : ℕ) : Type 0 where
+  pub low : p / 128 < n
+  pub high : p % 128 < n
+  pub known : So (getD seen p false)
+
+-- t pairs are found, at least one, and the first t numbers in the queue are theirs
+pub record Sound (n : ℕ) (seen : List Bool) (queue : List ℕ) (t : ℕ) : Type 0 where
+  pub small : n ≤ 128
+  pub slots : length seen ≡ 16384
+  pub room : length queue ≡ 16384
+  pub first : 0 < t
+  pub count : yeses seen ≡ t
+  pub back : (i : ℕ) → i < t → Pair n seen (getD queue i 0)
+  pub forth : (x y : ℕ) → So (found n seen x y) → Queued queue t (x * 128 + y)
+
+-- A step looks at a piece W of a pair's rule: a test over the relation that says which pairs of types in signatures are related.
+-- It may have found more pairs. Then what is found now passes W, and is within every relation that passes W and has what was found before.
+pub record Grew (n : ℕ) (W : (ℕ → ℕ → Bool) → Bool) (seen : List Bool) (queue : List ℕ) (t : ℕ) (seen′ : List Bool) (queue′ : List ℕ) (r : ℕ) : Type 0 where
+  pub sound : Sound n seen′ queue′ r
+  pub more : Within (found n seen) (found n seen′)
+  pub kept : (i : ℕ) → i < t → getD queue′ i 0 ≡ getD queue i 0
+  pub longer : t ≤ r
+  pub has : So (W (found n seen′))
+  pub only : (M : ℕ → ℕ → Bool) → So (W M) → Within (found n seen) M → Within (found n seen′) M
+
+-- Or it answers 0: no relation of the n types passes W.
+pub record Broke (n : ℕ) (W : (ℕ → ℕ → Bool) → Bool) (r : ℕ) : Type 0 where
+  pub zero : r ≡ 0
+  pub none : (M : ℕ → ℕ → Bool) → Within M (λ x y. ltb x n && ltb y n) → So (W M) → ⊥
+
+-- what a step promises of its answer r: 0, or how many pairs are found now
+abbrev pub Met : ℕ → ((ℕ → ℕ → Bool) → Bool) → List Bool → List ℕ → ℕ → List Bool → List ℕ → ℕ → Type 0
+Met n W seen queue t seen′ queue′ r = Broke n W r ⊎ Grew n W seen queue t seen′ queue′ r
+
+-- a test of every number below m
+unfoldable pub upto : ℕ → (ℕ → Bool) → Bool
+upto zero f = true
+upto (suc m) f = upto m f && f m

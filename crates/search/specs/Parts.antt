@@ -1,0 +1,61 @@
+-- The rule of a pair by its parts (Relations), as the code asks for them one after another.
+use mathlib.Core.Path.{_≡_}
+use mathlib.Core.Bool.{Bool, true, false, _&&_, _||_, cond}
+use mathlib.Core.List.{List, []}
+use Prim.Native.Nat.{ℕ, _<_}
+use lib.Dec.{eqb}
+use lib.ListN.{getD}
+use Rattle.model.specs.Basics.{_⇒_, any}
+use Rattle.model.specs.Table.{Rep, Method, Table, isRef}
+use Rattle.model.specs.Relations.{Relation, subtype, conforms, strict, loose, free, stateRule, sameRep, sameSort, catLe}
+use Rattle.model.specs.Check.{noRawType, noRawMethod, stateOf, repOf, methodOf}
+use Rattle.table.specs.declared.Head.{Head}
+use Rattle.table.specs.Store.{typesIn}
+
+-- Whether a relation asks for the same representation; the others ask that both are ref or both numbers
+abbrev pub exact : Relation → Bool
+exact subtype = true
+exact conforms = true
+exact strict = false
+exact loose = false
+exact free = false
+
+-- whether it asks that the category of T is at or below that of S
+abbrev pub ordered : Relation → Bool
+ordered subtype = true
+ordered conforms = true
+ordered strict = true
+ordered loose = false
+ordered free = false
+
+-- whether it asks that T is own only if S is
+abbrev pub owned : Relation → Bool
+owned subtype = true
+owned conforms = false
+owned strict = false
+owned loose = false
+owned free = false
+
+abbrev pub repRule : Relation → Rep → Rep → Bool
+repRule k a b = cond (exact k) (sameRep a b) (sameSort a b)
+
+-- a number type has no own flag, whatever its record holds
+abbrev pub ownOf : Head → Bool
+ownOf x = isRef (repOf (x .rep)) && eqb (x .own) 1
+
+-- what a relation asks of the two heads, in a table of which only the categories matter here
+unfoldable pub outerHeads : Relation → Table → Head → Head → Bool
+unfolding catLe
+outerHeads k t x y = repRule k (repOf (x .rep)) (repOf (y .rep)) && ((ordered k ⇒ catLe t (x .cat) (y .cat)) && (owned k ⇒ (ownOf x ⇒ ownOf y)))
+
+-- A four by four square of yes and no says the state rule of k: the row is T's state, the column S's.
+unfoldable pub Says : Relation → List (List Bool) → Type 0
+Says k square = (a b : ℕ) → a < 4 → b < 4 → getD (getD square a []) b false ≡ stateRule k (stateOf a) (stateOf b)
+
+-- Category a ≤ x by the links of x, from the answers for the categories below x.
+unfoldable pub catNext : List (List ℕ) → List Bool → ℕ → ℕ → Bool
+catNext links done a x = eqb a 0 || (eqb a x || any (λ k. getD done k false) (getD links x []))
+
+-- Method j of type i, as the model has it.
+abbrev pub methodIn : List ℕ → ℕ → ℕ → Method
+methodIn b i j = methodOf (getD (getD (typesIn b) i noRawType .methods) j noRawMethod)
