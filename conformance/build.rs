@@ -4,7 +4,10 @@ use std::path::Path;
 
 fn main() {
     let library = Path::new(env!("CARGO_MANIFEST_DIR")).join("../target/staticlib");
-    println!("cargo:rerun-if-changed={}", library.join("libexports.a").display());
+    println!(
+        "cargo:rerun-if-changed={}",
+        library.join("libexports.a").display()
+    );
     println!("cargo:rustc-link-search=native={}", library.display());
     println!("cargo:rustc-link-lib=static=exports");
 }

@@ -33,7 +33,11 @@ fn compare_on_tables_handed_in() {
 #[test]
 fn every_pair_of_generated_sheets() {
     let mut pairs = 0;
-    for (profile, seeds) in [(Profile::Small, 400), (Profile::Medium, 60), (Profile::Big, 6)] {
+    for (profile, seeds) in [
+        (Profile::Small, 400),
+        (Profile::Medium, 60),
+        (Profile::Big, 6),
+    ] {
         for seed in 0..seeds {
             let input = generate(seed, profile);
             let end = b"end=sheet\n";
@@ -54,4 +58,31 @@ fn every_pair_of_generated_sheets() {
         }
     }
     assert!(pairs > 10_000, "only {pairs} pairs");
+}
+
+/// Every pair of 128 types reached, in a stack of 256 KB.
+#[test]
+fn the_worst_comparison_needs_little_stack() {
+    let mut table = RawTable {
+        subjects: 1,
+        methods: 16,
+        sheet_types: 48,
+        types: 128,
+        ..RawTable::default()
+    };
+    for number in 0..128 {
+        let within = if number < 48 { 48 } else { 128 };
+        for method in 0..16 {
+            let answer = ((number * 3 + 1 + 5 * method) % within) as u8 + 1;
+            let argument = ((number + 1 + 3 * method) % within) as u8;
+            table.method_mut(number, method)[..3].copy_from_slice(&[2, 1, argument]);
+            table.method_mut(number, method)[6] = answer;
+        }
+    }
+    let small = std::thread::Builder::new().stack_size(256 * 1024);
+    let answer = small
+        .spawn(move || compare(&table, 126, 127))
+        .unwrap()
+        .join();
+    assert_eq!(answer.unwrap(), Ok([true; 4]));
 }
