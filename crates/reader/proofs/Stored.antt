@@ -1,0 +1,161 @@
+-- Laws of what is stored: a category's links, a type's methods, and the table that the bytes mean.
+use mathlib.Core.Path.{_≡_, refl, sym, ap, _∙_, subst}
+use mathlib.Core.Logic.{⊎-elim, _⊎_}
+use mathlib.Core.Bool.{Bool, true, false, _&&_, cond}
+use mathlib.Core.List.{List, [], _∷_, _++_, map}
+use mathlib.Core.Option.{none, some}
+use Prim.Native.Nat.{ℕ, zero, suc, _+_, _*_, _≤_, _<_}
+use native.Mathlib.Omega.{arith}
+use native.Mathlib.Numerals.{add-one}
+use lib.Dec.{eqb, ltb}
+use lib.ListN.{length, getD, set, take, length-set, length-map, List·getD-map}
+use lib.Seq.{getD-set-same, getD-set-other, getD-take, length-take-le, take-suc-set}
+use borrow.Author.Tests.{lt-ltb}
+use Rattle.model.specs.Basics.{from}
+use Rattle.model.specs.Table.{Ty, Table, Key, Rep, isRef, Method as Methodᵐ}
+use Rattle.model.specs.Check.{RawType, RawLinks, RawMethod, noRawMethod, noRawLinks, repOf, kindOf, methodOf, linksOf, typeOf, tableOf}
+use Rattle.table.specs.declared.Method.{Method}
+use Rattle.table.specs.declared.Counts.{Counts}
+use Rattle.table.specs.Store.{rawLinksAt, linksIn, typesIn, rawMethod, tableIn, typesTo, emptyCounts}
+use Rattle.table.proofs.Lists.{lt-or-ge, same-or, length-from, from-last, from-same, is-from}
+use Rattle.table.proofs.Tables.{types-add}
+use Rattle.table.proofs.Laws.{links-length, links-in, absent}
+use Rattle.sheet.specs.Sheet.{sheetType, emptyTable}
+use Rattle.reader.specs.View.{linksTo, methodIs}
+
+-- Three bytes stored at k * 3 are the links of category k.
+module _ (l : List ℕ) (k x y z : ℕ) (h : k < 32) (e : length l ≡ 96) where
+  stored : List ℕ
+  stored = set (set (set l (k * 3) x) (k * 3 + 1) y) (k * 3 + 2) z
+
+  elsewhere : (p : ℕ) → (p ≡ k * 3 → ⊥) → (p ≡ k * 3 + 1 → ⊥) → (p ≡ k * 3 + 2 → ⊥) → getD stored p 0 ≡ getD l p 0
+  unfolding stored
+  elsewhere p a b c =
+      getD-set-other (set (set l (k * 3) x) (k * 3 + 1) y) (k * 3 + 2) p z 0 c ∙ getD-set-other (set l (k * 3) x) (k * 3 + 1) p y 0 b ∙ getD-set-other l (k * 3) p x 0 a
+
+  first : getD stored (k * 3) 0 ≡ x
+  unfolding stored
+  first =
+      getD-set-other (set (set l (k * 3) x) (k * 3 + 1) y) (k * 3 + 2) (k * 3) z 0 (λ q. omega arith) ∙ getD-set-other (set l (k * 3) x) (k * 3 + 1) (k * 3) y 0 (λ q. omega arith)
+      ∙ getD-set-same l (k * 3) x 0 (omega arith)
+
+  second : getD stored (k * 3 + 1) 0 ≡ y
+  unfolding stored
+  second =
+      let f : length (set l (k * 3) x) ≡ 96 = length-set l (k * 3) x ∙ e in
+      getD-set-other (set (set l (k * 3) x) (k * 3 + 1) y) (k * 3 + 2) (k * 3 + 1) z 0 (λ q. omega arith) ∙ getD-set-same (set l (k * 3) x) (k * 3 + 1) y 0 (omega arith)
+
+  third : getD stored (k * 3 + 2) 0 ≡ z
+  unfolding stored
+  third =
+      let f : length (set (set l (k * 3) x) (k * 3 + 1) y) ≡ 96 = length-set (set l (k * 3) x) (k * 3 + 1) y ∙ length-set l (k * 3) x ∙ e in
+      getD-set-same (set (set l (k * 3) x) (k * 3 + 1) y) (k * 3 + 2) z 0 (omega arith)
+
+  at-k : rawLinksAt stored (k * 3) ≡ record { count = x; first = y; second = z }
+  at-k =
+      ap (λ (v : ℕ). let r : RawLinks = record { count = v; first = getD stored (k * 3 + 1) 0; second = getD stored (k * 3 + 2) 0 } in r) first
+      ∙ ap (λ (v : ℕ). let r : RawLinks = record { count = x; first = v; second = getD stored (k * 3 + 2) 0 } in r) second
+      ∙ ap (λ (v : ℕ). let r : RawLinks = record { count = x; first = y; second = v } in r) third
+
+  at-other : (i : ℕ) → (i ≡ k → ⊥) → rawLinksAt l (i * 3) ≡ rawLinksAt stored (i * 3)
+  at-other i ne =
+      ⊎-elim
+      (λ (lt : i < k). go i (λ p a. omega arith) (λ p a. omega arith) (λ p a. omega arith))
+      (λ (ge : k ≤ i). let gt : k < i = omega (arith, ne) in go i (λ p a. omega arith) (λ p a. omega arith) (λ p a. omega arith))
+      (lt-or-ge i k)
+    where
+      go : (i : ℕ) → ((p : ℕ) → p < 3 → i * 3 + p ≡ k * 3 → ⊥) → ((p : ℕ) → p < 3 → i * 3 + p ≡ k * 3 + 1 → ⊥) → ((p : ℕ) → p < 3 → i * 3 + p ≡ k * 3 + 2 → ⊥) → rawLinksAt l (i * 3) ≡ rawLinksAt stored (i * 3)
+      go i a b c =
+          let zero′ : i * 3 + 0 ≡ i * 3 = omega arith in
+          ap (λ (v : ℕ). let r : RawLinks = record { count = v; first = getD l (i * 3 + 1) 0; second = getD l (i * 3 + 2) 0 } in r)
+          (sym (elsewhere (i * 3) (λ q. a 0 (omega arith) (zero′ ∙ q)) (λ q. b 0 (omega arith) (zero′ ∙ q)) (λ q. c 0 (omega arith) (zero′ ∙ q))))
+          ∙ ap (λ (v : ℕ). let r : RawLinks = record { count = getD stored (i * 3) 0; first = v; second = getD l (i * 3 + 2) 0 } in r)
+          (sym (elsewhere (i * 3 + 1) (a 1 (omega arith)) (b 1 (omega arith)) (c 1 (omega arith))))
+          ∙ ap (λ (v : ℕ). let r : RawLinks = record { count = getD stored (i * 3) 0; first = getD stored (i * 3 + 1) 0; second = v } in r)
+          (sym (elsewhere (i * 3 + 2) (a 2 (omega arith)) (b 2 (omega arith)) (c 2 (omega arith))))
+
+  pub links-put : linksIn (set (set (set l (k * 3) x) (k * 3 + 1) y) (k * 3 + 2) z) ≡ set (linksIn l) k (record { count = x; first = y; second = z })
+  unfolding linksIn stored
+  links-put =
+      let r : RawLinks = record { count = x; first = y; second = z } in
+      sym (is-from (λ i. rawLinksAt stored (i * 3)) 32 noRawLinks (set (linksIn l) k r) (length-set (linksIn l) k r ∙ links-length l)
+      (λ i p. ⊎-elim
+      (λ (q : i ≡ k). ap (λ (v : ℕ). getD (set (linksIn l) k r) v noRawLinks) q ∙ getD-set-same (linksIn l) k r noRawLinks (subst (λ (v : ℕ). k < v) (sym (links-length l)) h) ∙ sym at-k ∙ ap (λ (v : ℕ). rawLinksAt stored (v * 3)) (sym q))
+      (λ (q : i ≡ k → ⊥). getD-set-other (linksIn l) k i r noRawLinks q ∙ links-in l i noRawLinks p ∙ at-other i q)
+      (same-or i k)))
+
+  pub links-put-length : length (set (set (set l (k * 3) x) (k * 3 + 1) y) (k * 3 + 2) z) ≡ 96
+  links-put-length = length-set (set (set l (k * 3) x) (k * 3 + 1) y) (k * 3 + 2) z ∙ length-set (set l (k * 3) x) (k * 3 + 1) y ∙ length-set l (k * 3) x ∙ e
+
+-- the links of one category more
+pub links-none : (ls : List RawLinks) → linksTo 0 ls ≡ []
+unfolding linksTo from
+links-none ls = refl
+
+pub links-add : (ls : List RawLinks) (j : ℕ) (x : RawLinks) → j + 1 < length ls → linksTo (j + 1) (set ls (j + 1) x) ≡ linksTo j ls ++ linksOf x ∷ []
+unfolding linksTo
+links-add ls j x h =
+    let f : ℕ → List ℕ = λ k. linksOf (getD (set ls (j + 1) x) k noRawLinks) in
+    let g : ℕ → List ℕ = λ k. linksOf (getD ls k noRawLinks) in
+    let e : 1 + j ≡ j + 1 = omega arith in
+    ap (λ (n : ℕ). from n 1 f) (add-one j) ∙ from-last f j 1
+    ∙ ap (λ (zs : List (List ℕ)). zs ++ (f (1 + j) ∷ [])) (from-same f g j 1 (λ k p q. ap linksOf (getD-set-other ls (j + 1) k x noRawLinks (λ r. let d : k ≡ j + 1 = r in omega arith))))
+    ∙ ap (λ (n : ℕ). from j 1 g ++ (f n ∷ [])) e ∙ ap (λ (v : RawLinks). from j 1 g ++ (linksOf v ∷ [])) (getD-set-same ls (j + 1) x noRawLinks h)
+
+-- A type's methods, one more and all.
+map-snoc : {A B : Type 0} (f : A → B) (xs : List A) (y : A) → map f (xs ++ y ∷ []) ≡ map f xs ++ f y ∷ []
+map-snoc f [] y = refl
+map-snoc f (x ∷ xs) y = ap (λ z. f x ∷ z) (map-snoc f xs y)
+
+pub methods-add : (l : List Method) (j : ℕ) (x : Method) → j < length l → map methodIs (take (j + 1) (set l j x)) ≡ map methodIs (take j l) ++ methodIs x ∷ []
+methods-add l j x h = ap (λ (n : ℕ). map methodIs (take n (set l j x))) (add-one j) ∙ ap (map methodIs) (take-suc-set l j x h) ∙ map-snoc methodIs (take j l) x
+
+pub methods-all : (l : List Method) (m : ℕ) → m ≤ length l → from m 0 (λ j. methodOf (getD (map rawMethod l) j noRawMethod)) ≡ map methodIs (take m l)
+methods-all l m h =
+    sym (is-from (λ j. methodOf (getD (map rawMethod l) j noRawMethod)) m (methodIs absent) (map methodIs (take m l)) (length-map (take m l) methodIs ∙ length-take-le m l h)
+    (λ j p. List·getD-map methodIs (take m l) j absent ∙ ap methodIs (getD-take m l j absent p) ∙ ap methodOf (sym (List·getD-map rawMethod l j absent))))
+
+-- A type of the sheet.
+meaning : Rep → Bool → ℕ → ℕ → List Methodᵐ → Bool → RawType → Ty
+meaning r isr c o ms sheet x =
+    record { rep = r; cat = c; own = isr && eqb o 1; methods = cond isr ms []; key = cond sheet none (some (record { kind = kindOf (x .kind); left = x .left; right = x .right })) }
+
+module _ (m n i : ℕ) (x : RawType) (h : i < n) where
+  pub ref-means : (c o : ℕ) (ms : List Methodᵐ) → x .rep ≡ 0 → x .cat ≡ c → x .own ≡ o → from m 0 (λ j. methodOf (getD (x .methods) j noRawMethod)) ≡ ms → typeOf m n i x ≡ sheetType (repOf 0) c (eqb o 1) ms
+  unfolding meaning
+  ref-means c o ms p q r f =
+      ap (λ z. meaning (repOf (x .rep)) (isRef (repOf (x .rep))) (x .cat) (x .own) (from m 0 (λ j. methodOf (getD (x .methods) j noRawMethod))) z x) (lt-ltb i n h)
+      ∙ ap (λ (z : ℕ). meaning (repOf z) (isRef (repOf z)) (x .cat) (x .own) (from m 0 (λ j. methodOf (getD (x .methods) j noRawMethod))) true x) p
+      ∙ ap (λ (z : ℕ). sheetType (repOf 0) z (eqb (x .own) 1) (from m 0 (λ j. methodOf (getD (x .methods) j noRawMethod)))) q
+      ∙ ap (λ (z : ℕ). sheetType (repOf 0) c (eqb z 1) (from m 0 (λ j. methodOf (getD (x .methods) j noRawMethod)))) r
+      ∙ ap (sheetType (repOf 0) c (eqb o 1)) f
+
+  number-rep : (r : ℕ) → 0 < r → isRef (repOf r) ≡ false
+  number-rep zero p = absurd (omega arith)
+  number-rep (suc zero) p = refl
+  number-rep (suc (suc r)) p = refl
+
+  pub number-means : (r c : ℕ) → 0 < r → x .rep ≡ r → x .cat ≡ c → typeOf m n i x ≡ sheetType (repOf r) c false []
+  unfolding meaning
+  number-means r c k p q =
+      ap (λ z. meaning (repOf (x .rep)) (isRef (repOf (x .rep))) (x .cat) (x .own) (from m 0 (λ j. methodOf (getD (x .methods) j noRawMethod))) z x) (lt-ltb i n h)
+      ∙ ap (λ (z : ℕ). meaning (repOf z) (isRef (repOf z)) (x .cat) (x .own) (from m 0 (λ j. methodOf (getD (x .methods) j noRawMethod))) true x) p
+      ∙ ap (λ z. meaning (repOf r) z (x .cat) (x .own) (from m 0 (λ j. methodOf (getD (x .methods) j noRawMethod))) true x) (number-rep r k)
+      ∙ ap (λ (z : ℕ). sheetType (repOf r) z false []) q
+
+-- One type more.
+pub types-none : (m n : ℕ) (rs : List RawType) → typesTo m n 0 rs ≡ []
+unfolding typesTo from
+types-none m n rs = refl
+
+pub types-next : (m n i : ℕ) (rs : List RawType) (t : RawType) → i < length rs → typesTo m n (i + 1) (set rs i t) ≡ typesTo m n i rs ++ typeOf m n i t ∷ []
+types-next m n i rs t h = ap (λ (z : ℕ). typesTo m n z (set rs i t)) (add-one i) ∙ types-add m n rs i t h
+
+-- The table in the bytes.
+pub table-of : (b l : List ℕ) (c : Counts) → tableIn b l c ≡ record { subjects = c .subjects; methods = c .methods; cats = linksTo (c .cats) (linksIn l); sheet = c .sheet; types = typesTo (c .methods) (c .sheet) (c .types) (typesIn b) }
+unfolding tableIn tableOf linksTo typesTo
+table-of b l c = refl
+
+pub table-empty : (b l : List ℕ) (c : Counts) → c ≡ emptyCounts → tableIn b l c ≡ emptyTable
+unfolding tableIn tableOf from
+table-empty b l c e = ap (tableIn b l) e

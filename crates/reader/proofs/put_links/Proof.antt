@@ -1,0 +1,31 @@
+-- Rests on `links-put`.
+use borrow.Author.Needs.{needs}
+use Rattle.reader.proofs.Stored.{links-put, links-put-length}
+use Rattle.reader.proofs.put_links.Statement.{statement}
+use Rattle.reader.proofs.put_links.Tie as tie
+
+mul-at : tie.Need-mul-at
+mul-at c = search needs
+
+element-write-l : tie.Need-element-write-l
+element-write-l c = search needs
+
+add-l : tie.Need-add-l
+add-l c = search needs
+
+element-write-l-2 : tie.Need-element-write-l-2
+element-write-l-2 c = search needs
+
+add-l-2 : tie.Need-add-l-2
+add-l-2 c = search needs
+
+element-write-l-3 : tie.Need-element-write-l-3
+element-write-l-3 c = search needs
+
+returns : tie.Need-returns
+returns c = let a = c .args in (links-put (a .l .now) (a .k) (a .x .count) (a .x .first) (a .x .second) (c .pre .0) (c .pre .1), links-put-length (a .l .now) (a .k) (a .x .count) (a .x .first) (a .x .second) (c .pre .0) (c .pre .1))
+
+pub put-links-spec : {M : Type 1} → statement M
+put-links-spec =
+    tie.close
+    (tie.spec mul-at element-write-l add-l element-write-l-2 add-l-2 element-write-l-3 returns)

@@ -1,0 +1,85 @@
+-- What the reader's answers say, in the words of crate `sheet`: the code's records as the model's, and the lines of a sheet in the groups in which the code reads them.
+use mathlib.Core.Path.{_≡_}
+use mathlib.Core.Bool.{Bool, true, false, _&&_, cond}
+use mathlib.Core.List.{List, [], map}
+use Prim.Native.Nat.{ℕ}
+use lib.Dec.{eqb, ltb}
+use lib.ListN.{getD, take}
+use Rattle.model.specs.Basics.{any, from}
+use Rattle.model.specs.Table.{Rep, ref, w32, w64, Method as Methodᵐ, Ty, Table, isRef, maxSubjects, maxMethods, maxCategories, maxSheetTypes}
+use Rattle.model.specs.Check.{RawType, RawLinks, noRawType, noRawMethod, noRawLinks, repOf, methodOf, linksOf}
+use Rattle.table.specs.declared.Method.{Method}
+use Rattle.table.specs.declared.Counts.{Counts}
+use Rattle.table.specs.Store.{rawMethod, tableIn}
+use Rattle.sheet.specs.Lines.{bytes, Reader, give, line, then, many}
+use Rattle.sheet.specs.Text.{newestForm}
+use Rattle.sheet.specs.Sheet.{numberLine, underLine, ownLine, methodLine, sheetType, oneType, ownIn, SheetAnswer, malformed, loaded, tableRead}
+use Rattle.reader.specs.declared.First.{First}
+use Rattle.reader.specs.declared.Sheet.{Sheet}
+
+-- The broader categories of categories 1 to n.
+unfoldable pub linksTo : ℕ → List RawLinks → List (List ℕ)
+linksTo n ls = from n 1 (λ k. linksOf (getD ls k noRawLinks))
+
+-- a method of the code
+abbrev pub methodIs : Method → Methodᵐ
+methodIs m = methodOf (rawMethod m)
+
+-- "one `under=` line .. for each category"; "an `m=` line for each method"
+abbrev pub eachUnder : ℕ → ℕ → Reader (List ℕ)
+eachUnder c k = line (underLine c k)
+
+abbrev pub eachMethod : ℕ → ℕ → Reader Methodᵐ
+eachMethod n j = line (methodLine n)
+
+-- The methods of a type's record.
+abbrev pub methodsOf : ℕ → RawType → List Methodᵐ
+methodsOf m x = cond (isRef (repOf (x .rep))) (from m 0 (λ j. methodOf (getD (x .methods) j noRawMethod))) []
+
+-- the lines of a reference type behind its `cat=` line
+unfoldable pub memberLines : ℕ → ℕ → ℕ → Reader Ty
+unfolding many ownLine methodLine
+memberLines m n c = then (line ownLine) λ o. then (many (eachMethod n) m 0 []) λ ms. give (sheetType ref c o ms)
+
+-- Own among the first n records.
+abbrev pub ownAt : List RawType → ℕ → ℕ → Bool
+ownAt rs n a = cond (ltb a n) (isRef (repOf (getD rs a noRawType .rep)) && eqb (getD rs a noRawType .own) 1) false
+
+-- own in the signatures of a type's methods
+abbrev pub ownInMethods : (ℕ → Bool) → List Methodᵐ → Bool
+ownInMethods own ms = any (ownIn own) ms
+
+-- own in the signatures of a type, among the first n records
+abbrev pub ownInType : List RawType → ℕ → Ty → Bool
+ownInType rs n x = ownInMethods (ownAt rs n) (x .methods)
+
+-- What the first four lines say.
+pub record Counted : Type 0 where
+  pub subjects : ℕ
+  pub methods : ℕ
+  pub cats : ℕ
+
+abbrev pub countedIn : First → Counted
+countedIn h = record { subjects = h .subjects; methods = h .methods; cats = h .cats }
+
+-- The lines of `body` in three groups: the first four, the `under=` lines, and the rest.
+abbrev pub first₁ : ℕ → Reader Counted
+first₁ g = then (line (numberLine (bytes "subjects=") 1 maxSubjects)) λ s. then (line (numberLine (bytes "methods=") 1 maxMethods)) λ m. then (line (numberLine (bytes "cats=") 0 maxCategories)) λ c. give (record { subjects = s; methods = m; cats = c })
+
+unfoldable pub first : Reader Counted
+unfolding numberLine
+first = then (line (numberLine (bytes "guide=") 1 newestForm)) first₁
+
+unfoldable pub afterCats : Counted → List (List ℕ) → Reader Table
+unfolding numberLine many oneType
+afterCats h links = then (line (numberLine (bytes "types=") 1 maxSheetTypes)) λ n. then (many (oneType (h .methods) (h .cats) n) n 0 []) λ ts.
+    give (record { subjects = h .subjects; methods = h .methods; cats = links; sheet = n; types = ts })
+
+unfoldable pub afterFirst : Counted → Reader Table
+unfolding many underLine afterCats
+afterFirst h = then (many (eachUnder (h .cats)) (h .cats) 1 []) (afterCats h)
+
+-- The reader's answer as the definition's: number and offset, or the table in the bytes. The table that is returned is the one that the definition gives: with every count 0 where it refuses.
+pub record SheetIs (r : Sheet) (a : SheetAnswer) : Type 0 where
+  pub answer : cond (eqb (r .no) 0) (loaded (tableIn (r .types) (r .links) (r .counts))) (malformed (r .no) (r .at)) ≡ a
+  pub table : tableIn (r .types) (r .links) (r .counts) ≡ tableRead a

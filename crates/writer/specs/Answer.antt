@@ -1,0 +1,17 @@
+-- Document 01: "If an answer is an enum, a definition gives this paper's number and values for each of its cases." Here for the writer's answer.
+use Prim.Native.Nat.{ℕ}
+use mathlib.Core.List.{List}
+use Rattle.model.specs.Basics.{Res, refuse, ok}
+use Rattle.sheet.specs.Text.{Written}
+use Rattle.writer.specs.declared.Wrote.{Wrote}
+use Rattle.writer.specs.declared.Wrote.the-variants.{UnfitTable, ShortBuffer, Length}
+
+-- "A .. table handed in gets 2"; "4 if the buffer is short .. else the length"
+abbrev pub answerOf : Wrote → Res ℕ
+answerOf UnfitTable = refuse 2
+answerOf ShortBuffer = refuse 4
+answerOf (Length n) = ok n
+
+-- what the writer leaves: its answer, and the buffer as it is then
+abbrev pub left : Wrote → List ℕ → Written
+left w buffer = record { answer = answerOf w; buffer = buffer }
