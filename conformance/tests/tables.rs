@@ -2,15 +2,33 @@
 
 use conformance::compare;
 use reference::gen::{generate, Profile};
-use reference::raw::RawTable;
-use reference::{hostile, raw, sheet};
+use reference::hostile::{self, Hostile};
+use reference::raw::{self, RawTable};
+use reference::sheet;
+use reference::shrink::{shrink, shrink_hostile};
 
-/// One comparison, both ways.
-fn same(table: &RawTable, t: i64, s: i64, what: &str) -> bool {
+/// What the proved core answers and what the reference does.
+fn both(table: &RawTable, t: i64, s: i64) -> (Result<[bool; 4], usize>, Result<[bool; 4], usize>) {
     let ours = raw::compare(table, t, s).map_err(|refusal| refusal as usize);
-    let theirs = compare(table, t, s);
-    assert_eq!(theirs, ours, "{what}: compare {t} {s}");
-    theirs.is_ok()
+    (compare(table, t, s), ours)
+}
+
+fn differs(table: &RawTable, t: i64, s: i64) -> bool {
+    let (theirs, ours) = both(table, t, s);
+    theirs != ours
+}
+
+/// One comparison on a table handed in; a difference is shown on the smallest table found.
+fn same_handed_in(hostile: &Hostile, t: i64, s: i64, seed: u64) -> bool {
+    let table = &hostile.state.table;
+    if differs(table, t, s) {
+        let small = shrink_hostile(hostile, &mut |other| differs(&other.state.table, t, s));
+        panic!(
+            "hostile seed {seed}: compare {t} {s} gives {:?}\n{small:?}",
+            both(&small.state.table, t, s)
+        );
+    }
+    compare(table, t, s).is_ok()
 }
 
 #[test]
@@ -18,42 +36,58 @@ fn compare_on_tables_handed_in() {
     let mut answered = 0;
     let odd = [i64::MIN, -1, 0, 1, 47, 48, 127, 128, 255, 256, i64::MAX];
     for seed in 0..4000 {
-        let table = hostile::generate(seed).state.table;
-        let n = i64::from(table.types);
-        let what = format!("hostile seed {seed}");
+        let hostile = hostile::generate(seed);
+        let n = i64::from(hostile.state.table.types);
         for (t, s) in [(0, 1), (1, 0), (n - 1, 0), (n / 2, n - 1), (n, 0)] {
-            answered += u32::from(same(&table, t, s, &what));
+            answered += u32::from(same_handed_in(&hostile, t, s, seed));
         }
-        let t = odd[seed as usize % odd.len()];
-        same(&table, t, odd[(seed as usize / 11) % odd.len()], &what);
+        let (t, s) = (seed as usize % odd.len(), seed as usize / 11 % odd.len());
+        same_handed_in(&hostile, odd[t], odd[s], seed);
     }
     assert!(answered > 2000, "only {answered} comparisons were answered");
+}
+
+/// The table of the sheet at the head of an input, if it is right.
+fn table_of(input: &[u8]) -> Option<RawTable> {
+    let end = b"end=sheet\n";
+    let at = input.windows(end.len()).position(|window| window == end)?;
+    let table = sheet::read(&input[..at + end.len()]).ok()?;
+    Some(RawTable::of(&table))
+}
+
+/// The first pair of a sheet's types on which the two differ.
+fn differing_pair(table: &RawTable) -> Option<(i64, i64)> {
+    let n = i64::from(table.types);
+    (0..n * n)
+        .map(|pair| (pair / n, pair % n))
+        .find(|(t, s)| differs(table, *t, *s))
 }
 
 #[test]
 fn every_pair_of_generated_sheets() {
     let mut pairs = 0;
-    for (profile, seeds) in [
+    let profiles = [
         (Profile::Small, 400),
         (Profile::Medium, 60),
         (Profile::Big, 6),
-    ] {
+    ];
+    for (profile, seeds) in profiles {
         for seed in 0..seeds {
             let input = generate(seed, profile);
-            let end = b"end=sheet\n";
-            let Some(at) = input.windows(end.len()).position(|window| window == end) else {
+            let Some(table) = table_of(&input) else {
                 continue;
             };
-            let Ok(table) = sheet::read(&input[..at + end.len()]) else {
-                continue;
-            };
-            let n = table.types.len() as i64;
-            let table = RawTable::of(&table);
-            for t in 0..n {
-                for s in 0..n {
-                    same(&table, t, s, &format!("{} seed {seed}", profile.name()));
-                    pairs += 1;
-                }
+            pairs += table.types * table.types;
+            if differing_pair(&table).is_some() {
+                let small = shrink(&input, &mut |other| {
+                    table_of(other).is_some_and(|table| differing_pair(&table).is_some())
+                });
+                let pair = table_of(&small).and_then(|table| differing_pair(&table));
+                panic!(
+                    "{} seed {seed}: pair {pair:?} of\n{}",
+                    profile.name(),
+                    String::from_utf8_lossy(&small)
+                );
             }
         }
     }

@@ -1,0 +1,30 @@
+-- Rests on what `method_at` and `slot_of` ensure.
+use mathlib.Core.Path.{ap, _∙_}
+use Prim.Native.Nat.{_/_, _%_}
+use borrow.Author.Needs.{needs}
+use Rattle.model.specs.Table.{Method}
+use Rattle.model.specs.Check.{kindOf, methodOf}
+use Rattle.table.specs.Store.{rawMethod}
+use Rattle.slots.specs.Slots.{slotOf, methodIn}
+use Rattle.slots.proofs.slot_at.Tie as tie
+use Rattle.slots.proofs.slot_at.Statement.{statement}
+
+method-at-requires : tie.Need-method-at-requires
+method-at-requires c κs = search needs
+
+method-at-requires-2 : tie.Need-method-at-requires-2
+method-at-requires-2 c κs = search needs
+
+slot-of-requires : tie.Need-slot-of-requires
+slot-of-requires c κs = search needs
+
+returns : tie.Need-returns
+returns c = let a = c .before .before .before .args in (
+  c .slot-of .ensures .0 ∙ ap (λ (m : Method). slotOf (kindOf (a .kind)) m (methodOf (rawMethod (c .before .method-at2 .result))) (a .k % 5)) (c .before .before .method-at .ensures)
+      ∙ ap (λ (m : Method). slotOf (kindOf (a .kind)) (methodIn (a .x) (a .k / 5)) m (a .k % 5)) (c .before .method-at2 .ensures),
+  c .slot-of .ensures .1,
+)
+
+pub slot-at-spec : {M : Type 1} → statement M
+slot-at-spec =
+    tie.close (tie.spec method-at-requires method-at-requires-2 slot-of-requires returns)

@@ -1,0 +1,87 @@
+-- Document 01, "Restriction": "A new one takes the next number before its signatures are derived, methods in order, arguments before answer, each to its end."
+-- As the code goes through it: five slots to a method, four for arguments and one for the answer, the slots of all methods in one row.
+use mathlib.Core.Path.{_≡_}
+use mathlib.Core.Bool.{not, _&&_, cond}
+use mathlib.Core.List.{List, [], _∷_}
+use mathlib.Core.Option.{Option, none, some}
+use Prim.Native.Nat.{ℕ, zero, suc, _+_, _*_, _/_, _%_, _<_}
+use lib.Dec.{ltb}
+use lib.ListN.{getD, take}
+use Rattle.model.specs.Table.{State, Kind, Key, Method, permit}
+use Rattle.model.specs.Restriction.{restricted}
+use Rattle.model.specs.Check.{RawMethod, RawType, noRawMethod, kindOf, answerOf, methodOf}
+use Rattle.table.specs.declared.Head.{Head}
+use Rattle.table.specs.declared.TypeRec.{TypeRec}
+use Rattle.table.specs.Store.{rawOf}
+use Rattle.slots.specs.declared.Slot.{Slot}
+use Rattle.slots.specs.declared.Slot.the-variants.{Empty, Argument, Answer}
+
+-- What is derived for argument i of two signatures, and for their answers. "arguments Sup(S argument, T argument) and answer Sub(T answer, S answer)"
+abbrev pub argumentSlot : ℕ → List ℕ → List ℕ → Slot
+argumentSlot i [] ys = Empty
+argumentSlot i (x ∷ xs) [] = Empty
+argumentSlot zero (x ∷ xs) (y ∷ ys) = Argument y x
+argumentSlot (suc i) (x ∷ xs) (y ∷ ys) = argumentSlot i xs ys
+
+abbrev pub answerSlot : Option ℕ → Option ℕ → Slot
+answerSlot none y = Empty
+answerSlot (some x) none = Empty
+answerSlot (some x) (some y) = Answer x y
+
+-- slot i of a method; nothing where the derived type doesn't permit it
+abbrev pub slotOf : Kind → Method → Method → ℕ → Slot
+slotOf d x y i = cond (permit (restricted d (x .state) (y .state))) (cond (ltb i 4) (argumentSlot i (x .args) (y .args)) (answerSlot (x .answer) (y .answer))) Empty
+
+-- slot k of all methods
+abbrev pub slotAt : Kind → (ℕ → Method) → (ℕ → Method) → ℕ → Slot
+slotAt d x y k = slotOf d (x (k / 5)) (y (k / 5)) (k % 5)
+
+-- The numbers that a slot of bytes can name: an answer is stored as its number plus 1.
+abbrev pub Low : Slot → Type 0
+Low Empty = Unit {0}
+Low (Argument l r) = (l < 256) × (r < 256)
+Low (Answer l r) = (l < 255) × (r < 255)
+
+-- how many arguments both signatures have, and the lesser of two counts
+abbrev pub shared : List ℕ → List ℕ → ℕ
+shared [] ys = 0
+shared (x ∷ xs) [] = 0
+shared (x ∷ xs) (y ∷ ys) = suc (shared xs ys)
+
+abbrev pub lesser : ℕ → ℕ → ℕ
+lesser zero y = 0
+lesser (suc x) zero = 0
+lesser (suc x) (suc y) = suc (lesser x y)
+
+-- A method of the derived type, from what its slots came to: the arguments' numbers, and the answer's byte, 0 for none.
+abbrev pub fill : Kind → Method → Method → List ℕ → ℕ → Method
+fill d x y args answer = record {
+  state = restricted d (x .state) (y .state);
+  args = cond (permit (restricted d (x .state) (y .state))) (take (shared (x .args) (y .args)) args) [];
+  answer = cond (permit (restricted d (x .state) (y .state))) (answerOf answer) none;
+}
+
+-- method j, from the bytes of all slots
+abbrev pub fillAt : Kind → (ℕ → Method) → (ℕ → Method) → List ℕ → ℕ → Method
+fillAt d x y ns j = fill d (x j) (y j) (getD ns (j * 5) 0 ∷ getD ns (j * 5 + 1) 0 ∷ getD ns (j * 5 + 2) 0 ∷ getD ns (j * 5 + 3) 0 ∷ []) (getD ns (j * 5 + 4) 0)
+
+-- method j of a type of the code
+abbrev pub methodIn : TypeRec → ℕ → Method
+methodIn x j = methodOf (getD (rawOf x .methods) j noRawMethod)
+
+-- the key of a derived type
+abbrev pub keyIn : Head → Option Key
+keyIn h = some (record { kind = kindOf (h .kind); left = h .left; right = h .right })
+
+-- "T's .. states, except that a method T permits and S doesn't becomes unavail", and the same of Sup with denied
+abbrev pub keptState : State → State → State → State
+keptState own other lost = cond (permit own && not (permit other)) lost own
+
+-- A derived type as it is stored.
+abbrev pub newRecord : ℕ → ℕ → ℕ → ℕ → List RawMethod → RawType
+newRecord cat kind t s ms = record { rep = 0; cat = cat; own = 0; kind = kind; left = t; right = s; methods = ms }
+
+-- The finished type, from the bytes of its slots.
+pub record Finished (d : Kind) (cat kind t s ms : ℕ) (x y : TypeRec) (ns : List ℕ) (z : TypeRec) : Type 0 where
+  pub head : rawOf z ≡ newRecord cat kind t s (rawOf z .methods)
+  pub filled : (j : ℕ) → j < ms → methodIn z j ≡ fillAt d (methodIn x) (methodIn y) ns j
