@@ -83,39 +83,35 @@ fn worst(count: usize) -> RawTable {
     raw
 }
 
+/// Compare at one pair of a table, both ways: the same answer, which is returned, and the ratio of their times.
+fn measure(name: &str, table: &RawTable, t: usize, s: usize) -> Result<[bool; 4], usize> {
+    let answer = search::compare(table, t, s);
+    assert_eq!(compare(table, t as i64, s as i64), answer);
+    ratio(
+        name,
+        || {
+            let _ = black_box(compare(black_box(table), t as i64, s as i64));
+        },
+        || {
+            let _ = black_box(search::compare(black_box(table), t, s));
+        },
+    );
+    answer
+}
+
 fn main() {
     let random = generated();
     for (t, s) in [(1, 2), (5, 9), (20, 31)] {
-        let same = search::compare(&random, t, s);
-        assert_eq!(compare(&random, t as i64, s as i64), same);
-        ratio(
-            &format!("compare, 48 generated types, pair {t} {s}"),
-            || {
-                let _ = black_box(compare(black_box(&random), t as i64, s as i64));
-            },
-            || {
-                let _ = black_box(search::compare(black_box(&random), t, s));
-            },
-        );
+        let name = format!("compare, 48 generated types, pair {t} {s}");
+        let _ = measure(&name, &random, t, s);
     }
     for count in [48, 128] {
-        let table = worst(count);
-        let (t, s) = (count - 2, count - 1);
-        let same = search::compare(&table, t, s);
-        assert_eq!(compare(&table, t as i64, s as i64), same);
+        let name = format!("compare, {count} types, every pair reached");
+        let answer = measure(&name, &worst(count), count - 2, count - 1);
         assert_eq!(
-            same,
+            answer,
             Ok([true; 4]),
             "every pair is reached only if all are related"
-        );
-        ratio(
-            &format!("compare, {count} types, every pair reached"),
-            || {
-                let _ = black_box(compare(black_box(&table), t as i64, s as i64));
-            },
-            || {
-                let _ = black_box(search::compare(black_box(&table), t, s));
-            },
         );
     }
 }
