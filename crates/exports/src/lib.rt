@@ -6,9 +6,14 @@ ghost use Rattle.model.specs.Relations.{bit};
 ghost use Rattle.model.specs.Check.{compareHanded};
 ghost use Rattle.table.specs.Store.{rawTable};
 ghost use Rattle.compare.specs.Answered.{comparedOf};
-ghost use Rattle.exports.specs.Codes.{countsOf, answersCode, comparedCode};
+ghost use Rattle.sheet.specs.Sheet.{read as readSheet};
+ghost use Rattle.sheet.specs.Text.{write};
+ghost use Rattle.reader.specs.View.{SheetIs};
+ghost use Rattle.writer.specs.Answer.{answerOf};
+ghost use Rattle.exports.specs.Codes.{countsOf, answersCode, comparedCode, sheetOf, numberOf, valueOf, Left};
 use compare::Compared;
 use table::Counts;
+use writer::Wrote;
 
 fn bit_of(x: bool) -> usize
     ensures { λ r. ⌜ (r ≡ bit x) × (r ≤ 1) ⌝ }
@@ -70,4 +75,66 @@ pub extern "C" fn pilgonca_compare(
     };
     let r = compare::compare_types(types, links, c, t, s);
     compared_code(r)
+}
+
+// "Sheet read" of any bytes: 0 and the table, or the refusal and the byte offset of the line, with a table whose every count is 0.
+#[no_mangle]
+pub extern "C" fn pilgonca_read(
+    sheet: &[u8],
+    types: &mut [u8; 16384],
+    links: &mut [u8; 96],
+    counts: &mut [usize; 5],
+    at: &mut usize,
+) -> usize
+    ensures { λ n. ⌜ SheetIs (sheetOf n (now (at .exit)) (now (types .exit)) (now (links .exit)) (now (counts .exit))) (readSheet (now (sheet .entry))) ⌝ }
+{
+    let r = reader::read(sheet);
+    let t = r.types;
+    let l = r.links;
+    let c = r.counts;
+    *types = t;
+    *links = l;
+    *counts = [c.subjects, c.methods, c.cats, c.sheet, c.types];
+    *at = r.at;
+    r.no
+}
+
+// The writer's answer: the refusal's number, or 0 with the length handed out.
+fn wrote_code(w: Wrote, length: &mut usize) -> usize
+    ensures { λ n. ⌜ (n ≡ numberOf (answerOf w)) × (now (length .exit) ≡ valueOf (now (length .entry)) (answerOf w)) ⌝ }
+{
+    match w {
+        Wrote::UnfitTable => 2,
+        Wrote::ShortBuffer => 4,
+        Wrote::Length(n) => {
+            *length = n;
+            0
+        }
+    }
+}
+
+// "Sheet write" of a table handed in: 2, then 4 where the buffer is short, else 0 and the length; a refusal leaves buffer and length as they were.
+#[no_mangle]
+pub extern "C" fn pilgonca_write(
+    buffer: &mut [u8],
+    types: &[u8; 16384],
+    links: &[u8; 96],
+    subjects: usize,
+    methods: usize,
+    cats: usize,
+    sheet: usize,
+    count: usize,
+    length: &mut usize,
+) -> usize
+    ensures { λ n. ⌜ Left (write (rawTable (now (types .entry)) (now (links .entry)) (countsOf subjects methods cats sheet count)) (now (buffer .entry))) n (now (length .entry)) (now (length .exit)) (now (buffer .exit)) ⌝ }
+{
+    let c = Counts {
+        subjects,
+        methods,
+        cats,
+        sheet,
+        types: count,
+    };
+    let w = writer::write_sheet(buffer, types, links, c);
+    wrote_code(w, length)
 }
