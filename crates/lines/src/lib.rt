@@ -14,6 +14,7 @@ ghost use Rattle.sheet.specs.Sheet.{repLine, ownLine, underLine, arguments, ans
 ghost use Rattle.text.specs.View.{scanned, result, reading};
 use table::Links;
 use table::Method;
+use table::narrow;
 use text::Cursor;
 use text::Got;
 use text::Number;
@@ -48,13 +49,6 @@ pub struct MethodGot {
     pub no: usize,
     pub m: Method,
     pub next: Cursor,
-}
-
-fn narrow(x: usize) -> u8
-    requires { ⌜ x < 256 ⌝ }
-    ensures { λ r. ⌜ r ≡ x ⌝ }
-{
-    x as u8
 }
 
 // "A type has a representation: ref, w32 or w64"; another word is 1.

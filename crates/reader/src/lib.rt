@@ -17,6 +17,9 @@ use table::Counts;
 use table::Links;
 use table::Method;
 use table::TypeRec;
+use table::narrow;
+use table::put_links;
+use table::wide;
 use text::Cursor;
 
 // Lines read into lent bytes: the number of a refusal, or 0. The cursor stands behind the lines, or at the line that is refused.
@@ -55,30 +58,6 @@ pub struct Sheet {
     pub types: [u8; 16384],
     pub links: [u8; 96],
     pub counts: Counts,
-}
-
-fn wide(x: u8) -> usize
-    ensures { λ r. ⌜ (r ≡ x) × (r < 256) ⌝ }
-{
-    x as usize
-}
-
-fn narrow(x: usize) -> u8
-    requires { ⌜ x < 256 ⌝ }
-    ensures { λ r. ⌜ r ≡ x ⌝ }
-{
-    x as u8
-}
-
-// Store the broader categories of category k.
-fn put_links(l: &mut [u8; 96], k: usize, x: Links)
-    requires { ⌜ (k < 32) × (length (now l) ≡ 96) ⌝ }
-    ensures { λ _. ⌜ (linksIn (now (l .exit)) ≡ set (linksIn (now (l .entry))) k (rawLinks x)) × (length (now (l .exit)) ≡ 96) ⌝ }
-{
-    let at = k * 3;
-    l[at] = x.count;
-    l[at + 1] = x.first;
-    l[at + 2] = x.second;
 }
 
 // "one `under=` line (one or two numbers, comma) for each category"

@@ -13,9 +13,9 @@ ghost use Rattle.search.specs.Parts.{Says, methodIn};
 ghost use Rattle.search.specs.Found.{Sound, Met, upto};
 ghost use Rattle.rules.specs.Asked.{relationOf};
 use rules::Relation;
-use rules::wide;
 use table::Counts;
 use table::Method;
+use table::wide;
 
 fn wide16(x: u16) -> usize
     ensures { λ r. ⌜ r ≡ x ⌝ }

@@ -147,7 +147,7 @@ fn sub(b: &mut [u8; 16384], methods: usize, sheet: usize, n: usize, t: usize, s:
                 let Derived::At(i1, m1) = first else {
                     return Derived::Full;
                 };
-                bytes[k] = slots::narrow(i1);
+                bytes[k] = table::narrow(i1);
                 m = m1;
                 k += 1;
             }
@@ -156,7 +156,7 @@ fn sub(b: &mut [u8; 16384], methods: usize, sheet: usize, n: usize, t: usize, s:
                 let Derived::At(i2, m2) = second else {
                     return Derived::Full;
                 };
-                bytes[k] = slots::narrow(i2 + 1);
+                bytes[k] = table::narrow(i2 + 1);
                 m = m2;
                 k += 1;
             }
@@ -193,7 +193,7 @@ fn sup(b: &mut [u8; 16384], methods: usize, sheet: usize, n: usize, t: usize, s:
                 let Derived::At(i1, m1) = first else {
                     return Derived::Full;
                 };
-                bytes[k] = slots::narrow(i1);
+                bytes[k] = table::narrow(i1);
                 m = m1;
                 k += 1;
             }
@@ -202,7 +202,7 @@ fn sup(b: &mut [u8; 16384], methods: usize, sheet: usize, n: usize, t: usize, s:
                 let Derived::At(i2, m2) = second else {
                     return Derived::Full;
                 };
-                bytes[k] = slots::narrow(i2 + 1);
+                bytes[k] = table::narrow(i2 + 1);
                 m = m2;
                 k += 1;
             }
@@ -246,7 +246,7 @@ fn closed(
                 let Derived::At(i3, m3) = first else {
                     return Derived::Full;
                 };
-                bytes[k] = slots::narrow(i3);
+                bytes[k] = table::narrow(i3);
                 m = m3;
                 k += 1;
             }
@@ -255,7 +255,7 @@ fn closed(
                 let Derived::At(i4, m4) = second else {
                     return Derived::Full;
                 };
-                bytes[k] = slots::narrow(i4 + 1);
+                bytes[k] = table::narrow(i4 + 1);
                 m = m4;
                 k += 1;
             }

@@ -16,6 +16,7 @@ ghost use Rattle.rules.specs.Asked.{relationOf};
 use table::Counts;
 use table::Head;
 use table::Method;
+use table::wide;
 
 // The four relations, and subtype with own not compared, which step 3 of a crossing asks for.
 pub enum Relation {
@@ -24,13 +25,6 @@ pub enum Relation {
     Strict,
     Loose,
     Free,
-}
-
-// A byte as a number of the full width.
-pub fn wide(x: u8) -> usize
-    ensures { λ r. ⌜ (r ≡ x) × (r < 256) ⌝ }
-{
-    x as usize
 }
 
 // State order: "denied ≤ every state; optional ≤ optional, avail, unavail; avail ≤ avail; unavail ≤ unavail; no others". The row's state ≤ the column's.

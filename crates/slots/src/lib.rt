@@ -11,25 +11,14 @@ ghost use Rattle.slots.specs.Slots.{answerSlot, argumentSlot, slotOf, sl
 use table::Head;
 use table::Method;
 use table::TypeRec;
+use table::narrow;
+use table::wide;
 
 // What is derived for a slot of a new type: nothing, an argument or an answer, from these two types.
 pub enum Slot {
     Empty,
     Argument(usize, usize),
     Answer(usize, usize),
-}
-
-fn wide(x: u8) -> usize
-    ensures { λ r. ⌜ (r ≡ x) × (r < 256) ⌝ }
-{
-    x as usize
-}
-
-pub fn narrow(x: usize) -> u8
-    requires { ⌜ x < 256 ⌝ }
-    ensures { λ r. ⌜ r ≡ x ⌝ }
-{
-    x as u8
 }
 
 // Kinds are coded as in the table: 0 Sub, 1 Sup, 2 Closed.

@@ -121,6 +121,14 @@ pub fn wide(x: u8) -> usize
     x as usize
 }
 
+// A number below 256 as a byte.
+pub fn narrow(x: usize) -> u8
+    requires { ⌜ x < 256 ⌝ }
+    ensures { λ r. ⌜ r ≡ x ⌝ }
+{
+    x as u8
+}
+
 // Bytes for the types of an empty table, and for its links.
 pub fn empty_types() -> [u8; 16384]
     ensures { λ r. ⌜ r ≡ emptyTypes ⌝ }
@@ -145,6 +153,17 @@ pub fn get_links(l: &[u8; 96], k: usize) -> Links
         first: l[at + 1],
         second: l[at + 2],
     }
+}
+
+// Store the broader categories of category k.
+pub fn put_links(l: &mut [u8; 96], k: usize, x: Links)
+    requires { ⌜ (k < 32) × (length (now l) ≡ 96) ⌝ }
+    ensures { λ _. ⌜ (linksIn (now (l .exit)) ≡ set (linksIn (now (l .entry))) k (rawLinks x)) × (length (now (l .exit)) ≡ 96) ⌝ }
+{
+    let at = k * 3;
+    l[at] = x.count;
+    l[at + 1] = x.first;
+    l[at + 2] = x.second;
 }
 
 // Type i without its methods.

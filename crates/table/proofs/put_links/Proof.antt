@@ -1,8 +1,8 @@
 -- Rests on `links-put`.
 use borrow.Author.Needs.{needs}
-use Rattle.reader.proofs.Stored.{links-put, links-put-length}
-use Rattle.reader.proofs.put_links.Statement.{statement}
-use Rattle.reader.proofs.put_links.Tie as tie
+use Rattle.table.proofs.Linked.{links-put, links-put-length}
+use Rattle.table.proofs.put_links.Statement.{statement}
+use Rattle.table.proofs.put_links.Tie as tie
 
 mul-at : tie.Need-mul-at
 mul-at c = search needs
