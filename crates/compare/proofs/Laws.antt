@@ -18,8 +18,9 @@ use Rattle.operand.specs.Index.{indexOf}
 use Rattle.operand.proofs.Laws.{index-unknown, index-known}
 use Rattle.compare.specs.declared.Compared.{Compared}
 use Rattle.compare.specs.declared.Compared.the-variants.{Unfit, Unknown, Answers}
-use Rattle.compare.specs.Answered.{comparedOf}
-use Rattle.compare.specs.Pairs.{pairCode, pairEntry, pairTable}
+use Rattle.compare.specs.declared.Pairs.{Pairs}
+use Rattle.compare.specs.Answered.{comparedOf, pairsGiven}
+use Rattle.compare.specs.Pairs.{pairCode, pairEntry, pairTable, noPairs, pairsHanded}
 
 -- Compare, where x and y are the indices of the numbers handed in.
 module _ (T : Table) (a b : ℤ) (x : ℕ) (ex : x ≡ indexOf a (size T)) where
@@ -79,3 +80,13 @@ module _ (b l : List ℕ) (c : Counts) (t s : ℤ) where
   pub compare-unfit : tableAccepted (rawTable b l c) ≡ false → comparedOf Unfit ≡ compareHanded (rawTable b l c) t s
   unfolding compareHanded
   compare-unfit e = rw e
+
+-- The pair table of a table handed in.
+module _ (b l : List ℕ) (c : Counts) (entries : List ℕ) where
+  pub pairs-fit : tableAccepted (rawTable b l c) ≡ true → entries ≡ pairTable (tableIn b l c) → _≡_ {A = Pairs} (record { fits = true; entries = entries }) (pairsGiven (pairsHanded (rawTable b l c)))
+  unfolding pairsHanded tableIn
+  pairs-fit e h = rw (e, h)
+
+  pub pairs-unfit : tableAccepted (rawTable b l c) ≡ false → entries ≡ noPairs → _≡_ {A = Pairs} (record { fits = false; entries = entries }) (pairsGiven (pairsHanded (rawTable b l c)))
+  unfolding pairsHanded
+  pairs-unfit e h = rw (e, h)

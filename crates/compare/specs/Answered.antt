@@ -1,10 +1,19 @@
--- The paper's numbers and values for each case of Compare's answer.
+-- The paper's numbers and values for each case of Compare's answer, and what the pair table's answer holds in each case.
+use mathlib.Core.Bool.{true, false}
+use mathlib.Core.List.{List}
+use Prim.Native.Nat.{ℕ}
 use Rattle.model.specs.Basics.{Res, refuse, ok}
 use Rattle.model.specs.Relations as Model
 use Rattle.compare.specs.declared.Compared.{Compared}
 use Rattle.compare.specs.declared.Compared.the-variants.{Unfit, Unknown, Answers}
+use Rattle.compare.specs.declared.Pairs.{Pairs}
+use Rattle.compare.specs.Pairs.{noPairs}
 
 abbrev pub comparedOf : Compared → Res Model.Answers
 comparedOf Unfit = refuse 2
 comparedOf Unknown = refuse 7
 comparedOf (Answers w x y z) = ok (record { subtype = w; strict = x; loose = y; free = z })
+
+abbrev pub pairsGiven : Res (List ℕ) → Pairs
+pairsGiven (refuse n) = record { fits = false; entries = noPairs }
+pairsGiven (ok entries) = record { fits = true; entries = entries }

@@ -3,9 +3,11 @@ use mathlib.Core.Bool.{Bool, _&&_, cond}
 use mathlib.Core.List.{List}
 use Prim.Native.Nat.{ℕ, _+_, _*_, _/_, _%_}
 use lib.Dec.{ltb}
-use Rattle.model.specs.Basics.{from}
+use lib.ListN.{replicate}
+use Rattle.model.specs.Basics.{Res, ok, need, from}
 use Rattle.model.specs.Table.{Table}
 use Rattle.model.specs.Relations.{subtype, strict, loose, free, bit, related}
+use Rattle.model.specs.Check.{RawTable, tableOf, tableAccepted}
 
 abbrev pub pairCode : Bool → Bool → Bool → Bool → ℕ
 pairCode w x y z = bit w + 2 * bit x + 4 * bit y + 8 * bit z
@@ -16,3 +18,11 @@ pairEntry t a b = cond (ltb a (t .sheet) && ltb b (t .sheet)) (pairCode (related
 unfoldable pub pairTable : Table → List ℕ
 unfolding from
 pairTable t = from 2304 0 (λ p. pairEntry t (p / 48) (p % 48))
+
+unfoldable pub noPairs : List ℕ
+noPairs = replicate 2304 0
+
+-- The pair table of a table handed in: 2 before all else.
+unfoldable pub pairsHanded : RawTable → Res (List ℕ)
+unfolding tableAccepted tableOf pairTable
+pairsHanded r = need (tableAccepted r) 2 λ _. ok (pairTable (tableOf r))

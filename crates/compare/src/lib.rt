@@ -6,8 +6,8 @@ ghost use Rattle.model.specs.Relations.{bit, compare};
 ghost use Rattle.model.specs.Check.{compareHanded};
 ghost use Rattle.table.specs.Store.{rawTable, tableIn};
 ghost use Rattle.search.specs.Checked.{Checked};
-ghost use Rattle.compare.specs.Answered.{comparedOf};
-ghost use Rattle.compare.specs.Pairs.{pairCode, pairEntry, pairTable};
+ghost use Rattle.compare.specs.Answered.{comparedOf, pairsGiven};
+ghost use Rattle.compare.specs.Pairs.{pairCode, pairEntry, pairTable, noPairs, pairsHanded};
 use rules::Relation;
 use table::Counts;
 
@@ -109,4 +109,34 @@ pub fn pair_table(b: &[u8; 16384], l: &[u8; 96], c: Counts) -> [u8; 2304]
         p += 1;
     }
     out
+}
+
+// The pair table of a table handed in, or 2: whether the table is fit, and the entries, all 0 where it is not.
+pub struct Pairs {
+    pub fits: bool,
+    pub entries: [u8; 2304],
+}
+
+fn no_pairs() -> [u8; 2304]
+    ensures { λ r. ⌜ r ≡ noPairs ⌝ }
+{
+    [0u8; 2304]
+}
+
+// The pair table, on any table handed in: 2 before all else.
+pub fn pairs_of(b: &[u8; 16384], l: &[u8; 96], c: Counts) -> Pairs
+    ensures { λ r. ⌜ r ≡ pairsGiven (pairsHanded (rawTable (now (b .entry)) (now (l .entry)) c)) ⌝ }
+{
+    if tablecheck::table_fits(b, l, c) {
+        let entries = pair_table(b, l, c);
+        return Pairs {
+            fits: true,
+            entries,
+        };
+    }
+    let entries = no_pairs();
+    Pairs {
+        fits: false,
+        entries,
+    }
 }

@@ -7,6 +7,7 @@ use lib.ListN.{getD}
 use Rattle.model.specs.Basics.{Res, refuse, ok}
 use Rattle.model.specs.Relations.{Answers, bit}
 use Rattle.table.specs.declared.Counts.{Counts}
+use Rattle.derivation.specs.declared.Derivation.{Derivation}
 use Rattle.sheet.specs.Text.{Written}
 use Rattle.reader.specs.declared.Sheet.{Sheet}
 
@@ -45,3 +46,11 @@ pub record Left (w : Written) (n old new : ℕ) (buffer : List ℕ) : Type 0 whe
   pub number : n ≡ numberOf (w .answer)
   pub length : new ≡ valueOf old (w .answer)
   pub bytes : buffer ≡ w .buffer
+
+-- both, for an answer with one value
+abbrev pub handedOut : {A : Type 0} → A → Res A → ℕ × A
+handedOut old a = (numberOf a, valueOf old a)
+
+-- a derivation's answer, each part by itself: number, the type's number, how many types there are now, and their bytes
+abbrev pub derivationLeft : ℕ → ℕ → ℕ → List ℕ → Derivation
+derivationLeft n number total types = record { no = n; number = number; count = total; types = types }

@@ -6,11 +6,14 @@ ghost use Rattle.model.specs.Relations.{bit};
 ghost use Rattle.model.specs.Check.{compareHanded};
 ghost use Rattle.table.specs.Store.{rawTable};
 ghost use Rattle.compare.specs.Answered.{comparedOf};
+ghost use Rattle.compare.specs.Pairs.{pairsHanded};
+ghost use Rattle.derivation.specs.Handed.{deriveHanded};
+ghost use Rattle.derivation.specs.Answer.{derivationOf, CodesStay};
 ghost use Rattle.sheet.specs.Sheet.{read as readSheet};
 ghost use Rattle.sheet.specs.Text.{write};
 ghost use Rattle.reader.specs.View.{SheetIs};
 ghost use Rattle.writer.specs.Answer.{answerOf};
-ghost use Rattle.exports.specs.Codes.{countsOf, answersCode, comparedCode, sheetOf, numberOf, valueOf, Left};
+ghost use Rattle.exports.specs.Codes.{countsOf, answersCode, comparedCode, sheetOf, numberOf, valueOf, Left, handedOut, derivationLeft};
 use compare::Compared;
 use table::Counts;
 use writer::Wrote;
@@ -137,4 +140,73 @@ pub extern "C" fn pilgonca_write(
     };
     let w = writer::write_sheet(buffer, types, links, c);
     wrote_code(w, length)
+}
+
+// The pair table of a table handed in: 0 and the four answers at every pair of sheet types, or 2 and `out` as it was.
+#[no_mangle]
+pub extern "C" fn pilgonca_pairs(
+    types: &[u8; 16384],
+    links: &[u8; 96],
+    subjects: usize,
+    methods: usize,
+    cats: usize,
+    sheet: usize,
+    count: usize,
+    out: &mut [u8; 2304],
+) -> usize
+    ensures { λ n. ⌜ (n, now (out .exit)) ≡ handedOut (now (out .entry)) (pairsHanded (rawTable (now (types .entry)) (now (links .entry)) (countsOf subjects methods cats sheet count))) ⌝ }
+{
+    let c = Counts {
+        subjects,
+        methods,
+        cats,
+        sheet,
+        types: count,
+    };
+    let r = compare::pairs_of(types, links, c);
+    if r.fits {
+        let entries = r.entries;
+        *out = entries;
+        return 0;
+    }
+    2
+}
+
+// Sub (kind 0), Sup (1) or Closed (2) of types t and s of a table handed in: 0 and the types, the derived type's number and how many types there are now; or 2,
+// 7 or 11, and nothing is changed.
+#[no_mangle]
+pub extern "C" fn pilgonca_derive(
+    types: &mut [u8; 16384],
+    links: &[u8; 96],
+    subjects: usize,
+    methods: usize,
+    cats: usize,
+    sheet: usize,
+    count: usize,
+    kind: usize,
+    t: i64,
+    s: i64,
+    number: &mut usize,
+    total: &mut usize,
+) -> usize
+    ensures is { λ n. ⌜ derivationOf (now (links .entry)) (countsOf subjects methods cats sheet count) (derivationLeft n (now (number .exit)) (now (total .exit)) (now (types .exit))) ≡ deriveHanded (rawTable (now (types .entry)) (now (links .entry)) (countsOf subjects methods cats sheet count)) kind t s ⌝ }
+    ensures refused { λ n. ⌜ ((n ≡ 0 → ⊥) → derivationLeft n (now (number .exit)) (now (total .exit)) (now (types .exit)) ≡ derivationLeft n (now (number .entry)) (now (total .entry)) (now (types .entry))) ⌝ }
+    ensures codes { λ n. ⌜ CodesStay (now (types .entry)) (countsOf subjects methods cats sheet count) (derivationLeft n (now (number .exit)) (now (total .exit)) (now (types .exit))) ⌝ }
+{
+    let c = Counts {
+        subjects,
+        methods,
+        cats,
+        sheet,
+        types: count,
+    };
+    let old = *types;
+    let r = derivation::derive(old, links, c, kind, t, s);
+    if r.no == 0 {
+        let new = r.types;
+        *types = new;
+        *number = r.number;
+        *total = r.count;
+    }
+    r.no
 }

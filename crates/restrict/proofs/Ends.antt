@@ -1,6 +1,6 @@
 -- A derivation from its beginning to its end: what is settled at once, and a new type, from the store of the type at work to that of the finished one.
 use mathlib.Core.Path.{_≡_, refl, sym, ap, _∙_, subst}
-use mathlib.Core.Bool.{Bool, true, false, cond}
+use mathlib.Core.Bool.{Bool, So, true, false, cond}
 use mathlib.Core.List.{List, [], _∷_, _++_, map}
 use mathlib.Core.Option.{Option, none, some}
 use mathlib.Core.Logic.{_⊎_, ⊎-elim}
@@ -9,12 +9,12 @@ use native.Mathlib.Omega.{arith}
 use native.Mathlib.Numerals.{add-one}
 use lib.Dec.{ltb}
 use lib.ListN.{length, getD, set, take, replicate, List·getD-eq-default}
-use lib.Seq.{getD-set-other}
+use lib.Seq.{getD-set-same, getD-set-other}
 use borrow.Author.Tests.{lt-ltb, le-ltb}
 use Rattle.model.specs.Basics.{refuse, ok, then, from}
 use Rattle.model.specs.Table.{Rep, ref, w32, w64, Kind, sub, sup, closed, Method, Ty, Table, noMethod, noType, size, typeAt, withTypes, isRef, permit}
 use Rattle.model.specs.Restriction.{mainSide, withoutNew, entry, pending, Derivation, deriveMethods, make, derive, derived}
-use Rattle.model.specs.Check.{RawMethod, RawType, noRawType, noRawMethod, repOf, kindOf, stateOf, methodOf, typeOf, tableOf}
+use Rattle.model.specs.Check.{RawMethod, RawType, noRawType, noRawMethod, repOf, kindOf, stateOf, methodOf, typeOf, tableOf, rawMethodFits, rawTypeFits}
 use Rattle.model.proofs.Rules.{never}
 use Rattle.table.specs.declared.Counts.{Counts}
 use Rattle.table.specs.declared.TypeRec.{TypeRec}
@@ -26,10 +26,11 @@ use Rattle.restrict.specs.declared.Derived.{Derived}
 use Rattle.restrict.specs.declared.Derived.the-variants.{Full, At}
 use Rattle.restrict.specs.declared.Begun.{Begun}
 use Rattle.restrict.specs.declared.Begun.the-variants.{Settled, New}
-use Rattle.slots.specs.Slots.{shared, fillAt, methodIn, newRecord}
-use Rattle.restrict.specs.Link.{Ready, Kept, Keeps, Gives, Begins, Stored, refIn, tabled, outcome, pendingRecord}
+use Rattle.slots.specs.Slots.{shared, fillAt, methodIn, newRecord, Finished}
+use Rattle.restrict.specs.Link.{Ready, Kept, Keeps, Coded, Gives, Begins, Stored, refIn, tabled, outcome, pendingRecord}
 use Rattle.slots.proofs.Runs.{Row, methods-run}
 use Rattle.restrict.proofs.Begins.{ref-below, ref-rep, ref-type}
+use Rattle.restrict.proofs.Codes.{set-holds, denied-coded, methods-coded, new-coded}
 use Rattle.restrict.proofs.Turns.{zeros, Whole, Comes, Loop, loop-starts, loop-ends}
 
 -- What needs no new type.
@@ -65,10 +66,12 @@ module _ (d : Kind) {ms sh n t s : ℕ} {b : List ℕ} (asked : Ready ms sh n t 
   by-answer Full h = record {
     keeps = record { long = asked .long; kept = λ i l. refl; sized = tt };
     is = λ T e f l. derive-full (tabled T ms sh n b) d t s f (h .0 T ms) (let z = size-tabled T ms sh n b in let y = h .1 in omega arith);
+    coded = λ h. tt;
   }
   by-answer (At i m) h = let e : m ≡ n = h .1 in let u = asked .types in record {
     keeps = record { long = asked .long; kept = λ i l. refl; sized = (omega arith, omega arith, λ z p q r. h .2 z (omega arith) q r) };
     is = λ T et f l. ap (λ (k : ℕ). some (tabled T ms sh k b, i)) e ∙ derive-known (tabled T ms sh n b) d t s i f (h .0 T ms);
+    coded = λ h j l. h j (omega arith);
   }
 
   pub settled : {g : Begun} {r : Derived} → g ≡ Settled r → Begins (Without d sh n t s b) n t s b g → Gives d ms sh n t s b b r
@@ -93,6 +96,7 @@ pub record Started (d : Kind) (cat kind ms sh n t s : ℕ) (x y : TypeRec) (b b�
   pub under : sh ≤ n
   pub room : n < 128
   pub kinds : kindOf kind ≡ d
+  pub known : kind < 3
   pub new : (T : Table) (ms : ℕ) → withoutNew (tabled T ms sh n b) d t s ≡ none
   pub left : refIn n b t ≡ true
   pub right : refIn n b s ≡ true
@@ -102,11 +106,11 @@ pub record Started (d : Kind) (cat kind ms sh n t s : ℕ) (x y : TypeRec) (b b�
   pub stored : typesIn b₀ ≡ set (typesIn b) n (pendingRecord cat kind t s)
   pub long : length b₀ ≡ 16384
 
-pub started : {d : Kind} {cat kind ms sh n t s : ℕ} {x y : TypeRec} {b b₀ : List ℕ} {g : Begun} → Ready ms sh n t s b → kindOf kind ≡ d → g ≡ New → Begins (Without d sh n t s b) n t s b g
+pub started : {d : Kind} {cat kind ms sh n t s : ℕ} {x y : TypeRec} {b b₀ : List ℕ} {g : Begun} → Ready ms sh n t s b → kindOf kind ≡ d → kind < 3 → g ≡ New → Begins (Without d sh n t s b) n t s b g
     → rawOf x ≡ getD (typesIn b) t noRawType → rawOf y ≡ getD (typesIn b) s noRawType → cat ≡ getD (typesIn b) (mainSide d t s) noRawType .cat
     → typesIn b₀ ≡ set (typesIn b) n (pendingRecord cat kind t s) → length b₀ ≡ 16384 → Started d cat kind ms sh n t s x y b b₀
-started {d} asked kinds told begun vx vy main stored long = let h = new-begins d asked told begun in
-    record { few = asked .methods; under = asked .sheet; room = h .1; kinds = kinds; new = h .0; left = h .2; right = h .3; leftRecord = vx; rightRecord = vy; main = main; stored = stored; long = long }
+started {d} asked kinds known told begun vx vy main stored long = let h = new-begins d asked told begun in
+    record { few = asked .methods; under = asked .sheet; room = h .1; kinds = kinds; known = known; new = h .0; left = h .2; right = h .3; leftRecord = vx; rightRecord = vy; main = main; stored = stored; long = long }
 
 -- four arguments at most
 shared-left : (xs ys : List ℕ) → shared xs ys ≤ length xs
@@ -169,6 +173,22 @@ module _ {d : Kind} {cat kind ms sh n t s : ℕ} {x y : TypeRec} {b b₀ : List 
   -- nothing below the count was written
   pub start-kept : Kept n b b₀
   start-kept i l = ap (λ (rs : List RawType). getD rs i noRawType) (from-start .stored) ∙ getD-set-other (typesIn b) n i (pendingRecord cat kind t s) noRawType (λ e. let w : i ≡ n = e in omega arith)
+
+  -- The codes of a side's methods, of the type at work, and of the finished one.
+  side-coded : Coded ms sh n b → (i : ℕ) (z : TypeRec) → refIn n b i ≡ true → rawOf z ≡ getD (typesIn b) i noRawType → (j : ℕ) → j < ms → So (rawMethodFits (getD (rawOf z .methods) j noRawMethod))
+  side-coded h i z r e j l = subst (λ (w : RawType). So (rawMethodFits (getD (w .methods) j noRawMethod))) (sym e) (methods-coded ms sh i (getD (typesIn b) i noRawType) (ref-rep n i b r) (h i (ref-below n i b r)) j l)
+
+  start-coded : Coded ms sh n b → Coded ms sh (n + 1) b₀
+  start-coded h i l = ⊎-elim
+      (λ (p : i < n). subst (λ (r : RawType). So (rawTypeFits ms sh i r)) (sym (start-kept i p)) (h i p))
+      (λ (p : n ≤ i). let e : i ≡ n = omega arith in
+      subst (λ (k : ℕ). So (rawTypeFits ms sh k (getD (typesIn b₀) k noRawType))) (sym e)
+      (subst (λ (r : RawType). So (rawTypeFits ms sh n r)) (sym (ap (λ (rs : List RawType). getD rs n noRawType) (from-start .stored) ∙ getD-set-same (typesIn b) n (pendingRecord cat kind t s) noRawType (let z = types-length b in let r = from-start .room in omega arith)))
+      (new-coded ms sh n cat kind t s (map rawMethod (replicate 16 emptyMethod)) (from-start .known) (λ j l. denied-coded 16 j))))
+      (lt-or-ge i n)
+
+  finished-coded : Coded ms sh n b → (z : TypeRec) {ns : List ℕ} → Finished d cat kind t s ms x y ns z → So (rawTypeFits ms sh n (rawOf z))
+  finished-coded h z fin = subst (λ (r : RawType). So (rawTypeFits ms sh n r)) (sym (fin .head)) (new-coded ms sh n cat kind t s (rawOf z .methods) (from-start .known) (λ j l. fin .coded j l (side-coded h t x (from-start .left) (from-start .leftRecord) j l) (side-coded h s y (from-start .right) (from-start .rightRecord) j l)))
 
   pub start-loop : Loop d ms sh n x y b₀ b₀ (ms * 5) zeros (n + 1) 0
   start-loop = loop-starts d ms sh n x y b₀ (from-start .few) (from-start .under) (from-start .room) (from-start .long)
@@ -256,6 +276,7 @@ module _ {d : Kind} {cat kind ms sh n t s : ℕ} {x y : TypeRec} {b b₀ : List 
   new-full now keeps all = record {
     keeps = record { long = keeps .long; kept = λ i l. keeps .kept i (let p = now .more in omega arith) ∙ now .kept i (omega arith) ∙ start-kept i l; sized = tt };
     is = λ T et f h. sym (derive-runs T et f h (λ T f. none) all .1);
+    coded = λ h. tt;
   }
 
   -- The finished type is stored.
@@ -263,8 +284,13 @@ module _ {d : Kind} {cat kind ms sh n t s : ℕ} {x y : TypeRec} {b b₀ : List 
   new-at {b₁} {b′} {end} {ns} {m} {k} now done put = record {
     keeps = record { long = put .long; kept = kept; sized = (let l = now .more in omega arith, now .most, λ z p q r. let l = now .more in omega arith) };
     is = λ T et f h. ap (λ (ts : List Ty). some (withTypes T ts, n)) (types T et) ∙ sym (derive-runs T et f h (λ T f. some (tabled T ms sh m b₁, ns)) (loop-ends now done) .1);
+    coded = coded;
   }
     where
+      coded : Coded ms sh n b → Coded ms sh m b′
+      coded h i l = subst (λ (rs : List RawType). So (rawTypeFits ms sh i (getD rs i noRawType))) (sym (put .types))
+          (set-holds (λ i r. So (rawTypeFits ms sh i r)) (typesIn b₁) n (rawOf (put .z)) noRawType (let e = types-length b₁ in let r = from-start .room in omega arith) (finished-coded h (put .z) (put .finished)) i (now .coded (start-coded h) i l))
+
       kept : Kept n b b′
       kept i l = ap (λ (rs : List RawType). getD rs i noRawType) (put .types) ∙ getD-set-other (typesIn b₁) n i (rawOf (put .z)) noRawType (λ e. let w : i ≡ n = e in omega arith) ∙ now .kept i (omega arith) ∙ start-kept i l
 

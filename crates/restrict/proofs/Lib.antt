@@ -1,3 +1,4 @@
 pub mod Begins
+pub mod Codes
 pub mod Turns
 pub mod Ends

@@ -15,7 +15,7 @@ use Rattle.restrict.specs.declared.Derived.the-variants.{Full, At}
 use Rattle.slots.specs.declared.Slot.{Slot}
 use Rattle.slots.specs.declared.Slot.the-variants.{Empty, Argument, Answer}
 use Rattle.slots.specs.Slots.{slotAt, Low, methodIn}
-use Rattle.restrict.specs.Link.{Ready, Kept, Below, Sized, Gives, tabled, seen}
+use Rattle.restrict.specs.Link.{Ready, Kept, Below, Sized, Coded, CodedTo, Gives, tabled, seen}
 use Rattle.slots.proofs.Runs.{Row, step, runs}
 
 -- the bytes of the slots before the first turn
@@ -39,6 +39,7 @@ pub record Loop (d : Kind) (ms sh n : ℕ) (x y : TypeRec) (b₀ b : List ℕ) (
   pub more : n < m
   pub most : m ≤ 128
   pub kept : Kept (n + 1) b₀ b
+  pub coded : Coded ms sh (n + 1) b₀ → Coded ms sh m b
   pub same : Comes d ms sh n x y b₀ (λ T f. runs (derive f) d (slotAt d (methodIn x) (methodIn y)) (end - k) k (tabled T ms sh m b) ns)
 
 pub loop-starts : (d : Kind) (ms sh n : ℕ) (x y : TypeRec) (b : List ℕ) → ms ≤ 16 → sh ≤ n → n < 128 → length b ≡ 16384 → Loop d ms sh n x y b b (ms * 5) zeros (n + 1) 0
@@ -52,6 +53,7 @@ loop-starts d ms sh n x y b few under room long = record {
   more = omega arith;
   most = omega arith;
   kept = λ i l. refl;
+  coded = λ h. h;
   same = λ T e f h. let l : ms * 5 - 0 ≡ ms * 5 = omega arith in rw l;
 }
 
@@ -93,6 +95,7 @@ module _ {d : Kind} {ms sh n : ℕ} {x y : TypeRec} {b₀ b : List ℕ} {end : �
       more = now .more;
       most = now .most;
       kept = now .kept;
+      coded = now .coded;
       same = λ T et f h. now .same T et f h ∙ run-first (derive f) d S end k (tabled T ms sh m b) ns Empty test (sym e ∙ is);
     }
 
@@ -126,6 +129,7 @@ module _ {d : Kind} {ms sh n : ℕ} {x y : TypeRec} {b₀ b : List ℕ} {end : �
             more = let p = now .more in omega arith;
             most = z .1;
             kept = λ j p. does .keeps .kept j (let q = now .more in omega arith) ∙ now .kept j p;
+            coded = λ h. subst (CodedTo ms sh b₁) eg (does .coded (now .coded h));
             same = λ T et f h. stepped T et f h ∙ ap (λ (o : Derived). then (seen T ms sh o b₁) (after f)) eg ∙ ap (λ (v : ℕ). runs (derive f) d S (end - (k + 1)) (k + 1) (tabled T ms sh m₁ b₁) (set ns k v)) (sym ew);
           }
 

@@ -11,7 +11,7 @@ ghost use Rattle.model.specs.Table.{sub, sup, closed};
 ghost use Rattle.model.specs.Restriction.{find, withoutNew, mainSide, derived};
 ghost use Rattle.model.specs.Check.{kindOf};
 ghost use Rattle.table.specs.Store.{typesIn, typesTo, tableIn};
-ghost use Rattle.restrict.specs.Link.{Ready, Keeps, Gives, Begins, Stored, outcome, foundOf, refIn, pendingRecord, tabled};
+ghost use Rattle.restrict.specs.Link.{Ready, Keeps, CodesStay, Gives, Begins, Stored, outcome, foundOf, refIn, pendingRecord, tabled};
 use slots::Slot;
 use table::Counts;
 use table::TypeRec;
@@ -44,7 +44,8 @@ fn lookup(b: &[u8; 16384], sheet: usize, n: usize, kind: u8, t: usize, s: usize)
     n
 }
 
-fn is_ref(b: &[u8; 16384], n: usize, t: usize) -> bool
+// Whether type t is a reference type of the first n.
+pub fn is_ref(b: &[u8; 16384], n: usize, t: usize) -> bool
     requires { ⌜ n ≤ 128 ⌝ }
     ensures { λ r. ⌜ r ≡ refIn n (now (b .entry)) t ⌝ }
 {
@@ -137,14 +138,10 @@ fn sub(b: &mut [u8; 16384], methods: usize, sheet: usize, n: usize, t: usize, s:
     let mut m = n + 1;
     let mut k: usize = 0;
     while k < end {
-        let slot = slots::slot_at(x, y, 0, k);
-        match slot {
-            Slot::Empty => {
-                k += 1;
-            }
+        match slots::slot_at(x, y, 0, k) {
+            Slot::Empty => k += 1,
             Slot::Argument(l1, r1) => {
-                let first = sup(b, methods, sheet, m, l1, r1);
-                let Derived::At(i1, m1) = first else {
+                let Derived::At(i1, m1) = sup(b, methods, sheet, m, l1, r1) else {
                     return Derived::Full;
                 };
                 bytes[k] = table::narrow(i1);
@@ -152,8 +149,7 @@ fn sub(b: &mut [u8; 16384], methods: usize, sheet: usize, n: usize, t: usize, s:
                 k += 1;
             }
             Slot::Answer(l2, r2) => {
-                let second = sub(b, methods, sheet, m, l2, r2);
-                let Derived::At(i2, m2) = second else {
+                let Derived::At(i2, m2) = sub(b, methods, sheet, m, l2, r2) else {
                     return Derived::Full;
                 };
                 bytes[k] = table::narrow(i2 + 1);
@@ -183,14 +179,10 @@ fn sup(b: &mut [u8; 16384], methods: usize, sheet: usize, n: usize, t: usize, s:
     let mut m = n + 1;
     let mut k: usize = 0;
     while k < end {
-        let slot = slots::slot_at(x, y, 1, k);
-        match slot {
-            Slot::Empty => {
-                k += 1;
-            }
+        match slots::slot_at(x, y, 1, k) {
+            Slot::Empty => k += 1,
             Slot::Argument(l1, r1) => {
-                let first = sub(b, methods, sheet, m, l1, r1);
-                let Derived::At(i1, m1) = first else {
+                let Derived::At(i1, m1) = sub(b, methods, sheet, m, l1, r1) else {
                     return Derived::Full;
                 };
                 bytes[k] = table::narrow(i1);
@@ -198,8 +190,7 @@ fn sup(b: &mut [u8; 16384], methods: usize, sheet: usize, n: usize, t: usize, s:
                 k += 1;
             }
             Slot::Answer(l2, r2) => {
-                let second = sup(b, methods, sheet, m, l2, r2);
-                let Derived::At(i2, m2) = second else {
+                let Derived::At(i2, m2) = sup(b, methods, sheet, m, l2, r2) else {
                     return Derived::Full;
                 };
                 bytes[k] = table::narrow(i2 + 1);
@@ -236,14 +227,10 @@ fn closed(
     let mut m = n + 1;
     let mut k: usize = 0;
     while k < end {
-        let slot = slots::slot_at(x, y, 2, k);
-        match slot {
-            Slot::Empty => {
-                k += 1;
-            }
+        match slots::slot_at(x, y, 2, k) {
+            Slot::Empty => k += 1,
             Slot::Argument(l3, r3) => {
-                let first = sup(b, methods, sheet, m, l3, r3);
-                let Derived::At(i3, m3) = first else {
+                let Derived::At(i3, m3) = sup(b, methods, sheet, m, l3, r3) else {
                     return Derived::Full;
                 };
                 bytes[k] = table::narrow(i3);
@@ -251,8 +238,7 @@ fn closed(
                 k += 1;
             }
             Slot::Answer(l4, r4) => {
-                let second = sub(b, methods, sheet, m, l4, r4);
-                let Derived::At(i4, m4) = second else {
+                let Derived::At(i4, m4) = sub(b, methods, sheet, m, l4, r4) else {
                     return Derived::Full;
                 };
                 bytes[k] = table::narrow(i4 + 1);
@@ -270,6 +256,7 @@ pub fn sub_type(b: &mut [u8; 16384], c: Counts, t: usize, s: usize) -> Derived
     requires { ⌜ Ready (c .methods) (c .sheet) (c .types) t s (now b) ⌝ }
     ensures is { λ r. ⌜ ((l : List ℕ) → outcome (now (b .exit)) l c r ≡ derived (tableIn (now (b .entry)) l c) sub t s) ⌝ }
     ensures keeps { λ r. ⌜ Keeps (c .types) t s (now (b .entry)) (now (b .exit)) r ⌝ }
+    ensures codes { λ r. ⌜ CodesStay c (now (b .entry)) (now (b .exit)) r ⌝ }
 {
     sub(b, c.methods, c.sheet, c.types, t, s)
 }
@@ -279,6 +266,7 @@ pub fn sup_type(b: &mut [u8; 16384], c: Counts, t: usize, s: usize) -> Derived
     requires { ⌜ Ready (c .methods) (c .sheet) (c .types) t s (now b) ⌝ }
     ensures is { λ r. ⌜ ((l : List ℕ) → outcome (now (b .exit)) l c r ≡ derived (tableIn (now (b .entry)) l c) sup t s) ⌝ }
     ensures keeps { λ r. ⌜ Keeps (c .types) t s (now (b .entry)) (now (b .exit)) r ⌝ }
+    ensures codes { λ r. ⌜ CodesStay c (now (b .entry)) (now (b .exit)) r ⌝ }
 {
     sup(b, c.methods, c.sheet, c.types, t, s)
 }
@@ -288,6 +276,7 @@ pub fn closed_type(b: &mut [u8; 16384], c: Counts, r: usize, v: usize) -> Derive
     requires { ⌜ Ready (c .methods) (c .sheet) (c .types) r v (now b) × (refIn (c .types) (now b) r ≡ true) × (refIn (c .types) (now b) v ≡ true) ⌝ }
     ensures is { λ d. ⌜ ((l : List ℕ) → outcome (now (b .exit)) l c d ≡ derived (tableIn (now (b .entry)) l c) closed r v) ⌝ }
     ensures keeps { λ d. ⌜ Keeps (c .types) r v (now (b .entry)) (now (b .exit)) d ⌝ }
+    ensures codes { λ d. ⌜ CodesStay c (now (b .entry)) (now (b .exit)) d ⌝ }
 {
     closed(b, c.methods, c.sheet, c.types, r, v)
 }

@@ -1,11 +1,11 @@
 -- Codes of kinds and states, the slots of two methods, and a method from its slots.
-use mathlib.Core.Path.{_≡_, refl, sym, ap, _∙_}
+use mathlib.Core.Path.{_≡_, refl, sym, ap, _∙_, subst}
 use mathlib.Core.Bool.{Bool, true, false, So}
 use mathlib.Core.List.{List, [], _∷_, map}
 use Prim.Native.Nat.{ℕ, zero, suc, _+_, _*_, _-_, _≤_, _<_}
 use native.Mathlib.Omega.{arith}
 use native.Mathlib.Nat.{not-suc-le-zero, le-of-suc-le-suc}
-use lib.Dec.{eqb, leb}
+use lib.Dec.{eqb, leb, ltb}
 use lib.ListN.{length, getD, take, List·getD-map}
 use borrow.Author.Tests.{eq-eqb, ne-eqb, le-leb, lt-ltb}
 use Rattle.model.specs.Basics.{_⇒_}
@@ -13,7 +13,8 @@ use Rattle.model.specs.Table.{State, denied, optional, avail, unavail, Kind, su
 use Rattle.model.specs.Table as model
 use Rattle.model.specs.Restriction.{restricted, sameKind, isKey}
 use Rattle.model.specs.Check.{RawMethod, noRawMethod, stateOf, kindOf, answerOf, methodOf}
-use Rattle.model.proofs.Rules.{applied, never}
+use Rattle.model.proofs.Rules.{never, both, first, second, imply, applied}
+use Rattle.model.proofs.Tests.{ltb-so, so-ltb, leb-so, so-leb}
 use Rattle.model.proofs.States.{each₂}
 use Rattle.table.specs.declared.Head.{Head}
 use Rattle.table.specs.declared.Method.{Method}
@@ -21,7 +22,7 @@ use Rattle.table.specs.declared.TypeRec.{TypeRec}
 use Rattle.table.specs.Store.{rawMethod}
 use Rattle.table.proofs.Laws.{absent}
 use Rattle.slots.specs.declared.Slot.the-variants.{Empty, Argument, Answer}
-use Rattle.slots.specs.Slots.{argumentSlot, answerSlot, slotOf, shared, lesser, fill, fillAt, methodIn, keyIn, keptState}
+use Rattle.slots.specs.Slots.{argumentSlot, answerSlot, slotOf, shared, lesser, fill, fillAt, methodIn, rawIn, Coded, keyIn, keptState}
 
 -- Kinds.
 pub closed-same : (kind k : ℕ) → kind ≡ 2 → leb 2 k ≡ sameKind (kindOf kind) (kindOf k)
@@ -151,6 +152,11 @@ lesser-right zero (suc y) h = absurd (not-suc-le-zero h)
 lesser-right (suc x) zero h = refl
 lesser-right (suc x) (suc y) h = ap suc (lesser-right x y (le-of-suc-le-suc h))
 
+lesser-least : (x y : ℕ) → lesser x y ≤ x
+lesser-least zero y = omega arith
+lesser-least (suc x) zero = omega arith
+lesser-least (suc x) (suc y) = let h = lesser-least x y in omega arith
+
 take-shared : (c e : ℕ) (ps qs ns : List ℕ) → length ns ≤ length ps → length ns ≤ length qs → take (lesser c e) ns ≡ take (shared (take c ps) (take e qs)) ns
 take-shared zero e ps qs ns h k = refl
 take-shared (suc c) zero [] qs ns h k = refl
@@ -194,6 +200,14 @@ module _ (d : Kind) (p q : RawMethod) where
       go false e = rw (es, e)
       go true e = rw (es, e, left-on e, right-on e, take-shared (p .count) (q .count) (p .args) (q .args) args h k)
 
+  -- its codes name something where those of both sides do
+  pub filled-coded : (st : ℕ) (args : List ℕ) (a : ℕ) → stateOf st ≡ restricted d (stateOf (p .state)) (stateOf (q .state)) → (p .state < 4 → q .state < 4 → st < 4) → Coded p → Coded q → Coded (made st args a)
+  filled-coded st args a es low hp hq =
+      both (so-ltb (low (ltb-so (first (ltb (p .state) 4) _ hp)) (ltb-so (first (ltb (q .state) 4) _ hq)))) (imply (permit (stateOf st)) (leb (lesser (p .count) (q .count)) 2) (λ on. so-leb (few on)))
+    where
+      few : So (permit (stateOf st)) → lesser (p .count) (q .count) ≤ 2
+      few on = let h : p .count ≤ 2 = leb-so (applied (second (ltb (p .state) 4) _ hp) (left-on (subst (λ (z : State). So (permit z)) es on))) in let l = lesser-least (p .count) (q .count) in omega arith
+
 -- Keys.
 module _ (d : Kind) (t s : ℕ) (h : Head) where
   pub key-other : sameKind d (kindOf (h .kind)) ≡ false → false ≡ isKey d t s (keyIn h)
@@ -206,12 +220,15 @@ module _ (d : Kind) (t s : ℕ) (h : Head) where
   key-right e f = rw (e, eq-eqb t (h .left) f)
 
 -- Methods of the code, as records.
-pub in-methods : (ms : List Method) (j : ℕ) → methodOf (rawMethod (getD ms j absent)) ≡ methodOf (getD (map rawMethod ms) j noRawMethod)
-in-methods ms j = ap methodOf (sym (List·getD-map rawMethod ms j absent))
+pub raw-methods : (ms : List Method) (j : ℕ) → rawMethod (getD ms j absent) ≡ getD (map rawMethod ms) j noRawMethod
+raw-methods ms j = sym (List·getD-map rawMethod ms j absent)
 
-pub filled-here : (d : Kind) (x y : TypeRec) (ns : List ℕ) (j : ℕ) (p q m : Method) → methodOf (rawMethod p) ≡ methodIn x j → methodOf (rawMethod q) ≡ methodIn y j
+pub in-methods : (ms : List Method) (j : ℕ) → methodOf (rawMethod (getD ms j absent)) ≡ methodOf (getD (map rawMethod ms) j noRawMethod)
+in-methods ms j = ap methodOf (raw-methods ms j)
+
+pub filled-here : (d : Kind) (x y : TypeRec) (ns : List ℕ) (j : ℕ) (p q m : Method) → rawMethod p ≡ rawIn x j → rawMethod q ≡ rawIn y j
     → methodOf (rawMethod m) ≡ fill d (methodOf (rawMethod p)) (methodOf (rawMethod q)) (getD ns (j * 5) 0 ∷ getD ns (j * 5 + 1) 0 ∷ getD ns (j * 5 + 2) 0 ∷ getD ns (j * 5 + 3) 0 ∷ []) (getD ns (j * 5 + 4) 0)
     → methodOf (rawMethod m) ≡ fillAt d (methodIn x) (methodIn y) ns j
 filled-here d x y ns j p q m ep eq em =
-    em ∙ ap (λ (z : model.Method). fill d z (methodOf (rawMethod q)) (getD ns (j * 5) 0 ∷ getD ns (j * 5 + 1) 0 ∷ getD ns (j * 5 + 2) 0 ∷ getD ns (j * 5 + 3) 0 ∷ []) (getD ns (j * 5 + 4) 0)) ep
-    ∙ ap (λ (z : model.Method). fill d (methodIn x j) z (getD ns (j * 5) 0 ∷ getD ns (j * 5 + 1) 0 ∷ getD ns (j * 5 + 2) 0 ∷ getD ns (j * 5 + 3) 0 ∷ []) (getD ns (j * 5 + 4) 0)) eq
+    em ∙ ap (λ (z : model.Method). fill d z (methodOf (rawMethod q)) (getD ns (j * 5) 0 ∷ getD ns (j * 5 + 1) 0 ∷ getD ns (j * 5 + 2) 0 ∷ getD ns (j * 5 + 3) 0 ∷ []) (getD ns (j * 5 + 4) 0)) (ap methodOf ep)
+    ∙ ap (λ (z : model.Method). fill d (methodIn x j) z (getD ns (j * 5) 0 ∷ getD ns (j * 5 + 1) 0 ∷ getD ns (j * 5 + 2) 0 ∷ getD ns (j * 5 + 3) 0 ∷ []) (getD ns (j * 5 + 4) 0)) (ap methodOf eq)

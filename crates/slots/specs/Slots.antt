@@ -1,7 +1,7 @@
 -- Document 01, "Restriction": "A new one takes the next number before its signatures are derived, methods in order, arguments before answer, each to its end."
 -- As the code goes through it: five slots to a method, four for arguments and one for the answer, the slots of all methods in one row.
 use mathlib.Core.Path.{_≡_}
-use mathlib.Core.Bool.{not, _&&_, cond}
+use mathlib.Core.Bool.{So, not, _&&_, cond}
 use mathlib.Core.List.{List, [], _∷_}
 use mathlib.Core.Option.{Option, none, some}
 use Prim.Native.Nat.{ℕ, zero, suc, _+_, _*_, _/_, _%_, _<_}
@@ -9,7 +9,7 @@ use lib.Dec.{ltb}
 use lib.ListN.{getD, take}
 use Rattle.model.specs.Table.{State, Kind, Key, Method, permit}
 use Rattle.model.specs.Restriction.{restricted}
-use Rattle.model.specs.Check.{RawMethod, RawType, noRawMethod, kindOf, answerOf, methodOf}
+use Rattle.model.specs.Check.{RawMethod, RawType, noRawMethod, kindOf, answerOf, methodOf, rawMethodFits}
 use Rattle.table.specs.declared.Head.{Head}
 use Rattle.table.specs.declared.TypeRec.{TypeRec}
 use Rattle.table.specs.Store.{rawOf}
@@ -65,9 +65,16 @@ fill d x y args answer = record {
 abbrev pub fillAt : Kind → (ℕ → Method) → (ℕ → Method) → List ℕ → ℕ → Method
 fillAt d x y ns j = fill d (x j) (y j) (getD ns (j * 5) 0 ∷ getD ns (j * 5 + 1) 0 ∷ getD ns (j * 5 + 2) 0 ∷ getD ns (j * 5 + 3) 0 ∷ []) (getD ns (j * 5 + 4) 0)
 
--- method j of a type of the code
+-- method j of a type of the code: as it is stored, and what it means
+abbrev pub rawIn : TypeRec → ℕ → RawMethod
+rawIn x j = getD (rawOf x .methods) j noRawMethod
+
 abbrev pub methodIn : TypeRec → ℕ → Method
-methodIn x j = methodOf (getD (rawOf x .methods) j noRawMethod)
+methodIn x j = methodOf (rawIn x j)
+
+-- the codes of a stored method name something, as the check of a table handed in asks
+abbrev pub Coded : RawMethod → Type 0
+Coded m = So (rawMethodFits m)
 
 -- the key of a derived type
 abbrev pub keyIn : Head → Option Key
@@ -85,3 +92,4 @@ newRecord cat kind t s ms = record { rep = 0; cat = cat; own = 0; kind = kind; l
 pub record Finished (d : Kind) (cat kind t s ms : ℕ) (x y : TypeRec) (ns : List ℕ) (z : TypeRec) : Type 0 where
   pub head : rawOf z ≡ newRecord cat kind t s (rawOf z .methods)
   pub filled : (j : ℕ) → j < ms → methodIn z j ≡ fillAt d (methodIn x) (methodIn y) ns j
+  pub coded : (j : ℕ) → j < ms → Coded (rawIn x j) → Coded (rawIn y j) → Coded (rawIn z j)

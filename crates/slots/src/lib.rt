@@ -7,7 +7,7 @@ ghost use Rattle.model.specs.Table.{permit};
 ghost use Rattle.model.specs.Restriction.{restricted, sameKind, isKey};
 ghost use Rattle.model.specs.Check.{stateOf, kindOf, answerOf, methodOf};
 ghost use Rattle.table.specs.Store.{rawMethod, rawOf};
-ghost use Rattle.slots.specs.Slots.{answerSlot, argumentSlot, slotOf, slotAt, lesser, fill, methodIn, Low, keyIn, keptState, newRecord, Finished};
+ghost use Rattle.slots.specs.Slots.{answerSlot, argumentSlot, slotOf, slotAt, lesser, fill, methodIn, rawIn, Coded, Low, keyIn, keptState, newRecord, Finished};
 use table::Head;
 use table::Method;
 use table::TypeRec;
@@ -61,7 +61,7 @@ fn permits(x: u8) -> bool
 
 // One side's own state, except that a method it permits and the other doesn't is lost.
 fn kept_state(own: u8, other: u8, lost: u8) -> u8
-    ensures { λ r. ⌜ stateOf r ≡ keptState (stateOf own) (stateOf other) (stateOf lost) ⌝ }
+    ensures { λ r. ⌜ (stateOf r ≡ keptState (stateOf own) (stateOf other) (stateOf lost)) × (own < 4 → lost < 4 → r < 4) ⌝ }
 {
     let p = permits(own);
     if !p {
@@ -77,7 +77,7 @@ fn kept_state(own: u8, other: u8, lost: u8) -> u8
 // The state of a method in the derived type, from its states on the left and on the right.
 fn state_of(kind: u8, x: u8, y: u8) -> u8
     requires { ⌜ kind < 3 ⌝ }
-    ensures { λ r. ⌜ stateOf r ≡ restricted (kindOf kind) (stateOf x) (stateOf y) ⌝ }
+    ensures { λ r. ⌜ (stateOf r ≡ restricted (kindOf kind) (stateOf x) (stateOf y)) × (x < 4 → y < 4 → r < 4) ⌝ }
 {
     if kind == 0 {
         return kept_state(x, y, 3);
@@ -156,7 +156,7 @@ fn slot_of(kind: u8, p: Method, q: Method, i: usize) -> Slot
 
 fn method_at(x: TypeRec, j: usize) -> Method
     requires { ⌜ j < 16 ⌝ }
-    ensures { λ r. ⌜ methodOf (rawMethod r) ≡ methodIn x j ⌝ }
+    ensures { λ r. ⌜ rawMethod r ≡ rawIn x j ⌝ }
 {
     x.methods[j]
 }
@@ -183,7 +183,8 @@ fn least(x: u8, y: u8) -> u8
 // A method of the derived type, from the bytes of its slots.
 fn filled(kind: u8, p: Method, q: Method, args: [u8; 4], answer: u8) -> Method
     requires { ⌜ kind < 3 ⌝ }
-    ensures { λ r. ⌜ methodOf (rawMethod r) ≡ fill (kindOf kind) (methodOf (rawMethod p)) (methodOf (rawMethod q)) args answer ⌝ }
+    ensures is { λ r. ⌜ methodOf (rawMethod r) ≡ fill (kindOf kind) (methodOf (rawMethod p)) (methodOf (rawMethod q)) args answer ⌝ }
+    ensures coded { λ r. ⌜ (Coded (rawMethod p) → Coded (rawMethod q) → Coded (rawMethod r)) ⌝ }
 {
     let state = state_of(kind, p.state, q.state);
     let count = least(p.count, q.count);

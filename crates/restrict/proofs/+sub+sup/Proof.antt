@@ -54,7 +54,7 @@ sub-μ-loop b₀ methods sheet n t s x y end bytes₀ m₀ k₀ b bytes m k = en
 
 -- Sub, when the type at work has been stored.
 sub-started : (t : ℕ) (c : sub-lts.After-start (sub-calls t) (sub-at t) sub-reads.Post sub-Inv-loop sub-μ-loop) → let a = c .before .before .before .before .before .before .before .before .before .before .args in Started sub (c .before .before .before .before .get-type .result .cat) 0 (a .methods) (a .sheet) (a .n) (a .t) (a .s) (c .before .before .before .before .get-type .result) (c .before .before .get-type2 .result) (a .b .now) (c .start .last .0)
-sub-started t c = started (c .before .before .before .before .before .before .before .before .before .before .pre .1) refl (c .before .before .before .before .before .before .enum-told .given .1) (c .before .before .before .before .before .before .before .before .begin .ensures) (c .before .before .before .before .get-type .ensures .0) (c .before .before .get-type2 .ensures .0) (ap (λ (r : RawType). r .cat) (c .before .before .before .before .get-type .ensures .0)) (c .start .ensures .0) (c .start .ensures .1)
+sub-started t c = started (c .before .before .before .before .before .before .before .before .before .before .pre .1) refl (omega arith) (c .before .before .before .before .before .before .enum-told .given .1) (c .before .before .before .before .before .before .before .before .begin .ensures) (c .before .before .before .before .get-type .ensures .0) (c .before .before .get-type2 .ensures .0) (ap (λ (r : RawType). r .cat) (c .before .before .before .before .get-type .ensures .0)) (c .start .ensures .0) (c .start .ensures .1)
 
 sub-begin-requires : (t : ℕ) → sub-lts.Need-begin-requires (sub-calls t) (sub-at t) sub-reads.Post sub-Inv-loop sub-μ-loop
 sub-begin-requires t c κs = let p = (c .before .pre .1) in (omega arith, p .sheet, p .types, refl)
@@ -101,23 +101,23 @@ sub-loop-less t c = search needs
 sub-loop-again : (t : ℕ) → sub-lts.Need-loop-again (sub-calls t) (sub-at t) sub-reads.Post sub-Inv-loop sub-μ-loop
 sub-loop-again t c = turn-empty (c .before .before .before .before .loop .inv) (c .before .before .before .loop-test .taken) (c .before .before .slot-at .ensures .0) (c .enum-told2 .given .1)
 
-sub-enum-known-slot : (t : ℕ) → sub-lts.Need-enum-known-slot (sub-calls t) (sub-at t) sub-reads.Post sub-Inv-loop sub-μ-loop
-sub-enum-known-slot t c = search needs
+sub-enum-known-l1 : (t : ℕ) → sub-lts.Need-enum-known-l1 (sub-calls t) (sub-at t) sub-reads.Post sub-Inv-loop sub-μ-loop
+sub-enum-known-l1 t c = search needs
 
 sub-sup-requires : (t : ℕ) → sub-lts.Need-sup-requires (sub-calls t) (sub-at t) sub-reads.Post sub-Inv-loop sub-μ-loop
-sub-sup-requires t c κs = (omega (arith, c .before .before .before .before .before .before .loop .inv .more, c .before .before .before .before .before .before .loop .inv .most, c .before .before .before .before .before .before .loop .inv .room, c .before .before .before .before .before .before .before .before .before .before .before .before .before .before .before .before .before .pre .0), argument-ready (c .before .before .before .before .before .before .loop .inv) (c .before .before .before .before .before .loop-test .taken) (c .before .before .before .before .slot-at .ensures .0) (c .before .before .before .before .slot-at .ensures .1) (c .before .before .slot .given .1))
+sub-sup-requires t c κs = (omega (arith, c .before .before .before .before .before .before .loop .inv .more, c .before .before .before .before .before .before .loop .inv .most, c .before .before .before .before .before .before .loop .inv .room, c .before .before .before .before .before .before .before .before .before .before .before .before .before .before .before .before .before .pre .0), argument-ready (c .before .before .before .before .before .before .loop .inv) (c .before .before .before .before .before .loop-test .taken) (c .before .before .before .before .slot-at .ensures .0) (c .before .before .before .before .slot-at .ensures .1) (c .before .before .l1 .given .1))
 
-sub-enum-known-first : (t : ℕ) → sub-lts.Need-enum-known-first (sub-calls t) (sub-at t) sub-reads.Post sub-Inv-loop sub-μ-loop
-sub-enum-known-first t c = search needs
+sub-enum-known-i1 : (t : ℕ) → sub-lts.Need-enum-known-i1 (sub-calls t) (sub-at t) sub-reads.Post sub-Inv-loop sub-μ-loop
+sub-enum-known-i1 t c = search needs
 
 sub-enum-told-3 : (t : ℕ) → sub-lts.Need-enum-told-3 (sub-calls t) (sub-at t) sub-reads.Post sub-Inv-loop sub-μ-loop
 sub-enum-told-3 t c = search needs
 
 sub-returns-2 : (t : ℕ) → sub-lts.Need-returns-2 (sub-calls t) (sub-at t) sub-reads.Post sub-Inv-loop sub-μ-loop
-sub-returns-2 t c = new-full (sub-started t (c .before .before .before .before .before .before .before .before .before .before)) (c .before .before .before .before .before .before .before .before .before .loop .inv) (c .before .before .sup .ensures .keeps) (argument-full (c .before .before .before .before .before .before .before .before .before .loop .inv) (c .before .before .before .before .before .before .before .before .loop-test .taken) (c .before .before .before .before .before .before .before .slot-at .ensures .0) (c .before .before .before .before .before .before .before .slot-at .ensures .1) (c .before .before .before .before .before .slot .given .1) (c .before .before .sup .ensures) (c .enum-told3 .given .1))
+sub-returns-2 t c = new-full (sub-started t (c .before .before .before .before .before .before .before .before .before .before)) (c .before .before .before .before .before .before .before .before .before .loop .inv) (c .before .before .sup .ensures .keeps) (argument-full (c .before .before .before .before .before .before .before .before .before .loop .inv) (c .before .before .before .before .before .before .before .before .loop-test .taken) (c .before .before .before .before .before .before .before .slot-at .ensures .0) (c .before .before .before .before .before .before .before .slot-at .ensures .1) (c .before .before .before .before .before .l1 .given .1) (c .before .before .sup .ensures) (c .enum-told3 .given .1))
 
 sub-narrow-requires : (t : ℕ) → sub-lts.Need-narrow-requires (sub-calls t) (sub-at t) sub-reads.Post sub-Inv-loop sub-μ-loop
-sub-narrow-requires t c κs = argument-low (c .before .before .before .before .before .before .before .before .before .before .loop .inv) (c .before .before .before .before .before .before .before .before .before .loop-test .taken) (c .before .before .before .before .before .before .before .before .slot-at .ensures .0) (c .before .before .before .before .before .before .before .before .slot-at .ensures .1) (c .before .before .before .before .before .before .slot .given .1) (c .before .before .before .sup .ensures) (c .before .first .given .1)
+sub-narrow-requires t c κs = argument-low (c .before .before .before .before .before .before .before .before .before .before .loop .inv) (c .before .before .before .before .before .before .before .before .before .loop-test .taken) (c .before .before .before .before .before .before .before .before .slot-at .ensures .0) (c .before .before .before .before .before .before .before .before .slot-at .ensures .1) (c .before .before .before .before .before .before .l1 .given .1) (c .before .before .before .sup .ensures) (c .before .i1 .given .1)
 
 sub-array-write-bytes : (t : ℕ) → sub-lts.Need-array-write-bytes (sub-calls t) (sub-at t) sub-reads.Post sub-Inv-loop sub-μ-loop
 sub-array-write-bytes t c = omega (arith, c .before .before .before .before .before .before .before .before .before .before .loop-test .taken, c .before .before .before .before .before .before .before .before .before .before .before .loop .inv .edge, c .before .before .before .before .before .before .before .before .before .before .before .loop .inv .few, c .before .before .before .before .before .before .before .before .before .before .before .loop .inv .wide)
@@ -129,28 +129,28 @@ sub-loop-less-2 : (t : ℕ) → sub-lts.Need-loop-less-2 (sub-calls t) (sub-at t
 sub-loop-less-2 t c = search needs
 
 sub-loop-again-2 : (t : ℕ) → sub-lts.Need-loop-again-2 (sub-calls t) (sub-at t) sub-reads.Post sub-Inv-loop sub-μ-loop
-sub-loop-again-2 t c = argument-turn (c .before .before .before .before .before .before .before .before .before .before .before .loop .inv) (c .before .before .before .before .before .before .before .before .before .before .loop-test .taken) (c .before .before .before .before .before .before .before .before .before .slot-at .ensures .0) (c .before .before .before .before .before .before .before .before .before .slot-at .ensures .1) (c .before .before .before .before .before .before .before .slot .given .1) (c .before .before .before .before .sup .ensures) (c .before .before .first .given .1) (c .narrow .ensures)
+sub-loop-again-2 t c = argument-turn (c .before .before .before .before .before .before .before .before .before .before .before .loop .inv) (c .before .before .before .before .before .before .before .before .before .before .loop-test .taken) (c .before .before .before .before .before .before .before .before .before .slot-at .ensures .0) (c .before .before .before .before .before .before .before .before .before .slot-at .ensures .1) (c .before .before .before .before .before .before .before .l1 .given .1) (c .before .before .before .before .sup .ensures) (c .before .before .i1 .given .1) (c .narrow .ensures)
 
-sub-enum-known-slot-2 : (t : ℕ) → sub-lts.Need-enum-known-slot-2 (sub-calls t) (sub-at t) sub-reads.Post sub-Inv-loop sub-μ-loop
-sub-enum-known-slot-2 t c = search needs
+sub-enum-known-l2 : (t : ℕ) → sub-lts.Need-enum-known-l2 (sub-calls t) (sub-at t) sub-reads.Post sub-Inv-loop sub-μ-loop
+sub-enum-known-l2 t c = search needs
 
 sub-sub-requires : (t : ℕ) → sub-lts.Need-sub-requires (sub-calls t) (sub-at t) sub-reads.Post sub-Inv-loop sub-μ-loop
-sub-sub-requires t c κs = (omega (arith, c .before .before .before .before .before .before .loop .inv .more, c .before .before .before .before .before .before .loop .inv .most, c .before .before .before .before .before .before .loop .inv .room, c .before .before .before .before .before .before .before .before .before .before .before .before .before .before .before .before .before .pre .0), answer-ready (c .before .before .before .before .before .before .loop .inv) (c .before .before .before .before .before .loop-test .taken) (c .before .before .before .before .slot-at .ensures .0) (c .before .before .before .before .slot-at .ensures .1) (c .before .before .slot2 .given .1))
+sub-sub-requires t c κs = (omega (arith, c .before .before .before .before .before .before .loop .inv .more, c .before .before .before .before .before .before .loop .inv .most, c .before .before .before .before .before .before .loop .inv .room, c .before .before .before .before .before .before .before .before .before .before .before .before .before .before .before .before .before .pre .0), answer-ready (c .before .before .before .before .before .before .loop .inv) (c .before .before .before .before .before .loop-test .taken) (c .before .before .before .before .slot-at .ensures .0) (c .before .before .before .before .slot-at .ensures .1) (c .before .before .l2 .given .1))
 
-sub-enum-known-second : (t : ℕ) → sub-lts.Need-enum-known-second (sub-calls t) (sub-at t) sub-reads.Post sub-Inv-loop sub-μ-loop
-sub-enum-known-second t c = search needs
+sub-enum-known-i2 : (t : ℕ) → sub-lts.Need-enum-known-i2 (sub-calls t) (sub-at t) sub-reads.Post sub-Inv-loop sub-μ-loop
+sub-enum-known-i2 t c = search needs
 
 sub-enum-told-4 : (t : ℕ) → sub-lts.Need-enum-told-4 (sub-calls t) (sub-at t) sub-reads.Post sub-Inv-loop sub-μ-loop
 sub-enum-told-4 t c = search needs
 
 sub-returns-3 : (t : ℕ) → sub-lts.Need-returns-3 (sub-calls t) (sub-at t) sub-reads.Post sub-Inv-loop sub-μ-loop
-sub-returns-3 t c = new-full (sub-started t (c .before .before .before .before .before .before .before .before .before .before)) (c .before .before .before .before .before .before .before .before .before .loop .inv) (c .before .before .sub .ensures .keeps) (answer-full (c .before .before .before .before .before .before .before .before .before .loop .inv) (c .before .before .before .before .before .before .before .before .loop-test .taken) (c .before .before .before .before .before .before .before .slot-at .ensures .0) (c .before .before .before .before .before .before .before .slot-at .ensures .1) (c .before .before .before .before .before .slot2 .given .1) (c .before .before .sub .ensures) (c .enum-told4 .given .1))
+sub-returns-3 t c = new-full (sub-started t (c .before .before .before .before .before .before .before .before .before .before)) (c .before .before .before .before .before .before .before .before .before .loop .inv) (c .before .before .sub .ensures .keeps) (answer-full (c .before .before .before .before .before .before .before .before .before .loop .inv) (c .before .before .before .before .before .before .before .before .loop-test .taken) (c .before .before .before .before .before .before .before .slot-at .ensures .0) (c .before .before .before .before .before .before .before .slot-at .ensures .1) (c .before .before .before .before .before .l2 .given .1) (c .before .before .sub .ensures) (c .enum-told4 .given .1))
 
 sub-add-narrow : (t : ℕ) → sub-lts.Need-add-narrow (sub-calls t) (sub-at t) sub-reads.Post sub-Inv-loop sub-μ-loop
-sub-add-narrow t c = let h = answer-low (c .before .before .before .before .before .before .before .before .before .before .loop .inv) (c .before .before .before .before .before .before .before .before .before .loop-test .taken) (c .before .before .before .before .before .before .before .before .slot-at .ensures .0) (c .before .before .before .before .before .before .before .before .slot-at .ensures .1) (c .before .before .before .before .before .before .slot2 .given .1) (c .before .before .before .sub .ensures) (c .before .second .given .1) in omega arith
+sub-add-narrow t c = let h = answer-low (c .before .before .before .before .before .before .before .before .before .before .loop .inv) (c .before .before .before .before .before .before .before .before .before .loop-test .taken) (c .before .before .before .before .before .before .before .before .slot-at .ensures .0) (c .before .before .before .before .before .before .before .before .slot-at .ensures .1) (c .before .before .before .before .before .before .l2 .given .1) (c .before .before .before .sub .ensures) (c .before .i2 .given .1) in omega arith
 
 sub-narrow-requires-2 : (t : ℕ) → sub-lts.Need-narrow-requires-2 (sub-calls t) (sub-at t) sub-reads.Post sub-Inv-loop sub-μ-loop
-sub-narrow-requires-2 t c κs = let h = answer-low (c .before .before .before .before .before .before .before .before .before .before .loop .inv) (c .before .before .before .before .before .before .before .before .before .loop-test .taken) (c .before .before .before .before .before .before .before .before .slot-at .ensures .0) (c .before .before .before .before .before .before .before .before .slot-at .ensures .1) (c .before .before .before .before .before .before .slot2 .given .1) (c .before .before .before .sub .ensures) (c .before .second .given .1) in omega arith
+sub-narrow-requires-2 t c κs = let h = answer-low (c .before .before .before .before .before .before .before .before .before .before .loop .inv) (c .before .before .before .before .before .before .before .before .before .loop-test .taken) (c .before .before .before .before .before .before .before .before .slot-at .ensures .0) (c .before .before .before .before .before .before .before .before .slot-at .ensures .1) (c .before .before .before .before .before .before .l2 .given .1) (c .before .before .before .sub .ensures) (c .before .i2 .given .1) in omega arith
 
 sub-array-write-bytes-2 : (t : ℕ) → sub-lts.Need-array-write-bytes-2 (sub-calls t) (sub-at t) sub-reads.Post sub-Inv-loop sub-μ-loop
 sub-array-write-bytes-2 t c = omega (arith, c .before .before .before .before .before .before .before .before .before .before .loop-test .taken, c .before .before .before .before .before .before .before .before .before .before .before .loop .inv .edge, c .before .before .before .before .before .before .before .before .before .before .before .loop .inv .few, c .before .before .before .before .before .before .before .before .before .before .before .loop .inv .wide)
@@ -162,7 +162,7 @@ sub-loop-less-3 : (t : ℕ) → sub-lts.Need-loop-less-3 (sub-calls t) (sub-at t
 sub-loop-less-3 t c = search needs
 
 sub-loop-again-3 : (t : ℕ) → sub-lts.Need-loop-again-3 (sub-calls t) (sub-at t) sub-reads.Post sub-Inv-loop sub-μ-loop
-sub-loop-again-3 t c = answer-turn (c .before .before .before .before .before .before .before .before .before .before .before .loop .inv) (c .before .before .before .before .before .before .before .before .before .before .loop-test .taken) (c .before .before .before .before .before .before .before .before .before .slot-at .ensures .0) (c .before .before .before .before .before .before .before .before .before .slot-at .ensures .1) (c .before .before .before .before .before .before .before .slot2 .given .1) (c .before .before .before .before .sub .ensures) (c .before .before .second .given .1) (c .narrow2 .ensures)
+sub-loop-again-3 t c = answer-turn (c .before .before .before .before .before .before .before .before .before .before .before .loop .inv) (c .before .before .before .before .before .before .before .before .before .before .loop-test .taken) (c .before .before .before .before .before .before .before .before .before .slot-at .ensures .0) (c .before .before .before .before .before .before .before .before .before .slot-at .ensures .1) (c .before .before .before .before .before .before .before .l2 .given .1) (c .before .before .before .before .sub .ensures) (c .before .before .i2 .given .1) (c .narrow2 .ensures)
 
 sub-finish-requires : (t : ℕ) → sub-lts.Need-finish-requires (sub-calls t) (sub-at t) sub-reads.Post sub-Inv-loop sub-μ-loop
 sub-finish-requires t c κs = let p = (c .before .before .before .before .before .before .before .before .before .before .before .before .before .pre .1) in (c .before .before .loop .inv .room, c .before .before .loop .inv .long, omega arith, p .left, p .right, p .methods)
@@ -181,7 +181,7 @@ sup-μ-loop b₀ methods sheet n t s x y end bytes₀ m₀ k₀ b bytes m k = en
 
 -- Sup, when the type at work has been stored.
 sup-started : (t : ℕ) (c : sup-lts.After-start (sup-calls t) (sup-at t) sup-reads.Post sup-Inv-loop sup-μ-loop) → let a = c .before .before .before .before .before .before .before .before .before .before .args in Started sup (c .before .before .get-type2 .result .cat) 1 (a .methods) (a .sheet) (a .n) (a .t) (a .s) (c .before .before .before .before .get-type .result) (c .before .before .get-type2 .result) (a .b .now) (c .start .last .0)
-sup-started t c = started (c .before .before .before .before .before .before .before .before .before .before .pre .1) refl (c .before .before .before .before .before .before .enum-told .given .1) (c .before .before .before .before .before .before .before .before .begin .ensures) (c .before .before .before .before .get-type .ensures .0) (c .before .before .get-type2 .ensures .0) (ap (λ (r : RawType). r .cat) (c .before .before .get-type2 .ensures .0)) (c .start .ensures .0) (c .start .ensures .1)
+sup-started t c = started (c .before .before .before .before .before .before .before .before .before .before .pre .1) refl (omega arith) (c .before .before .before .before .before .before .enum-told .given .1) (c .before .before .before .before .before .before .before .before .begin .ensures) (c .before .before .before .before .get-type .ensures .0) (c .before .before .get-type2 .ensures .0) (ap (λ (r : RawType). r .cat) (c .before .before .get-type2 .ensures .0)) (c .start .ensures .0) (c .start .ensures .1)
 
 sup-begin-requires : (t : ℕ) → sup-lts.Need-begin-requires (sup-calls t) (sup-at t) sup-reads.Post sup-Inv-loop sup-μ-loop
 sup-begin-requires t c κs = let p = (c .before .pre .1) in (omega arith, p .sheet, p .types, refl)
@@ -228,23 +228,23 @@ sup-loop-less t c = search needs
 sup-loop-again : (t : ℕ) → sup-lts.Need-loop-again (sup-calls t) (sup-at t) sup-reads.Post sup-Inv-loop sup-μ-loop
 sup-loop-again t c = turn-empty (c .before .before .before .before .loop .inv) (c .before .before .before .loop-test .taken) (c .before .before .slot-at .ensures .0) (c .enum-told2 .given .1)
 
-sup-enum-known-slot : (t : ℕ) → sup-lts.Need-enum-known-slot (sup-calls t) (sup-at t) sup-reads.Post sup-Inv-loop sup-μ-loop
-sup-enum-known-slot t c = search needs
+sup-enum-known-l1 : (t : ℕ) → sup-lts.Need-enum-known-l1 (sup-calls t) (sup-at t) sup-reads.Post sup-Inv-loop sup-μ-loop
+sup-enum-known-l1 t c = search needs
 
 sup-sub-requires : (t : ℕ) → sup-lts.Need-sub-requires (sup-calls t) (sup-at t) sup-reads.Post sup-Inv-loop sup-μ-loop
-sup-sub-requires t c κs = (omega (arith, c .before .before .before .before .before .before .loop .inv .more, c .before .before .before .before .before .before .loop .inv .most, c .before .before .before .before .before .before .loop .inv .room, c .before .before .before .before .before .before .before .before .before .before .before .before .before .before .before .before .before .pre .0), argument-ready (c .before .before .before .before .before .before .loop .inv) (c .before .before .before .before .before .loop-test .taken) (c .before .before .before .before .slot-at .ensures .0) (c .before .before .before .before .slot-at .ensures .1) (c .before .before .slot .given .1))
+sup-sub-requires t c κs = (omega (arith, c .before .before .before .before .before .before .loop .inv .more, c .before .before .before .before .before .before .loop .inv .most, c .before .before .before .before .before .before .loop .inv .room, c .before .before .before .before .before .before .before .before .before .before .before .before .before .before .before .before .before .pre .0), argument-ready (c .before .before .before .before .before .before .loop .inv) (c .before .before .before .before .before .loop-test .taken) (c .before .before .before .before .slot-at .ensures .0) (c .before .before .before .before .slot-at .ensures .1) (c .before .before .l1 .given .1))
 
-sup-enum-known-first : (t : ℕ) → sup-lts.Need-enum-known-first (sup-calls t) (sup-at t) sup-reads.Post sup-Inv-loop sup-μ-loop
-sup-enum-known-first t c = search needs
+sup-enum-known-i1 : (t : ℕ) → sup-lts.Need-enum-known-i1 (sup-calls t) (sup-at t) sup-reads.Post sup-Inv-loop sup-μ-loop
+sup-enum-known-i1 t c = search needs
 
 sup-enum-told-3 : (t : ℕ) → sup-lts.Need-enum-told-3 (sup-calls t) (sup-at t) sup-reads.Post sup-Inv-loop sup-μ-loop
 sup-enum-told-3 t c = search needs
 
 sup-returns-2 : (t : ℕ) → sup-lts.Need-returns-2 (sup-calls t) (sup-at t) sup-reads.Post sup-Inv-loop sup-μ-loop
-sup-returns-2 t c = new-full (sup-started t (c .before .before .before .before .before .before .before .before .before .before)) (c .before .before .before .before .before .before .before .before .before .loop .inv) (c .before .before .sub .ensures .keeps) (argument-full (c .before .before .before .before .before .before .before .before .before .loop .inv) (c .before .before .before .before .before .before .before .before .loop-test .taken) (c .before .before .before .before .before .before .before .slot-at .ensures .0) (c .before .before .before .before .before .before .before .slot-at .ensures .1) (c .before .before .before .before .before .slot .given .1) (c .before .before .sub .ensures) (c .enum-told3 .given .1))
+sup-returns-2 t c = new-full (sup-started t (c .before .before .before .before .before .before .before .before .before .before)) (c .before .before .before .before .before .before .before .before .before .loop .inv) (c .before .before .sub .ensures .keeps) (argument-full (c .before .before .before .before .before .before .before .before .before .loop .inv) (c .before .before .before .before .before .before .before .before .loop-test .taken) (c .before .before .before .before .before .before .before .slot-at .ensures .0) (c .before .before .before .before .before .before .before .slot-at .ensures .1) (c .before .before .before .before .before .l1 .given .1) (c .before .before .sub .ensures) (c .enum-told3 .given .1))
 
 sup-narrow-requires : (t : ℕ) → sup-lts.Need-narrow-requires (sup-calls t) (sup-at t) sup-reads.Post sup-Inv-loop sup-μ-loop
-sup-narrow-requires t c κs = argument-low (c .before .before .before .before .before .before .before .before .before .before .loop .inv) (c .before .before .before .before .before .before .before .before .before .loop-test .taken) (c .before .before .before .before .before .before .before .before .slot-at .ensures .0) (c .before .before .before .before .before .before .before .before .slot-at .ensures .1) (c .before .before .before .before .before .before .slot .given .1) (c .before .before .before .sub .ensures) (c .before .first .given .1)
+sup-narrow-requires t c κs = argument-low (c .before .before .before .before .before .before .before .before .before .before .loop .inv) (c .before .before .before .before .before .before .before .before .before .loop-test .taken) (c .before .before .before .before .before .before .before .before .slot-at .ensures .0) (c .before .before .before .before .before .before .before .before .slot-at .ensures .1) (c .before .before .before .before .before .before .l1 .given .1) (c .before .before .before .sub .ensures) (c .before .i1 .given .1)
 
 sup-array-write-bytes : (t : ℕ) → sup-lts.Need-array-write-bytes (sup-calls t) (sup-at t) sup-reads.Post sup-Inv-loop sup-μ-loop
 sup-array-write-bytes t c = omega (arith, c .before .before .before .before .before .before .before .before .before .before .loop-test .taken, c .before .before .before .before .before .before .before .before .before .before .before .loop .inv .edge, c .before .before .before .before .before .before .before .before .before .before .before .loop .inv .few, c .before .before .before .before .before .before .before .before .before .before .before .loop .inv .wide)
@@ -256,28 +256,28 @@ sup-loop-less-2 : (t : ℕ) → sup-lts.Need-loop-less-2 (sup-calls t) (sup-at t
 sup-loop-less-2 t c = search needs
 
 sup-loop-again-2 : (t : ℕ) → sup-lts.Need-loop-again-2 (sup-calls t) (sup-at t) sup-reads.Post sup-Inv-loop sup-μ-loop
-sup-loop-again-2 t c = argument-turn (c .before .before .before .before .before .before .before .before .before .before .before .loop .inv) (c .before .before .before .before .before .before .before .before .before .before .loop-test .taken) (c .before .before .before .before .before .before .before .before .before .slot-at .ensures .0) (c .before .before .before .before .before .before .before .before .before .slot-at .ensures .1) (c .before .before .before .before .before .before .before .slot .given .1) (c .before .before .before .before .sub .ensures) (c .before .before .first .given .1) (c .narrow .ensures)
+sup-loop-again-2 t c = argument-turn (c .before .before .before .before .before .before .before .before .before .before .before .loop .inv) (c .before .before .before .before .before .before .before .before .before .before .loop-test .taken) (c .before .before .before .before .before .before .before .before .before .slot-at .ensures .0) (c .before .before .before .before .before .before .before .before .before .slot-at .ensures .1) (c .before .before .before .before .before .before .before .l1 .given .1) (c .before .before .before .before .sub .ensures) (c .before .before .i1 .given .1) (c .narrow .ensures)
 
-sup-enum-known-slot-2 : (t : ℕ) → sup-lts.Need-enum-known-slot-2 (sup-calls t) (sup-at t) sup-reads.Post sup-Inv-loop sup-μ-loop
-sup-enum-known-slot-2 t c = search needs
+sup-enum-known-l2 : (t : ℕ) → sup-lts.Need-enum-known-l2 (sup-calls t) (sup-at t) sup-reads.Post sup-Inv-loop sup-μ-loop
+sup-enum-known-l2 t c = search needs
 
 sup-sup-requires : (t : ℕ) → sup-lts.Need-sup-requires (sup-calls t) (sup-at t) sup-reads.Post sup-Inv-loop sup-μ-loop
-sup-sup-requires t c κs = (omega (arith, c .before .before .before .before .before .before .loop .inv .more, c .before .before .before .before .before .before .loop .inv .most, c .before .before .before .before .before .before .loop .inv .room, c .before .before .before .before .before .before .before .before .before .before .before .before .before .before .before .before .before .pre .0), answer-ready (c .before .before .before .before .before .before .loop .inv) (c .before .before .before .before .before .loop-test .taken) (c .before .before .before .before .slot-at .ensures .0) (c .before .before .before .before .slot-at .ensures .1) (c .before .before .slot2 .given .1))
+sup-sup-requires t c κs = (omega (arith, c .before .before .before .before .before .before .loop .inv .more, c .before .before .before .before .before .before .loop .inv .most, c .before .before .before .before .before .before .loop .inv .room, c .before .before .before .before .before .before .before .before .before .before .before .before .before .before .before .before .before .pre .0), answer-ready (c .before .before .before .before .before .before .loop .inv) (c .before .before .before .before .before .loop-test .taken) (c .before .before .before .before .slot-at .ensures .0) (c .before .before .before .before .slot-at .ensures .1) (c .before .before .l2 .given .1))
 
-sup-enum-known-second : (t : ℕ) → sup-lts.Need-enum-known-second (sup-calls t) (sup-at t) sup-reads.Post sup-Inv-loop sup-μ-loop
-sup-enum-known-second t c = search needs
+sup-enum-known-i2 : (t : ℕ) → sup-lts.Need-enum-known-i2 (sup-calls t) (sup-at t) sup-reads.Post sup-Inv-loop sup-μ-loop
+sup-enum-known-i2 t c = search needs
 
 sup-enum-told-4 : (t : ℕ) → sup-lts.Need-enum-told-4 (sup-calls t) (sup-at t) sup-reads.Post sup-Inv-loop sup-μ-loop
 sup-enum-told-4 t c = search needs
 
 sup-returns-3 : (t : ℕ) → sup-lts.Need-returns-3 (sup-calls t) (sup-at t) sup-reads.Post sup-Inv-loop sup-μ-loop
-sup-returns-3 t c = new-full (sup-started t (c .before .before .before .before .before .before .before .before .before .before)) (c .before .before .before .before .before .before .before .before .before .loop .inv) (c .before .before .sup .ensures .keeps) (answer-full (c .before .before .before .before .before .before .before .before .before .loop .inv) (c .before .before .before .before .before .before .before .before .loop-test .taken) (c .before .before .before .before .before .before .before .slot-at .ensures .0) (c .before .before .before .before .before .before .before .slot-at .ensures .1) (c .before .before .before .before .before .slot2 .given .1) (c .before .before .sup .ensures) (c .enum-told4 .given .1))
+sup-returns-3 t c = new-full (sup-started t (c .before .before .before .before .before .before .before .before .before .before)) (c .before .before .before .before .before .before .before .before .before .loop .inv) (c .before .before .sup .ensures .keeps) (answer-full (c .before .before .before .before .before .before .before .before .before .loop .inv) (c .before .before .before .before .before .before .before .before .loop-test .taken) (c .before .before .before .before .before .before .before .slot-at .ensures .0) (c .before .before .before .before .before .before .before .slot-at .ensures .1) (c .before .before .before .before .before .l2 .given .1) (c .before .before .sup .ensures) (c .enum-told4 .given .1))
 
 sup-add-narrow : (t : ℕ) → sup-lts.Need-add-narrow (sup-calls t) (sup-at t) sup-reads.Post sup-Inv-loop sup-μ-loop
-sup-add-narrow t c = let h = answer-low (c .before .before .before .before .before .before .before .before .before .before .loop .inv) (c .before .before .before .before .before .before .before .before .before .loop-test .taken) (c .before .before .before .before .before .before .before .before .slot-at .ensures .0) (c .before .before .before .before .before .before .before .before .slot-at .ensures .1) (c .before .before .before .before .before .before .slot2 .given .1) (c .before .before .before .sup .ensures) (c .before .second .given .1) in omega arith
+sup-add-narrow t c = let h = answer-low (c .before .before .before .before .before .before .before .before .before .before .loop .inv) (c .before .before .before .before .before .before .before .before .before .loop-test .taken) (c .before .before .before .before .before .before .before .before .slot-at .ensures .0) (c .before .before .before .before .before .before .before .before .slot-at .ensures .1) (c .before .before .before .before .before .before .l2 .given .1) (c .before .before .before .sup .ensures) (c .before .i2 .given .1) in omega arith
 
 sup-narrow-requires-2 : (t : ℕ) → sup-lts.Need-narrow-requires-2 (sup-calls t) (sup-at t) sup-reads.Post sup-Inv-loop sup-μ-loop
-sup-narrow-requires-2 t c κs = let h = answer-low (c .before .before .before .before .before .before .before .before .before .before .loop .inv) (c .before .before .before .before .before .before .before .before .before .loop-test .taken) (c .before .before .before .before .before .before .before .before .slot-at .ensures .0) (c .before .before .before .before .before .before .before .before .slot-at .ensures .1) (c .before .before .before .before .before .before .slot2 .given .1) (c .before .before .before .sup .ensures) (c .before .second .given .1) in omega arith
+sup-narrow-requires-2 t c κs = let h = answer-low (c .before .before .before .before .before .before .before .before .before .before .loop .inv) (c .before .before .before .before .before .before .before .before .before .loop-test .taken) (c .before .before .before .before .before .before .before .before .slot-at .ensures .0) (c .before .before .before .before .before .before .before .before .slot-at .ensures .1) (c .before .before .before .before .before .before .l2 .given .1) (c .before .before .before .sup .ensures) (c .before .i2 .given .1) in omega arith
 
 sup-array-write-bytes-2 : (t : ℕ) → sup-lts.Need-array-write-bytes-2 (sup-calls t) (sup-at t) sup-reads.Post sup-Inv-loop sup-μ-loop
 sup-array-write-bytes-2 t c = omega (arith, c .before .before .before .before .before .before .before .before .before .before .loop-test .taken, c .before .before .before .before .before .before .before .before .before .before .before .loop .inv .edge, c .before .before .before .before .before .before .before .before .before .before .before .loop .inv .few, c .before .before .before .before .before .before .before .before .before .before .before .loop .inv .wide)
@@ -289,7 +289,7 @@ sup-loop-less-3 : (t : ℕ) → sup-lts.Need-loop-less-3 (sup-calls t) (sup-at t
 sup-loop-less-3 t c = search needs
 
 sup-loop-again-3 : (t : ℕ) → sup-lts.Need-loop-again-3 (sup-calls t) (sup-at t) sup-reads.Post sup-Inv-loop sup-μ-loop
-sup-loop-again-3 t c = answer-turn (c .before .before .before .before .before .before .before .before .before .before .before .loop .inv) (c .before .before .before .before .before .before .before .before .before .before .loop-test .taken) (c .before .before .before .before .before .before .before .before .before .slot-at .ensures .0) (c .before .before .before .before .before .before .before .before .before .slot-at .ensures .1) (c .before .before .before .before .before .before .before .slot2 .given .1) (c .before .before .before .before .sup .ensures) (c .before .before .second .given .1) (c .narrow2 .ensures)
+sup-loop-again-3 t c = answer-turn (c .before .before .before .before .before .before .before .before .before .before .before .loop .inv) (c .before .before .before .before .before .before .before .before .before .before .loop-test .taken) (c .before .before .before .before .before .before .before .before .before .slot-at .ensures .0) (c .before .before .before .before .before .before .before .before .before .slot-at .ensures .1) (c .before .before .before .before .before .before .before .l2 .given .1) (c .before .before .before .before .sup .ensures) (c .before .before .i2 .given .1) (c .narrow2 .ensures)
 
 sup-finish-requires : (t : ℕ) → sup-lts.Need-finish-requires (sup-calls t) (sup-at t) sup-reads.Post sup-Inv-loop sup-μ-loop
 sup-finish-requires t c κs = let p = (c .before .before .before .before .before .before .before .before .before .before .before .before .before .pre .1) in (c .before .before .loop .inv .room, c .before .before .loop .inv .long, omega arith, p .left, p .right, p .methods)
@@ -335,9 +335,9 @@ pub +sub+sup-spec : {M : Type 1} → statement M
     (sub-add-k t)
     (sub-loop-less t)
     (sub-loop-again t)
-    (sub-enum-known-slot t)
+    (sub-enum-known-l1 t)
     (sub-sup-requires t)
-    (sub-enum-known-first t)
+    (sub-enum-known-i1 t)
     (sub-enum-told-3 t)
     (sub-returns-2 t)
     (sub-narrow-requires t)
@@ -345,9 +345,9 @@ pub +sub+sup-spec : {M : Type 1} → statement M
     (sub-add-k-2 t)
     (sub-loop-less-2 t)
     (sub-loop-again-2 t)
-    (sub-enum-known-slot-2 t)
+    (sub-enum-known-l2 t)
     (sub-sub-requires t)
-    (sub-enum-known-second t)
+    (sub-enum-known-i2 t)
     (sub-enum-told-4 t)
     (sub-returns-3 t)
     (sub-add-narrow t)
@@ -395,9 +395,9 @@ pub +sub+sup-spec : {M : Type 1} → statement M
     (sup-add-k t)
     (sup-loop-less t)
     (sup-loop-again t)
-    (sup-enum-known-slot t)
+    (sup-enum-known-l1 t)
     (sup-sub-requires t)
-    (sup-enum-known-first t)
+    (sup-enum-known-i1 t)
     (sup-enum-told-3 t)
     (sup-returns-2 t)
     (sup-narrow-requires t)
@@ -405,9 +405,9 @@ pub +sub+sup-spec : {M : Type 1} → statement M
     (sup-add-k-2 t)
     (sup-loop-less-2 t)
     (sup-loop-again-2 t)
-    (sup-enum-known-slot-2 t)
+    (sup-enum-known-l2 t)
     (sup-sup-requires t)
-    (sup-enum-known-second t)
+    (sup-enum-known-i2 t)
     (sup-enum-told-4 t)
     (sup-returns-3 t)
     (sup-add-narrow t)

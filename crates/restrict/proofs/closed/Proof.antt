@@ -32,7 +32,7 @@ calls = (search-reads.Asked, search-reads.Learnt, get-type-reads.Asked, get-type
 
 -- when the type at work has been stored
 begun : (c : lts.After-start calls reads.Pre reads.Post Inv-loop μ-loop) → let a = c .before .before .before .before .before .before .before .before .before .before .args in Started closed (c .before .before .before .before .get-type .result .cat) 2 (a .methods) (a .sheet) (a .n) (a .r) (a .v) (c .before .before .before .before .get-type .result) (c .before .before .get-type2 .result) (a .b .now) (c .start .last .0)
-begun c = started (c .before .before .before .before .before .before .before .before .before .before .pre .0) refl (c .before .before .before .before .before .before .enum-told .given .1) (closed-begins (c .before .before .before .before .before .before .before .before .before .before .args .sheet) (c .before .before .before .before .before .before .before .before .before .before .args .n) (c .before .before .before .before .before .before .before .before .before .before .args .r) (c .before .before .before .before .before .before .before .before .before .before .args .v) (c .before .before .before .before .before .before .before .before .before .before .args .b .now) (c .before .before .before .before .before .before .before .before .search .result) (c .before .before .before .before .before .before .before .before .search .ensures)) (c .before .before .before .before .get-type .ensures .0) (c .before .before .get-type2 .ensures .0) (ap (λ (r : RawType). r .cat) (c .before .before .before .before .get-type .ensures .0)) (c .start .ensures .0) (c .start .ensures .1)
+begun c = started (c .before .before .before .before .before .before .before .before .before .before .pre .0) refl (omega arith) (c .before .before .before .before .before .before .enum-told .given .1) (closed-begins (c .before .before .before .before .before .before .before .before .before .before .args .sheet) (c .before .before .before .before .before .before .before .before .before .before .args .n) (c .before .before .before .before .before .before .before .before .before .before .args .r) (c .before .before .before .before .before .before .before .before .before .before .args .v) (c .before .before .before .before .before .before .before .before .before .before .args .b .now) (c .before .before .before .before .before .before .before .before .search .result) (c .before .before .before .before .before .before .before .before .search .ensures)) (c .before .before .before .before .get-type .ensures .0) (c .before .before .get-type2 .ensures .0) (ap (λ (r : RawType). r .cat) (c .before .before .before .before .get-type .ensures .0)) (c .start .ensures .0) (c .start .ensures .1)
 
 search-requires : tie.Need-search-requires Inv-loop μ-loop
 search-requires c κs = let p = c .before .pre .0 in (omega arith, p .sheet, p .types, c .before .pre .1, c .before .pre .2)
@@ -79,23 +79,23 @@ loop-less c = search needs
 loop-again : tie.Need-loop-again Inv-loop μ-loop
 loop-again c = turn-empty (c .before .before .before .before .loop .inv) (c .before .before .before .loop-test .taken) (c .before .before .slot-at .ensures .0) (c .enum-told2 .given .1)
 
-enum-known-slot : tie.Need-enum-known-slot Inv-loop μ-loop
-enum-known-slot c = search needs
+enum-known-l3 : tie.Need-enum-known-l3 Inv-loop μ-loop
+enum-known-l3 c = search needs
 
 sup-requires : tie.Need-sup-requires Inv-loop μ-loop
-sup-requires c κs = argument-ready (c .before .before .before .before .before .before .loop .inv) (c .before .before .before .before .before .loop-test .taken) (c .before .before .before .before .slot-at .ensures .0) (c .before .before .before .before .slot-at .ensures .1) (c .before .before .slot .given .1)
+sup-requires c κs = argument-ready (c .before .before .before .before .before .before .loop .inv) (c .before .before .before .before .before .loop-test .taken) (c .before .before .before .before .slot-at .ensures .0) (c .before .before .before .before .slot-at .ensures .1) (c .before .before .l3 .given .1)
 
-enum-known-first : tie.Need-enum-known-first Inv-loop μ-loop
-enum-known-first c = search needs
+enum-known-i3 : tie.Need-enum-known-i3 Inv-loop μ-loop
+enum-known-i3 c = search needs
 
 enum-told-3 : tie.Need-enum-told-3 Inv-loop μ-loop
 enum-told-3 c = search needs
 
 returns-2 : tie.Need-returns-2 Inv-loop μ-loop
-returns-2 c = new-full (begun (c .before .before .before .before .before .before .before .before .before .before)) (c .before .before .before .before .before .before .before .before .before .loop .inv) (c .before .before .sup .ensures .keeps) (argument-full (c .before .before .before .before .before .before .before .before .before .loop .inv) (c .before .before .before .before .before .before .before .before .loop-test .taken) (c .before .before .before .before .before .before .before .slot-at .ensures .0) (c .before .before .before .before .before .before .before .slot-at .ensures .1) (c .before .before .before .before .before .slot .given .1) (c .before .before .sup .ensures) (c .enum-told3 .given .1))
+returns-2 c = new-full (begun (c .before .before .before .before .before .before .before .before .before .before)) (c .before .before .before .before .before .before .before .before .before .loop .inv) (c .before .before .sup .ensures .keeps) (argument-full (c .before .before .before .before .before .before .before .before .before .loop .inv) (c .before .before .before .before .before .before .before .before .loop-test .taken) (c .before .before .before .before .before .before .before .slot-at .ensures .0) (c .before .before .before .before .before .before .before .slot-at .ensures .1) (c .before .before .before .before .before .l3 .given .1) (c .before .before .sup .ensures) (c .enum-told3 .given .1))
 
 narrow-requires : tie.Need-narrow-requires Inv-loop μ-loop
-narrow-requires c κs = argument-low (c .before .before .before .before .before .before .before .before .before .before .loop .inv) (c .before .before .before .before .before .before .before .before .before .loop-test .taken) (c .before .before .before .before .before .before .before .before .slot-at .ensures .0) (c .before .before .before .before .before .before .before .before .slot-at .ensures .1) (c .before .before .before .before .before .before .slot .given .1) (c .before .before .before .sup .ensures) (c .before .first .given .1)
+narrow-requires c κs = argument-low (c .before .before .before .before .before .before .before .before .before .before .loop .inv) (c .before .before .before .before .before .before .before .before .before .loop-test .taken) (c .before .before .before .before .before .before .before .before .slot-at .ensures .0) (c .before .before .before .before .before .before .before .before .slot-at .ensures .1) (c .before .before .before .before .before .before .l3 .given .1) (c .before .before .before .sup .ensures) (c .before .i3 .given .1)
 
 array-write-bytes : tie.Need-array-write-bytes Inv-loop μ-loop
 array-write-bytes c = omega (arith, c .before .before .before .before .before .before .before .before .before .before .loop-test .taken, c .before .before .before .before .before .before .before .before .before .before .before .loop .inv .edge, c .before .before .before .before .before .before .before .before .before .before .before .loop .inv .few, c .before .before .before .before .before .before .before .before .before .before .before .loop .inv .wide)
@@ -107,28 +107,28 @@ loop-less-2 : tie.Need-loop-less-2 Inv-loop μ-loop
 loop-less-2 c = search needs
 
 loop-again-2 : tie.Need-loop-again-2 Inv-loop μ-loop
-loop-again-2 c = argument-turn (c .before .before .before .before .before .before .before .before .before .before .before .loop .inv) (c .before .before .before .before .before .before .before .before .before .before .loop-test .taken) (c .before .before .before .before .before .before .before .before .before .slot-at .ensures .0) (c .before .before .before .before .before .before .before .before .before .slot-at .ensures .1) (c .before .before .before .before .before .before .before .slot .given .1) (c .before .before .before .before .sup .ensures) (c .before .before .first .given .1) (c .narrow .ensures)
+loop-again-2 c = argument-turn (c .before .before .before .before .before .before .before .before .before .before .before .loop .inv) (c .before .before .before .before .before .before .before .before .before .before .loop-test .taken) (c .before .before .before .before .before .before .before .before .before .slot-at .ensures .0) (c .before .before .before .before .before .before .before .before .before .slot-at .ensures .1) (c .before .before .before .before .before .before .before .l3 .given .1) (c .before .before .before .before .sup .ensures) (c .before .before .i3 .given .1) (c .narrow .ensures)
 
-enum-known-slot-2 : tie.Need-enum-known-slot-2 Inv-loop μ-loop
-enum-known-slot-2 c = search needs
+enum-known-l4 : tie.Need-enum-known-l4 Inv-loop μ-loop
+enum-known-l4 c = search needs
 
 sub-requires : tie.Need-sub-requires Inv-loop μ-loop
-sub-requires c κs = answer-ready (c .before .before .before .before .before .before .loop .inv) (c .before .before .before .before .before .loop-test .taken) (c .before .before .before .before .slot-at .ensures .0) (c .before .before .before .before .slot-at .ensures .1) (c .before .before .slot2 .given .1)
+sub-requires c κs = answer-ready (c .before .before .before .before .before .before .loop .inv) (c .before .before .before .before .before .loop-test .taken) (c .before .before .before .before .slot-at .ensures .0) (c .before .before .before .before .slot-at .ensures .1) (c .before .before .l4 .given .1)
 
-enum-known-second : tie.Need-enum-known-second Inv-loop μ-loop
-enum-known-second c = search needs
+enum-known-i4 : tie.Need-enum-known-i4 Inv-loop μ-loop
+enum-known-i4 c = search needs
 
 enum-told-4 : tie.Need-enum-told-4 Inv-loop μ-loop
 enum-told-4 c = search needs
 
 returns-3 : tie.Need-returns-3 Inv-loop μ-loop
-returns-3 c = new-full (begun (c .before .before .before .before .before .before .before .before .before .before)) (c .before .before .before .before .before .before .before .before .before .loop .inv) (c .before .before .sub .ensures .keeps) (answer-full (c .before .before .before .before .before .before .before .before .before .loop .inv) (c .before .before .before .before .before .before .before .before .loop-test .taken) (c .before .before .before .before .before .before .before .slot-at .ensures .0) (c .before .before .before .before .before .before .before .slot-at .ensures .1) (c .before .before .before .before .before .slot2 .given .1) (c .before .before .sub .ensures) (c .enum-told4 .given .1))
+returns-3 c = new-full (begun (c .before .before .before .before .before .before .before .before .before .before)) (c .before .before .before .before .before .before .before .before .before .loop .inv) (c .before .before .sub .ensures .keeps) (answer-full (c .before .before .before .before .before .before .before .before .before .loop .inv) (c .before .before .before .before .before .before .before .before .loop-test .taken) (c .before .before .before .before .before .before .before .slot-at .ensures .0) (c .before .before .before .before .before .before .before .slot-at .ensures .1) (c .before .before .before .before .before .l4 .given .1) (c .before .before .sub .ensures) (c .enum-told4 .given .1))
 
 add-narrow : tie.Need-add-narrow Inv-loop μ-loop
-add-narrow c = let h = answer-low (c .before .before .before .before .before .before .before .before .before .before .loop .inv) (c .before .before .before .before .before .before .before .before .before .loop-test .taken) (c .before .before .before .before .before .before .before .before .slot-at .ensures .0) (c .before .before .before .before .before .before .before .before .slot-at .ensures .1) (c .before .before .before .before .before .before .slot2 .given .1) (c .before .before .before .sub .ensures) (c .before .second .given .1) in omega arith
+add-narrow c = let h = answer-low (c .before .before .before .before .before .before .before .before .before .before .loop .inv) (c .before .before .before .before .before .before .before .before .before .loop-test .taken) (c .before .before .before .before .before .before .before .before .slot-at .ensures .0) (c .before .before .before .before .before .before .before .before .slot-at .ensures .1) (c .before .before .before .before .before .before .l4 .given .1) (c .before .before .before .sub .ensures) (c .before .i4 .given .1) in omega arith
 
 narrow-requires-2 : tie.Need-narrow-requires-2 Inv-loop μ-loop
-narrow-requires-2 c κs = let h = answer-low (c .before .before .before .before .before .before .before .before .before .before .loop .inv) (c .before .before .before .before .before .before .before .before .before .loop-test .taken) (c .before .before .before .before .before .before .before .before .slot-at .ensures .0) (c .before .before .before .before .before .before .before .before .slot-at .ensures .1) (c .before .before .before .before .before .before .slot2 .given .1) (c .before .before .before .sub .ensures) (c .before .second .given .1) in omega arith
+narrow-requires-2 c κs = let h = answer-low (c .before .before .before .before .before .before .before .before .before .before .loop .inv) (c .before .before .before .before .before .before .before .before .before .loop-test .taken) (c .before .before .before .before .before .before .before .before .slot-at .ensures .0) (c .before .before .before .before .before .before .before .before .slot-at .ensures .1) (c .before .before .before .before .before .before .l4 .given .1) (c .before .before .before .sub .ensures) (c .before .i4 .given .1) in omega arith
 
 array-write-bytes-2 : tie.Need-array-write-bytes-2 Inv-loop μ-loop
 array-write-bytes-2 c = omega (arith, c .before .before .before .before .before .before .before .before .before .before .loop-test .taken, c .before .before .before .before .before .before .before .before .before .before .before .loop .inv .edge, c .before .before .before .before .before .before .before .before .before .before .before .loop .inv .few, c .before .before .before .before .before .before .before .before .before .before .before .loop .inv .wide)
@@ -140,7 +140,7 @@ loop-less-3 : tie.Need-loop-less-3 Inv-loop μ-loop
 loop-less-3 c = search needs
 
 loop-again-3 : tie.Need-loop-again-3 Inv-loop μ-loop
-loop-again-3 c = answer-turn (c .before .before .before .before .before .before .before .before .before .before .before .loop .inv) (c .before .before .before .before .before .before .before .before .before .before .loop-test .taken) (c .before .before .before .before .before .before .before .before .before .slot-at .ensures .0) (c .before .before .before .before .before .before .before .before .before .slot-at .ensures .1) (c .before .before .before .before .before .before .before .slot2 .given .1) (c .before .before .before .before .sub .ensures) (c .before .before .second .given .1) (c .narrow2 .ensures)
+loop-again-3 c = answer-turn (c .before .before .before .before .before .before .before .before .before .before .before .loop .inv) (c .before .before .before .before .before .before .before .before .before .before .loop-test .taken) (c .before .before .before .before .before .before .before .before .before .slot-at .ensures .0) (c .before .before .before .before .before .before .before .before .before .slot-at .ensures .1) (c .before .before .before .before .before .before .before .l4 .given .1) (c .before .before .before .before .sub .ensures) (c .before .before .i4 .given .1) (c .narrow2 .ensures)
 
 finish-requires : tie.Need-finish-requires Inv-loop μ-loop
 finish-requires c κs = let p = (c .before .before .before .before .before .before .before .before .before .before .before .before .before .pre .0) in (c .before .before .loop .inv .room, c .before .before .loop .inv .long, omega arith, p .left, p .right, p .methods)
@@ -169,9 +169,9 @@ closed-spec =
     add-k
     loop-less
     loop-again
-    enum-known-slot
+    enum-known-l3
     sup-requires
-    enum-known-first
+    enum-known-i3
     enum-told-3
     returns-2
     narrow-requires
@@ -179,9 +179,9 @@ closed-spec =
     add-k-2
     loop-less-2
     loop-again-2
-    enum-known-slot-2
+    enum-known-l4
     sub-requires
-    enum-known-second
+    enum-known-i4
     enum-told-4
     returns-3
     add-narrow

@@ -20,8 +20,8 @@ slot-of-requires c κs = search needs
 
 returns : tie.Need-returns
 returns c = let a = c .before .before .before .args in (
-  c .slot-of .ensures .0 ∙ ap (λ (m : Method). slotOf (kindOf (a .kind)) m (methodOf (rawMethod (c .before .method-at2 .result))) (a .k % 5)) (c .before .before .method-at .ensures)
-      ∙ ap (λ (m : Method). slotOf (kindOf (a .kind)) (methodIn (a .x) (a .k / 5)) m (a .k % 5)) (c .before .method-at2 .ensures),
+  c .slot-of .ensures .0 ∙ ap (λ (m : Method). slotOf (kindOf (a .kind)) m (methodOf (rawMethod (c .before .method-at2 .result))) (a .k % 5)) (ap methodOf (c .before .before .method-at .ensures))
+      ∙ ap (λ (m : Method). slotOf (kindOf (a .kind)) (methodIn (a .x) (a .k / 5)) m (a .k % 5)) (ap methodOf (c .before .method-at2 .ensures)),
   c .slot-of .ensures .1,
 )
 

@@ -1,0 +1,24 @@
+-- What the code's answer says: the number of a refusal, or the table in the bytes with so many types, and the derived type's number.
+use mathlib.Core.Path.{_≡_}
+use mathlib.Core.Bool.{So, cond}
+use mathlib.Core.List.{List}
+use Prim.Native.Nat.{ℕ}
+use lib.Dec.{eqb}
+use Rattle.model.specs.Basics.{Res, refuse, ok}
+use Rattle.model.specs.Table.{Table}
+use Rattle.model.specs.Check.{codesFit}
+use Rattle.table.specs.declared.Counts.{Counts}
+use Rattle.table.specs.Store.{rawTable, tableIn}
+use Rattle.restrict.specs.Link.{withCount}
+use Rattle.derivation.specs.declared.Derivation.{Derivation}
+
+abbrev pub derivationOf : List ℕ → Counts → Derivation → Res (Table × ℕ)
+derivationOf l c r = cond (eqb (r .no) 0) (ok (tableIn (r .types) l (withCount c (r .count)), r .number)) (refuse (r .no))
+
+-- Where every code of the table names something before, every code does after.
+abbrev pub CodesStay : List ℕ → Counts → Derivation → Type 0
+CodesStay b c r = r .no ≡ 0 → (l : List ℕ) → So (codesFit (rawTable b l c)) → So (codesFit (rawTable (r .types) l (withCount c (r .count))))
+
+-- A refusal has the bytes and the count that were handed in.
+abbrev pub refusal : ℕ → List ℕ → Counts → Derivation
+refusal n b c = record { no = n; number = 0; count = c .types; types = b }
