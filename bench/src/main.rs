@@ -1,11 +1,15 @@
 //! cargo run --profile speed -p bench: the proved core against safe Rust of the same algorithm, in one run.
 //! Prints ratios (proved time over Rust time): below 1 the proved core is faster. Buffers are cleared by both sides in each search, as the algorithm asks.
 
+mod fits;
+mod restriction;
 mod search;
+mod sheets;
 
-use conformance::compare;
-use reference::gen::{generate, Profile};
-use reference::raw::{RawTable, METHODS_AT, METHOD_BYTES};
+use conformance::inputs::{damaged, with_48_types};
+use conformance::{chains, compare, counted, counts, Asked, Derived, Loaded, PAIRS_LENGTH};
+use reference::hostile;
+use reference::raw::{RawTable, BROADER_LENGTH, METHODS_AT, METHOD_BYTES, TYPES_LENGTH};
 use reference::sheet;
 use std::hint::black_box;
 use std::time::{Duration, Instant};
@@ -36,20 +40,6 @@ fn ratio(name: &str, mut proved: impl FnMut(), mut rust: impl FnMut()) {
         "{name}: ratio {:.2} ({:.2} to {:.2}), proved {:?} a call",
         ratios[3], ratios[0], ratios[6], times[3]
     );
-}
-
-/// A sheet of 48 types from the generator.
-fn generated() -> RawTable {
-    (0..)
-        .filter_map(|seed| {
-            let input = generate(seed, Profile::Big);
-            let end = b"end=sheet\n";
-            let at = input.windows(end.len()).position(|window| window == end)?;
-            sheet::read(&input[..at + end.len()]).ok()
-        })
-        .find(|table| table.types.len() == 48)
-        .map(|table| RawTable::of(&table))
-        .unwrap()
 }
 
 /// The worst case: `count` reference types that are alike but for where their signatures lead, so that every pair is reached.
@@ -99,8 +89,8 @@ fn measure(name: &str, table: &RawTable, t: usize, s: usize) -> Result<[bool; 4]
     answer
 }
 
-fn main() {
-    let random = generated();
+fn comparisons() {
+    let random = RawTable::of(&with_48_types());
     for (t, s) in [(1, 2), (5, 9), (20, 31)] {
         let name = format!("compare, 48 generated types, pair {t} {s}");
         let _ = measure(&name, &random, t, s);
@@ -114,4 +104,173 @@ fn main() {
             "every pair is reached only if all are related"
         );
     }
+}
+
+/// The pair table, all of whose bytes have to be the same.
+fn pair_table(name: &str, table: &RawTable) {
+    let (mut theirs, mut ours) = ([0; PAIRS_LENGTH], [1; PAIRS_LENGTH]);
+    let mut proved = || conformance::pairs(black_box(table), counts(table), &mut theirs);
+    let mut rust = || search::pairs(black_box(table), &mut ours);
+    assert_eq!((proved(), rust()), (0, 0));
+    ratio(
+        &format!("pair table, {name}"),
+        || {
+            black_box(proved());
+        },
+        || {
+            black_box(rust());
+        },
+    );
+    assert!(theirs == ours, "the pair tables differ");
+}
+
+/// Where sheets are read to, filled with something else.
+fn unread() -> Loaded {
+    Loaded {
+        types: [1; TYPES_LENGTH],
+        links: [1; BROADER_LENGTH],
+        counts: [1; 5],
+        at: 1,
+    }
+}
+
+/// Both readings of a text have to give the same number, offset and table; the number is returned.
+fn same_reading(text: &[u8]) -> usize {
+    let (mut loaded, mut table) = (unread(), RawTable::default());
+    let code = conformance::read(text, &mut loaded);
+    let result = sheets::read(text, &mut table);
+    assert_eq!(code, result.map_or_else(|refusal| refusal.0, |()| 0));
+    assert!(result.is_ok() || result == Err((code, loaded.at)));
+    assert!(loaded.table() == table, "the tables differ");
+    code
+}
+
+/// The Rust side refuses what the proved one refuses, so that both do the same work.
+fn same_refusals() {
+    let mut read = [0; 4];
+    for seed in 0..3000 {
+        read[same_reading(&damaged(seed))] += 1;
+    }
+    assert!(read.iter().all(|count| *count > 50), "{read:?}");
+    let mut unfit = 0;
+    for seed in 0..1000 {
+        let table = hostile::generate(seed).state.table;
+        let refused = compare(&table, 0, 0) == Err(2);
+        assert_eq!(fits::table(&table), !refused, "hostile seed {seed}");
+        unfit += u32::from(refused);
+    }
+    assert!((100..900).contains(&unfit), "{unfit}");
+}
+
+fn reading(name: &str, text: &[u8]) {
+    let code = same_reading(text);
+    let (mut loaded, mut table) = (unread(), RawTable::default());
+    ratio(
+        &format!("read, {name}, {} bytes, answer {code}", text.len()),
+        || {
+            black_box(conformance::read(black_box(text), &mut loaded));
+        },
+        || {
+            let _ = black_box(sheets::read(black_box(text), &mut table));
+        },
+    );
+}
+
+/// Writing a sheet's table, which has to give back its text.
+fn writing(name: &str, text: &[u8]) {
+    let mut table = RawTable::default();
+    assert_eq!(sheets::read(text, &mut table), Ok(()));
+    let (mut theirs, mut ours) = (vec![0; text.len()], vec![0; text.len()]);
+    let mut length = 0;
+    let mut proved =
+        || conformance::write(black_box(&table), counts(&table), &mut theirs, &mut length);
+    let mut rust = || sheets::write(black_box(&table), &mut ours);
+    assert_eq!((proved(), rust()), (0, Ok(text.len())));
+    ratio(
+        &format!("write, {name}"),
+        || {
+            black_box(proved());
+        },
+        || {
+            let _ = black_box(rust());
+        },
+    );
+    assert!(length == text.len() && theirs == text && ours == text);
+}
+
+/// A sheet refused at its very end: the LF of the last line is missing.
+fn without_end(text: &[u8]) -> &[u8] {
+    &text[..text.len() - 1]
+}
+
+/// A derivation, each time on the table as it was first; both have to give the same number and types.
+fn derivation(name: &str, table: &RawTable, (kind, t, s): (usize, i64, i64)) {
+    let asked = Asked { kind, t, s };
+    let mut derived = Derived {
+        number: 0,
+        types: 0,
+    };
+    let (mut theirs, mut ours) = (table.clone(), table.clone());
+    let code = conformance::derive(&mut theirs, counts(table), asked, &mut derived);
+    let result = restriction::derive(&mut ours, kind, t as usize, s as usize);
+    assert_eq!((code, Ok(derived.number)), (0, result));
+    theirs.types = derived.types as u32;
+    assert!(theirs.types == ours.types && counted::types(&theirs) == counted::types(&ours));
+    let new = ours.types - table.types;
+    ratio(
+        &format!("derive, {name}, {new} new types"),
+        || {
+            theirs.type_bytes = table.type_bytes;
+            let counts = counts(table);
+            black_box(conformance::derive(
+                &mut theirs,
+                counts,
+                asked,
+                &mut derived,
+            ));
+        },
+        || {
+            ours.type_bytes = table.type_bytes;
+            ours.types = table.types;
+            let _ = black_box(restriction::derive(&mut ours, kind, t as usize, s as usize));
+        },
+    );
+}
+
+fn derivations() {
+    let (chain, _) = chains::deepest();
+    derivation("nested 119 deep", &chain, chains::START);
+    let mut full = chain.clone();
+    let (kind, t, s) = chains::START;
+    let known = restriction::derive(&mut full, kind, t as usize, s as usize);
+    assert_eq!(known, Ok(9));
+    derivation("known in a full table", &full, chains::START);
+    let random = RawTable::of(&with_48_types());
+    let new_types = |(kind, t, s): (usize, i64, i64)| {
+        let mut after = random.clone();
+        let number = restriction::derive(&mut after, kind, t as usize, s as usize);
+        number.map_or(0, |_| after.types - random.types)
+    };
+    let most = (0..48 * 48)
+        .map(|pair| (0, pair / 48, pair % 48))
+        .max_by_key(|asked| new_types(*asked));
+    derivation("48 generated types", &random, most.expect("a pair"));
+}
+
+fn main() {
+    same_refusals();
+    comparisons();
+    let random = with_48_types();
+    let generated = sheet::text(&random);
+    let example = include_bytes!("../../examples/types-48.sheet");
+    for (name, text) in [
+        ("48 generated types", &generated[..]),
+        ("examples/types-48.sheet", &example[..]),
+    ] {
+        reading(name, text);
+        reading(&format!("{name} without its last LF"), without_end(text));
+        writing(name, text);
+    }
+    pair_table("48 generated types", &RawTable::of(&random));
+    derivations();
 }

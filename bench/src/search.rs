@@ -1,8 +1,10 @@
-//! Compare in safe Rust, by the algorithm of crates/relation: the check of the table, then for each relation a search for a
-//! pair that breaks a rule, over pairs found through signatures that both sides permit.
+//! Compare and the pair table in safe Rust, by the algorithm of crates/relation: the check of the table, then for each relation
+//! a search for a pair that breaks a rule, over pairs found through signatures that both sides permit.
 
-use reference::check;
+use crate::fits;
+use conformance::PAIRS_LENGTH;
 use reference::raw::{RawTable, METHODS_AT, METHOD_BYTES, TYPE_BYTES};
+use reference::table::MAX_SHEET_TYPES;
 
 /// The relations, in the order of the answers.
 #[derive(Clone, Copy, PartialEq)]
@@ -110,17 +112,36 @@ pub fn related(raw: &RawTable, relation: Relation, t: usize, s: usize) -> bool {
 
 /// Compare on a table handed in, as the exported function does it.
 pub fn compare(raw: &RawTable, t: usize, s: usize) -> Result<[bool; 4], usize> {
-    if check::table(raw).is_err() {
+    if !fits::table(raw) {
         return Err(2);
     }
     if t >= raw.types as usize || s >= raw.types as usize {
         return Err(7);
     }
-    Ok([
+    Ok(answers(raw, t, s))
+}
+
+fn answers(raw: &RawTable, t: usize, s: usize) -> [bool; 4] {
+    [
         Relation::Subtype,
         Relation::Strict,
         Relation::Loose,
         Relation::Free,
     ]
-    .map(|relation| related(raw, relation, t, s)))
+    .map(|relation| related(raw, relation, t, s))
+}
+
+/// The pair table of a sheet, a search for each relation at each pair; or 2.
+pub fn pairs(raw: &RawTable, out: &mut [u8; PAIRS_LENGTH]) -> usize {
+    if !fits::table(raw) {
+        return 2;
+    }
+    out.fill(0);
+    for t in 0..raw.sheet_types as usize {
+        for s in 0..raw.sheet_types as usize {
+            let [a, b, c, d] = answers(raw, t, s).map(u8::from);
+            out[t * MAX_SHEET_TYPES + s] = a | b << 1 | c << 2 | d << 3;
+        }
+    }
+    0
 }

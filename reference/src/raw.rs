@@ -14,14 +14,16 @@
 //! call is four bytes: caller, cell, method, answered (0 no, 1 yes).
 
 use crate::check;
+use crate::faults::Fault;
 use crate::pairs;
-use crate::refusal::{Refusal, RANGE};
-use crate::requests::{Got, Request};
+use crate::refusal::{Refusal, RANGE, TYPE};
+use crate::requests::{index, Got, Request};
+use crate::restriction;
 use crate::sheet;
 use crate::state::{Call, Cell, Model, Place, State, MAX_CALLS, MAX_CELLS, MAX_PLACES};
 use crate::table::{
-    Broader, Key, Kind, MethodState, Representation, Signature, Table, MAX_CATEGORIES, MAX_METHODS,
-    MAX_TYPES,
+    Broader, Key, Kind, MethodState, Representation, Signature, Table, TypeNo, MAX_CATEGORIES,
+    MAX_METHODS, MAX_TYPES,
 };
 
 pub const TYPE_BYTES: usize = 128;
@@ -128,6 +130,14 @@ impl RawTable {
         }
     }
 
+    /// Takes in the types that a table has from the given number on.
+    fn add_types(&mut self, table: &Table, from: usize) {
+        for number in from..table.types.len() {
+            self.put_type(table, number);
+        }
+        self.types = count(table.types.len());
+    }
+
     /// The 128 bytes of a type.
     pub fn entry(&self, number: usize) -> &[u8] {
         &self.type_bytes[number * TYPE_BYTES..(number + 1) * TYPE_BYTES]
@@ -203,10 +213,7 @@ impl RawState {
     /// Takes in what an accepted request changed from `before` to `after`:
     /// records are added at the end, and one call may have been answered.
     fn update(&mut self, before: &State, after: &State) {
-        for number in before.table.types.len()..after.table.types.len() {
-            self.table.put_type(&after.table, number);
-        }
-        self.table.types = count(after.table.types.len());
+        self.table.add_types(&after.table, before.table.types.len());
         for (number, call) in before.calls.iter().enumerate() {
             if after.calls[number].answered != call.answered {
                 self.call_mut(number)[3] = 1;
@@ -332,6 +339,28 @@ pub fn write(raw: &RawTable, buffer: &mut [u8]) -> Result<usize, Refusal> {
 pub fn compare(raw: &RawTable, t: i64, s: i64) -> Result<[bool; 4], Refusal> {
     let table = check::table(raw).map_err(|_| RANGE)?;
     pairs::compare(&table, t, s)
+}
+
+/// Sub (kind 0), Sup (1) or Closed (2) on a handed-in table: 2, then 7 for a
+/// kind or number that names nothing and for Closed of a type that is no
+/// reference, then 11. A refusal leaves the whole record as it was; otherwise
+/// types are added and no other byte changes.
+pub fn derive(raw: &mut RawTable, kind: usize, t: i64, s: i64) -> Result<TypeNo, Refusal> {
+    let mut table = check::table(raw).map_err(|_| RANGE)?;
+    let before = table.types.len();
+    let code = u8::try_from(kind).map_err(|_| TYPE)?;
+    let kind = self::kind(code).ok_or(TYPE)?;
+    let t = index(t, before).ok_or(TYPE)?;
+    let s = index(s, before).ok_or(TYPE)?;
+    let both_ref = table.types[t].is_ref() && table.types[s].is_ref();
+    let number = match kind {
+        Kind::Sub => restriction::sub(&mut table, t, s, Fault::None)?,
+        Kind::Sup => restriction::sup(&mut table, t, s, Fault::None)?,
+        Kind::Closed if both_ref => restriction::closed(&mut table, t, s, Fault::None)?,
+        Kind::Closed => return Err(TYPE),
+    };
+    raw.add_types(&table, before);
+    Ok(number)
 }
 
 /// A request on a handed-in state: 2 before all else. A refusal leaves the

@@ -11,7 +11,7 @@ use crate::table::{
 /// S doesn't becomes unavail".
 pub fn sub(table: &mut Table, t: TypeNo, s: TypeNo, fault: Fault) -> Result<TypeNo, Refusal> {
     // "Sub and Sup of a type with itself are that type; of numbers, Sub is T"
-    if t == s || !table.types[t].is_ref() {
+    if t == s || !both_ref(table, t, s) {
         return Ok(t);
     }
     let key = Key {
@@ -27,7 +27,7 @@ pub fn sub(table: &mut Table, t: TypeNo, s: TypeNo, fault: Fault) -> Result<Type
 /// T doesn't becomes denied".
 pub fn sup(table: &mut Table, t: TypeNo, s: TypeNo, fault: Fault) -> Result<TypeNo, Refusal> {
     // "of numbers, ... Sup is S"
-    if t == s || !table.types[s].is_ref() {
+    if t == s || !both_ref(table, t, s) {
         return Ok(s);
     }
     let key = Key {
@@ -52,6 +52,13 @@ pub fn closed(table: &mut Table, r: TypeNo, v: TypeNo, fault: Fault) -> Result<T
     };
     let category = table.types[r].category;
     derive(table, key, category, fault, closed_method)
+}
+
+/// A reference meets a number only where neither loose nor strict holds, which
+/// is never asked by a crossing (READINGS C17); then, as for two numbers,
+/// nothing is derived.
+fn both_ref(table: &Table, t: TypeNo, s: TypeNo) -> bool {
+    table.types[t].is_ref() && table.types[s].is_ref()
 }
 
 /// How one method of a derived type follows from left and right type.
