@@ -108,7 +108,7 @@ nil-length (x ∷ l) h = absurd (omega arith)
 pub counted : {b tl xs : List ℕ} {r : ℕ} → Filled [] tl xs r → tl ++ b ≡ b
 counted {b} {tl} f = ap (λ z. z ++ b) (nil-length tl (f .size))
 
--- a number below 10,000 has at most four digits
+-- a number of 64 bits has at most twenty digits
 digits-few : (f n : ℕ) → length (decimalIn f n) ≤ f
 unfolding decimalIn
 digits-few zero n = omega arith
@@ -118,5 +118,5 @@ digits-few (suc f) n = go (ltb n 10) (digits-few f (n / 10))
     go true h = omega arith
     go false h = simp length-append (omega arith)
 
-pub decimal-few : (n : ℕ) → length (decimal n) ≤ 4
-decimal-few n = digits-few 4 n
+pub decimal-few : (n : ℕ) → length (decimal n) ≤ 20
+decimal-few n = digits-few 20 n

@@ -53,9 +53,8 @@ fn digit(d: usize) -> u8
 
 // "decimal without leading zeros": the digits in front of the last, and the last in the rest of the buffer.
 pub fn put_decimal(buf: &mut [u8], n: usize) -> usize
-    requires { ⌜ n < 10000 ⌝ }
     ensures is { λ r. ⌜ Filled (now (buf .entry)) (now (buf .exit)) (decimal n) r ⌝ }
-    ensures few { λ r. ⌜ r ≤ 4 ⌝ }
+    ensures few { λ r. ⌜ r ≤ 20 ⌝ }
 {
     if n < 10 {
         return put_byte(buf, digit(n));
@@ -68,9 +67,9 @@ pub fn put_decimal(buf: &mut [u8], n: usize) -> usize
 
 // A key and a number.
 pub fn put_number(buf: &mut [u8], key: &[u8], n: usize) -> usize
-    requires { ⌜ (n < 10000) × (length (now key) ≤ 16) ⌝ }
+    requires { ⌜ length (now key) ≤ 16 ⌝ }
     ensures is { λ r. ⌜ Filled (now (buf .entry)) (now (buf .exit)) (numberText (now (key .entry)) n) r ⌝ }
-    ensures few { λ r. ⌜ r ≤ 20 ⌝ }
+    ensures few { λ r. ⌜ r ≤ 36 ⌝ }
 {
     let a = put_bytes(buf, key);
     let k = upto(a, buf.len());
@@ -80,9 +79,9 @@ pub fn put_number(buf: &mut [u8], key: &[u8], n: usize) -> usize
 
 // "ASCII lines ended by LF": a line of a key and a number.
 pub fn number_line(buf: &mut [u8], key: &[u8], n: usize) -> usize
-    requires { ⌜ (n < 10000) × (length (now key) ≤ 16) ⌝ }
+    requires { ⌜ length (now key) ≤ 16 ⌝ }
     ensures is { λ r. ⌜ Lined (now (buf .entry)) (now (buf .exit)) (numberText (now (key .entry)) n ∷ []) r ⌝ }
-    ensures few { λ r. ⌜ r ≤ 21 ⌝ }
+    ensures few { λ r. ⌜ r ≤ 37 ⌝ }
 {
     let a = put_number(buf, key, n);
     let k = upto(a, buf.len());

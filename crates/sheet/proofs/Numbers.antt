@@ -64,8 +64,8 @@ digits-full a (b ∷ bs) r d s l =
     let u : a * 10 + (b - 48) ≤ val (a * 10 + (b - 48)) bs = val-up (a * 10 + (b - 48)) bs in
     rw e (ap (λ z. digits z (bs ++ r)) (limit-is (a * 10 + (b - 48)) (omega arith)) ∙ digits-full (a * 10 + (b - 48)) bs r (second (isDigit b) (all isDigit bs) d) s l)
 
--- decimal
-abbrev bound : ℕ → ℕ
+-- decimal: what f digits can say
+abbrev pub bound : ℕ → ℕ
 bound zero = 1
 bound (suc f) = bound f * 10
 
@@ -78,6 +78,10 @@ unit a d h = mul-add-mod-self-right a 10 d ∙ mod-eq-of-lt h
 part-low : (a b : ℕ) → a < b * 10 → a / 10 < b
 part-low a b h = div-lt-iff-lt-mul {k = 10} (omega arith) .1 h
 
+digits-more : (f n : ℕ) → 10 ≤ n → decimalIn (suc f) n ≡ decimalIn f (n / 10) ++ (48 + n % 10) ∷ []
+unfolding decimalIn
+digits-more f n h = rw (le-ltb n 10 h)
+
 fuel-step : (f g b : ℕ) → ((a : ℕ) → a < b → decimalIn f a ≡ decimalIn g a) → (a : ℕ) → a < b * 10 → decimalIn (suc f) a ≡ decimalIn (suc g) a
 unfolding decimalIn
 fuel-step f g b h a l = ap (λ z. cond (ltb a 10) ((48 + a) ∷ []) (z ++ (48 + a % 10) ∷ [])) (h (a / 10) (part-low a b l))
@@ -86,19 +90,19 @@ fuel-1 : (a : ℕ) → a < 10 → decimalIn 1 a ≡ decimalIn 2 a
 unfolding decimalIn
 fuel-1 a h = rw (lt-ltb a 10 h)
 
-fuel-3 : (a : ℕ) → a < 1000 → decimalIn 3 a ≡ decimalIn 4 a
-fuel-3 = fuel-step 2 3 100 (fuel-step 1 2 10 fuel-1)
+fuel-more : (f a : ℕ) → a < bound (suc f) → decimalIn (suc f) a ≡ decimalIn (suc (suc f)) a
+fuel-more zero = fuel-1
+fuel-more (suc f) = fuel-step (suc f) (suc (suc f)) (bound (suc f)) (fuel-more f)
 
 pub decimal-one : (n : ℕ) → n < 10 → decimal n ≡ (48 + n) ∷ []
 unfolding decimalIn
 decimal-one n h = rw (lt-ltb n 10 h)
 
-pub decimal-more : (n : ℕ) → 10 ≤ n → n < 10000 → decimal n ≡ decimal (n / 10) ++ (48 + n % 10) ∷ []
-unfolding decimalIn
-decimal-more n h l = rw (le-ltb n 10 h) (ap (λ z. z ++ (48 + n % 10) ∷ []) (fuel-3 (n / 10) (part-low n 1000 (omega arith))))
+pub decimal-more : (n : ℕ) → 10 ≤ n → n < bound 20 → decimal n ≡ decimal (n / 10) ++ (48 + n % 10) ∷ []
+decimal-more n h l = digits-more 19 n h ∙ ap (λ z. z ++ (48 + n % 10) ∷ []) (fuel-more 18 (n / 10) (part-low n (bound 19) l))
 
 decimal-step : (a d : ℕ) → 1 ≤ a → d < 10 → a * 10 + d < 10000 → decimal (a * 10 + d) ≡ decimal a ++ (48 + d) ∷ []
-decimal-step a d p h l = decimal-more (a * 10 + d) (omega arith) l ∙ ap (λ z. decimal z ++ (48 + (a * 10 + d) % 10) ∷ []) (tenth a d h) ∙ ap (λ z. decimal a ++ (48 + z) ∷ []) (unit a d h)
+decimal-step a d p h l = decimal-more (a * 10 + d) (omega arith) (omega arith) ∙ ap (λ z. decimal z ++ (48 + (a * 10 + d) % 10) ∷ []) (tenth a d h) ∙ ap (λ z. decimal a ++ (48 + z) ∷ []) (unit a d h)
 
 decimal-val : (a : ℕ) (ds : List ℕ) → 1 ≤ a → all isDigit ds ≡ true → val a ds < 10000 → decimal (val a ds) ≡ decimal a ++ ds
 decimal-val a [] p d l = sym (append-nil (decimal a))
@@ -169,7 +173,7 @@ shape (suc f) n p h = go (λ a q k. shape f a q k) (ltb n 10) refl
 number-pos : (n : ℕ) (r : List ℕ) → n < 10000 → stops r ≡ true → 1 ≤ n → number (decimal n ++ r) ≡ took n r
 unfolding number
 number-pos n r h s p =
-    let i = shape 4 n p h in
+    let i = shape 20 n p (omega arith) in
     let w : val (i .0 - 48) (i .1) < 10000 = subst (λ x. x < 10000) (sym (i .6)) h in
     ap (λ x. number (x ++ r)) (i .2)
     ∙ ap (λ x. cond x (took 0 (i .1 ++ r)) (cond (isDigit (i .0)) (digits (i .0 - 48) (i .1 ++ r)) fail)) (i .3)
@@ -192,7 +196,7 @@ decimal-digits n h = go (eqb n 0) refl
     go : (t : Bool) → eqb n 0 ≡ t → all isDigit (decimal n) ≡ true
     go true e = let q : n ≡ 0 = eqb-true n 0 e in rw q
     go false e = let q : n ≡ 0 → ⊥ = eqb-false n 0 e in
-        let i = shape 4 n (omega arith) h in
+        let i = shape 20 n (omega arith) (omega arith) in
         ap (λ x. all isDigit x) (i .2) ∙ both (i .4) (i .5)
 
 pub decimal-head : (n : ℕ) → n < 10000 → (b : ℕ) × (ds : List ℕ) × (decimal n ≡ b ∷ ds) × (isDigit b ≡ true)
@@ -201,7 +205,7 @@ decimal-head n h = go (eqb n 0) refl
     go : (t : Bool) → eqb n 0 ≡ t → (b : ℕ) × (ds : List ℕ) × (decimal n ≡ b ∷ ds) × (isDigit b ≡ true)
     go true e = let q : n ≡ 0 = eqb-true n 0 e in (48, [], ap decimal q ∙ decimal-one 0 (omega arith), refl)
     go false e = let q : n ≡ 0 → ⊥ = eqb-false n 0 e in
-        let i = shape 4 n (omega arith) h in (i .0, i .1, i .2, i .4)
+        let i = shape 20 n (omega arith) (omega arith) in (i .0, i .1, i .2, i .4)
 
 -- numbers with commas
 abbrev pub small : ℕ → Bool

@@ -54,9 +54,9 @@ unfoldable pub decimalIn : ℕ → ℕ → List ℕ
 decimalIn zero n = []
 decimalIn (suc f) n = cond (ltb n 10) ((48 + n) ∷ []) (decimalIn f (n / 10) ++ (48 + n % 10) ∷ [])
 
--- numbers below 10,000, as all of a sheet's are
+-- numbers of 64 bits: twenty digits are enough
 abbrev pub decimal : ℕ → List ℕ
-decimal n = decimalIn 4 n
+decimal n = decimalIn 20 n
 
 -- numbers, each behind a comma; and with commas between
 abbrev pub tails : List ℕ → List ℕ

@@ -12,7 +12,7 @@ use table::Method;
 use table::wide;
 ghost use mathlib.Core.Path.{_≡_};
 ghost use mathlib.Core.List.{[], _∷_};
-ghost use Prim.Native.Nat.{_≤_, _<_};
+ghost use Prim.Native.Nat.{_≤_};
 ghost use lib.Dec.{eqb};
 ghost use lib.ListN.{length, take};
 ghost use Rattle.model.specs.Check.{repOf, answerOf, methodOf, linksOf};
@@ -24,9 +24,8 @@ ghost use Rattle.sheetlines.specs.Pieces.{argumentText, closingText, sig
 
 // Argument i of a signature.
 fn put_argument(buf: &mut [u8], i: usize, n: usize) -> usize
-    requires { ⌜ n < 10000 ⌝ }
     ensures is { λ r. ⌜ Filled (now (buf .entry)) (now (buf .exit)) (argumentText i n) r ⌝ }
-    ensures few { λ r. ⌜ r ≤ 20 ⌝ }
+    ensures few { λ r. ⌜ r ≤ 36 ⌝ }
 {
     if i == 0 {
         return put_decimal(buf, n);
@@ -37,7 +36,7 @@ fn put_argument(buf: &mut [u8], i: usize, n: usize) -> usize
 // The first `count` arguments of a signature, of which there are four slots.
 fn put_arguments(buf: &mut [u8], count: usize, args: [u8; 4]) -> usize
     ensures is { λ r. ⌜ Filled (now (buf .entry)) (now (buf .exit)) (commas (take count args)) r ⌝ }
-    ensures few { λ r. ⌜ r ≤ 80 ⌝ }
+    ensures few { λ r. ⌜ r ≤ 144 ⌝ }
 {
     let n = upto(count, 4);
     let mut at: usize = 0;
@@ -55,7 +54,7 @@ fn put_arguments(buf: &mut [u8], count: usize, args: [u8; 4]) -> usize
 // "a missing answer `-`"
 fn put_answer(buf: &mut [u8], answer: u8) -> usize
     ensures is { λ r. ⌜ Filled (now (buf .entry)) (now (buf .exit)) (answerText (answerOf answer)) r ⌝ }
-    ensures few { λ r. ⌜ r ≤ 4 ⌝ }
+    ensures few { λ r. ⌜ r ≤ 20 ⌝ }
 {
     if answer == 0 {
         return put_byte(buf, 45);
@@ -67,7 +66,7 @@ fn put_answer(buf: &mut [u8], answer: u8) -> usize
 // The end of a signature: the bracket, the answer, and the end of the line.
 fn put_closing(buf: &mut [u8], answer: u8) -> usize
     ensures is { λ r. ⌜ Filled (now (buf .entry)) (now (buf .exit)) (closingText answer) r ⌝ }
-    ensures few { λ r. ⌜ r ≤ 6 ⌝ }
+    ensures few { λ r. ⌜ r ≤ 22 ⌝ }
 {
     let a = put_byte(buf, 41);
     let k = upto(a, buf.len());
@@ -82,7 +81,7 @@ fn put_closing(buf: &mut [u8], answer: u8) -> usize
 fn signed_line(buf: &mut [u8], key: &[u8], m: Method) -> usize
     requires { ⌜ length (now key) ≤ 16 ⌝ }
     ensures is { λ r. ⌜ Lined (now (buf .entry)) (now (buf .exit)) (signedText (now (key .entry)) (m .count) (m .args) (m .answer) ∷ []) r ⌝ }
-    ensures few { λ r. ⌜ r ≤ 102 ⌝ }
+    ensures few { λ r. ⌜ r ≤ 182 ⌝ }
 {
     let args = m.args;
     let a = put_bytes(buf, key);
@@ -97,7 +96,7 @@ fn signed_line(buf: &mut [u8], key: &[u8], m: Method) -> usize
 // "an `m=` line for each method"
 pub fn method_line(buf: &mut [u8], m: Method) -> usize
     ensures is { λ r. ⌜ Lined (now (buf .entry)) (now (buf .exit)) (methodText (methodOf (rawMethod m)) ∷ []) r ⌝ }
-    ensures few { λ r. ⌜ r ≤ 102 ⌝ }
+    ensures few { λ r. ⌜ r ≤ 182 ⌝ }
 {
     let state = m.state;
     if state == 0 {
@@ -140,7 +139,7 @@ pub fn own_line(buf: &mut [u8], own: u8) -> usize
 // What follows the first number of an `under=` line: the second, where there is one, and the end of the line.
 fn put_second(buf: &mut [u8], x: Links) -> usize
     ensures is { λ r. ⌜ Filled (now (buf .entry)) (now (buf .exit)) (secondText x) r ⌝ }
-    ensures few { λ r. ⌜ r ≤ 21 ⌝ }
+    ensures few { λ r. ⌜ r ≤ 37 ⌝ }
 {
     if x.count == 2 {
         return number_line(buf, b",", wide(x.second));
@@ -151,7 +150,7 @@ fn put_second(buf: &mut [u8], x: Links) -> usize
 // "one `under=` line (one or two numbers, comma) for each category"
 pub fn under_line(buf: &mut [u8], x: Links) -> usize
     ensures is { λ r. ⌜ Lined (now (buf .entry)) (now (buf .exit)) (underText (linksOf (rawLinks x)) ∷ []) r ⌝ }
-    ensures few { λ r. ⌜ r ≤ 41 ⌝ }
+    ensures few { λ r. ⌜ r ≤ 73 ⌝ }
 {
     let a = put_number(buf, b"under=", wide(x.first));
     let k = upto(a, buf.len());

@@ -35,7 +35,7 @@ pub enum Wrote {
 fn method_lines(buf: &mut [u8], b: &[u8; 16384], i: usize, methods: usize) -> usize
     requires { ⌜ (i < 128) × (methods ≤ 16) ⌝ }
     ensures is { λ r. ⌜ Lined (now (buf .entry)) (now (buf .exit)) (methodLines (now (b .entry)) i methods) r ⌝ }
-    ensures few { λ r. ⌜ r ≤ 1632 ⌝ }
+    ensures few { λ r. ⌜ r ≤ 2912 ⌝ }
 {
     let mut at: usize = 0;
     let mut j: usize = 0;
@@ -53,7 +53,7 @@ fn method_lines(buf: &mut [u8], b: &[u8; 16384], i: usize, methods: usize) -> us
 fn head_lines(buf: &mut [u8], i: usize, h: Head) -> usize
     requires { ⌜ i < 128 ⌝ }
     ensures is { λ r. ⌜ Lined (now (buf .entry)) (now (buf .exit)) (numberText (bytes "type=") i ∷ repText (repOf (h .rep)) ∷ numberText (bytes "cat=") (h .cat) ∷ []) r ⌝ }
-    ensures few { λ r. ⌜ r ≤ 59 ⌝ }
+    ensures few { λ r. ⌜ r ≤ 91 ⌝ }
 {
     let a = number_line(buf, b"type=", i);
     let k = upto(a, buf.len());
@@ -68,7 +68,7 @@ fn head_lines(buf: &mut [u8], i: usize, h: Head) -> usize
 fn member_lines(buf: &mut [u8], b: &[u8; 16384], i: usize, own: u8, methods: usize) -> usize
     requires { ⌜ (i < 128) × (methods ≤ 16) ⌝ }
     ensures is { λ r. ⌜ Lined (now (buf .entry)) (now (buf .exit)) (ownText (eqb own 1) ∷ methodLines (now (b .entry)) i methods) r ⌝ }
-    ensures few { λ r. ⌜ r ≤ 1649 ⌝ }
+    ensures few { λ r. ⌜ r ≤ 2929 ⌝ }
 {
     let a = own_line(buf, own);
     let k = upto(a, buf.len());
@@ -80,7 +80,7 @@ fn member_lines(buf: &mut [u8], b: &[u8; 16384], i: usize, own: u8, methods: usi
 fn type_lines(buf: &mut [u8], b: &[u8; 16384], c: Counts, i: usize) -> usize
     requires { ⌜ (i < 128) × (c .methods ≤ 16) ⌝ }
     ensures is { λ r. ⌜ Lined (now (buf .entry)) (now (buf .exit)) (typeLines i (typeIn (now (b .entry)) c i)) r ⌝ }
-    ensures few { λ r. ⌜ r ≤ 1708 ⌝ }
+    ensures few { λ r. ⌜ r ≤ 3020 ⌝ }
 {
     let h = table::get_head(b, i);
     let a = head_lines(buf, i, h);
@@ -96,7 +96,7 @@ fn type_lines(buf: &mut [u8], b: &[u8; 16384], c: Counts, i: usize) -> usize
 fn sheet_types(buf: &mut [u8], b: &[u8; 16384], c: Counts) -> usize
     requires { ⌜ Limited c ⌝ }
     ensures is { λ r. ⌜ Lined (now (buf .entry)) (now (buf .exit)) (typeLinesTo (now (b .entry)) c (c .sheet)) r ⌝ }
-    ensures few { λ r. ⌜ r ≤ 81984 ⌝ }
+    ensures few { λ r. ⌜ r ≤ 144960 ⌝ }
 {
     let n = c.sheet;
     let mut at: usize = 0;
@@ -114,7 +114,7 @@ fn sheet_types(buf: &mut [u8], b: &[u8; 16384], c: Counts) -> usize
 fn under_lines(buf: &mut [u8], l: &[u8; 96], cats: usize) -> usize
     requires { ⌜ cats ≤ 31 ⌝ }
     ensures is { λ r. ⌜ Lined (now (buf .entry)) (now (buf .exit)) (underLines (now (l .entry)) cats) r ⌝ }
-    ensures few { λ r. ⌜ r ≤ 1271 ⌝ }
+    ensures few { λ r. ⌜ r ≤ 2263 ⌝ }
 {
     let mut at: usize = 0;
     let mut i: usize = 0;
@@ -132,7 +132,7 @@ fn under_lines(buf: &mut [u8], l: &[u8; 96], cats: usize) -> usize
 fn count_lines(buf: &mut [u8], c: Counts) -> usize
     requires { ⌜ Limited c ⌝ }
     ensures is { λ r. ⌜ Lined (now (buf .entry)) (now (buf .exit)) (countLines c) r ⌝ }
-    ensures few { λ r. ⌜ r ≤ 84 ⌝ }
+    ensures few { λ r. ⌜ r ≤ 148 ⌝ }
 {
     let a = number_line(buf, b"guide=", 1);
     let j = upto(a, buf.len());
@@ -147,7 +147,7 @@ fn count_lines(buf: &mut [u8], c: Counts) -> usize
 fn front_lines(buf: &mut [u8], l: &[u8; 96], c: Counts) -> usize
     requires { ⌜ Limited c ⌝ }
     ensures is { λ r. ⌜ Lined (now (buf .entry)) (now (buf .exit)) (frontLines (now (l .entry)) c) r ⌝ }
-    ensures few { λ r. ⌜ r ≤ 1376 ⌝ }
+    ensures few { λ r. ⌜ r ≤ 2448 ⌝ }
 {
     let a = count_lines(buf, c);
     let k = upto(a, buf.len());
@@ -162,7 +162,7 @@ fn front_lines(buf: &mut [u8], l: &[u8; 96], c: Counts) -> usize
 fn back_lines(buf: &mut [u8], b: &[u8; 16384], c: Counts) -> usize
     requires { ⌜ Limited c ⌝ }
     ensures is { λ r. ⌜ Lined (now (buf .entry)) (now (buf .exit)) (backLines (now (b .entry)) c) r ⌝ }
-    ensures few { λ r. ⌜ r ≤ 82001 ⌝ }
+    ensures few { λ r. ⌜ r ≤ 144977 ⌝ }
 {
     let a = sheet_types(buf, b, c);
     let k = upto(a, buf.len());

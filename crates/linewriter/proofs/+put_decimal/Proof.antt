@@ -87,8 +87,9 @@ put-decimal-returns-2 : (t : ℕ) → put-decimal-lts.Need-returns-2 (calls t) (
 put-decimal-returns-2 t c =
     let n = c .before .before .before .before .before .before .before .before .before .before .before .before .args .n in
     let d : n / 10 * 10 + n % 10 ≡ n = div-add-mod' n 10 in
+    let k : n < 18446744073709551616 = search needs in
     let f = fill-rest (c .before .before .before .before .before .before .before .before .put-decimal .ensures .0) (c .before .before .before .before .before .upto .ensures .0) (c .before .before .put-byte2 .ensures) in
-    let g = fill-is (ap (λ z. decimal (n / 10) ++ z ∷ []) (c .before .before .before .digit2 .ensures) ∙ sym (decimal-more n (c .before .before .before .before .before .before .before .before .before .before .if1 .left) (c .before .before .before .before .before .before .before .before .before .before .before .before .pre .1))) f in
+    let g = fill-is (ap (λ z. decimal (n / 10) ++ z ∷ []) (c .before .before .before .digit2 .ensures) ∙ sym (decimal-more n (c .before .before .before .before .before .before .before .before .before .before .if1 .left) (omega (arith, k)))) f in
     (g, omega (arith, g .said, decimal-few n))
 
 pub +put-decimal-spec : {M : Type 1} → statement M

@@ -32,7 +32,7 @@ same-length c = search needs
 
 returns : tie.Need-returns
 unfolding numberText
-returns c = (fill-rest (c .before .before .before .before .before .before .before .put-bytes .ensures) (c .before .before .before .before .upto .ensures .0) (c .before .before .put-decimal .ensures .0), omega (arith, c .before .before .before .before .before .before .before .put-bytes .ensures .said, c .before .before .put-decimal .ensures .1, c .before .before .before .before .before .before .before .before .before .before .before .pre .1))
+returns c = (fill-rest (c .before .before .before .before .before .before .before .put-bytes .ensures) (c .before .before .before .before .upto .ensures .0) (c .before .before .put-decimal .ensures .0), omega (arith, c .before .before .before .before .before .before .before .put-bytes .ensures .said, c .before .before .put-decimal .ensures .1, c .before .before .before .before .before .before .before .before .before .before .before .pre))
 
 pub put-number-spec : {M : Type 1} → statement M
 put-number-spec =

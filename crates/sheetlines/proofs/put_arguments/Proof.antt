@@ -12,7 +12,7 @@ use Rattle.sheetlines.proofs.put_arguments.Statement.{statement}
 use Rattle.sheetlines.proofs.put_arguments.Tie as tie
 
 abbrev Inv-loop : tie.InvT-loop
-Inv-loop buf₀ count args n at₀ i₀ buf at i = (i ≤ n) × (at ≤ 20 * i) × Filled buf₀ buf (commas (take i args)) at
+Inv-loop buf₀ count args n at₀ i₀ buf at i = (i ≤ n) × (at ≤ 36 * i) × Filled buf₀ buf (commas (take i args)) at
 
 abbrev μ-loop : tie.MeasureT-loop
 μ-loop buf₀ count args n at₀ i₀ buf at i = n - i

@@ -10,7 +10,7 @@ use Rattle.writer.proofs.method_lines.Statement.{statement}
 use Rattle.writer.proofs.method_lines.Tie as tie
 
 abbrev Inv-loop : tie.InvT-loop
-Inv-loop buf₀ b i methods at₀ j₀ buf at j = (j ≤ methods) × (at ≤ 102 * j) × Lined buf₀ buf (methodLines b i j) at
+Inv-loop buf₀ b i methods at₀ j₀ buf at j = (j ≤ methods) × (at ≤ 182 * j) × Lined buf₀ buf (methodLines b i j) at
 
 abbrev μ-loop : tie.MeasureT-loop
 μ-loop buf₀ b i methods at₀ j₀ buf at j = methods - j

@@ -10,7 +10,7 @@ use Rattle.writer.proofs.sheet_types.Statement.{statement}
 use Rattle.writer.proofs.sheet_types.Tie as tie
 
 abbrev Inv-loop : tie.InvT-loop
-Inv-loop buf₀ b c n at₀ i₀ buf at i = (i ≤ n) × (at ≤ 1708 * i) × Lined buf₀ buf (typeLinesTo b c i) at
+Inv-loop buf₀ b c n at₀ i₀ buf at i = (i ≤ n) × (at ≤ 3020 * i) × Lined buf₀ buf (typeLinesTo b c i) at
 
 abbrev μ-loop : tie.MeasureT-loop
 μ-loop buf₀ b c n at₀ i₀ buf at i = n - i

@@ -10,7 +10,7 @@ use Rattle.writer.proofs.under_lines.Statement.{statement}
 use Rattle.writer.proofs.under_lines.Tie as tie
 
 abbrev Inv-loop : tie.InvT-loop
-Inv-loop buf₀ l cats at₀ i₀ buf at i = (i ≤ cats) × (at ≤ 41 * i) × Lined buf₀ buf (underLines l i) at
+Inv-loop buf₀ l cats at₀ i₀ buf at i = (i ≤ cats) × (at ≤ 73 * i) × Lined buf₀ buf (underLines l i) at
 
 abbrev μ-loop : tie.MeasureT-loop
 μ-loop buf₀ l cats at₀ i₀ buf at i = cats - i

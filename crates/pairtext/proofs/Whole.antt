@@ -1,0 +1,117 @@
+-- What is written is the definition's: the pairs of an accepted sheet, whose table the relations can be asked of; and the three cases of the input.
+use mathlib.Core.Path.{_≡_, sym, ap, _∙_}
+use mathlib.Core.Bool.{Bool, true, false, cond}
+use mathlib.Core.List.{List, [], _∷_, flatten}
+use Prim.Native.Nat.{ℕ, _+_, _*_, _/_, _%_, _≤_, _<_}
+use native.Mathlib.Omega.{arith}
+use lib.Dec.{eqb, leb}
+use lib.ListN.{length, getD, take, drop}
+use lib.Seq.{take-append-seam, length-take-le}
+use borrow.Author.Tests.{lt-ltb, le-ltb, leb-true, ne-eqb}
+use Rattle.model.specs.Basics.{from}
+use Rattle.model.specs.Table.{Table, between, tableFits, validSheet, maxSubjects, maxMethods, maxCategories, maxSheetTypes}
+use Rattle.model.specs.Relations.{subtype, strict, loose, free, bit, related}
+use Rattle.model.specs.Check.{tableOf}
+use Rattle.model.proofs.Rules.{first, second}
+use Rattle.model.proofs.Fitting.{TableFitting, table-fitting}
+use Rattle.table.specs.Store.{tableIn}
+use Rattle.table.proofs.Lists.{from-same}
+use Rattle.search.specs.Checked.{Checked}
+use Rattle.search.proofs.Accepted.{fitting-checked}
+use Rattle.compare.specs.Pairs.{pairCode, pairTable}
+use Rattle.compare.proofs.Laws.{pair-at}
+use Rattle.sheet.specs.Lines.{bytes, join}
+use Rattle.sheet.specs.Sheet.{malformed, loaded, read}
+use Rattle.sheet.proofs.Exact.{loaded-valid}
+use Rattle.reader.specs.declared.Sheet.{Sheet}
+use Rattle.reader.specs.View.{SheetIs}
+use Rattle.linewriter.specs.Fill.{Filled}
+use Rattle.pairtext.specs.Output.{maxInput, spaced, pairLine, pairLines, answerLines, pairsOutput}
+use Rattle.pairtext.specs.Parts.{answersIn, codeLine, rowLines, codeLines}
+
+-- ---- the pairs
+bit-low : (b : Bool) → bit b ≤ 1
+bit-low true = omega arith
+bit-low false = omega arith
+
+low-bit : (b n : ℕ) → b ≤ 1 → (b + 2 * n) % 2 ≡ b
+low-bit b n h = omega arith
+
+answers-of : (w x y z : Bool) → answersIn (pairCode w x y z) ≡ bit w ∷ bit x ∷ bit y ∷ bit z ∷ []
+answers-of w x y z =
+    let p = bit-low w in
+    let q = bit-low x in
+    let r = bit-low y in
+    let s = bit-low z in
+    let k = pairCode w x y z in
+    let k₀ : k ≡ bit w + 2 * (bit x + 2 * (bit y + 2 * bit z)) = omega arith in
+    let k₁ : k / 2 ≡ bit x + 2 * (bit y + 2 * bit z) = omega arith in
+    let k₂ : k / 4 ≡ bit y + 2 * bit z = omega arith in
+    let k₃ : k / 8 ≡ bit z + 2 * 0 = omega arith in
+    ap (λ i. i ∷ k / 2 % 2 ∷ k / 4 % 2 ∷ k / 8 % 2 ∷ []) (ap (λ i. i % 2) k₀ ∙ low-bit (bit w) (bit x + 2 * (bit y + 2 * bit z)) p)
+    ∙ ap (λ i. bit w ∷ i ∷ k / 4 % 2 ∷ k / 8 % 2 ∷ []) (ap (λ i. i % 2) k₁ ∙ low-bit (bit x) (bit y + 2 * bit z) q)
+    ∙ ap (λ i. bit w ∷ bit x ∷ i ∷ k / 8 % 2 ∷ []) (ap (λ i. i % 2) k₂ ∙ low-bit (bit y) (bit z) r)
+    ∙ ap (λ i. bit w ∷ bit x ∷ bit y ∷ i ∷ []) (ap (λ i. i % 2) k₃ ∙ low-bit (bit z) 0 s)
+
+module _ (T : Table) (h : T .sheet ≤ 48) where
+  abbrev codeAt : ℕ → ℕ → ℕ
+  codeAt t s = pairCode (related subtype T t s) (related strict T t s) (related loose T t s) (related free T t s)
+
+  entry-is : (t s : ℕ) → t < T .sheet → s < T .sheet → getD (pairTable T) (t * 48 + s) 0 ≡ codeAt t s
+  entry-is t s p q = pair-at T t s (omega arith) (omega arith) ∙ rw (lt-ltb t (T .sheet) p, lt-ltb s (T .sheet) q)
+
+  pair-is : (t s : ℕ) → t < T .sheet → s < T .sheet → codeLine t s (getD (pairTable T) (t * 48 + s) 0) ≡ pairLine T t s
+  unfolding codeLine pairLine
+  pair-is t s p q = ap (codeLine t s) (entry-is t s p q) ∙ ap (λ z. spaced (t ∷ s ∷ z)) (answers-of (related subtype T t s) (related strict T t s) (related loose T t s) (related free T t s))
+
+  pub pairs-are : codeLines (pairTable T) (T .sheet) (T .sheet) ≡ pairLines T
+  unfolding codeLines rowLines pairLines
+  pairs-are = ap flatten (from-same (λ t. rowLines (pairTable T) t (T .sheet)) (λ t. from (T .sheet) 0 (pairLine T t)) (T .sheet) 0
+      (λ t _ p. from-same (λ s. codeLine t s (getD (pairTable T) (t * 48 + s) 0)) (pairLine T t) (T .sheet) 0 (λ s _ q. pair-is t s (omega arith) (omega arith))))
+
+-- ---- an accepted sheet
+module _ (bs : List ℕ) (x : Sheet) (h : SheetIs x (read bs)) (z : x .no ≡ 0) where
+  abbrev tableOfSheet : Table
+  tableOfSheet = tableIn (x .types) (x .links) (x .counts)
+
+  accepted : loaded tableOfSheet ≡ read bs
+  accepted = ap (λ k. cond (eqb k 0) (loaded tableOfSheet) (malformed (x .no) (x .at))) (sym z) ∙ h .answer
+
+  fitting : TableFitting tableOfSheet
+  unfolding validSheet
+  fitting = table-fitting tableOfSheet (first (tableFits tableOfSheet) _ (loaded-valid bs tableOfSheet (sym accepted)))
+
+  pub sheet-checked : Checked (x .links) (x .counts)
+  sheet-checked = fitting-checked (x .types) (x .links) (x .counts) fitting
+
+  pub sheet-few : x .counts .sheet ≤ 48
+  unfolding tableIn tableOf
+  sheet-few =
+      let t = tableOfSheet in
+      let k₁ = second (between 1 maxSubjects (t .subjects)) _ (fitting .counts) in
+      let k₂ = second (between 1 maxMethods (t .methods)) _ k₁ in
+      let k₃ = second (leb (length (t .cats)) maxCategories) _ k₂ in
+      leb-true (t .sheet) maxSheetTypes (second (leb 1 (t .sheet)) _ (first (between 1 maxSheetTypes (t .sheet)) _ k₃))
+
+  pub accepted-prints : length bs ≤ maxInput → join (codeLines (pairTable tableOfSheet) (x .counts .sheet) (x .counts .sheet)) ≡ pairsOutput bs
+  unfolding pairsOutput answerLines tableIn tableOf
+  accepted-prints l = ap join (pairs-are tableOfSheet sheet-few) ∙ ap (λ a. join (answerLines a)) accepted ∙ rw (le-ltb maxInput (length bs) l)
+
+-- ---- a refused sheet, and an input that is too long
+pub refused-prints : (bs : List ℕ) (x : Sheet) → SheetIs x (read bs) → (x .no ≡ 0 → ⊥) → length bs ≤ maxInput → join (answerLines (malformed (x .no) (x .at))) ≡ pairsOutput bs
+unfolding pairsOutput
+refused-prints bs x h z l =
+    let e : malformed (x .no) (x .at) ≡ read bs = ap (λ k. cond k (loaded (tableIn (x .types) (x .links) (x .counts))) (malformed (x .no) (x .at))) (sym (ne-eqb (x .no) 0 z)) ∙ h .answer in
+    ap (λ a. join (answerLines a)) e ∙ rw (le-ltb maxInput (length bs) l)
+
+pub long-prints : (bs : List ℕ) → maxInput < length bs → join (bytes "no=2" ∷ []) ≡ pairsOutput bs
+unfolding pairsOutput
+long-prints bs l = rw (lt-ltb maxInput (length bs) l)
+
+-- ---- the text in front of a buffer that has room for it
+pub printed : {old new xs : List ℕ} {r : ℕ} → Filled old new xs r → r ≤ length old → (take r new ≡ xs) × ((r ≤ length new) × (r ≡ length (take r new)))
+printed {old} {new} {xs} {r} f l =
+    let e = f .said in
+    let s = f .size in
+    let k : r ≤ length new = omega arith in
+    (ap (λ z. take z new) e ∙ ap (take (length xs)) (f .text (omega arith)) ∙ take-append-seam xs (drop (length xs) old), (k, sym (length-take-le r new k)))

@@ -1,0 +1,79 @@
+-- Rests on `fill-rest`, twice, and `line-is`; `line-short` says how long the line is at most.
+use Rattle.pairtext.proofs.Laws.{line-is, line-short}
+use Rattle.linewriter.proofs.Laws.{fill-rest, fill-is, ended}
+use native.Mathlib.Omega.{arith}
+use borrow.Author.Needs.{needs}
+use Rattle.pairtext.proofs.pair_line.Statement.{statement}
+use Rattle.pairtext.proofs.pair_line.Tie as tie
+
+put-decimal-requires : tie.Need-put-decimal-requires
+put-decimal-requires c κs = search needs
+
+upto-requires : tie.Need-upto-requires
+upto-requires c κs = search needs
+
+sub-put-number : tie.Need-sub-put-number
+sub-put-number c = search needs
+
+part-put-number-start : tie.Need-part-put-number-start
+part-put-number-start c = search needs
+
+part-put-number-end : tie.Need-part-put-number-end
+part-put-number-end c = search needs
+
+slice-aggregate-put-number : tie.Need-slice-aggregate-put-number
+slice-aggregate-put-number c = search needs
+
+put-number-requires : tie.Need-put-number-requires
+put-number-requires c κs = search needs
+
+add-a : tie.Need-add-a
+add-a c = search needs
+
+upto-requires-2 : tie.Need-upto-requires-2
+upto-requires-2 c κs = search needs
+
+sub-put-answers : tie.Need-sub-put-answers
+sub-put-answers c = search needs
+
+part-put-answers-start : tie.Need-part-put-answers-start
+part-put-answers-start c = search needs
+
+part-put-answers-end : tie.Need-part-put-answers-end
+part-put-answers-end c = search needs
+
+put-answers-requires : tie.Need-put-answers-requires
+put-answers-requires c κs = search needs
+
+add-result : tie.Need-add-result
+add-result c = search needs
+
+same-length : tie.Need-same-length
+same-length c = search needs
+
+returns : tie.Need-returns
+returns c =
+    let a = c .before .before .before .before .before .before .before .before .before .before .before .before .before .before .before .before .args in
+    let f = fill-is (line-is (a .t) (a .s) (a .code)) (fill-rest (fill-rest (c .before .before .before .before .before .before .before .before .before .before .before .before .before .put-decimal .ensures .0) (c .before .before .before .before .before .before .before .before .before .before .upto .ensures .0) (c .before .before .before .before .before .before .before .put-number .ensures .0)) (c .before .before .before .before .upto2 .ensures .0) (c .before .before .put-answers .ensures .0)) in
+    (ended f, omega (arith, f .said, line-short (a .t) (a .s) (a .code) (c .before .before .before .before .before .before .before .before .before .before .before .before .before .before .before .before .pre .0) (c .before .before .before .before .before .before .before .before .before .before .before .before .before .before .before .before .pre .1)))
+
+pub pair-line-spec : {M : Type 1} → statement M
+pair-line-spec =
+    tie.close
+    (tie.spec
+    put-decimal-requires
+    upto-requires
+    sub-put-number
+    part-put-number-start
+    part-put-number-end
+    slice-aggregate-put-number
+    put-number-requires
+    add-a
+    upto-requires-2
+    sub-put-answers
+    part-put-answers-start
+    part-put-answers-end
+    put-answers-requires
+    add-result
+    same-length
+    returns)

@@ -1,0 +1,47 @@
+-- The program `pairs`: the bytes that it prints, for every input.
+use mathlib.Core.Bool.{cond}
+use mathlib.Core.List.{List, [], _∷_, _++_, flatten}
+use Prim.Native.Nat.{ℕ}
+use lib.Dec.{ltb}
+use lib.ListN.{length}
+use Rattle.model.specs.Basics.{from}
+use Rattle.model.specs.Table.{Table}
+use Rattle.model.specs.Relations.{subtype, strict, loose, free, bit, related}
+use Rattle.sheet.specs.Lines.{bytes, join}
+use Rattle.sheet.specs.Numbers.{decimal, decimalIn}
+use Rattle.sheet.specs.Text.{numberText}
+use Rattle.sheet.specs.Sheet.{SheetAnswer, malformed, loaded, read}
+
+-- a sheet of at most so many bytes
+abbrev pub maxInput : ℕ
+maxInput = 32768
+
+-- numbers, each behind a space; and with single spaces between
+abbrev pub spaces : List ℕ → List ℕ
+spaces [] = []
+spaces (n ∷ r) = numberText (bytes " ") n ++ spaces r
+
+abbrev pub spaced : List ℕ → List ℕ
+spaced [] = []
+spaced (n ∷ r) = decimal n ++ spaces r
+
+-- "Compare (T, S): .. the four answers", 1 or 0: S subtype of T, and strict, loose and free (T from S)
+unfoldable pub pairLine : Table → ℕ → ℕ → List ℕ
+unfolding related numberText decimalIn
+pairLine x t s = spaced (t ∷ s ∷ bit (related subtype x t s) ∷ bit (related strict x t s) ∷ bit (related loose x t s) ∷ bit (related free x t s) ∷ [])
+
+-- a line for every pair of sheet types, T rising and within it S rising
+unfoldable pub pairLines : Table → List (List ℕ)
+unfolding pairLine from flatten
+pairLines x = flatten (from (x .sheet) 0 (λ t. from (x .sheet) 0 (λ s. pairLine x t s)))
+
+-- `no=N at=OFFSET` for a refused sheet
+unfoldable pub answerLines : SheetAnswer → List (List ℕ)
+unfolding pairLines numberText
+answerLines (malformed n at) = (numberText (bytes "no=") n ++ numberText (bytes " at=") at) ∷ []
+answerLines (loaded x) = pairLines x
+
+-- "(longer: only `no=2`)"
+unfoldable pub pairsOutput : List ℕ → List ℕ
+unfolding answerLines join read
+pairsOutput s = join (cond (ltb maxInput (length s)) (bytes "no=2" ∷ []) (answerLines (read s)))

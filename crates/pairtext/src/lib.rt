@@ -1,0 +1,128 @@
+// The program `pairs`: a sheet's text in, the four relations of every pair of its types out. `report` takes any bytes and says what is printed
+// (specs/Output.antt). "The writer adds each line in the rest of the same lent buffer."
+use linewriter::number_line;
+use linewriter::put_decimal;
+use linewriter::put_number;
+use linewriter::text_line;
+use linewriter::upto;
+use table::wide;
+ghost use mathlib.Core.Path.{_≡_};
+ghost use mathlib.Core.List.{[], _∷_};
+ghost use Prim.Native.Nat.{_≤_, _<_};
+ghost use lib.ListN.{length, take};
+ghost use Rattle.sheet.specs.Sheet.{malformed};
+ghost use Rattle.linewriter.specs.Fill.{Filled, Lined};
+ghost use Rattle.pairtext.specs.Output.{answerLines, pairsOutput};
+ghost use Rattle.pairtext.specs.Parts.{answersText, codeLine, rowLines, codeLines};
+
+// What is printed: the first `length` bytes of `text`. 48 * 48 lines of at most 14 bytes are 32,256.
+pub struct Printed {
+    pub length: usize,
+    pub text: [u8; 32768],
+}
+
+// The four answers of a pair, and the end of the line.
+fn put_answers(buf: &mut [u8], code: usize) -> usize
+    ensures is { λ r. ⌜ Filled (now (buf .entry)) (now (buf .exit)) (answersText code) r ⌝ }
+    ensures few { λ r. ⌜ r ≤ 145 ⌝ }
+{
+    let a = put_number(buf, b" ", code % 2);
+    let i = upto(a, buf.len());
+    let a = a + put_number(&mut buf[i..], b" ", code / 2 % 2);
+    let j = upto(a, buf.len());
+    let a = a + put_number(&mut buf[j..], b" ", code / 4 % 2);
+    let k = upto(a, buf.len());
+    a + number_line(&mut buf[k..], b" ", code / 8 % 2)
+}
+
+// `T S a b c d`
+fn pair_line(buf: &mut [u8], t: usize, s: usize, code: usize) -> usize
+    requires { ⌜ (t < 48) × (s < 48) ⌝ }
+    ensures is { λ r. ⌜ Lined (now (buf .entry)) (now (buf .exit)) (codeLine t s code ∷ []) r ⌝ }
+    ensures few { λ r. ⌜ r ≤ 14 ⌝ }
+{
+    let a = put_decimal(buf, t);
+    let j = upto(a, buf.len());
+    let a = a + put_number(&mut buf[j..], b" ", s);
+    let k = upto(a, buf.len());
+    a + put_answers(&mut buf[k..], code)
+}
+
+// The pairs of T with each of the n types.
+fn row_lines(buf: &mut [u8], pairs: &[u8; 2304], t: usize, n: usize) -> usize
+    requires { ⌜ (t < 48) × (n ≤ 48) ⌝ }
+    ensures is { λ r. ⌜ Lined (now (buf .entry)) (now (buf .exit)) (rowLines (now (pairs .entry)) t n) r ⌝ }
+    ensures few { λ r. ⌜ r ≤ 672 ⌝ }
+{
+    let mut at: usize = 0;
+    let mut s: usize = 0;
+    while s < n {
+        let code = wide(pairs[t * 48 + s]);
+        let k = upto(at, buf.len());
+        let c = pair_line(&mut buf[k..], t, s, code);
+        at += c;
+        s += 1;
+    }
+    at
+}
+
+// Every pair of the n types, T rising.
+fn pair_lines(buf: &mut [u8], pairs: &[u8; 2304], n: usize) -> usize
+    requires { ⌜ n ≤ 48 ⌝ }
+    ensures is { λ r. ⌜ Lined (now (buf .entry)) (now (buf .exit)) (codeLines (now (pairs .entry)) n n) r ⌝ }
+    ensures few { λ r. ⌜ r ≤ 32256 ⌝ }
+{
+    let mut at: usize = 0;
+    let mut t: usize = 0;
+    while t < n {
+        let k = upto(at, buf.len());
+        let c = row_lines(&mut buf[k..], pairs, t, n);
+        at += c;
+        t += 1;
+    }
+    at
+}
+
+// `no=N at=OFFSET`
+fn refused_line(buf: &mut [u8], no: usize, at: usize) -> usize
+    ensures is { λ r. ⌜ Lined (now (buf .entry)) (now (buf .exit)) (answerLines (malformed no at)) r ⌝ }
+    ensures few { λ r. ⌜ r ≤ 73 ⌝ }
+{
+    let a = put_number(buf, b"no=", no);
+    let k = upto(a, buf.len());
+    a + number_line(&mut buf[k..], b" at=", at)
+}
+
+// The whole output, in front of a lent buffer.
+fn put_report(buf: &mut [u8], s: &[u8]) -> usize
+    ensures is { λ r. ⌜ Filled (now (buf .entry)) (now (buf .exit)) (pairsOutput (now (s .entry))) r ⌝ }
+    ensures few { λ r. ⌜ r ≤ 32256 ⌝ }
+{
+    if 32768 < s.len() {
+        return text_line(buf, b"no=2");
+    }
+    let x = reader::read(s);
+    if x.no != 0 {
+        return refused_line(buf, x.no, x.at);
+    }
+    let links = x.links;
+    let c = x.counts;
+    let pairs = compare::pair_table(&x.types, &links, c);
+    pair_lines(buf, &pairs, c.sheet)
+}
+
+fn blank() -> [u8; 32768]
+    ensures { λ r. ⌜ length r ≡ 32768 ⌝ }
+{
+    [0u8; 32768]
+}
+
+// What the program prints for any input. `within` says what `&text[..length]` asks.
+pub fn report(s: &[u8]) -> Printed
+    ensures is { λ r. ⌜ take (r .length) (r .text) ≡ pairsOutput (now (s .entry)) ⌝ }
+    ensures within { λ r. ⌜ (r .length ≤ length (r .text)) × (r .length ≡ length (take (r .length) (r .text))) ⌝ }
+{
+    let mut text = blank();
+    let length = put_report(&mut text, s);
+    Printed { length, text }
+}
