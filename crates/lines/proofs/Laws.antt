@@ -1,29 +1,34 @@
 -- Laws over plain values for the line kinds: words, broader categories, signatures and methods. The proofs of the functions cite them.
-use mathlib.Core.Path.{_≡_, refl, sym, ap, _∙_, subst}
+use mathlib.Core.Path.{_≡_, refl, sym, ap, _∙_}
 use mathlib.Core.Bool.{Bool, true, false, _&&_, cond}
 use mathlib.Core.List.{List, [], _∷_, _++_}
 use mathlib.Core.Option.{Option, none, some}
 use Prim.Native.Nat.{ℕ, zero, suc, _+_, _≤_, _<_}
-use native.Mathlib.Nat.{not-suc-le-zero, le-of-suc-le-suc}
 use native.Mathlib.Omega.{arith}
 use native.Mathlib.Numerals.{add-one}
-use lib.Dec.{eqb, ltb, leb, leb·zero}
+use lib.Dec.{eqb, ltb, leb}
 use lib.ListN.{length, getD, set, take, drop}
 use lib.Seq.{length-take-le, take-suc-set, take-suc, getD-take}
-use borrow.Author.Tests.{leb-true, leb-false, lt-ltb, le-ltb, le-leb, lt-leb, eq-eqb, ne-eqb}
-use Rattle.model.specs.Basics.{Res, refuse, ok, try, need, all, unlessMissing}
-use Rattle.model.specs.Table.{State, denied, optional, avail, unavail, Rep, ref, w32, w64, Method, permit, maxArguments}
-use Rattle.model.specs.Check.{RawMethod, stateOf, repOf, answerOf, methodOf}
+use borrow.Author.Tests.{leb-true, leb-false, lt-ltb, le-ltb, le-leb, eq-eqb, ne-eqb}
+use Rattle.model.specs.Basics.{Res, refuse, ok, try, need, _⇒_, all, unlessMissing}
+use Rattle.model.specs.Table.{State, denied, optional, avail, unavail, Rep, ref, w32, w64, Method, permit, maxArguments, between}
+use Rattle.model.specs.Check.{stateOf, answerOf, methodOf, rawMethodFits}
+use Rattle.model.proofs.Rules.{never, both, imply}
 use Rattle.sheet.specs.Lines.{bytes, starts, same, keyed, oneOf}
 use Rattle.sheet.specs.Numbers.{Scan, fail, took, andThen, whole, number, numbers}
 use Rattle.sheet.specs.Text.{repText, ownText, stateText}
 use Rattle.sheet.specs.Sheet.{repLine, ownLine, underLine, closing, arguments, answer, below, signature, unsigned, methodLine}
+use Rattle.sheet.proofs.Steps.{refuse-ok}
 use Rattle.text.specs.View.{result}
 use Rattle.text.proofs.Laws.{from-here, at-end}
 
 -- a refusal's number isn't 0
 pub result-refused : {A : Type 0} (nr : ℕ) (x : A) → 0 < nr → result nr x ≡ refuse nr
 result-refused nr x h = ap (λ z. cond z (ok x) (refuse nr)) (ne-eqb nr 0 (λ e. omega arith))
+
+-- what is refused is not accepted
+pub not-accepted : {A : Type 0} {C : Type 0} (nr k : ℕ) (x : A) → result nr x ≡ refuse k → nr ≡ 0 → C
+not-accepted nr k x e z = refuse-ok (sym e ∙ ap (λ b. cond b (ok x) (refuse nr)) (eq-eqb nr 0 z))
 
 -- Words.
 module _ (l : List ℕ) where
@@ -179,6 +184,9 @@ one-or-two (a ∷ b ∷ p) (suc zero) e h k = refl
 one-or-two (a ∷ b ∷ p) (suc (suc zero)) e h k = refl
 one-or-two (a ∷ b ∷ p) (suc (suc (suc n))) e h k = absurd (omega arith)
 
+pub one-or-two-fits : (n count : ℕ) → n ≡ count → 1 ≤ count → count ≤ 2 → between 1 2 n ≡ true
+one-or-two-fits n count e h k = both (le-leb 1 n (omega arith)) (le-leb n 2 (omega arith))
+
 -- The arguments of a signature.
 pub args-none : (l : List ℕ) (at : ℕ) → at ≡ length l → fail ≡ arguments (drop at l)
 unfolding arguments
@@ -317,6 +325,19 @@ signed-means s count answer a k args xs p e q f =
 pub unsigned-means : (s count answer : ℕ) (args : List ℕ) → permit (stateOf s) ≡ false → methodOf (record { state = s; count = count; args = args; answer = answer }) ≡ unsigned (stateOf s)
 unfolding means
 unsigned-means s count answer args p = ap (λ z. means (stateOf s) z count args answer) p
+
+-- its codes name a state, and a number of arguments where it permits
+permits-below : (s : ℕ) → permit (stateOf s) ≡ true → s < 4
+permits-below zero p = never p
+permits-below (suc zero) p = omega arith
+permits-below (suc (suc zero)) p = omega arith
+permits-below (suc (suc (suc s))) p = never p
+
+pub signed-fits : (s count answer k : ℕ) (args : List ℕ) → permit (stateOf s) ≡ true → count ≡ k → k ≤ 2 → rawMethodFits (record { state = s; count = count; args = args; answer = answer }) ≡ true
+signed-fits s count answer k args p e h = both (lt-ltb s 4 (permits-below s p)) (imply (permit (stateOf s)) _ (λ _. le-leb count 2 (omega arith)))
+
+pub unsigned-fits : (s count answer : ℕ) (args : List ℕ) → permit (stateOf s) ≡ false → s < 4 → rawMethodFits (record { state = s; count = count; args = args; answer = answer }) ≡ true
+unsigned-fits s count answer args p h = both (lt-ltb s 4 h) (ap (λ z. z ⇒ leb count maxArguments) p)
 
 -- An `m=` line.
 module _ (n : ℕ) (l : List ℕ) where

@@ -1,13 +1,14 @@
 // Document 01, "Sheet read" and "Sheet text": the line kinds of a sheet but those of one number. Each is read by 1 (form), 2 (number outside its range), 3 (broader category not below),
 // in this order over the whole line. A function `.._line` reads the bytes of one line, a function `next_..` the next line of the text.
+// `is` says what a code means, `within` that it names something: a table that is read passes the check of a table handed in.
 ghost use mathlib.Core.Path.{_≡_};
 ghost use mathlib.Core.Bool.{true, false};
 ghost use Prim.Native.Nat.{ℕ, _+_, _≤_, _<_};
 ghost use lib.Dec.{eqb};
 ghost use lib.ListN.{length, take, drop};
 ghost use Rattle.model.specs.Basics.{refuse, ok, all};
-ghost use Rattle.model.specs.Table.{permit};
-ghost use Rattle.model.specs.Check.{stateOf, repOf, answerOf, methodOf, linksOf};
+ghost use Rattle.model.specs.Table.{permit, between};
+ghost use Rattle.model.specs.Check.{stateOf, repOf, answerOf, methodOf, linksOf, rawMethodFits};
 ghost use Rattle.table.specs.Store.{rawMethod, rawLinks};
 ghost use Rattle.sheet.specs.Lines.{split, line};
 ghost use Rattle.sheet.specs.Sheet.{repLine, ownLine, underLine, arguments, answer, below, signature, unsigned, methodLine};
@@ -170,7 +171,8 @@ fn no_under(no: usize) -> UnderLine
 // "one `under=` line (one or two numbers, comma) for each category": the line of category k. "a broader category above the last, is 2".
 fn under_line(l: &[u8], cats: usize, k: usize) -> UnderLine
     requires { ⌜ (cats ≤ 31) × (k ≤ 31) ⌝ }
-    ensures { λ r. ⌜ result (r .no) (linksOf (rawLinks (r .links))) ≡ underLine cats k (now (l .entry)) ⌝ }
+    ensures is { λ r. ⌜ result (r .no) (linksOf (rawLinks (r .links))) ≡ underLine cats k (now (l .entry)) ⌝ }
+    ensures within { λ r. ⌜ (r .no ≡ 0 → between 1 2 (r .links .count) ≡ true) ⌝ }
 {
     if !text::begins(l, b"under=") {
         return no_under(1);
@@ -202,7 +204,7 @@ fn under_line(l: &[u8], cats: usize, k: usize) -> UnderLine
 pub fn next_under(s: &[u8], c: Cursor, cats: usize, k: usize) -> UnderGot
     requires { ⌜ (c .at ≤ length (now s)) × (cats ≤ 31) × (k ≤ 31) ⌝ }
     ensures is { λ r. ⌜ reading (now (s .entry)) (r .no) (linksOf (rawLinks (r .links))) (r .next .at) ≡ line (underLine cats k) (c .at) (split (drop (c .at) (now (s .entry)))) ⌝ }
-    ensures within { λ r. ⌜ r .next .at ≤ length (now (s .entry)) ⌝ }
+    ensures within { λ r. ⌜ (r .next .at ≤ length (now (s .entry))) × (r .no ≡ 0 → between 1 2 (r .links .count) ≡ true) ⌝ }
 {
     let e = text::line_end(s, c);
     if e == s.len() {
@@ -231,7 +233,7 @@ pub fn next_under(s: &[u8], c: Cursor, cats: usize, k: usize) -> UnderGot
 fn args_at(l: &[u8], at: usize) -> Numbers
     requires { ⌜ at ≤ length (now l) ⌝ }
     ensures is { λ r. ⌜ scanned (now (l .entry)) (r .right) (take (r .count) (r .items)) (r .next) ≡ arguments (drop at (now (l .entry))) ⌝ }
-    ensures within { λ r. ⌜ (r .next ≤ length (now (l .entry))) × (r .count ≤ 4) × (length (r .items) ≡ 4) ⌝ }
+    ensures within { λ r. ⌜ (r .next ≤ length (now (l .entry))) × (r .count ≤ 2) × (length (r .items) ≡ 4) ⌝ }
 {
     if at == l.len() {
         return text::no_numbers(at);
@@ -301,7 +303,8 @@ fn answer_at(l: &[u8], at: usize) -> Number
 
 fn no_method(no: usize) -> MethodLine
     requires { ⌜ 0 < no ⌝ }
-    ensures { λ r. ⌜ result (r .no) (methodOf (rawMethod (r .m))) ≡ refuse no ⌝ }
+    ensures is { λ r. ⌜ result (r .no) (methodOf (rawMethod (r .m))) ≡ refuse no ⌝ }
+    ensures within { λ r. ⌜ rawMethodFits (rawMethod (r .m)) ≡ true ⌝ }
 {
     let m = Method::empty();
     MethodLine { no, m }
@@ -309,8 +312,9 @@ fn no_method(no: usize) -> MethodLine
 
 // A method without a signature.
 fn unsigned_method(state: u8) -> MethodLine
-    requires { ⌜ permit (stateOf state) ≡ false ⌝ }
-    ensures { λ r. ⌜ result (r .no) (methodOf (rawMethod (r .m))) ≡ ok (unsigned (stateOf state)) ⌝ }
+    requires { ⌜ (permit (stateOf state) ≡ false) × (state < 4) ⌝ }
+    ensures is { λ r. ⌜ result (r .no) (methodOf (rawMethod (r .m))) ≡ ok (unsigned (stateOf state)) ⌝ }
+    ensures within { λ r. ⌜ rawMethodFits (rawMethod (r .m)) ≡ true ⌝ }
 {
     let m = Method {
         state,
@@ -324,7 +328,8 @@ fn unsigned_method(state: u8) -> MethodLine
 // "A state with signature is written `avail(0,3)2`": the signature from `at` on, of a sheet with n types.
 fn signature_line(l: &[u8], at: usize, state: u8, n: usize) -> MethodLine
     requires { ⌜ (at ≤ length (now l)) × (n ≤ 48) × (permit (stateOf state) ≡ true) ⌝ }
-    ensures { λ r. ⌜ result (r .no) (methodOf (rawMethod (r .m))) ≡ signature n (stateOf state) (drop at (now (l .entry))) ⌝ }
+    ensures is { λ r. ⌜ result (r .no) (methodOf (rawMethod (r .m))) ≡ signature n (stateOf state) (drop at (now (l .entry))) ⌝ }
+    ensures within { λ r. ⌜ rawMethodFits (rawMethod (r .m)) ≡ true ⌝ }
 {
     let t = args_at(l, at);
     if !t.right {
@@ -359,7 +364,8 @@ fn signature_line(l: &[u8], at: usize, state: u8, n: usize) -> MethodLine
 // "an `m=` line for each method", of a sheet with n types.
 fn method_line(l: &[u8], n: usize) -> MethodLine
     requires { ⌜ n ≤ 48 ⌝ }
-    ensures { λ r. ⌜ result (r .no) (methodOf (rawMethod (r .m))) ≡ methodLine n (now (l .entry)) ⌝ }
+    ensures is { λ r. ⌜ result (r .no) (methodOf (rawMethod (r .m))) ≡ methodLine n (now (l .entry)) ⌝ }
+    ensures within { λ r. ⌜ rawMethodFits (rawMethod (r .m)) ≡ true ⌝ }
 {
     if text::begins(l, b"m=avail(") {
         return signature_line(l, 8, 2, n);
@@ -379,7 +385,7 @@ fn method_line(l: &[u8], n: usize) -> MethodLine
 pub fn next_method(s: &[u8], c: Cursor, n: usize) -> MethodGot
     requires { ⌜ (c .at ≤ length (now s)) × (n ≤ 48) ⌝ }
     ensures is { λ r. ⌜ reading (now (s .entry)) (r .no) (methodOf (rawMethod (r .m))) (r .next .at) ≡ line (methodLine n) (c .at) (split (drop (c .at) (now (s .entry)))) ⌝ }
-    ensures within { λ r. ⌜ r .next .at ≤ length (now (s .entry)) ⌝ }
+    ensures within { λ r. ⌜ (r .next .at ≤ length (now (s .entry))) × (rawMethodFits (rawMethod (r .m)) ≡ true) ⌝ }
 {
     let e = text::line_end(s, c);
     if e == s.len() {

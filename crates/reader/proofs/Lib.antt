@@ -1,3 +1,5 @@
 pub mod Readings
 pub mod Stored
 pub mod Owned
+pub mod Named
+pub mod Accepted

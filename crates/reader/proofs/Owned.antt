@@ -1,5 +1,5 @@
 -- Laws of own in a signature: tests over lists, one thing after the other, and what the bytes of a method and of a type say.
-use mathlib.Core.Path.{_≡_, refl, sym, ap, _∙_, subst}
+use mathlib.Core.Path.{_≡_, refl, sym, ap, _∙_}
 use mathlib.Core.Bool.{Bool, true, false, _&&_, _||_, cond}
 use mathlib.Core.List.{List, [], _∷_}
 use mathlib.Core.Option.{Option, none, some}
@@ -15,8 +15,7 @@ use Rattle.model.specs.Table.{Ty, Table, Method as Methodᵐ, noType, typeAt, i
 use Rattle.model.specs.Check.{RawType, RawMethod, noRawType, noRawMethod, stateOf, repOf, answerOf, methodOf, typeOf}
 use Rattle.model.proofs.Largest.{getD-from-out}
 use Rattle.table.specs.Store.{typesTo}
-use Rattle.table.proofs.Lists.{length-from, from-first}
-use Rattle.table.proofs.Tables.{types-to-length, types-to-at}
+use Rattle.table.proofs.Tables.{types-to-at}
 use Rattle.sheet.specs.Sheet.{ownIn, ownInSignature}
 use Rattle.reader.specs.View.{methodsOf, ownAt, ownInMethods, ownInType}
 

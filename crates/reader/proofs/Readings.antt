@@ -1,5 +1,5 @@
 -- Laws of readings: one reader behind another, several in a row, the groups of a sheet's lines, and what the code's answers say of them.
-use mathlib.Core.Path.{_≡_, refl, sym, ap, _∙_, subst}
+use mathlib.Core.Path.{_≡_, refl, sym, ap, _∙_}
 use mathlib.Core.Bool.{Bool, true, false, cond}
 use mathlib.Core.List.{List, [], _∷_, _++_}
 use Prim.Native.Nat.{ℕ, zero, suc, _+_, _-_, _≤_, _<_}
@@ -7,12 +7,12 @@ use native.Mathlib.Omega.{arith}
 use lib.Dec.{eqb}
 use lib.ListN.{length, getD, drop}
 use borrow.Author.Tests.{eq-eqb, ne-eqb}
-use Rattle.model.specs.Basics.{Res, refuse, ok}
+use Rattle.model.specs.Basics.{refuse, ok}
 use Rattle.model.specs.Table.{Rep, ref, Method, Ty, Table, maxSubjects, maxMethods, maxCategories, maxSheetTypes}
 use Rattle.model.specs.Check.{repOf}
 use Rattle.sheet.specs.Lines.{bytes, Row, row, cut, push, split, Reading, refused, got, Reader, give, line, follow, then, many, nothing, same, oneOf}
 use Rattle.sheet.specs.Text.{newestForm, endText}
-use Rattle.sheet.specs.Sheet.{numberLine, repLine, ownLine, methodLine, endLine, sheetType, members, oneType, body, ownInSignature, ending, sheet, SheetAnswer, answerOf, read}
+use Rattle.sheet.specs.Sheet.{numberLine, repLine, ownLine, methodLine, endLine, sheetType, members, oneType, body, ownInSignature, ending, sheet, answerOf, read}
 use Rattle.text.specs.View.{result, reading}
 use Rattle.text.proofs.Laws.{from-here, at-end}
 use Rattle.reader.specs.View.{eachUnder, eachMethod, memberLines, Counted, first₁, first, afterCats, afterFirst}

@@ -3,7 +3,7 @@ use mathlib.Core.Path.{_≡_, refl, sym, ap, _∙_}
 use mathlib.Core.Bool.{Bool, true, false, _&&_, cond}
 use mathlib.Core.List.{List, [], _∷_, _++_, map}
 use mathlib.Core.Option.{none, some}
-use Prim.Native.Nat.{ℕ, zero, suc, _+_, _≤_, _<_}
+use Prim.Native.Nat.{ℕ, _+_, _≤_, _<_}
 use native.Mathlib.Omega.{arith}
 use native.Mathlib.Numerals.{add-one}
 use lib.Dec.{eqb}
@@ -21,6 +21,7 @@ use Rattle.table.proofs.Tables.{types-add}
 use Rattle.table.proofs.Laws.{absent}
 use Rattle.sheet.specs.Sheet.{sheetType, emptyTable}
 use Rattle.reader.specs.View.{linksTo, methodIs}
+use Rattle.reader.proofs.Owned.{number-rep}
 
 -- the links of one category more
 pub links-none : (ls : List RawLinks) → linksTo 0 ls ≡ []
@@ -65,17 +66,12 @@ module _ (m n i : ℕ) (x : RawType) (h : i < n) where
       ∙ ap (λ (z : ℕ). sheetType (repOf 0) c (eqb z 1) (from m 0 (λ j. methodOf (getD (x .methods) j noRawMethod)))) r
       ∙ ap (sheetType (repOf 0) c (eqb o 1)) f
 
-  number-rep : (r : ℕ) → 0 < r → isRef (repOf r) ≡ false
-  number-rep zero p = absurd (omega arith)
-  number-rep (suc zero) p = refl
-  number-rep (suc (suc r)) p = refl
-
   pub number-means : (r c : ℕ) → 0 < r → x .rep ≡ r → x .cat ≡ c → typeOf m n i x ≡ sheetType (repOf r) c false []
   unfolding meaning
   number-means r c k p q =
       ap (λ z. meaning (repOf (x .rep)) (isRef (repOf (x .rep))) (x .cat) (x .own) (from m 0 (λ j. methodOf (getD (x .methods) j noRawMethod))) z x) (lt-ltb i n h)
       ∙ ap (λ (z : ℕ). meaning (repOf z) (isRef (repOf z)) (x .cat) (x .own) (from m 0 (λ j. methodOf (getD (x .methods) j noRawMethod))) true x) p
-      ∙ ap (λ z. meaning (repOf r) z (x .cat) (x .own) (from m 0 (λ j. methodOf (getD (x .methods) j noRawMethod))) true x) (number-rep r k)
+      ∙ ap (λ z. meaning (repOf r) z (x .cat) (x .own) (from m 0 (λ j. methodOf (getD (x .methods) j noRawMethod))) true x) (number-rep r (λ z. omega arith))
       ∙ ap (λ (z : ℕ). sheetType (repOf r) z false []) q
 
 -- One type more.

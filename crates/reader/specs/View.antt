@@ -1,16 +1,15 @@
 -- What the reader's answers say, in the words of crate `sheet`: the code's records as the model's, and the lines of a sheet in the groups in which the code reads them.
 use mathlib.Core.Path.{_≡_}
 use mathlib.Core.Bool.{Bool, true, false, _&&_, cond}
-use mathlib.Core.List.{List, [], map}
+use mathlib.Core.List.{List, []}
 use Prim.Native.Nat.{ℕ}
 use lib.Dec.{eqb, ltb}
-use lib.ListN.{getD, take}
-use Rattle.model.specs.Basics.{any, from}
-use Rattle.model.specs.Table.{Rep, ref, w32, w64, Method as Methodᵐ, Ty, Table, isRef, maxSubjects, maxMethods, maxCategories, maxSheetTypes}
-use Rattle.model.specs.Check.{RawType, RawLinks, noRawType, noRawMethod, noRawLinks, repOf, methodOf, linksOf}
+use lib.ListN.{getD}
+use Rattle.model.specs.Basics.{any, all, every, from}
+use Rattle.model.specs.Table.{ref, Method as Methodᵐ, Ty, Table, isRef, between, maxSubjects, maxMethods, maxCategories, maxSheetTypes}
+use Rattle.model.specs.Check.{RawType, RawLinks, noRawType, noRawMethod, noRawLinks, repOf, methodOf, linksOf, rawMethodFits, rawTypeFits, codesFit}
 use Rattle.table.specs.declared.Method.{Method}
-use Rattle.table.specs.declared.Counts.{Counts}
-use Rattle.table.specs.Store.{rawMethod, tableIn}
+use Rattle.table.specs.Store.{rawMethod, rawTable, tableIn}
 use Rattle.sheet.specs.Lines.{bytes, Reader, give, line, then, many}
 use Rattle.sheet.specs.Text.{newestForm}
 use Rattle.sheet.specs.Sheet.{numberLine, underLine, ownLine, methodLine, sheetType, oneType, ownIn, SheetAnswer, malformed, loaded, tableRead}
@@ -24,6 +23,16 @@ linksTo n ls = from n 1 (λ k. linksOf (getD ls k noRawLinks))
 -- a method of the code
 abbrev pub methodIs : Method → Methodᵐ
 methodIs m = methodOf (rawMethod m)
+
+-- Every stored code names something (the parts of the model's `codesFit`): in methods, in the links of categories 1 to n, and in the first n types.
+abbrev pub methodsNamed : List Method → Bool
+methodsNamed ms = all (λ m. rawMethodFits (rawMethod m)) ms
+
+unfoldable pub linksNamed : ℕ → List RawLinks → Bool
+linksNamed n ls = all (λ x. between 1 2 (x .count)) (from n 1 (λ k. getD ls k noRawLinks))
+
+unfoldable pub typesNamed : ℕ → ℕ → ℕ → List RawType → Bool
+typesNamed methods sheet n rs = every (rawTypeFits methods sheet) 0 (from n 0 (λ i. getD rs i noRawType))
 
 -- "one `under=` line .. for each category"; "an `m=` line for each method"
 abbrev pub eachUnder : ℕ → ℕ → Reader (List ℕ)
@@ -80,6 +89,9 @@ unfolding many underLine afterCats
 afterFirst h = then (many (eachUnder (h .cats)) (h .cats) 1 []) (afterCats h)
 
 -- The reader's answer as the definition's: number and offset, or the table in the bytes. The table that is returned is the one that the definition gives: with every count 0 where it refuses.
+-- Every counted code names something, so that no counted record is open: `tableIn` alone reads a code that names nothing as one that does. With `answer` it follows that
+-- an accepted table passes the check that gives 2 (proofs/Accepted).
 pub record SheetIs (r : Sheet) (a : SheetAnswer) : Type 0 where
   pub answer : cond (eqb (r .no) 0) (loaded (tableIn (r .types) (r .links) (r .counts))) (malformed (r .no) (r .at)) ≡ a
   pub table : tableIn (r .types) (r .links) (r .counts) ≡ tableRead a
+  pub codes : codesFit (rawTable (r .types) (r .links) (r .counts)) ≡ true

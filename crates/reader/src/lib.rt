@@ -1,18 +1,18 @@
 // Document 01, "Sheet read": the sheet reader. `read` takes any bytes and answers with a table, or with the number of a refusal and the byte offset of the line.
 // What it answers is crate `sheet`'s definition `read` (specs/View.antt says how the answer is read). The table stands in flat bytes, as crate `table` has it.
 ghost use mathlib.Core.Path.{_≡_};
-ghost use mathlib.Core.Bool.{false};
+ghost use mathlib.Core.Bool.{true, false};
 ghost use mathlib.Core.List.{[], map};
 ghost use Prim.Native.Nat.{ℕ, _≤_, _<_};
 ghost use lib.ListN.{length, getD, set, take, drop};
 ghost use Rattle.model.specs.Basics.{any};
 ghost use Rattle.model.specs.Table.{Table, permit};
-ghost use Rattle.model.specs.Check.{noRawType, stateOf, repOf, typeOf};
+ghost use Rattle.model.specs.Check.{noRawType, stateOf, repOf, typeOf, rawTypeFits};
 ghost use Rattle.table.specs.Store.{typesIn, linksIn, rawOf, rawLinks, typesTo};
 ghost use Rattle.sheet.specs.Lines.{split, line, then, many};
 ghost use Rattle.sheet.specs.Sheet.{malformed, answerOf, endLine, sheetType, oneType, ownIn, ending, read as readSheet};
 ghost use Rattle.text.specs.View.{reading};
-ghost use Rattle.reader.specs.View.{linksTo, methodIs, eachUnder, eachMethod, methodsOf, memberLines, ownAt, ownInMethods, ownInType, countedIn, first, afterFirst, SheetIs};
+ghost use Rattle.reader.specs.View.{linksTo, methodIs, methodsNamed, linksNamed, typesNamed, eachUnder, eachMethod, methodsOf, memberLines, ownAt, ownInMethods, ownInType, countedIn, first, afterFirst, SheetIs};
 use table::Counts;
 use table::Links;
 use table::Method;
@@ -64,7 +64,7 @@ pub struct Sheet {
 fn links_into(s: &[u8], c: Cursor, cats: usize, l: &mut [u8; 96]) -> Done
     requires { ⌜ (c .at ≤ length (now s)) × (cats ≤ 31) × (length (now l) ≡ 96) ⌝ }
     ensures is { λ r. ⌜ reading (now (s .entry)) (r .no) (linksTo cats (linksIn (now (l .exit)))) (r .next .at) ≡ many (eachUnder cats) cats 1 [] (c .at) (split (drop (c .at) (now (s .entry)))) ⌝ }
-    ensures within { λ r. ⌜ (r .next .at ≤ length (now (s .entry))) × (length (now (l .exit)) ≡ 96) ⌝ }
+    ensures within { λ r. ⌜ (r .next .at ≤ length (now (s .entry))) × (length (now (l .exit)) ≡ 96) × (r .no ≡ 0 → linksNamed cats (linksIn (now (l .exit))) ≡ true) ⌝ }
 {
     let mut j: usize = 0;
     let mut at = c.at;
@@ -89,7 +89,7 @@ fn links_into(s: &[u8], c: Cursor, cats: usize, l: &mut [u8; 96]) -> Done
 fn methods_at(s: &[u8], c: Cursor, m: usize, n: usize) -> MethodsGot
     requires { ⌜ (c .at ≤ length (now s)) × (m ≤ 16) × (n ≤ 48) ⌝ }
     ensures is { λ r. ⌜ reading (now (s .entry)) (r .no) (map methodIs (take m (r .list))) (r .next .at) ≡ many (eachMethod n) m 0 [] (c .at) (split (drop (c .at) (now (s .entry)))) ⌝ }
-    ensures within { λ r. ⌜ (r .next .at ≤ length (now (s .entry))) × (length (r .list) ≡ 16) ⌝ }
+    ensures within { λ r. ⌜ (r .next .at ≤ length (now (s .entry))) × (length (r .list) ≡ 16) × (methodsNamed (r .list) ≡ true) ⌝ }
 {
     let none = Method::empty();
     let mut list = [none; 16];
@@ -128,7 +128,8 @@ fn no_type(no: usize, next: Cursor) -> TypeGot
 // A number type: neither own nor methods.
 fn number_type(rep: usize, cat: usize) -> TypeRec
     requires { ⌜ (0 < rep) × (rep ≤ 2) × (cat ≤ 31) ⌝ }
-    ensures { λ r. ⌜ ((m n i : ℕ) → i < n → typeOf m n i (rawOf r) ≡ sheetType (repOf rep) cat false []) ⌝ }
+    ensures is { λ r. ⌜ ((m n i : ℕ) → i < n → typeOf m n i (rawOf r) ≡ sheetType (repOf rep) cat false []) ⌝ }
+    ensures within { λ r. ⌜ ((m n i : ℕ) → i < n → rawTypeFits m n i (rawOf r) ≡ true) ⌝ }
 {
     let mut t = TypeRec::empty();
     t.rep = narrow(rep);
@@ -140,7 +141,7 @@ fn number_type(rep: usize, cat: usize) -> TypeRec
 fn ref_type(s: &[u8], c: Cursor, cat: usize, m: usize, n: usize) -> TypeGot
     requires { ⌜ (c .at ≤ length (now s)) × (cat ≤ 31) × (m ≤ 16) × (n ≤ 48) ⌝ }
     ensures is { λ r. ⌜ ((i : ℕ) → i < n → reading (now (s .entry)) (r .no) (typeOf m n i (rawOf (r .t))) (r .next .at) ≡ memberLines m n cat (c .at) (split (drop (c .at) (now (s .entry))))) ⌝ }
-    ensures within { λ r. ⌜ r .next .at ≤ length (now (s .entry)) ⌝ }
+    ensures within { λ r. ⌜ (r .next .at ≤ length (now (s .entry))) × ((i : ℕ) → i < n → r .no ≡ 0 → rawTypeFits m n i (rawOf (r .t)) ≡ true) ⌝ }
 {
     let o = lines::next_own(s, c);
     let a = o.next;
@@ -169,7 +170,7 @@ fn ref_type(s: &[u8], c: Cursor, cat: usize, m: usize, n: usize) -> TypeGot
 fn one_type(s: &[u8], c: Cursor, i: usize, m: usize, cats: usize, n: usize) -> TypeGot
     requires { ⌜ (c .at ≤ length (now s)) × (i < n) × (n ≤ 48) × (m ≤ 16) × (cats ≤ 31) ⌝ }
     ensures is { λ r. ⌜ reading (now (s .entry)) (r .no) (typeOf m n i (rawOf (r .t))) (r .next .at) ≡ oneType m cats n i (c .at) (split (drop (c .at) (now (s .entry)))) ⌝ }
-    ensures within { λ r. ⌜ r .next .at ≤ length (now (s .entry)) ⌝ }
+    ensures within { λ r. ⌜ (r .next .at ≤ length (now (s .entry))) × (r .no ≡ 0 → rawTypeFits m n i (rawOf (r .t)) ≡ true) ⌝ }
 {
     let a = text::next_number(s, c, b"type=", i, i);
     let b = a.next;
@@ -197,7 +198,7 @@ fn one_type(s: &[u8], c: Cursor, i: usize, m: usize, cats: usize, n: usize) -> T
 fn types_into(s: &[u8], c: Cursor, m: usize, cats: usize, n: usize, b: &mut [u8; 16384]) -> Done
     requires { ⌜ (c .at ≤ length (now s)) × (m ≤ 16) × (cats ≤ 31) × (n ≤ 48) × (length (now b) ≡ 16384) ⌝ }
     ensures is { λ r. ⌜ reading (now (s .entry)) (r .no) (typesTo m n n (typesIn (now (b .exit)))) (r .next .at) ≡ many (oneType m cats n) n 0 [] (c .at) (split (drop (c .at) (now (s .entry)))) ⌝ }
-    ensures within { λ r. ⌜ (r .next .at ≤ length (now (s .entry))) × (length (now (b .exit)) ≡ 16384) ⌝ }
+    ensures within { λ r. ⌜ (r .next .at ≤ length (now (s .entry))) × (length (now (b .exit)) ≡ 16384) × (r .no ≡ 0 → typesNamed m n n (typesIn (now (b .exit))) ≡ true) ⌝ }
 {
     let mut i: usize = 0;
     let mut at = c.at;

@@ -93,6 +93,9 @@ read-of-text t h = read-exact (text t) t .1 (h, refl)
 pub same-table : (bs : List ℕ) (t u : Table) → read bs ≡ loaded t → read bs ≡ loaded u → t ≡ u
 same-table bs t u h k = loaded-table (sym h ∙ k)
 
+pub same-text : (bs cs : List ℕ) (t : Table) → read bs ≡ loaded t → read cs ≡ loaded t → bs ≡ cs
+same-text bs cs t h k = sym (text-of-read bs t h) ∙ text-of-read cs t k
+
 -- "the table is always a new one, here with every count 0"
 pub refused-empty : (bs : List ℕ) (n at : ℕ) → read bs ≡ malformed n at → tableRead (read bs) ≡ emptyTable
 refused-empty bs n at h = ap tableRead h
@@ -104,7 +107,7 @@ read-of-fitting t h =
     let v = sheet-valid t h in
     ap (λ z. read (join (sheetLines z ++ (endText ∷ [])))) (sym (valid-whole (withoutDerived t) v)) ∙ read-of-text (withoutDerived t) v
 
--- What the writer's answers say.
+-- What it says that the writer accepts, with length n. (A refusal leaves the buffer as it was: `write-refused`.)
 pub record WroteSheet (r : RawTable) (old new : List ℕ) (n : ℕ) : Type 0 where
   pub accepted : So (tableAccepted r)
   pub length-of : n ≡ length (text (tableOf r))

@@ -70,7 +70,7 @@ unfoldable pub many : {A : Type 0} → (ℕ → Reader A) → ℕ → ℕ → Li
 many p zero i acc at rs = got acc at rs
 many p (suc n) i acc at rs = follow (p i at rs) (λ x. many p n (suc i) (acc ++ x ∷ []))
 
--- "nothing after": "an extra line .. is 1", with or without LF
+-- "nothing after": "a missing or extra line .. is 1", an extra one with or without LF
 abbrev pub nothing : Reader (Unit {0})
 nothing at [] = got tt at []
 nothing at (r ∷ rs) = refused 1 at

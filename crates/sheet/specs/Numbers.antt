@@ -25,7 +25,7 @@ whole (took x (b ∷ r)) = refuse 1
 abbrev pub isDigit : ℕ → Bool
 isDigit b = leb 48 b && leb b 57
 
--- A longer number counts as 10,000, which is above every range: its form is right and its value outside, 2 (READINGS S2).
+-- A number of 10,000 or more counts as 10,000, which is above every range: its form is right and its value outside, 2 (READINGS S2).
 abbrev pub limit : ℕ → ℕ
 limit n = min n 10000
 
@@ -39,11 +39,12 @@ unfolding digits
 number [] = fail
 number (b ∷ bs) = cond (eqb b 48) (took 0 bs) (cond (isDigit b) (digits (b - 48) bs) fail)
 
--- One number or more with commas between, at most n of them, behind those of acc. One too many is a fault of form (S11).
+-- the numbers xs, or what k makes of the bytes behind a comma
 abbrev pub comma : List ℕ → (List ℕ → Scan (List ℕ)) → List ℕ → Scan (List ℕ)
 comma xs k [] = took xs []
 comma xs k (b ∷ r) = cond (eqb b (code ",")) (k r) (took xs (b ∷ r))
 
+-- One number or more with commas between, at most n of them, behind those of acc. One too many is a fault of form (S11).
 unfoldable pub numbers : ℕ → List ℕ → List ℕ → Scan (List ℕ)
 unfolding number
 numbers zero acc l = fail

@@ -37,7 +37,7 @@ countLines c = numberText (bytes "guide=") newestForm ∷ numberText (bytes "sub
 unfoldable pub frontLines : List ℕ → Counts → List (List ℕ)
 frontLines l c = countLines c ++ (underLines l (c .cats) ++ (numberText (bytes "types=") (c .sheet) ∷ []))
 
--- "Only the sheet types": so many of them, and the last line
+-- "Derived types aren't written": the lines of the sheet types, and the last line
 unfoldable pub backLines : List ℕ → Counts → List (List ℕ)
 backLines b c = typeLinesTo b c (c .sheet) ++ (endText ∷ [])
 

@@ -1,5 +1,6 @@
 -- Word by word. Rests on the laws of `m=` lines.
 use mathlib.Core.Path.{refl, sym, _∙_}
+use native.Mathlib.Omega.{arith}
 use borrow.Author.Needs.{needs}
 use Rattle.text.proofs.Laws.{starts-length}
 use Rattle.lines.proofs.Laws.{method-avail, method-optional, method-denied, method-unavail, method-none}
@@ -16,7 +17,7 @@ signature-line-requires : tie.Need-signature-line-requires
 signature-line-requires c κs = (starts-length _ _ (sym (c .before .begins .ensures) ∙ c .if1 .taken), c .before .before .before .before .pre, refl)
 
 returns : tie.Need-returns
-returns c = c .signature-line .ensures ∙ method-avail (c .before .before .before .before .before .args .n) (c .before .before .before .before .before .args .l .now) (sym (c .before .before .begins .ensures) ∙ c .before .if1 .taken)
+returns c = (c .signature-line .ensures .0 ∙ method-avail (c .before .before .before .before .before .args .n) (c .before .before .before .before .before .args .l .now) (sym (c .before .before .begins .ensures) ∙ c .before .if1 .taken), c .signature-line .ensures .1)
 
 slice-aggregate-begins-2 : tie.Need-slice-aggregate-begins-2
 slice-aggregate-begins-2 c = search needs
@@ -28,7 +29,7 @@ signature-line-requires-2 : tie.Need-signature-line-requires-2
 signature-line-requires-2 c κs = (starts-length _ _ (sym (c .before .begins2 .ensures) ∙ c .if2 .taken), c .before .before .before .before .before .before .before .pre, refl)
 
 returns-2 : tie.Need-returns-2
-returns-2 c = c .signature-line2 .ensures ∙ method-optional (c .before .before .before .before .before .before .before .before .args .n) (c .before .before .before .before .before .before .before .before .args .l .now) (sym (c .before .before .before .before .before .begins .ensures) ∙ c .before .before .before .before .if1 .left) (sym (c .before .before .begins2 .ensures) ∙ c .before .if2 .taken)
+returns-2 c = (c .signature-line2 .ensures .0 ∙ method-optional (c .before .before .before .before .before .before .before .before .args .n) (c .before .before .before .before .before .before .before .before .args .l .now) (sym (c .before .before .before .before .before .begins .ensures) ∙ c .before .before .before .before .if1 .left) (sym (c .before .before .begins2 .ensures) ∙ c .before .if2 .taken), c .signature-line2 .ensures .1)
 
 slice-aggregate-is-word : tie.Need-slice-aggregate-is-word
 slice-aggregate-is-word c = search needs
@@ -37,10 +38,10 @@ is-word-requires : tie.Need-is-word-requires
 is-word-requires c κs = search needs
 
 unsigned-method-requires : tie.Need-unsigned-method-requires
-unsigned-method-requires c κs = search needs
+unsigned-method-requires c κs = (refl, omega arith)
 
 returns-3 : tie.Need-returns-3
-returns-3 c = c .unsigned-method .ensures ∙ method-denied (c .before .before .before .before .before .before .before .before .before .before .before .args .n) (c .before .before .before .before .before .before .before .before .before .before .before .args .l .now) (sym (c .before .before .before .before .before .before .before .before .begins .ensures) ∙ c .before .before .before .before .before .before .before .if1 .left) (sym (c .before .before .before .before .before .begins2 .ensures) ∙ c .before .before .before .before .if2 .left) (sym (c .before .before .is-word .ensures) ∙ c .before .if3 .taken)
+returns-3 c = (c .unsigned-method .ensures .0 ∙ method-denied (c .before .before .before .before .before .before .before .before .before .before .before .args .n) (c .before .before .before .before .before .before .before .before .before .before .before .args .l .now) (sym (c .before .before .before .before .before .before .before .before .begins .ensures) ∙ c .before .before .before .before .before .before .before .if1 .left) (sym (c .before .before .before .before .before .begins2 .ensures) ∙ c .before .before .before .before .if2 .left) (sym (c .before .before .is-word .ensures) ∙ c .before .if3 .taken), c .unsigned-method .ensures .1)
 
 slice-aggregate-is-word-2 : tie.Need-slice-aggregate-is-word-2
 slice-aggregate-is-word-2 c = search needs
@@ -49,16 +50,16 @@ is-word-requires-2 : tie.Need-is-word-requires-2
 is-word-requires-2 c κs = search needs
 
 unsigned-method-requires-2 : tie.Need-unsigned-method-requires-2
-unsigned-method-requires-2 c κs = search needs
+unsigned-method-requires-2 c κs = (refl, omega arith)
 
 returns-4 : tie.Need-returns-4
-returns-4 c = c .unsigned-method2 .ensures ∙ method-unavail (c .before .before .before .before .before .before .before .before .before .before .before .before .before .before .args .n) (c .before .before .before .before .before .before .before .before .before .before .before .before .before .before .args .l .now) (sym (c .before .before .before .before .before .before .before .before .before .before .before .begins .ensures) ∙ c .before .before .before .before .before .before .before .before .before .before .if1 .left) (sym (c .before .before .before .before .before .before .before .before .begins2 .ensures) ∙ c .before .before .before .before .before .before .before .if2 .left) (sym (c .before .before .before .before .before .is-word .ensures) ∙ c .before .before .before .before .if3 .left) (sym (c .before .before .is-word2 .ensures) ∙ c .before .if4 .taken)
+returns-4 c = (c .unsigned-method2 .ensures .0 ∙ method-unavail (c .before .before .before .before .before .before .before .before .before .before .before .before .before .before .args .n) (c .before .before .before .before .before .before .before .before .before .before .before .before .before .before .args .l .now) (sym (c .before .before .before .before .before .before .before .before .before .before .before .begins .ensures) ∙ c .before .before .before .before .before .before .before .before .before .before .if1 .left) (sym (c .before .before .before .before .before .before .before .before .begins2 .ensures) ∙ c .before .before .before .before .before .before .before .if2 .left) (sym (c .before .before .before .before .before .is-word .ensures) ∙ c .before .before .before .before .if3 .left) (sym (c .before .before .is-word2 .ensures) ∙ c .before .if4 .taken), c .unsigned-method2 .ensures .1)
 
 no-method-requires : tie.Need-no-method-requires
 no-method-requires c κs = search needs
 
 returns-5 : tie.Need-returns-5
-returns-5 c = c .no-method .ensures ∙ method-none (c .before .before .before .before .before .before .before .before .before .before .before .before .before .before .args .n) (c .before .before .before .before .before .before .before .before .before .before .before .before .before .before .args .l .now) (sym (c .before .before .before .before .before .before .before .before .before .before .before .begins .ensures) ∙ c .before .before .before .before .before .before .before .before .before .before .if1 .left) (sym (c .before .before .before .before .before .before .before .before .begins2 .ensures) ∙ c .before .before .before .before .before .before .before .if2 .left) (sym (c .before .before .before .before .before .is-word .ensures) ∙ c .before .before .before .before .if3 .left) (sym (c .before .before .is-word2 .ensures) ∙ c .before .if4 .left)
+returns-5 c = (c .no-method .ensures .0 ∙ method-none (c .before .before .before .before .before .before .before .before .before .before .before .before .before .before .args .n) (c .before .before .before .before .before .before .before .before .before .before .before .before .before .before .args .l .now) (sym (c .before .before .before .before .before .before .before .before .before .before .before .begins .ensures) ∙ c .before .before .before .before .before .before .before .before .before .before .if1 .left) (sym (c .before .before .before .before .before .before .before .before .begins2 .ensures) ∙ c .before .before .before .before .before .before .before .if2 .left) (sym (c .before .before .before .before .before .is-word .ensures) ∙ c .before .before .before .before .if3 .left) (sym (c .before .before .is-word2 .ensures) ∙ c .before .if4 .left), c .no-method .ensures .1)
 
 pub method-line-spec : {M : Type 1} → statement M
 method-line-spec =

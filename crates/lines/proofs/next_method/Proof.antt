@@ -1,11 +1,12 @@
--- Rests on `line-none` and `line-read`.
-use mathlib.Core.Path.{subst, sym}
+-- Rests on `line-none` and `line-read`; the empty method denies.
+use mathlib.Core.Path.{ap, subst, sym}
 use Prim.Native.Nat.{ℕ, _≤_, _<_}
 use native.Mathlib.Omega.{arith}
 use lib.ListN.{length}
 use borrow.Author.Needs.{needs}
-use Rattle.model.specs.Check.{methodOf}
+use Rattle.model.specs.Check.{methodOf, rawMethodFits}
 use Rattle.table.specs.Store.{rawMethod}
+use Rattle.table.specs.declared.Method.{Method}
 use Rattle.sheet.specs.Sheet.{methodLine}
 use Rattle.text.proofs.Laws.{line-none, line-read, passed-within}
 use Rattle.lines.proofs.next_method.Statement.{statement}
@@ -18,7 +19,7 @@ empty-requires : tie.Need-empty-requires
 empty-requires c κs = search needs
 
 returns : tie.Need-returns
-returns c = let a = c .before .before .before .before .args in let e = c .before .before .line-end in (line-none (methodLine (a .n)) (a .s .now) (a .c .at) (e .result) (e .ensures .behind) (c .before .if1 .taken) (e .ensures .before), c .before .before .before .before .pre .0)
+returns c = let a = c .before .before .before .before .args in let e = c .before .before .line-end in (line-none (methodLine (a .n)) (a .s .now) (a .c .at) (e .result) (e .ensures .behind) (c .before .if1 .taken) (e .ensures .before), (c .before .before .before .before .pre .0, ap (λ (m : Method). rawMethodFits (rawMethod m)) (c .empty .ensures)))
 
 sub-method-line : tie.Need-sub-method-line
 sub-method-line c = search needs
@@ -37,8 +38,8 @@ past-requires c κs = search needs
 
 returns-2 : tie.Need-returns-2
 returns-2 c = let a = c .before .before .before .before .before .before .before .args in let e = c .before .before .before .before .before .line-end in let h : e .result < length (a .s .now) = omega arith in let g = c .before .before .method-line in (
-  line-read (a .s .now) (a .c .at) (e .result) (e .ensures .behind) h (e .ensures .before) (e .ensures .found h) (methodLine (a .n)) (g .result .no) (methodOf (rawMethod (g .result .m))) (c .before .past .result .at) (g .ensures) (c .before .past .ensures),
-  subst (λ (z : ℕ). z ≤ length (a .s .now)) (sym (c .before .past .ensures)) (passed-within (g .result .no) (a .c .at) (e .result) (length (a .s .now)) (e .ensures .behind) h),
+  line-read (a .s .now) (a .c .at) (e .result) (e .ensures .behind) h (e .ensures .before) (e .ensures .found h) (methodLine (a .n)) (g .result .no) (methodOf (rawMethod (g .result .m))) (c .before .past .result .at) (g .ensures .0) (c .before .past .ensures),
+  (subst (λ (z : ℕ). z ≤ length (a .s .now)) (sym (c .before .past .ensures)) (passed-within (g .result .no) (a .c .at) (e .result) (length (a .s .now)) (e .ensures .behind) h), g .ensures .1),
 )
 
 pub next-method-spec : {M : Type 1} → statement M

@@ -15,7 +15,7 @@ line-end-requires : tie.Need-line-end-requires
 line-end-requires c κs = search needs
 
 returns : tie.Need-returns
-returns c = let a = c .before .before .before .args in let e = c .before .line-end in (line-none (underLine (a .cats) (a .k)) (a .s .now) (a .c .at) (e .result) (e .ensures .behind) (c .if1 .taken) (e .ensures .before), c .before .before .before .pre .0)
+returns c = let a = c .before .before .before .args in let e = c .before .line-end in (line-none (underLine (a .cats) (a .k)) (a .s .now) (a .c .at) (e .result) (e .ensures .behind) (c .if1 .taken) (e .ensures .before), (c .before .before .before .pre .0, λ z. absurd (omega arith)))
 
 sub-under-line : tie.Need-sub-under-line
 sub-under-line c = search needs
@@ -34,8 +34,8 @@ past-requires c κs = search needs
 
 returns-2 : tie.Need-returns-2
 returns-2 c = let a = c .before .before .before .before .before .before .before .args in let e = c .before .before .before .before .before .line-end in let h : e .result < length (a .s .now) = omega arith in let g = c .before .before .under-line in (
-  line-read (a .s .now) (a .c .at) (e .result) (e .ensures .behind) h (e .ensures .before) (e .ensures .found h) (underLine (a .cats) (a .k)) (g .result .no) (linksOf (rawLinks (g .result .links))) (c .before .past .result .at) (g .ensures) (c .before .past .ensures),
-  subst (λ (z : ℕ). z ≤ length (a .s .now)) (sym (c .before .past .ensures)) (passed-within (g .result .no) (a .c .at) (e .result) (length (a .s .now)) (e .ensures .behind) h),
+  line-read (a .s .now) (a .c .at) (e .result) (e .ensures .behind) h (e .ensures .before) (e .ensures .found h) (underLine (a .cats) (a .k)) (g .result .no) (linksOf (rawLinks (g .result .links))) (c .before .past .result .at) (g .ensures .0) (c .before .past .ensures),
+  (subst (λ (z : ℕ). z ≤ length (a .s .now)) (sym (c .before .past .ensures)) (passed-within (g .result .no) (a .c .at) (e .result) (length (a .s .now)) (e .ensures .behind) h), g .ensures .1),
 )
 
 pub next-under-spec : {M : Type 1} → statement M

@@ -1,4 +1,4 @@
--- Group by group. Rests on the laws of the groups of lines, and `table-of`.
+-- Group by group. Rests on the laws of the groups of lines, `table-of` and `codes-of`.
 use mathlib.Core.Path.{refl, ap, subst, _∙_}
 use native.Mathlib.Omega.{arith}
 use lib.ListN.{length, drop}
@@ -11,6 +11,7 @@ use Rattle.sheet.specs.Lines.{split}
 use Rattle.sheet.specs.Sheet.{answerOf, loaded}
 use Rattle.reader.proofs.Readings.{read-no, read-ok, links-no, count-no, types-no, to-ending}
 use Rattle.reader.proofs.Stored.{table-of}
+use Rattle.reader.proofs.Named.{codes-of}
 use Rattle.reader.specs.View.{linksTo, countedIn, SheetIs}
 use Rattle.reader.specs.declared.Sheet.{Sheet}
 use Rattle.reader.proofs.after_first.Statement.{statement}
@@ -79,13 +80,15 @@ returns-5 : tie.Need-returns-5
 returns-5 c = let h = c .before .before .before .before .before .before .before .before .before .before .before .before .before .before .before .before .before .before .before .before .before .before .before .before .args .h in let s = c .before .before .before .before .before .before .before .before .before .before .before .before .before .before .before .before .before .before .before .before .before .before .before .before .args .s .now in let at = h .next .at in let rs = split (drop at s) in let u = c .before .before .before .before .before .before .before .before .before .before .before .before .before .before .before .before .before .before .before .links-into in let links = linksTo (h .cats) (linksIn (u .last .1 .1 .1 .0)) in let k = c .before .before .before .before .before .before .before .before .before .before .before .before .before .before .next-number in let t = c .before .before .before .before .before .before .before .before .types-into in let ts = typesTo (h .methods) (k .result .n) (k .result .n) (typesIn (t .last .1 .1 .1 .1 .1 .0)) in let g = c .before .before .before .last-line in
     let whole : Table = record { subjects = h .subjects; methods = h .methods; cats = links; sheet = k .result .n; types = ts } in
     let counts : Counts = record { subjects = h .subjects; methods = h .methods; cats = h .cats; sheet = k .result .n; types = k .result .n } in
-    let r : Sheet = record { no = 0; at = 0; types = t .last .1 .1 .1 .1 .1 .0; links = u .last .1 .1 .1 .0; counts = counts } in
+    let b = t .last .1 .1 .1 .1 .1 .0 in
+    let l = u .last .1 .1 .1 .0 in
+    let r : Sheet = record { no = 0; at = 0; types = b; links = l; counts = counts } in
     subst (SheetIs r)
     (ap answerOf (read-ok s (g .result .no) whole (g .result .next .at) _ (g .ensures whole refl) (c .if4 .left)
     ∙ to-ending (countedIn h) at rs links (u .result .next .at) (split (drop (u .result .next .at) s)) (read-ok s (u .result .no) links (u .result .next .at) _ (u .ensures .0) (c .before .before .before .before .before .before .before .before .before .before .before .before .before .before .before .before .if1 .left))
     (k .result .n) (k .result .next .at) (split (drop (k .result .next .at) s)) (read-ok s (k .result .no) (k .result .n) (k .result .next .at) _ (k .ensures .0) (c .before .before .before .before .before .before .before .before .before .before .before .if2 .left))
     ts (t .result .next .at) (split (drop (t .result .next .at) s)) (read-ok s (t .result .no) ts (t .result .next .at) _ (t .ensures .0) (c .before .before .before .before .before .if3 .left))))
-    (record { answer = ap loaded (table-of (t .last .1 .1 .1 .1 .1 .0) (u .last .1 .1 .1 .0) counts); table = table-of (t .last .1 .1 .1 .1 .1 .0) (u .last .1 .1 .1 .0) counts })
+    (record { answer = ap loaded (table-of b l counts); table = table-of b l counts; codes = codes-of b l counts (u .ensures .1 .2 (c .before .before .before .before .before .before .before .before .before .before .before .before .before .before .before .before .if1 .left)) (t .ensures .1 .2 (c .before .before .before .before .before .if3 .left)) })
 
 pub after-first-spec : {M : Type 1} → statement M
 after-first-spec =

@@ -1,5 +1,5 @@
 -- Line by line. Rests on the laws of a type's lines.
-use mathlib.Core.Path.{ap, _∙_}
+use mathlib.Core.Path.{ap, sym, _∙_}
 use native.Mathlib.Omega.{arith}
 use lib.ListN.{drop}
 use borrow.Author.Needs.{needs}
@@ -23,7 +23,7 @@ returns : tie.Need-returns
 returns c = let a = c .before .before .before .before .before .before .before .args in let s = a .s .now in let x = c .before .before .before .before .next-number in let r = c .no-type in (
   refused-is s (r .result .no) (x .result .no) (r .result .next .at) (x .result .next .at) _ _ (c .before .if1 .taken) (r .ensures .0) (r .ensures .1)
       (type-number-no (a .m) (a .cats) (a .n) (a .i) (a .c .at) (split (drop (a .c .at) s)) (x .result .no) (x .result .next .at) (read-no s (x .result .no) (x .result .n) (x .result .next .at) _ (x .ensures .0) (c .before .if1 .taken))),
-  omega arith,
+  (omega arith, λ z. absurd (c .before .if1 .taken (sym (r .ensures .0) ∙ z))),
 )
 
 next-rep-requires : tie.Need-next-rep-requires
@@ -37,7 +37,7 @@ returns-2 c = let a = c .before .before .before .before .before .before .before 
   refused-is s (r .result .no) (y .result .no) (r .result .next .at) (y .result .next .at) _ _ (c .before .if2 .taken) (r .ensures .0) (r .ensures .1)
       (type-rep-no (a .m) (a .cats) (a .n) (a .i) (a .c .at) (split (drop (a .c .at) s)) (x .result .n) (x .result .next .at) (split (drop (x .result .next .at) s)) (read-ok s (x .result .no) (x .result .n) (x .result .next .at) _ (x .ensures .0) (c .before .before .before .before .before .if1 .left))
       (y .result .no) (y .result .next .at) (read-no s (y .result .no) (repOf (y .result .n)) (y .result .next .at) _ (y .ensures .0) (c .before .if2 .taken))),
-  omega arith,
+  (omega arith, λ z. absurd (c .before .if2 .taken (sym (r .ensures .0) ∙ z))),
 )
 
 slice-aggregate-next-number-2 : tie.Need-slice-aggregate-next-number-2
@@ -55,7 +55,7 @@ returns-3 c = let a = c .before .before .before .before .before .before .before 
       (type-cat-no (a .m) (a .cats) (a .n) (a .i) (a .c .at) (split (drop (a .c .at) s)) (x .result .n) (x .result .next .at) (split (drop (x .result .next .at) s)) (read-ok s (x .result .no) (x .result .n) (x .result .next .at) _ (x .ensures .0) (c .before .before .before .before .before .before .before .before .before .before .if1 .left))
       (repOf (y .result .n)) (y .result .next .at) (split (drop (y .result .next .at) s)) (read-ok s (y .result .no) (repOf (y .result .n)) (y .result .next .at) _ (y .ensures .0) (c .before .before .before .before .before .before .if2 .left))
       (k .result .no) (k .result .next .at) (read-no s (k .result .no) (k .result .n) (k .result .next .at) _ (k .ensures .0) (c .before .if3 .taken))),
-  omega arith,
+  (omega arith, λ z. absurd (c .before .if3 .taken (sym (r .ensures .0) ∙ z))),
 )
 
 ref-type-requires : tie.Need-ref-type-requires
@@ -68,7 +68,7 @@ returns-4 c = let a = c .before .before .before .before .before .before .before 
       ∙ type-members (a .m) (a .cats) (a .n) (a .i) (a .c .at) (split (drop (a .c .at) s)) (x .result .n) (x .result .next .at) (split (drop (x .result .next .at) s)) (read-ok s (x .result .no) (x .result .n) (x .result .next .at) _ (x .ensures .0) (c .before .before .before .before .before .before .before .before .before .before .before .before .if1 .left))
       (repOf (y .result .n)) (y .result .next .at) (split (drop (y .result .next .at) s)) (read-ok s (y .result .no) (repOf (y .result .n)) (y .result .next .at) _ (y .ensures .0) (c .before .before .before .before .before .before .before .before .if2 .left))
       (k .result .n) (k .result .next .at) (split (drop (k .result .next .at) s)) (read-ok s (k .result .no) (k .result .n) (k .result .next .at) _ (k .ensures .0) (c .before .before .before .if3 .left)),
-  g .ensures .1,
+  (g .ensures .1 .0, g .ensures .1 .1 (a .i) (c .before .before .before .before .before .before .before .before .before .before .before .before .before .before .before .before .before .before .pre .1)),
 )
 
 number-type-requires : tie.Need-number-type-requires
@@ -76,12 +76,12 @@ number-type-requires c κs = let k = c .before .before .before .before .before .
 
 returns-5 : tie.Need-returns-5
 returns-5 c = let a = c .before .before .before .before .before .before .before .before .before .before .before .before .before .before .before .before .before .before .args in let s = a .s .now in let x = c .before .before .before .before .before .before .before .before .before .before .before .before .before .before .before .next-number in let y = c .before .before .before .before .before .before .before .before .before .before .before .next-rep in let k = c .before .before .before .before .before .before .next-number2 in let g = c .number-type in (
-  ap (λ (z : Ty). got z (k .result .next .at) (split (drop (k .result .next .at) s))) (g .ensures (a .m) (a .n) (a .i) (c .before .before .before .before .before .before .before .before .before .before .before .before .before .before .before .before .before .before .pre .1))
+  ap (λ (z : Ty). got z (k .result .next .at) (split (drop (k .result .next .at) s))) (g .ensures .0 (a .m) (a .n) (a .i) (c .before .before .before .before .before .before .before .before .before .before .before .before .before .before .before .before .before .before .pre .1))
       ∙ members-number (a .m) (a .n) (y .result .n) (k .result .n) (k .result .next .at) (split (drop (k .result .next .at) s)) (c .before .if4 .left)
       ∙ type-members (a .m) (a .cats) (a .n) (a .i) (a .c .at) (split (drop (a .c .at) s)) (x .result .n) (x .result .next .at) (split (drop (x .result .next .at) s)) (read-ok s (x .result .no) (x .result .n) (x .result .next .at) _ (x .ensures .0) (c .before .before .before .before .before .before .before .before .before .before .before .before .if1 .left))
       (repOf (y .result .n)) (y .result .next .at) (split (drop (y .result .next .at) s)) (read-ok s (y .result .no) (repOf (y .result .n)) (y .result .next .at) _ (y .ensures .0) (c .before .before .before .before .before .before .before .before .if2 .left))
       (k .result .n) (k .result .next .at) (split (drop (k .result .next .at) s)) (read-ok s (k .result .no) (k .result .n) (k .result .next .at) _ (k .ensures .0) (c .before .before .before .if3 .left)),
-  k .ensures .1 .0,
+  (k .ensures .1 .0, λ z. g .ensures .1 (a .m) (a .n) (a .i) (c .before .before .before .before .before .before .before .before .before .before .before .before .before .before .before .before .before .before .pre .1)),
 )
 
 pub one-type-spec : {M : Type 1} → statement M
