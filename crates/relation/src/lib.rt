@@ -1,16 +1,17 @@
 // Document 01, "Relations over all pairs": a relation at a pair of types. The pair is related unless a pair that breaks its rule can be reached from it through
-// signatures that both sides permit, so pairs are found in a queue, each once, and the rule of each is asked (specs of `search`). With it: Compare, and the pair table of a sheet.
+// signatures that both sides permit, so pairs are found in a queue, each once, and the rule of each is asked (specs of `search`). One array has the queue and says
+// which pairs are found, so a relation at a pair takes time linear in the pairs that can be reached, no heap, and never visits a pair twice.
 ghost use mathlib.Core.Path.{_≡_};
-ghost use mathlib.Core.Bool.{Bool, true};
 ghost use mathlib.Core.List.{List};
-ghost use Prim.Native.Nat.{ℕ, _+_, _*_, _/_, _%_, _≤_, _<_};
-ghost use lib.ListN.{length, getD, set, take};
+ghost use Prim.Native.Nat.{ℕ, _+_, _/_, _%_, _≤_, _<_};
+ghost use lib.Dec.{leb};
+ghost use lib.ListN.{length, getD, take};
 ghost use Rattle.model.specs.Relations.{argsRule, answerRule, methodRule, rule, related};
 ghost use Rattle.model.specs.Check.{answerOf, methodOf};
 ghost use Rattle.table.specs.Store.{rawMethod, tableIn};
 ghost use Rattle.search.specs.Checked.{Checked};
 ghost use Rattle.search.specs.Parts.{Says, methodIn};
-ghost use Rattle.search.specs.Found.{Sound, Met, upto};
+ghost use Rattle.search.specs.Found.{upto, queueIn, Added, SoundIn, MetIn};
 ghost use Rattle.rules.specs.Asked.{relationOf};
 use rules::Relation;
 use table::Counts;
@@ -18,22 +19,33 @@ use table::Method;
 use table::wide;
 
 fn wide16(x: u16) -> usize
-    ensures { λ r. ⌜ r ≡ x ⌝ }
+    ensures { λ r. ⌜ (r ≡ x) × (r < 65536) ⌝ }
 {
     x as usize
 }
 
+// Whether an entry of the array says that the pair of its number is found: its top bit.
+fn is_found(entry: u16) -> bool
+    ensures { λ r. ⌜ r ≡ leb 32768 entry ⌝ }
+{
+    32768 <= entry
+}
+
+// The pair of number p is found, and joins the queue behind the `tail` pairs in it: the top bit of entry p, and the rest of entry `tail`.
+fn add_pair(found: &mut [u16; 16384], tail: usize, p: usize) -> usize
+    requires { ⌜ (length (now found) ≡ 16384) × (tail < 16384) × (p < 16384) ⌝ }
+    ensures { λ r. ⌜ (r ≡ tail + 1) × Added (now (found .entry)) tail p (now (found .exit)) ⌝ }
+{
+    found[p] = found[p] % 32768 + 32768;
+    let top = wide16(found[tail]) / 32768;
+    found[tail] = (top * 32768 + p) as u16;
+    tail + 1
+}
+
 // The pair (x, y) joins those found, of which there are `tail`, unless it is one of them. 0 if x or y is not in the table.
-fn find_pair(
-    seen: &mut [bool; 16384],
-    queue: &mut [u16; 16384],
-    tail: usize,
-    n: usize,
-    x: usize,
-    y: usize,
-) -> usize
-    requires { ⌜ Sound n (now seen) (now queue) tail ⌝ }
-    ensures { λ r. ⌜ Met n (λ M. M x y) (now (seen .entry)) (now (queue .entry)) tail (now (seen .exit)) (now (queue .exit)) r ⌝ }
+fn find_pair(found: &mut [u16; 16384], tail: usize, n: usize, x: usize, y: usize) -> usize
+    requires { ⌜ SoundIn n (now found) tail ⌝ }
+    ensures { λ r. ⌜ MetIn n (λ M. M x y) (now (found .entry)) tail (now (found .exit)) r ⌝ }
 {
     if n <= x {
         return 0;
@@ -42,12 +54,10 @@ fn find_pair(
         return 0;
     }
     let p = x * 128 + y;
-    if seen[p] {
+    if is_found(found[p]) {
         return tail;
     }
-    seen[p] = true;
-    queue[tail] = p as u16;
-    tail + 1
+    add_pair(found, tail, p)
 }
 
 // How many of the four slots a count of arguments uses. A table that is checked has no count above them.
@@ -62,16 +72,9 @@ fn slots_used(count: u8) -> usize
 }
 
 // "the argument counts are equal, [..] arguments with sides exchanged"
-fn find_arguments(
-    seen: &mut [bool; 16384],
-    queue: &mut [u16; 16384],
-    tail: usize,
-    n: usize,
-    x: Method,
-    y: Method,
-) -> usize
-    requires { ⌜ Sound n (now seen) (now queue) tail ⌝ }
-    ensures { λ r. ⌜ Met n (λ M. argsRule M (take (x .count) (x .args)) (take (y .count) (y .args))) (now (seen .entry)) (now (queue .entry)) tail (now (seen .exit)) (now (queue .exit)) r ⌝ }
+fn find_arguments(found: &mut [u16; 16384], tail: usize, n: usize, x: Method, y: Method) -> usize
+    requires { ⌜ SoundIn n (now found) tail ⌝ }
+    ensures { λ r. ⌜ MetIn n (λ M. argsRule M (take (x .count) (x .args)) (take (y .count) (y .args))) (now (found .entry)) tail (now (found .exit)) r ⌝ }
 {
     let used = slots_used(x.count);
     let other = slots_used(y.count);
@@ -83,7 +86,7 @@ fn find_arguments(
     while i < used {
         let a = wide(x.args[i]);
         let d = wide(y.args[i]);
-        let r = find_pair(seen, queue, t, n, d, a);
+        let r = find_pair(found, t, n, d, a);
         if r == 0 {
             return 0;
         }
@@ -94,16 +97,9 @@ fn find_arguments(
 }
 
 // "answers are both present or both missing, answers are related in the same direction"
-fn find_answer(
-    seen: &mut [bool; 16384],
-    queue: &mut [u16; 16384],
-    tail: usize,
-    n: usize,
-    x: u8,
-    y: u8,
-) -> usize
-    requires { ⌜ Sound n (now seen) (now queue) tail ⌝ }
-    ensures { λ r. ⌜ Met n (λ M. answerRule M (answerOf x) (answerOf y)) (now (seen .entry)) (now (queue .entry)) tail (now (seen .exit)) (now (queue .exit)) r ⌝ }
+fn find_answer(found: &mut [u16; 16384], tail: usize, n: usize, x: u8, y: u8) -> usize
+    requires { ⌜ SoundIn n (now found) tail ⌝ }
+    ensures { λ r. ⌜ MetIn n (λ M. answerRule M (answerOf x) (answerOf y)) (now (found .entry)) tail (now (found .exit)) r ⌝ }
 {
     let a = wide(x);
     let d = wide(y);
@@ -116,13 +112,12 @@ fn find_answer(
     if d == 0 {
         return 0;
     }
-    find_pair(seen, queue, tail, n, a - 1, d - 1)
+    find_pair(found, tail, n, a - 1, d - 1)
 }
 
 // One method of T and of S.
 fn find_method(
-    seen: &mut [bool; 16384],
-    queue: &mut [u16; 16384],
+    found: &mut [u16; 16384],
     tail: usize,
     n: usize,
     k: Relation,
@@ -130,8 +125,8 @@ fn find_method(
     x: Method,
     y: Method,
 ) -> usize
-    requires { ⌜ Sound n (now seen) (now queue) tail × Says (relationOf k) square ⌝ }
-    ensures { λ r. ⌜ Met n (λ M. methodRule (relationOf k) M (methodOf (rawMethod x)) (methodOf (rawMethod y))) (now (seen .entry)) (now (queue .entry)) tail (now (seen .exit)) (now (queue .exit)) r ⌝ }
+    requires { ⌜ SoundIn n (now found) tail × Says (relationOf k) square ⌝ }
+    ensures { λ r. ⌜ MetIn n (λ M. methodRule (relationOf k) M (methodOf (rawMethod x)) (methodOf (rawMethod y))) (now (found .entry)) tail (now (found .exit)) r ⌝ }
 {
     let fine = rules::state_rule(square, k, x.state, y.state);
     if !fine {
@@ -141,18 +136,17 @@ fn find_method(
     if !both {
         return tail;
     }
-    let r = find_arguments(seen, queue, tail, n, x, y);
+    let r = find_arguments(found, tail, n, x, y);
     if r == 0 {
         return 0;
     }
-    find_answer(seen, queue, r, n, x.answer, y.answer)
+    find_answer(found, r, n, x.answer, y.answer)
 }
 
 // All methods of the reference types a and d.
 fn find_methods(
     b: &[u8; 16384],
-    seen: &mut [bool; 16384],
-    queue: &mut [u16; 16384],
+    found: &mut [u16; 16384],
     tail: usize,
     n: usize,
     count: usize,
@@ -161,15 +155,15 @@ fn find_methods(
     a: usize,
     d: usize,
 ) -> usize
-    requires { ⌜ Sound n (now seen) (now queue) tail × Says (relationOf k) square × (a < 128) × (d < 128) × (count ≤ 16) ⌝ }
-    ensures { λ r. ⌜ Met n (λ M. upto count (λ j. methodRule (relationOf k) M (methodIn (now (b .entry)) a j) (methodIn (now (b .entry)) d j))) (now (seen .entry)) (now (queue .entry)) tail (now (seen .exit)) (now (queue .exit)) r ⌝ }
+    requires { ⌜ SoundIn n (now found) tail × Says (relationOf k) square × (a < 128) × (d < 128) × (count ≤ 16) ⌝ }
+    ensures { λ r. ⌜ MetIn n (λ M. upto count (λ j. methodRule (relationOf k) M (methodIn (now (b .entry)) a j) (methodIn (now (b .entry)) d j))) (now (found .entry)) tail (now (found .exit)) r ⌝ }
 {
     let mut t = tail;
     let mut j: usize = 0;
     while j < count {
         let x = table::get_method(b, a, j);
         let y = table::get_method(b, d, j);
-        let r = find_method(seen, queue, t, n, k, square, x, y);
+        let r = find_method(found, t, n, k, square, x, y);
         if r == 0 {
             return 0;
         }
@@ -183,8 +177,7 @@ fn find_methods(
 fn find_types(
     b: &[u8; 16384],
     l: &[u8; 96],
-    seen: &mut [bool; 16384],
-    queue: &mut [u16; 16384],
+    found: &mut [u16; 16384],
     tail: usize,
     c: Counts,
     k: Relation,
@@ -192,8 +185,8 @@ fn find_types(
     a: usize,
     d: usize,
 ) -> usize
-    requires { ⌜ Sound (c .types) (now seen) (now queue) tail × Says (relationOf k) square × Checked (now l) c × (a < c .types) × (d < c .types) ⌝ }
-    ensures { λ r. ⌜ Met (c .types) (λ M. rule (relationOf k) (tableIn (now (b .entry)) (now (l .entry)) c) M a d) (now (seen .entry)) (now (queue .entry)) tail (now (seen .exit)) (now (queue .exit)) r ⌝ }
+    requires { ⌜ SoundIn (c .types) (now found) tail × Says (relationOf k) square × Checked (now l) c × (a < c .types) × (d < c .types) ⌝ }
+    ensures { λ r. ⌜ MetIn (c .types) (λ M. rule (relationOf k) (tableIn (now (b .entry)) (now (l .entry)) c) M a d) (now (found .entry)) tail (now (found .exit)) r ⌝ }
 {
     let x = table::get_head(b, a);
     let y = table::get_head(b, d);
@@ -204,37 +197,25 @@ fn find_types(
     if x.rep != 0 {
         return tail;
     }
-    find_methods(b, seen, queue, tail, c.types, c.methods, k, square, a, d)
+    find_methods(b, found, tail, c.types, c.methods, k, square, a, d)
 }
 
 // The rule of the next pair in the queue.
 fn find_next(
     b: &[u8; 16384],
     l: &[u8; 96],
-    seen: &mut [bool; 16384],
-    queue: &mut [u16; 16384],
+    found: &mut [u16; 16384],
     tail: usize,
     head: usize,
     c: Counts,
     k: Relation,
     square: [[bool; 4]; 4],
 ) -> usize
-    requires { ⌜ Sound (c .types) (now seen) (now queue) tail × Says (relationOf k) square × Checked (now l) c × (head < tail) ⌝ }
-    ensures { λ r. ⌜ Met (c .types) (λ M. rule (relationOf k) (tableIn (now (b .entry)) (now (l .entry)) c) M (getD (now (queue .entry)) head 0 / 128) (getD (now (queue .entry)) head 0 % 128)) (now (seen .entry)) (now (queue .entry)) tail (now (seen .exit)) (now (queue .exit)) r ⌝ }
+    requires { ⌜ SoundIn (c .types) (now found) tail × Says (relationOf k) square × Checked (now l) c × (head < tail) ⌝ }
+    ensures { λ r. ⌜ MetIn (c .types) (λ M. rule (relationOf k) (tableIn (now (b .entry)) (now (l .entry)) c) M (getD (queueIn (now (found .entry))) head 0 / 128) (getD (queueIn (now (found .entry))) head 0 % 128)) (now (found .entry)) tail (now (found .exit)) r ⌝ }
 {
-    let p = wide16(queue[head]);
-    find_types(b, l, seen, queue, tail, c, k, square, p / 128, p % 128)
-}
-
-// The first pair.
-fn find_first(seen: &mut [bool; 16384], queue: &mut [u16; 16384], t: usize, s: usize) -> usize
-    requires { ⌜ (t < 128) × (s < 128) ⌝ }
-    ensures { λ r. ⌜ (r ≡ 1) × (now (seen .exit) ≡ set (now (seen .entry)) (t * 128 + s) true) × (now (queue .exit) ≡ set (now (queue .entry)) 0 (t * 128 + s)) ⌝ }
-{
-    let p = t * 128 + s;
-    seen[p] = true;
-    queue[0] = p as u16;
-    1
+    let p = wide16(found[head]) % 32768;
+    find_types(b, l, found, tail, c, k, square, p / 128, p % 128)
 }
 
 // The search from (t, s) for a pair that breaks its rule.
@@ -250,12 +231,11 @@ fn search(
     requires { ⌜ Says (relationOf k) square × Checked (now l) c × (t < c .types) × (s < c .types) ⌝ }
     ensures { λ r. ⌜ r ≡ related (relationOf k) (tableIn (now (b .entry)) (now (l .entry)) c) t s ⌝ }
 {
-    let mut seen = [false; 16384];
-    let mut queue = [0u16; 16384];
-    let mut tail = find_first(&mut seen, &mut queue, t, s);
+    let mut found = [0u16; 16384];
+    let mut tail = add_pair(&mut found, 0, t * 128 + s);
     let mut head: usize = 0;
     while head < tail {
-        let r = find_next(b, l, &mut seen, &mut queue, tail, head, c, k, square);
+        let r = find_next(b, l, &mut found, tail, head, c, k, square);
         if r == 0 {
             return false;
         }

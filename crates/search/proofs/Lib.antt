@@ -1,4 +1,5 @@
 pub mod Pairs
+pub mod Buffer
 pub mod Signatures
 pub mod Squares
 pub mod Outside

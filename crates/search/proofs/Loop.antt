@@ -15,8 +15,9 @@ use Rattle.model.proofs.Tests.{so-ltb}
 use Rattle.model.proofs.Rules.{never, both, rule-test, rule-says}
 use Rattle.model.proofs.Largest.{largest, keeps-related}
 use Rattle.table.proofs.Lists.{same-or}
-use Rattle.search.specs.Found.{found, Within, Pair, Sound, Met}
+use Rattle.search.specs.Found.{found, Within, Pair, Sound, Met, seenIn, queueIn, Added}
 use Rattle.search.proofs.Pairs.{found-says, found-test, pair-as, yeses-set, met-zero, met-more}
+use Rattle.search.proofs.Buffer.{none-found, none-queued}
 
 -- ---- the root
 yeses-none : (n : ℕ) → yeses (replicate n false) ≡ 0
@@ -92,8 +93,9 @@ module _ (k : Relation) (T : Table) (n t s : ℕ) (e : size T ≡ n) where
         let a : t ≡ x = omega (arith, g .1) in let b : s ≡ y = omega (arith, g .1) in rw (← a, ← b) r);
   }
 
-  pub start-at : (s′ : List Bool) (l′ : List ℕ) (r : ℕ) → r ≡ 1 → s′ ≡ set (replicate 16384 false) (t * 128 + s) true → l′ ≡ set (replicate 16384 0) 0 (t * 128 + s) → n ≤ 128 → t < n → s < n → Going k T n t s s′ l′ r 0
-  start-at s′ l′ r a b c l p q = rw (a, b, c) (start l p q)
+  -- the first pair is added to an array that says nothing
+  pub start-at : (b : List ℕ) (r : ℕ) → (r ≡ 1) × Added (replicate 16384 0) 0 (t * 128 + s) b → n ≤ 128 → t < n → s < n → Going k T n t s (seenIn b) (queueIn b) r 0
+  start-at b r h l p q = rw (h .0, h .1 .0, h .1 .1, none-found 16384, none-queued 16384) (start l p q)
 
   -- what is related keeps its rule, and is of the table
   kept : (a b : ℕ) → So (related k T a b) → So (rule k T (related k T) a b)

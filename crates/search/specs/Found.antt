@@ -3,10 +3,10 @@
 use mathlib.Core.Path.{_≡_}
 use mathlib.Core.Logic.{_⊎_}
 use mathlib.Core.Bool.{Bool, true, false, _&&_, So}
-use mathlib.Core.List.{List}
+use mathlib.Core.List.{List, map}
 use Prim.Native.Nat.{ℕ, zero, suc, _+_, _*_, _/_, _%_, _≤_, _<_}
-use lib.Dec.{ltb}
-use lib.ListN.{length, getD}
+use lib.Dec.{leb, ltb}
+use lib.ListN.{length, getD, set}
 use Rattle.model.specs.Relations.{yeses}
 
 -- The pair (x, y) has the number x * 128 + y. `seen` says of each number whether its pair is found: a relation of the n types, as the model has them.
@@ -61,3 +61,22 @@ Met n W seen queue t seen′ queue′ r = Broke n W r ⊎ Grew n W seen queue t 
 unfoldable pub upto : ℕ → (ℕ → Bool) → Bool
 upto zero f = true
 upto (suc m) f = upto m f && f m
+
+-- The search has `seen` and the queue in one array of 16-bit entries, since a pair's number is below 16384: entry i has the i-th number of the queue in its low
+-- 15 bits, and its top bit says whether the pair of number i is found.
+unfoldable pub seenIn : List ℕ → List Bool
+seenIn b = map (λ v. leb 32768 v) b
+
+unfoldable pub queueIn : List ℕ → List ℕ
+queueIn b = map (λ v. v % 32768) b
+
+-- b′ is b with the pair of number p found, and in place t of the queue
+abbrev pub Added : List ℕ → ℕ → ℕ → List ℕ → Type 0
+Added b t p b′ = (seenIn b′ ≡ set (seenIn b) p true) × (queueIn b′ ≡ set (queueIn b) t p)
+
+-- what is found in b, and what a step from b to b′ promises
+abbrev pub SoundIn : ℕ → List ℕ → ℕ → Type 0
+SoundIn n b t = Sound n (seenIn b) (queueIn b) t
+
+abbrev pub MetIn : ℕ → ((ℕ → ℕ → Bool) → Bool) → List ℕ → ℕ → List ℕ → ℕ → Type 0
+MetIn n W b t b′ r = Met n W (seenIn b) (queueIn b) t (seenIn b′) (queueIn b′) r

@@ -5,16 +5,16 @@ use native.Mathlib.Omega.{arith}
 use lib.ListN.{length, take}
 use borrow.Author.Needs.{needs}
 use Rattle.model.specs.Relations.{argsRule}
-use Rattle.search.specs.Found.{Grew}
+use Rattle.search.specs.Found.{Grew, seenIn, queueIn}
 use Rattle.search.proofs.Steps.{arguments-differ, arguments-start, arguments-broke, arguments-more, arguments-end}
 use Rattle.relation.proofs.find_arguments.Statement.{statement}
 use Rattle.relation.proofs.find_arguments.Tie as tie
 
 abbrev Inv-loop : tie.InvT-loop
-Inv-loop seen₀ queue₀ tail n x y used other t₀ i₀ seen queue t i = (i ≤ used) × Grew n (λ M. argsRule M (take i (x .args)) (take i (y .args))) seen₀ queue₀ tail seen queue t
+Inv-loop found₀ tail n x y used other t₀ i₀ found t i = (i ≤ used) × Grew n (λ M. argsRule M (take i (x .args)) (take i (y .args))) (seenIn found₀) (queueIn found₀) tail (seenIn found) (queueIn found) t
 
 abbrev μ-loop : tie.MeasureT-loop
-μ-loop seen₀ queue₀ tail n x y used other t₀ i₀ seen queue t i = used - i
+μ-loop found₀ tail n x y used other t₀ i₀ found t i = used - i
 
 slots-used-requires : tie.Need-slots-used-requires Inv-loop μ-loop
 slots-used-requires c κs = search needs
@@ -25,22 +25,22 @@ slots-used-requires-2 c κs = search needs
 returns : tie.Need-returns Inv-loop μ-loop
 returns c =
     let a = c .before .before .before .args in
-    let lx : length (a .t5 .args) ≡ 4 = search needs in
-    let ly : length (a .t6 .args) ≡ 4 = search needs in
+    let lx : length (a .t4 .args) ≡ 4 = search needs in
+    let ly : length (a .t5 .args) ≡ 4 = search needs in
     let slots-used = c .before .before .slots-used in
     let slots-used2 = c .before .slots-used2 in
     let if1 = c .if1 in
-    arguments-differ (a .n) (a .seen .now) (a .queue .now) (a .tail) (a .t5 .args) (a .t6 .args) lx ly (a .t5 .count) (a .t6 .count) (slots-used .result) (slots-used2 .result) (slots-used .ensures .0) (slots-used2 .ensures .0) (slots-used .ensures .1 (a .t5 .args) lx) (slots-used2 .ensures .1 (a .t6 .args) ly) (a .seen .now) (a .queue .now) (if1 .taken)
+    arguments-differ (a .n) (seenIn (a .found .now)) (queueIn (a .found .now)) (a .tail) (a .t4 .args) (a .t5 .args) lx ly (a .t4 .count) (a .t5 .count) (slots-used .result) (slots-used2 .result) (slots-used .ensures .0) (slots-used2 .ensures .0) (slots-used .ensures .1 (a .t4 .args) lx) (slots-used2 .ensures .1 (a .t5 .args) ly) (seenIn (a .found .now)) (queueIn (a .found .now)) (if1 .taken)
 
 loop-holds : tie.Need-loop-holds Inv-loop μ-loop
 loop-holds c =
     let a = c .before .before .before .args in
-    let lx : length (a .t5 .args) ≡ 4 = search needs in
-    let ly : length (a .t6 .args) ≡ 4 = search needs in
+    let lx : length (a .t4 .args) ≡ 4 = search needs in
+    let ly : length (a .t5 .args) ≡ 4 = search needs in
     let slots-used = c .before .before .slots-used in
     let slots-used2 = c .before .slots-used2 in
     let pre = c .before .before .before .pre in
-    (omega arith, arguments-start (a .n) (a .seen .now) (a .queue .now) (a .tail) (a .t5 .args) (a .t6 .args) lx ly (a .t5 .count) (a .t6 .count) (slots-used .result) (slots-used2 .result) (slots-used .ensures .0) (slots-used2 .ensures .0) (slots-used .ensures .1 (a .t5 .args) lx) (slots-used2 .ensures .1 (a .t6 .args) ly) pre)
+    (omega arith, arguments-start (a .n) (seenIn (a .found .now)) (queueIn (a .found .now)) (a .tail) (a .t4 .args) (a .t5 .args) lx ly (a .t4 .count) (a .t5 .count) (slots-used .result) (slots-used2 .result) (slots-used .ensures .0) (slots-used2 .ensures .0) (slots-used .ensures .1 (a .t4 .args) lx) (slots-used2 .ensures .1 (a .t5 .args) ly) pre)
 
 element-copy-out-wide : tie.Need-element-copy-out-wide Inv-loop μ-loop
 element-copy-out-wide c = search needs
@@ -55,23 +55,23 @@ wide-requires-2 : tie.Need-wide-requires-2 Inv-loop μ-loop
 wide-requires-2 c κs = search needs
 
 find-pair-requires : tie.Need-find-pair-requires Inv-loop μ-loop
-find-pair-requires c κs = c .before .before .before .before .before .before .before .loop .inv .1 .sound
+find-pair-requires c κs = c .before .before .before .before .before .before .loop .inv .1 .sound
 
 returns-2 : tie.Need-returns-2 Inv-loop μ-loop
 returns-2 c =
-    let a = c .before .before .before .before .before .before .before .before .before .before .before .before .before .args in
-    let lx : length (a .t5 .args) ≡ 4 = search needs in
-    let ly : length (a .t6 .args) ≡ 4 = search needs in
-    let slots-used = c .before .before .before .before .before .before .before .before .before .before .before .before .slots-used in
-    let slots-used2 = c .before .before .before .before .before .before .before .before .before .before .before .slots-used2 in
-    let if1 = c .before .before .before .before .before .before .before .before .before .before .if1 in
-    let loop = c .before .before .before .before .before .before .before .before .before .loop in
-    let loop-test = c .before .before .before .before .before .before .before .before .loop-test in
-    let wide = c .before .before .before .before .before .before .wide in
-    let wide2 = c .before .before .before .before .wide2 in
+    let a = c .before .before .before .before .before .before .before .before .before .before .before .before .args in
+    let lx : length (a .t4 .args) ≡ 4 = search needs in
+    let ly : length (a .t5 .args) ≡ 4 = search needs in
+    let slots-used = c .before .before .before .before .before .before .before .before .before .before .before .slots-used in
+    let slots-used2 = c .before .before .before .before .before .before .before .before .before .before .slots-used2 in
+    let if1 = c .before .before .before .before .before .before .before .before .before .if1 in
+    let loop = c .before .before .before .before .before .before .before .before .loop in
+    let loop-test = c .before .before .before .before .before .before .before .loop-test in
+    let wide = c .before .before .before .before .before .wide in
+    let wide2 = c .before .before .before .wide2 in
     let find-pair = c .before .find-pair in
     let if2 = c .if2 in
-    arguments-broke (a .n) (a .seen .now) (a .queue .now) (a .tail) (a .t5 .args) (a .t6 .args) lx ly (a .t5 .count) (a .t6 .count) (slots-used .result) (slots-used2 .result) (slots-used .ensures .0) (slots-used2 .ensures .0) (slots-used .ensures .1 (a .t5 .args) lx) (slots-used2 .ensures .1 (a .t6 .args) ly) (if1 .left) (loop .i) (loop .seen) (loop .queue) (loop .t) (loop .inv .1) (loop-test .taken) (wide .result) (wide2 .result) (wide .ensures .0) (wide2 .ensures .0) (find-pair .last .0) (find-pair .last .1 .0) (find-pair .result) (find-pair .ensures) (if2 .taken)
+    arguments-broke (a .n) (seenIn (a .found .now)) (queueIn (a .found .now)) (a .tail) (a .t4 .args) (a .t5 .args) lx ly (a .t4 .count) (a .t5 .count) (slots-used .result) (slots-used2 .result) (slots-used .ensures .0) (slots-used2 .ensures .0) (slots-used .ensures .1 (a .t4 .args) lx) (slots-used2 .ensures .1 (a .t5 .args) ly) (if1 .left) (loop .i) (seenIn (loop .found)) (queueIn (loop .found)) (loop .t) (loop .inv .1) (loop-test .taken) (wide .result) (wide2 .result) (wide .ensures .0) (wide2 .ensures .0) (seenIn (find-pair .last .0)) (queueIn (find-pair .last .0)) (find-pair .result) (find-pair .ensures) (if2 .taken)
 
 add-i : tie.Need-add-i Inv-loop μ-loop
 add-i c = search needs
@@ -81,31 +81,31 @@ loop-less c = search needs
 
 loop-again : tie.Need-loop-again Inv-loop μ-loop
 loop-again c =
-    let a = c .before .before .before .before .before .before .before .before .before .before .before .before .before .args in
-    let lx : length (a .t5 .args) ≡ 4 = search needs in
-    let ly : length (a .t6 .args) ≡ 4 = search needs in
-    let loop-test = c .before .before .before .before .before .before .before .before .loop-test in
-    let slots-used = c .before .before .before .before .before .before .before .before .before .before .before .before .slots-used in
-    let slots-used2 = c .before .before .before .before .before .before .before .before .before .before .before .slots-used2 in
-    let if1 = c .before .before .before .before .before .before .before .before .before .before .if1 in
-    let loop = c .before .before .before .before .before .before .before .before .before .loop in
-    let wide = c .before .before .before .before .before .before .wide in
-    let wide2 = c .before .before .before .before .wide2 in
+    let a = c .before .before .before .before .before .before .before .before .before .before .before .before .args in
+    let lx : length (a .t4 .args) ≡ 4 = search needs in
+    let ly : length (a .t5 .args) ≡ 4 = search needs in
+    let loop-test = c .before .before .before .before .before .before .before .loop-test in
+    let slots-used = c .before .before .before .before .before .before .before .before .before .before .before .slots-used in
+    let slots-used2 = c .before .before .before .before .before .before .before .before .before .before .slots-used2 in
+    let if1 = c .before .before .before .before .before .before .before .before .before .if1 in
+    let loop = c .before .before .before .before .before .before .before .before .loop in
+    let wide = c .before .before .before .before .before .wide in
+    let wide2 = c .before .before .before .wide2 in
     let find-pair = c .before .find-pair in
     let if2 = c .if2 in
-    (omega (arith, loop-test .taken), arguments-more (a .n) (a .seen .now) (a .queue .now) (a .tail) (a .t5 .args) (a .t6 .args) lx ly (a .t5 .count) (a .t6 .count) (slots-used .result) (slots-used2 .result) (slots-used .ensures .0) (slots-used2 .ensures .0) (slots-used .ensures .1 (a .t5 .args) lx) (slots-used2 .ensures .1 (a .t6 .args) ly) (if1 .left) (loop .i) (loop .seen) (loop .queue) (loop .t) (loop .inv .1) (loop-test .taken) (wide .result) (wide2 .result) (wide .ensures .0) (wide2 .ensures .0) (find-pair .last .0) (find-pair .last .1 .0) (find-pair .result) (find-pair .ensures) (if2 .left))
+    (omega (arith, loop-test .taken), arguments-more (a .n) (seenIn (a .found .now)) (queueIn (a .found .now)) (a .tail) (a .t4 .args) (a .t5 .args) lx ly (a .t4 .count) (a .t5 .count) (slots-used .result) (slots-used2 .result) (slots-used .ensures .0) (slots-used2 .ensures .0) (slots-used .ensures .1 (a .t4 .args) lx) (slots-used2 .ensures .1 (a .t5 .args) ly) (if1 .left) (loop .i) (seenIn (loop .found)) (queueIn (loop .found)) (loop .t) (loop .inv .1) (loop-test .taken) (wide .result) (wide2 .result) (wide .ensures .0) (wide2 .ensures .0) (seenIn (find-pair .last .0)) (queueIn (find-pair .last .0)) (find-pair .result) (find-pair .ensures) (if2 .left))
 
 returns-3 : tie.Need-returns-3 Inv-loop μ-loop
 returns-3 c =
     let a = c .before .before .before .before .before .args in
-    let lx : length (a .t5 .args) ≡ 4 = search needs in
-    let ly : length (a .t6 .args) ≡ 4 = search needs in
+    let lx : length (a .t4 .args) ≡ 4 = search needs in
+    let ly : length (a .t5 .args) ≡ 4 = search needs in
     let slots-used = c .before .before .before .before .slots-used in
     let slots-used2 = c .before .before .before .slots-used2 in
     let if1 = c .before .before .if1 in
     let loop = c .before .loop in
     let loop-test = c .loop-test in
-    arguments-end (a .n) (a .seen .now) (a .queue .now) (a .tail) (a .t5 .args) (a .t6 .args) lx ly (a .t5 .count) (a .t6 .count) (slots-used .result) (slots-used2 .result) (slots-used .ensures .0) (slots-used2 .ensures .0) (slots-used .ensures .1 (a .t5 .args) lx) (slots-used2 .ensures .1 (a .t6 .args) ly) (if1 .left) (loop .i) (loop .seen) (loop .queue) (loop .t) (loop .inv .1) (loop-test .left) (loop .inv .0)
+    arguments-end (a .n) (seenIn (a .found .now)) (queueIn (a .found .now)) (a .tail) (a .t4 .args) (a .t5 .args) lx ly (a .t4 .count) (a .t5 .count) (slots-used .result) (slots-used2 .result) (slots-used .ensures .0) (slots-used2 .ensures .0) (slots-used .ensures .1 (a .t4 .args) lx) (slots-used2 .ensures .1 (a .t5 .args) ly) (if1 .left) (loop .i) (seenIn (loop .found)) (queueIn (loop .found)) (loop .t) (loop .inv .1) (loop-test .left) (loop .inv .0)
 
 pub find-arguments-spec : {M : Type 1} → statement M
 find-arguments-spec =

@@ -1,28 +1,35 @@
 -- What is in the queue is a pair of the table; there are at most 16384.
 use native.Mathlib.Omega.{arith}
 use borrow.Author.Needs.{needs}
+use Rattle.search.specs.Found.{seenIn, queueIn}
 use Rattle.search.proofs.Pairs.{fits}
+use Rattle.search.proofs.Buffer.{queue-at}
 use Rattle.relation.proofs.find_next.Statement.{statement}
 use Rattle.relation.proofs.find_next.Tie as tie
 
 mul-wide16 : tie.Need-mul-wide16
-mul-wide16 c = let a = c .args in let f = fits (a .c .types) (a .seen .now) (a .queue .now) (a .tail) (c .pre .0) in omega (arith, c .pre .3)
+mul-wide16 c = let a = c .args in let f = fits (a .c .types) (seenIn (a .found .now)) (queueIn (a .found .now)) (a .tail) (c .pre .0) in omega (arith, c .pre .3)
 
 element-copy-out-wide16 : tie.Need-element-copy-out-wide16
-element-copy-out-wide16 c = let a = c .args in let f = fits (a .c .types) (a .seen .now) (a .queue .now) (a .tail) (c .pre .0) in omega (arith, c .pre .3)
+element-copy-out-wide16 c = let a = c .args in let f = fits (a .c .types) (seenIn (a .found .now)) (queueIn (a .found .now)) (a .tail) (c .pre .0) in omega (arith, c .pre .3)
 
 wide16-requires : tie.Need-wide16-requires
 wide16-requires c κs = search needs
 
 find-types-requires : tie.Need-find-types-requires
 find-types-requires c κs =
-    let pre = c .before .before .before .before .pre in
-    let wide16 = c .before .before .wide16 in
-    let o = pre .0 .back (c .before .before .before .before .args .head) (pre .3) in
-    (pre .0, pre .1, pre .2, rw (wide16 .ensures) (o .low), rw (wide16 .ensures) (o .high))
+    let a = c .before .before .before .args in
+    let pre = c .before .before .before .pre in
+    let wide16 = c .before .wide16 in
+    let o = pre .0 .back (a .head) (pre .3) in
+    let e = queue-at (a .found .now) (a .head) (wide16 .result) (wide16 .ensures .0) in
+    (pre .0, pre .1, pre .2, rw e at (o .low), rw e at (o .high))
 
 returns : tie.Need-returns
-returns c = rw (c .before .before .before .wide16 .ensures) at (c .find-types .ensures)
+returns c =
+    let a = c .before .before .before .before .args in
+    let wide16 = c .before .before .wide16 in
+    rw (queue-at (a .found .now) (a .head) (wide16 .result) (wide16 .ensures .0)) (c .find-types .ensures)
 
 pub find-next-spec : {M : Type 1} → statement M
 find-next-spec =

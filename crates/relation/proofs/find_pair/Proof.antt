@@ -1,9 +1,12 @@
 -- Rests on the laws of one pair more; `room`: a pair that is not found yet leaves room in the queue.
 use mathlib.Core.Logic.{inl, inr}
+use mathlib.Core.Bool.{true, false}
 use Prim.Native.Nat.{_+_, _*_}
 use native.Mathlib.Omega.{arith}
 use borrow.Author.Needs.{needs}
-use Rattle.search.proofs.Pairs.{pair-left, pair-right, pair-known, pair-new, room}
+use Rattle.search.specs.Found.{seenIn, queueIn}
+use Rattle.search.proofs.Pairs.{pair-left, pair-right, pair-known, room}
+use Rattle.search.proofs.Buffer.{seen-at, buffer-length, pair-added}
 use Rattle.relation.proofs.find_pair.Statement.{statement}
 use Rattle.relation.proofs.find_pair.Tie as tie
 
@@ -19,55 +22,46 @@ mul-p c = search needs
 add-p : tie.Need-add-p
 add-p c = search needs
 
-element-copy-out-if3 : tie.Need-element-copy-out-if3
-element-copy-out-if3 c = search needs
+mul-is-found : tie.Need-mul-is-found
+mul-is-found c = search needs
+
+element-copy-out-is-found : tie.Need-element-copy-out-is-found
+element-copy-out-is-found c = search needs
+
+is-found-requires : tie.Need-is-found-requires
+is-found-requires c κs = search needs
 
 returns-3 : tie.Need-returns-3
 returns-3 c =
-    let a = c .before .before .before .before .args in
-    let pre = c .before .before .before .before .pre in
-    let if1 = c .before .before .before .if1 in
-    let if2 = c .before .before .if2 in
+    let a = c .before .before .before .before .before .args in
+    let pre = c .before .before .before .before .before .pre in
+    let if1 = c .before .before .before .before .if1 in
+    let if2 = c .before .before .before .if2 in
+    let is-found = c .before .is-found in
     let if3 = c .if3 in
-    inr (pair-known (a .n) (a .seen .now) (a .queue .now) (a .tail) (a .x) (a .y) pre (if1 .left) (if2 .left) (if3 .taken))
+    let known = seen-at (a .found .now) (a .x * 128 + a .y) (is-found .result) true (is-found .ensures) (if3 .taken) in
+    inr (pair-known (a .n) (seenIn (a .found .now)) (queueIn (a .found .now)) (a .tail) (a .x) (a .y) pre (if1 .left) (if2 .left) known)
 
-element-write-seen : tie.Need-element-write-seen
-element-write-seen c = search needs
-
-cast-queue : tie.Need-cast-queue
-cast-queue c = search needs
-
-mul-queue : tie.Need-mul-queue
-mul-queue c =
-    let a = c .before .before .before .before .args in
-    let pre = c .before .before .before .before .pre in
-    let if3 = c .if3 in
-    let l = room (a .n) (a .seen .now) (a .queue .now) (a .tail) (a .x * 128 + a .y) pre (omega arith) (if3 .left) in
-    omega arith
-
-element-write-queue : tie.Need-element-write-queue
-element-write-queue c =
-    let a = c .before .before .before .before .args in
-    let pre = c .before .before .before .before .pre in
-    let if3 = c .if3 in
-    room (a .n) (a .seen .now) (a .queue .now) (a .tail) (a .x * 128 + a .y) pre (omega arith) (if3 .left)
-
-add-result : tie.Need-add-result
-add-result c =
-    let a = c .before .before .before .before .args in
-    let pre = c .before .before .before .before .pre in
-    let if3 = c .if3 in
-    let l = room (a .n) (a .seen .now) (a .queue .now) (a .tail) (a .x * 128 + a .y) pre (omega arith) (if3 .left) in
-    omega arith
+add-pair-requires : tie.Need-add-pair-requires
+add-pair-requires c κs =
+    let a = c .before .before .before .before .before .before .args in
+    let pre = c .before .before .before .before .before .before .pre in
+    let is-found = c .before .before .is-found in
+    let if3 = c .before .if3 in
+    let new = seen-at (a .found .now) (a .x * 128 + a .y) (is-found .result) false (is-found .ensures) (if3 .left) in
+    (buffer-length (a .n) (a .found .now) (a .tail) pre, room (a .n) (seenIn (a .found .now)) (queueIn (a .found .now)) (a .tail) (a .x * 128 + a .y) pre (omega arith) new, omega arith)
 
 returns-4 : tie.Need-returns-4
 returns-4 c =
-    let a = c .before .before .before .before .args in
-    let pre = c .before .before .before .before .pre in
-    let if1 = c .before .before .before .if1 in
-    let if2 = c .before .before .if2 in
-    let if3 = c .if3 in
-    inr (pair-new (a .n) (a .seen .now) (a .queue .now) (a .tail) (a .x) (a .y) pre (if1 .left) (if2 .left) (if3 .left))
+    let a = c .before .before .before .before .before .before .before .args in
+    let pre = c .before .before .before .before .before .before .before .pre in
+    let if1 = c .before .before .before .before .before .before .if1 in
+    let if2 = c .before .before .before .before .before .if2 in
+    let is-found = c .before .before .before .is-found in
+    let if3 = c .before .before .if3 in
+    let add-pair = c .add-pair in
+    let new = seen-at (a .found .now) (a .x * 128 + a .y) (is-found .result) false (is-found .ensures) (if3 .left) in
+    pair-added (a .n) (a .found .now) (a .tail) (a .x) (a .y) pre (if1 .left) (if2 .left) new (add-pair .last .0) (add-pair .result) (add-pair .ensures)
 
 pub find-pair-spec : {M : Type 1} → statement M
 find-pair-spec =
@@ -77,11 +71,9 @@ find-pair-spec =
     returns-2
     mul-p
     add-p
-    element-copy-out-if3
+    mul-is-found
+    element-copy-out-is-found
+    is-found-requires
     returns-3
-    element-write-seen
-    cast-queue
-    mul-queue
-    element-write-queue
-    add-result
+    add-pair-requires
     returns-4)

@@ -1,0 +1,75 @@
+-- Rests on the laws of a pair that is added to the one array.
+use mathlib.Core.Path.{refl}
+use native.Mathlib.Omega.{arith}
+use borrow.Author.Needs.{needs}
+use Rattle.search.proofs.Buffer.{added}
+use Rattle.relation.proofs.add_pair.Statement.{statement}
+use Rattle.relation.proofs.add_pair.Tie as tie
+
+mul-found : tie.Need-mul-found
+mul-found c = search needs
+
+element-copy-out-found : tie.Need-element-copy-out-found
+element-copy-out-found c = search needs
+
+add-found : tie.Need-add-found
+add-found c = search needs
+
+mul-found-2 : tie.Need-mul-found-2
+mul-found-2 c = search needs
+
+element-write-found : tie.Need-element-write-found
+element-write-found c = search needs
+
+mul-wide16 : tie.Need-mul-wide16
+mul-wide16 c = search needs
+
+element-copy-out-wide16 : tie.Need-element-copy-out-wide16
+element-copy-out-wide16 c = search needs
+
+wide16-requires : tie.Need-wide16-requires
+wide16-requires c κs = search needs
+
+mul-found-3 : tie.Need-mul-found-3
+mul-found-3 c = search needs
+
+add-found-2 : tie.Need-add-found-2
+add-found-2 c = search needs
+
+cast-found : tie.Need-cast-found
+cast-found c = search needs
+
+mul-found-4 : tie.Need-mul-found-4
+mul-found-4 c = search needs
+
+element-write-found-2 : tie.Need-element-write-found-2
+element-write-found-2 c = search needs
+
+add-result : tie.Need-add-result
+add-result c = search needs
+
+returns : tie.Need-returns
+returns c =
+    let a = c .before .before .before .args in
+    let wide16 = c .wide16 in
+    (refl, added (a .found .now) (a .tail) (a .p) (omega arith) (wide16 .result) (wide16 .ensures .0))
+
+pub add-pair-spec : {M : Type 1} → statement M
+add-pair-spec =
+    tie.close
+    (tie.spec
+    mul-found
+    element-copy-out-found
+    add-found
+    mul-found-2
+    element-write-found
+    mul-wide16
+    element-copy-out-wide16
+    wide16-requires
+    mul-found-3
+    add-found-2
+    cast-found
+    mul-found-4
+    element-write-found-2
+    add-result
+    returns)
