@@ -53,7 +53,7 @@ extern "C" {
         t: i64,
         s: i64,
         number: *mut usize,
-        now_types: *mut usize,
+        total: *mut usize,
     ) -> usize;
 
     fn pilgonca_read(

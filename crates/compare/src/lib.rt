@@ -1,6 +1,5 @@
 // Document 01: "Compare (T, S): 7 if either number isn't in the table, else the four answers", and the same four for every pair of a sheet's types.
 ghost use mathlib.Core.Path.{_≡_};
-ghost use mathlib.Core.Bool.{Bool};
 ghost use Prim.Native.Nat.{_+_, _*_, _≤_};
 ghost use Rattle.model.specs.Relations.{bit, compare};
 ghost use Rattle.model.specs.Check.{compareHanded};
@@ -68,7 +67,7 @@ fn bit_of(x: bool) -> u8
 }
 
 // The four answers in one byte.
-fn pair_code(subtype: bool, strict: bool, loose: bool, free: bool) -> u8
+pub fn pair_code(subtype: bool, strict: bool, loose: bool, free: bool) -> u8
     ensures { λ r. ⌜ r ≡ pairCode subtype strict loose free ⌝ }
 {
     let w = bit_of(subtype);

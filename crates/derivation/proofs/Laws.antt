@@ -22,11 +22,11 @@ use Rattle.operand.specs.Index.{indexOf}
 use Rattle.operand.proofs.Laws.{index-unknown, index-known}
 use Rattle.restrict.specs.declared.Derived.{Derived}
 use Rattle.restrict.specs.declared.Derived.the-variants.{Full, At}
-use Rattle.restrict.specs.Link.{Ready, refIn, outcome, CodesIn, CodesStay as restricted·CodesStay}
+use Rattle.restrict.specs.Link.{Ready, refIn, outcome, CodesIn, CodesStay}
 use Rattle.restrict.proofs.Ends.{ref-table}
 use Rattle.derivation.specs.declared.Derivation.{Derivation}
 use Rattle.derivation.specs.Handed.{kindAsked, isRefType, deriveNamed, deriveHanded}
-use Rattle.derivation.specs.Answer.{derivationOf, refusal, CodesStay}
+use Rattle.derivation.specs.Answer.{derivationOf, refusal, CodesKept}
 
 -- The kinds by their codes.
 pub asked-both : (k : ℕ) (refs : Bool) → k < 2 → true ≡ kindAsked k refs
@@ -69,7 +69,7 @@ module _ (b l : List ℕ) (c : Counts) {n : ℕ} {r : Derivation} (e : r ≡ ref
   pub refusal-same : (r .no ≡ 0 → ⊥) → r ≡ refusal (r .no) b c
   refusal-same h = e ∙ ap (λ (k : ℕ). refusal k b c) (sym (ap (λ (z : Derivation). z .no) e))
 
-  pub refusal-codes : eqb n 0 ≡ false → CodesStay b c r
+  pub refusal-codes : eqb n 0 ≡ false → CodesKept b c r
   refusal-codes h z = never (sym (ap (λ (k : ℕ). eqb k 0) (sym z ∙ ap (λ (d : Derivation). d .no) e) ∙ h))
 
 -- What a derivation over lent bytes answered.
@@ -80,7 +80,7 @@ module _ (b b′ : List ℕ) (c : Counts) (k : Kind) (t s : ℕ) {d : Derived} (
   pub at-is : {i m : ℕ} → d ≡ At i m → (l : List ℕ) → outcome b′ l c (At i m) ≡ derived (tableIn b l c) k t s
   at-is e l = sym (ap (outcome b′ l c) e) ∙ is l
 
-pub at-codes : (b b′ : List ℕ) (c : Counts) {d : Derived} {i m : ℕ} → d ≡ At i m → restricted·CodesStay c b b′ d → CodesStay b c (record { no = 0; number = i; count = m; types = b′ })
+pub at-codes : (b b′ : List ℕ) (c : Counts) {d : Derived} {i m : ℕ} → d ≡ At i m → CodesStay c b b′ d → CodesKept b c (record { no = 0; number = i; count = m; types = b′ })
 at-codes b b′ c e h z l k = subst (CodesIn b′ l c) e (h l k)
 
 -- By the numbers of the types: x and y are the indices of the numbers handed in.

@@ -16,8 +16,8 @@ abbrev pub derivationOf : List ℕ → Counts → Derivation → Res (Table × �
 derivationOf l c r = cond (eqb (r .no) 0) (ok (tableIn (r .types) l (withCount c (r .count)), r .number)) (refuse (r .no))
 
 -- Where every code of the table names something before, every code does after.
-abbrev pub CodesStay : List ℕ → Counts → Derivation → Type 0
-CodesStay b c r = r .no ≡ 0 → (l : List ℕ) → So (codesFit (rawTable b l c)) → So (codesFit (rawTable (r .types) l (withCount c (r .count))))
+abbrev pub CodesKept : List ℕ → Counts → Derivation → Type 0
+CodesKept b c r = r .no ≡ 0 → (l : List ℕ) → So (codesFit (rawTable b l c)) → So (codesFit (rawTable (r .types) l (withCount c (r .count))))
 
 -- A refusal has the bytes and the count that were handed in.
 abbrev pub refusal : ℕ → List ℕ → Counts → Derivation

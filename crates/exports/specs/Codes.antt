@@ -2,11 +2,12 @@
 use mathlib.Core.Path.{_≡_}
 use mathlib.Core.Bool.{Bool}
 use mathlib.Core.List.{List}
-use Prim.Native.Nat.{ℕ, _+_, _*_}
+use Prim.Native.Nat.{ℕ, _+_}
 use lib.ListN.{getD}
 use Rattle.model.specs.Basics.{Res, refuse, ok}
-use Rattle.model.specs.Relations.{Answers, bit}
+use Rattle.model.specs.Relations.{Answers}
 use Rattle.table.specs.declared.Counts.{Counts}
+use Rattle.compare.specs.Pairs.{pairCode}
 use Rattle.derivation.specs.declared.Derivation.{Derivation}
 use Rattle.sheet.specs.Text.{Written}
 use Rattle.reader.specs.declared.Sheet.{Sheet}
@@ -15,9 +16,9 @@ use Rattle.reader.specs.declared.Sheet.{Sheet}
 abbrev pub countsOf : ℕ → ℕ → ℕ → ℕ → ℕ → Counts
 countsOf subjects methods cats sheet types = record { subjects = subjects; methods = methods; cats = cats; sheet = sheet; types = types }
 
--- 16, and 1 for subtype, 2 for strict, 4 for loose, 8 for free
+-- 16 and the four answers, as in the pair table
 abbrev pub answersCode : Bool → Bool → Bool → Bool → ℕ
-answersCode w x y z = 16 + bit w + 2 * bit x + 4 * bit y + 8 * bit z
+answersCode w x y z = 16 + pairCode w x y z
 
 -- Compare's answer: the number of the refusal, or the code of the four answers
 abbrev pub comparedCode : Res Answers → ℕ
@@ -42,7 +43,7 @@ valueOf old (refuse n) = old
 valueOf old (ok x) = x
 
 -- what the writer leaves, each part by itself: number, length (old and new) and buffer
-pub record Left (w : Written) (n old new : ℕ) (buffer : List ℕ) : Type 0 where
+pub record WrittenIs (w : Written) (n old new : ℕ) (buffer : List ℕ) : Type 0 where
   pub number : n ≡ numberOf (w .answer)
   pub length : new ≡ valueOf old (w .answer)
   pub bytes : buffer ≡ w .buffer

@@ -1,41 +1,29 @@
 // What tests, benchmarks and integrators link: C functions on numbers and arrays of bytes, for any numbers and any bytes. The layout of a table in bytes is in
 // docs/ARCHITECTURE.md; the numbers returned are given by definitions in specs/Codes.antt.
 ghost use mathlib.Core.Path.{_≡_};
-ghost use Prim.Native.Nat.{_+_, _≤_};
-ghost use Rattle.model.specs.Relations.{bit};
+ghost use Prim.Native.Nat.{_+_};
 ghost use Rattle.model.specs.Check.{compareHanded};
 ghost use Rattle.table.specs.Store.{rawTable};
 ghost use Rattle.compare.specs.Answered.{comparedOf};
 ghost use Rattle.compare.specs.Pairs.{pairsHanded};
 ghost use Rattle.derivation.specs.Handed.{deriveHanded};
-ghost use Rattle.derivation.specs.Answer.{derivationOf, CodesStay};
+ghost use Rattle.derivation.specs.Answer.{derivationOf, CodesKept};
 ghost use Rattle.sheet.specs.Sheet.{read as readSheet};
 ghost use Rattle.sheet.specs.Text.{write};
 ghost use Rattle.reader.specs.View.{SheetIs};
-ghost use Rattle.writer.specs.Answer.{answerOf};
-ghost use Rattle.exports.specs.Codes.{countsOf, answersCode, comparedCode, sheetOf, numberOf, valueOf, Left, handedOut, derivationLeft};
+ghost use Rattle.writer.specs.Answer.{wroteAnswer};
+ghost use Rattle.exports.specs.Codes.{countsOf, answersCode, comparedCode, sheetOf, numberOf, valueOf, WrittenIs, handedOut, derivationLeft};
 use compare::Compared;
 use table::Counts;
+use table::wide;
 use writer::Wrote;
-
-fn bit_of(x: bool) -> usize
-    ensures { λ r. ⌜ (r ≡ bit x) × (r ≤ 1) ⌝ }
-{
-    if x {
-        return 1;
-    }
-    0
-}
 
 // Four answers as one number.
 fn answers_code(subtype: bool, strict: bool, loose: bool, free: bool) -> usize
     ensures { λ n. ⌜ n ≡ answersCode subtype strict loose free ⌝ }
 {
-    let w = bit_of(subtype);
-    let x = bit_of(strict);
-    let y = bit_of(loose);
-    let z = bit_of(free);
-    16 + w + 2 * x + 4 * y + 8 * z
+    let code = compare::pair_code(subtype, strict, loose, free);
+    16 + wide(code)
 }
 
 // Compare's answer as one number.
@@ -83,15 +71,15 @@ pub extern "C" fn pilgonca_compare(
 // "Sheet read" of any bytes: 0 and the table, or the refusal and the byte offset of the line, with a table whose every count is 0.
 #[no_mangle]
 pub extern "C" fn pilgonca_read(
-    sheet: &[u8],
+    text: &[u8],
     types: &mut [u8; 16384],
     links: &mut [u8; 96],
     counts: &mut [usize; 5],
     at: &mut usize,
 ) -> usize
-    ensures { λ n. ⌜ SheetIs (sheetOf n (now (at .exit)) (now (types .exit)) (now (links .exit)) (now (counts .exit))) (readSheet (now (sheet .entry))) ⌝ }
+    ensures { λ n. ⌜ SheetIs (sheetOf n (now (at .exit)) (now (types .exit)) (now (links .exit)) (now (counts .exit))) (readSheet (now (text .entry))) ⌝ }
 {
-    let r = reader::read(sheet);
+    let r = reader::read(text);
     let t = r.types;
     let l = r.links;
     let c = r.counts;
@@ -104,7 +92,7 @@ pub extern "C" fn pilgonca_read(
 
 // The writer's answer: the refusal's number, or 0 with the length handed out.
 fn wrote_code(w: Wrote, length: &mut usize) -> usize
-    ensures { λ n. ⌜ (n ≡ numberOf (answerOf w)) × (now (length .exit) ≡ valueOf (now (length .entry)) (answerOf w)) ⌝ }
+    ensures { λ n. ⌜ (n ≡ numberOf (wroteAnswer w)) × (now (length .exit) ≡ valueOf (now (length .entry)) (wroteAnswer w)) ⌝ }
 {
     match w {
         Wrote::UnfitTable => 2,
@@ -129,7 +117,7 @@ pub extern "C" fn pilgonca_write(
     count: usize,
     length: &mut usize,
 ) -> usize
-    ensures { λ n. ⌜ Left (write (rawTable (now (types .entry)) (now (links .entry)) (countsOf subjects methods cats sheet count)) (now (buffer .entry))) n (now (length .entry)) (now (length .exit)) (now (buffer .exit)) ⌝ }
+    ensures { λ n. ⌜ WrittenIs (write (rawTable (now (types .entry)) (now (links .entry)) (countsOf subjects methods cats sheet count)) (now (buffer .entry))) n (now (length .entry)) (now (length .exit)) (now (buffer .exit)) ⌝ }
 {
     let c = Counts {
         subjects,
@@ -191,7 +179,7 @@ pub extern "C" fn pilgonca_derive(
 ) -> usize
     ensures is { λ n. ⌜ derivationOf (now (links .entry)) (countsOf subjects methods cats sheet count) (derivationLeft n (now (number .exit)) (now (total .exit)) (now (types .exit))) ≡ deriveHanded (rawTable (now (types .entry)) (now (links .entry)) (countsOf subjects methods cats sheet count)) kind t s ⌝ }
     ensures refused { λ n. ⌜ ((n ≡ 0 → ⊥) → derivationLeft n (now (number .exit)) (now (total .exit)) (now (types .exit)) ≡ derivationLeft n (now (number .entry)) (now (total .entry)) (now (types .entry))) ⌝ }
-    ensures codes { λ n. ⌜ CodesStay (now (types .entry)) (countsOf subjects methods cats sheet count) (derivationLeft n (now (number .exit)) (now (total .exit)) (now (types .exit))) ⌝ }
+    ensures codes { λ n. ⌜ CodesKept (now (types .entry)) (countsOf subjects methods cats sheet count) (derivationLeft n (now (number .exit)) (now (total .exit)) (now (types .exit))) ⌝ }
 {
     let c = Counts {
         subjects,

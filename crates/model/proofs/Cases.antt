@@ -7,8 +7,8 @@ use Prim.Native.Nat.{ℕ}
 use lib.IntN.{ℤ, pos, negsuc}
 use lib.ListN.{length, drop}
 use Rattle.model.specs.Basics.{all}
-use Rattle.model.specs.Table.{ref, w32, State, denied, optional, avail, unavail, Kind, sub, sup, closed, Method, Ty, Table, noType, size, validSheet}
-use Rattle.model.specs.Requests.{System, Request, new, move, call, answer, pair, number, nothing, Outcome, got, refused, loaded, run}
+use Rattle.model.specs.Table.{ref, State, denied, optional, avail, unavail, Kind, sub, sup, closed, Method, Ty, Table, noType, size, validSheet}
+use Rattle.model.specs.Requests.{Request, new, move, call, answer, pair, number, nothing, Outcome, got, refused, loaded, run}
 use Rattle.model.specs.Chains.{permits, offered}
 use Rattle.model.specs.Book.{Book, pageAt, enter}
 use Rattle.model.specs.Claim.{follow, reached}

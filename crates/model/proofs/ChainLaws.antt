@@ -1,12 +1,10 @@
 -- Chains that a type permits.
-use mathlib.Core.Path.{_≡_, refl, ap, sym, subst, _∙_}
+use mathlib.Core.Path.{_≡_, refl, sym, _∙_}
 use mathlib.Core.Logic.{_↔_}
-use mathlib.Core.Bool.{Bool, true, false, not, _&&_, _||_, So, Bool·beq}
-use mathlib.Core.List.{List, [], _∷_, _++_}
+use mathlib.Core.Bool.{Bool, true, false, _||_, So, Bool·beq}
+use mathlib.Core.List.{List, [], _∷_}
 use mathlib.Core.Option.{Option, none, some}
-use Prim.Native.Nat.{ℕ, zero, suc, _+_, _*_, _≤_, _<_}
-use native.Mathlib.Omega.{arith}
-use lib.ListN.{length, getD, set}
+use Prim.Native.Nat.{ℕ}
 use Rattle.model.specs.Basics.{_⇒_, over}
 use Rattle.model.specs.Table.{Rep, ref, w32, w64, sub, closed, Method, Table, typeAt, methodAt, permit, isAvail, isRef, isNil}
 use Rattle.model.specs.Relations.{conforms, free, stateLe, sameRep, outerRule, related, AnswerBy}

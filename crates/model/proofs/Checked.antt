@@ -1,13 +1,11 @@
 -- The check of 2 and the requests: a state that passes it stays, after every request, within its limits with every number below its count.
-use mathlib.Core.Path.{_≡_, refl, ap, sym, subst, _∙_}
-use mathlib.Core.Bool.{Bool, true, false, not, _&&_, _||_, So, cond}
-use mathlib.Core.List.{List, [], _∷_}
+use mathlib.Core.Path.{subst}
+use mathlib.Core.Bool.{_&&_, So}
 use mathlib.Core.Option.{Option, none, some}
-use Prim.Native.Nat.{ℕ, zero, suc, _+_, _≤_, _<_}
+use Prim.Native.Nat.{ℕ, _≤_, _<_}
 use native.Mathlib.Omega.{arith}
-use native.Mathlib.Decide.{decLt}
-use lib.Dec.{eqb, ltb, leb}
-use lib.ListN.{length, getD}
+use lib.Dec.{ltb, leb}
+use lib.ListN.{length}
 use Rattle.model.specs.Basics.{refuse, ok, all, every}
 use Rattle.model.specs.Table.{Kind, Table, maxTypes, size, tableFits}
 use Rattle.model.specs.Relations.{free, related}

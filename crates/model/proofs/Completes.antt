@@ -1,15 +1,14 @@
 -- A derivation from a table t₀: every new type is under work or complete, and the number given is the derived one.
 use mathlib.Core.Path.{_≡_, refl, ap, sym, subst, _∙_}
-use mathlib.Core.Logic.{_↔_, _⊎_, inl, inr, _≢_}
-use mathlib.Core.Bool.{Bool, true, false, not, _&&_, _||_, So, Bool·beq}
-use mathlib.Core.List.{List, [], _∷_, _++_}
-use mathlib.Core.Option.{Option, none, some, Option·some-injective, Option·none-ne-some}
-use Prim.Native.Nat.{ℕ, zero, suc, _+_, _*_, _≤_, _<_}
+use mathlib.Core.Logic.{_⊎_, inl, inr, _≢_}
+use mathlib.Core.Bool.{Bool, true, false, _&&_, So}
+use mathlib.Core.List.{List, [], _∷_}
+use mathlib.Core.Option.{Option, none, some, Option·some-injective}
+use Prim.Native.Nat.{ℕ, zero, suc, _+_, _≤_, _<_}
 use native.Mathlib.Omega.{arith}
-use native.Mathlib.Nat.{not-suc-le-zero, le-of-suc-le-suc, add-zero}
 use native.Mathlib.Decide.{decLt, ℕ-discrete}
 use lib.Dec.{eqb, ltb}
-use lib.ListN.{length, getD, set, length-append, length-set, List·getD-append, List·getD-eq-default}
+use lib.ListN.{length, getD}
 use lib.Seq.{getD-append-seam, getD-set-same, getD-set-other}
 use Rattle.model.specs.Basics.{_⇒_, then}
 use Rattle.model.specs.Table.{State, Kind, sub, sup, closed, Key, Method, Ty, Table, noMethod, noType, size, typeAt, methodAt, permit, isRef}

@@ -1,20 +1,20 @@
 -- Who receives a crossing to an own type, and what empties a trail; and the numbers that derived types take.
-use mathlib.Core.Path.{_≡_, refl, ap, sym, subst, _∙_}
+use mathlib.Core.Path.{_≡_, refl, ap, sym}
 use mathlib.Core.Logic.{_⊎_, inl, inr}
 use mathlib.Core.Bool.{Bool, true, false, So}
 use mathlib.Core.List.{List, [], _∷_, _++_}
 use mathlib.Core.Option.{Option, none, some}
-use Prim.Native.Nat.{ℕ, zero, suc, _+_, _≤_, _<_}
+use Prim.Native.Nat.{ℕ, zero, suc, _+_, _<_}
 use native.Mathlib.Omega.{arith}
 use native.Mathlib.Nat.{not-suc-le-zero, le-of-suc-le-suc}
 use lib.Dec.{eqb, ltb}
 use lib.ListN.{length, getD, set}
-use Rattle.model.specs.Basics.{Res, refuse, ok, try, need, then}
-use Rattle.model.specs.Table.{Kind, sub, sup, closed, Ty, Table, noType, maxTypes, size, typeAt, withTypes}
-use Rattle.model.specs.Relations.{subtype, conforms, loose, free, related}
-use Rattle.model.specs.Restriction.{isKey, find, withoutNew, entry, pending, deriveMethods, make, derive, derived}
+use Rattle.model.specs.Basics.{Res, refuse, ok, need, then}
+use Rattle.model.specs.Table.{Kind, sub, closed, Ty, Table, noType, maxTypes, size, typeAt, withTypes}
+use Rattle.model.specs.Relations.{subtype, conforms, free, related}
+use Rattle.model.specs.Restriction.{isKey, find, withoutNew, entry, pending, deriveMethods, make, derive}
 use Rattle.model.specs.Crossing.{baseOf, baseOwner, Reference, adapt, cross}
-use Rattle.model.specs.Requests.{System, Request, Result, serve, after}
+use Rattle.model.specs.Requests.{System, Request, serve, after}
 use Rattle.model.specs.Book.{Page, lastType, lastClosed, emptyPage, joins, addClosed, pageAdapt, pageCross}
 use Rattle.model.proofs.Tests.{eqb-so}
 use Rattle.model.proofs.Rules.{never}

@@ -1,7 +1,6 @@
 -- Demand 3: after any list of requests, what a cell offers is what its page's class and its whole trail permit.
 -- Each request keeps state and book joined: the same table, the same calls, and for each cell the page that tracks its reference.
 use mathlib.Core.Path.{_≡_, refl, ap, sym, subst, _∙_}
-use mathlib.Core.Logic.{_↔_}
 use mathlib.Core.Bool.{Bool, true, false, not, _&&_, _||_, So}
 use mathlib.Core.List.{List, [], _∷_, _++_, map, reverse}
 use mathlib.Core.Option.{Option, none, some}
@@ -10,16 +9,16 @@ use native.Mathlib.Omega.{arith}
 use native.Mathlib.Decide.{decLt}
 use lib.Dec.{eqb, ltb}
 use lib.IntN.{ℤ, pos, negsuc}
-use lib.ListN.{length, getD, set, length-append, length-set, List·getD-append, List·getD-map}
+use lib.ListN.{length, getD, length-append, length-set, List·getD-append, List·getD-map}
 use lib.Seq.{getD-append-seam, getD-at, map-set-same}
 use Rattle.model.specs.Basics.{Res, refuse, ok, try, need, _⇒_, all, names, named}
-use Rattle.model.specs.Table.{Method, Table, noMethod, size, typeAt, methodAt, argumentAt, answerAt, isRef, permit, isAvail, isSettled, isClass, validSheet}
-use Rattle.model.specs.Relations.{conforms, related}
-use Rattle.model.specs.Crossing.{Place, object, adapter, noPlace, maxPlaces, placeType, placeAt, baseOf, baseOwner, Reference, cross}
-use Rattle.model.specs.Requests.{Cell, Call, System, maxCells, maxCalls, loaded, Request, new, move, call, answer, Result, pair, number, nothing, noCell, noCall, cellAt, callAt, isSheetRef, held, leaving, addCell, newRequest, moveRequest, layersOf, adapterCount, wayOf, crossLayers, passLayers, send, argumentsHeld, sendArguments, withCall, callRequest, withAnswer, give, answerRequest, serve, after}
-use Rattle.model.specs.Chains.{permits, Permits, AllPermit, offered}
-use Rattle.model.specs.Book.{Page, Note, Book, opened, lastType, lastClosed, emptyPage, pageCross, pageCrossAll, pageAt, addPage, pageWay, copyPage, copyArguments, addNote, copyAnswer, noteAt, enter}
-use Rattle.model.specs.Claim.{accepted, feed, follow, reached, PageOf, noteOf, Claim, Demand3}
+use Rattle.model.specs.Table.{Method, Table, noMethod, size, typeAt, methodAt, argumentAt, answerAt, isRef, permit, isAvail, isSettled, isClass}
+use Rattle.model.specs.Relations.{conforms}
+use Rattle.model.specs.Crossing.{Place, object, noPlace, maxPlaces, baseOf, baseOwner, Reference, cross}
+use Rattle.model.specs.Requests.{Cell, Call, System, maxCells, maxCalls, loaded, Request, new, move, call, answer, Result, pair, number, noCell, noCall, cellAt, callAt, isSheetRef, held, leaving, addCell, newRequest, moveRequest, adapterCount, wayOf, crossLayers, passLayers, send, argumentsHeld, sendArguments, withCall, callRequest, withAnswer, give, answerRequest, serve, after}
+use Rattle.model.specs.Chains.{permits, offered}
+use Rattle.model.specs.Book.{Page, Note, Book, lastType, emptyPage, pageCross, pageCrossAll, addPage, pageWay, copyPage, copyArguments, addNote, copyAnswer, enter}
+use Rattle.model.specs.Claim.{accepted, feed, follow, reached, noteOf, Claim}
 use Rattle.model.proofs.Tests.{ltb-so}
 use Rattle.model.proofs.Rules.{never, both, first, second, applied}
 use Rattle.model.proofs.States.{each}
@@ -29,7 +28,7 @@ use Rattle.model.proofs.Growth.{Grown, grown-refl, grown-trans}
 use Rattle.model.proofs.Completes.{all-below-more}
 use Rattle.model.proofs.Good.{Good}
 use Rattle.model.proofs.Steps.{IfOk, ok-try, ok-map, ok-need, Settled}
-use Rattle.model.proofs.Trails.{Kept, kept-trans, kept-add, Unwinds, unwinds-in, unwinds-type, layers-are, base-is, Track, Trailed, track-grow, Flown, cross-ok, crossLayers-ok}
+use Rattle.model.proofs.Trails.{Kept, kept-trans, kept-add, unwinds-in, unwinds-type, layers-are, base-is, Track, Trailed, track-grow, Flown, cross-ok, crossLayers-ok}
 
 -- the book of a state whose cells have the pages gs
 abbrev bookOf : System → List Page → Book

@@ -1,11 +1,9 @@
 -- What a derived type of a table is, from the two types that its key names.
-use mathlib.Core.Path.{_≡_, refl, ap, sym, subst, _∙_}
-use mathlib.Core.Bool.{Bool, true, false, not, _&&_, _||_, So, Bool·beq}
-use mathlib.Core.List.{List, [], _∷_, _++_}
+use mathlib.Core.Path.{_≡_}
+use mathlib.Core.Bool.{Bool, true, false, So}
+use mathlib.Core.List.{List, [], _∷_}
 use mathlib.Core.Option.{Option, none, some}
-use Prim.Native.Nat.{ℕ, zero, suc, _+_, _*_, _≤_, _<_}
-use native.Mathlib.Omega.{arith}
-use lib.ListN.{length, getD, set}
+use Prim.Native.Nat.{ℕ, _<_}
 use Rattle.model.specs.Table.{Kind, sub, sup, closed, Key, Method, Table, noMethod, size, typeAt, methodAt, permit, isRef}
 use Rattle.model.specs.Relations.{catLe}
 use Rattle.model.specs.Restriction.{restricted, argKind, answerKind, mainSide}

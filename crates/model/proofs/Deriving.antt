@@ -1,12 +1,12 @@
 -- What every step of a derivation keeps, whatever the table: stated once over the property, then for the size, the 128 and the types that there were.
-use mathlib.Core.Path.{_≡_, refl, ap, _∙_}
+use mathlib.Core.Path.{_≡_, refl, _∙_}
 use mathlib.Core.Bool.{Bool, true, false, So}
 use mathlib.Core.List.{List, [], _∷_, _++_}
 use mathlib.Core.Option.{Option, none, some}
 use Prim.Native.Nat.{ℕ, zero, suc, _+_, _≤_, _<_}
 use native.Mathlib.Omega.{arith}
 use lib.Dec.{ltb}
-use lib.ListN.{length, getD, set, length-append, length-set, List·getD-append}
+use lib.ListN.{set, length-append, length-set, List·getD-append}
 use lib.Seq.{getD-set-other}
 use Rattle.model.specs.Basics.{then}
 use Rattle.model.specs.Table.{Kind, Method, Ty, Table, noType, maxTypes, size, typeAt, withTypes, permit}

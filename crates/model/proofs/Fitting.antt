@@ -1,6 +1,5 @@
 -- What it says of a table that it fits (Table): the order of its categories, and each of its types.
-use mathlib.Core.Path.{_≡_, refl, ap, sym, subst, _∙_}
-use mathlib.Core.Logic.{_≢_}
+use mathlib.Core.Path.{_≡_, refl, ap, subst}
 use mathlib.Core.Bool.{Bool, true, false, not, _&&_, _||_, So, cond}
 use mathlib.Core.List.{List, [], _∷_}
 use mathlib.Core.Option.{Option, none, some}
@@ -8,7 +7,7 @@ use Prim.Native.Nat.{ℕ, zero, suc, _+_, _≤_, _<_}
 use native.Mathlib.Nat.{not-suc-le-zero, le-of-suc-le-suc}
 use native.Mathlib.Omega.{arith}
 use native.Mathlib.Decide.{decLt}
-use lib.Dec.{eqb, ltb, leb, leb→le, le→leb}
+use lib.Dec.{eqb, ltb, leb}
 use lib.ListN.{length, getD, List·getD-eq-default}
 use Rattle.model.specs.Basics.{_⇒_, any, all, every, unlessMissing}
 use Rattle.model.specs.Table.{Key, Method, Ty, Table, noMethod, noType, size, typeAt, methodAt, isRef, permit, maxArguments, maxCategories, maxTypes, between, countsFit, linksFit, standsIn, isNone, isNil, signatureFits, methodCount, keyFits, signatureBound, typeFits, tableFits}

@@ -1,12 +1,12 @@
 -- The fuel of a derivation does not matter once it covers the free type numbers; so one step of it calls itself.
-use mathlib.Core.Path.{_≡_, refl, ap, sym, subst, _∙_}
-use mathlib.Core.Bool.{Bool, true, false, So}
-use mathlib.Core.List.{List, [], _∷_, _++_}
+use mathlib.Core.Path.{_≡_, refl, ap, sym, _∙_}
+use mathlib.Core.Bool.{Bool, true, false}
+use mathlib.Core.List.{List, [], _∷_}
 use mathlib.Core.Option.{Option, none, some}
 use Prim.Native.Nat.{ℕ, zero, suc, _+_, _≤_, _<_}
 use native.Mathlib.Omega.{arith}
-use lib.Dec.{eqb, ltb}
-use lib.ListN.{length, getD, set, length-append, length-set}
+use lib.Dec.{ltb}
+use lib.ListN.{set, length-append}
 use Rattle.model.specs.Basics.{then}
 use Rattle.model.specs.Table.{Kind, Method, Table, size, typeAt, permit, withTypes}
 use Rattle.model.specs.Restriction.{restricted, argKind, answerKind, withoutNew, entry, pending, Derivation, deriveArgs, deriveAnswer, deriveMethod, deriveMethods, make, derive}

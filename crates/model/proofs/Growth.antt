@@ -1,12 +1,12 @@
 -- What stays as it is when the table grows.
-use mathlib.Core.Path.{_≡_, refl, ap, sym, subst, _∙_}
+use mathlib.Core.Path.{_≡_, refl, ap, _∙_}
 use mathlib.Core.Logic.{_↔_}
-use mathlib.Core.Bool.{Bool, true, false, not, _&&_, _||_, So, Bool·beq}
-use mathlib.Core.List.{List, [], _∷_, _++_}
+use mathlib.Core.Bool.{So}
+use mathlib.Core.List.{List, [], _∷_}
 use mathlib.Core.Option.{Option, none, some}
-use Prim.Native.Nat.{ℕ, zero, suc, _+_, _*_, _≤_, _<_}
+use Prim.Native.Nat.{ℕ, _≤_, _<_}
 use native.Mathlib.Omega.{arith}
-use lib.ListN.{length, getD, set}
+use lib.ListN.{getD}
 use Rattle.model.specs.Table.{Ty, Table, noMethod, size, typeAt, methodAt}
 use Rattle.model.specs.Relations.{ArgsBy, AnswerBy, Relation, subtype, conforms, strict, loose, free, catLe, outerRule, related, reaches, Keeps}
 use Rattle.model.specs.Chains.{permits, Permits}

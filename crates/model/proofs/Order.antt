@@ -1,11 +1,9 @@
 -- Laws of the relations: which imply which, reflexive and transitive ones, and where derived types stand.
-use mathlib.Core.Path.{_≡_, refl, ap, sym, subst, _∙_}
-use mathlib.Core.Bool.{Bool, true, false, not, _&&_, _||_, So, Bool·beq}
-use mathlib.Core.List.{List, [], _∷_, _++_}
+use mathlib.Core.Path.{_≡_, refl, subst}
+use mathlib.Core.Bool.{Bool, true, false, So, Bool·beq}
+use mathlib.Core.List.{List, [], _∷_}
 use mathlib.Core.Option.{Option, none, some}
-use Prim.Native.Nat.{ℕ, zero, suc, _+_, _*_, _≤_, _<_}
-use native.Mathlib.Omega.{arith}
-use lib.ListN.{length, getD, set}
+use Prim.Native.Nat.{ℕ, _<_}
 use Rattle.model.specs.Basics.{_⇒_}
 use Rattle.model.specs.Table.{State, Rep, ref, w32, w64, sub, sup, closed, Method, Ty, Table, noMethod, size, typeAt, methodAt, permit, isAvail, isRef}
 use Rattle.model.specs.Relations.{Relation, subtype, conforms, strict, loose, free, stateLe, sameRep, catLe, outerRule, stateRule, related, ArgsBy, AnswerBy, MethodBy, Rule, Keeps, sameSort}

@@ -1,13 +1,13 @@
 -- Every state reached from a loaded sheet passes the check of 2.
 use mathlib.Core.Path.{_≡_, refl, ap, sym, subst, _∙_}
-use mathlib.Core.Bool.{Bool, true, false, not, _&&_, _||_, So, cond}
+use mathlib.Core.Bool.{Bool, true, false, not, _&&_, So, cond}
 use mathlib.Core.List.{List, [], _∷_}
 use mathlib.Core.Option.{Option, none, some}
-use Prim.Native.Nat.{ℕ, zero, suc, _+_, _≤_, _<_}
+use Prim.Native.Nat.{ℕ, _≤_, _<_}
 use native.Mathlib.Omega.{arith}
 use native.Mathlib.Decide.{decLt}
 use lib.Dec.{eqb, ltb, leb}
-use lib.ListN.{length, getD}
+use lib.ListN.{length}
 use Rattle.model.specs.Basics.{every, _⇒_, all, unlessMissing}
 use Rattle.model.specs.Table.{linksFit, Kind, sub, sup, closed, Key, Method, Table, noMethod, noType, maxTypes, maxArguments, size, typeAt, methodAt, isRef, permit, standsIn, isNil, isNone, signatureFits, keyFits, signatureBound, typeFits, tableFits, validSheet}
 use Rattle.model.specs.Relations.{free, related}

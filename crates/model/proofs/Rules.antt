@@ -1,11 +1,10 @@
 -- The rule of a pair as a test says what it says as a type (Relations).
-use mathlib.Core.Path.{_≡_, refl, ap, sym, subst}
-use mathlib.Core.Bool.{Bool, true, false, not, _&&_, _||_, So, false≢true}
-use mathlib.Core.List.{List, [], _∷_, _++_}
+use mathlib.Core.Path.{_≡_, refl, sym}
+use mathlib.Core.Bool.{Bool, true, false, _&&_, So, false≢true}
+use mathlib.Core.List.{List, [], _∷_}
 use mathlib.Core.Option.{Option, none, some}
-use Prim.Native.Nat.{ℕ, zero, suc, _+_, _*_, _≤_, _<_}
-use lib.Dec.{eqb, ltb}
-use lib.ListN.{length, getD, set}
+use Prim.Native.Nat.{ℕ, zero, suc, _<_}
+use lib.ListN.{getD}
 use Rattle.model.specs.Basics.{_⇒_}
 use Rattle.model.specs.Table.{Method, Table, noMethod, size, typeAt, methodAt, permit}
 use Rattle.model.specs.Relations.{Relation, subtype, conforms, strict, loose, free, outerRule, stateRule, argsRule, answerRule, methodRule, everyMethod, rule, ArgsBy, AnswerBy, SignatureBy, MethodBy, Rule}

@@ -1,13 +1,11 @@
 -- A valid sheet table is good, so that demand 3 holds of every sheet.
-use mathlib.Core.Path.{_≡_, refl, ap, sym, subst, _∙_}
-use mathlib.Core.Bool.{Bool, true, false, So}
-use mathlib.Core.List.{List}
+use mathlib.Core.Path.{_≡_, ap, sym, _∙_}
+use mathlib.Core.Bool.{So}
 use mathlib.Core.Option.{Option, none, some, Option·none-ne-some}
 use Prim.Native.Nat.{ℕ, _≤_, _<_}
 use native.Mathlib.Omega.{arith}
 use native.Mathlib.Decide.{decLt}
-use lib.Dec.{eqb, ltb, leb}
-use lib.ListN.{length}
+use lib.Dec.{leb}
 use Rattle.model.specs.Table.{Key, Table, size, typeAt, keyFits, tableFits, validSheet}
 use Rattle.model.specs.Claim.{Demand3}
 use Rattle.model.proofs.Tests.{eqb-so, leb-so}

@@ -1,6 +1,5 @@
 -- A fact about every state, or every two or three of them, by computing it at each.
-use mathlib.Core.Path.{_≡_, refl}
-use mathlib.Core.Bool.{Bool, true, false, _&&_, So}
+use mathlib.Core.Bool.{Bool, _&&_, So}
 use Rattle.model.specs.Table.{State, denied, optional, avail, unavail}
 use Rattle.model.proofs.Rules.{first, second}
 

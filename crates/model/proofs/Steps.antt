@@ -1,13 +1,11 @@
 -- A crossing as far as types go: which table and which adapter come of it, and what that does to the chains.
-use mathlib.Core.Path.{_≡_, refl, ap, sym, subst, _∙_}
-use mathlib.Core.Logic.{_↔_, _⊎_, inl, inr, _≢_}
-use mathlib.Core.Bool.{Bool, true, false, not, _&&_, _||_, So, cond}
-use mathlib.Core.List.{List, [], _∷_, _++_}
+use mathlib.Core.Path.{_≡_, refl}
+use mathlib.Core.Logic.{_↔_}
+use mathlib.Core.Bool.{Bool, true, false, So, cond}
+use mathlib.Core.List.{List}
 use mathlib.Core.Option.{Option, none, some}
-use Prim.Native.Nat.{ℕ, zero, suc, _+_, _*_, _≤_, _<_}
+use Prim.Native.Nat.{ℕ, _<_}
 use native.Mathlib.Omega.{arith}
-use lib.Dec.{eqb, ltb}
-use lib.ListN.{length, getD, set}
 use Rattle.model.specs.Basics.{_⇒_, Res, refuse, ok, try, need}
 use Rattle.model.specs.Table.{Kind, sub, closed, Method, Table, size, typeAt, methodAt, permit, isAvail}
 use Rattle.model.specs.Relations.{subtype, conforms, strict, loose, free, related}

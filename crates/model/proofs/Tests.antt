@@ -1,8 +1,8 @@
 -- The native tests, as paths.
-use mathlib.Core.Path.{_≡_, refl, ap, sym, subst, _∙_}
+use mathlib.Core.Path.{_≡_, refl, sym, subst, _∙_}
 use mathlib.Core.Logic.{_≢_}
 use mathlib.Core.Bool.{Bool, true, false, not, So, false≢true}
-use Prim.Native.Nat.{ℕ, zero, suc, _+_, _≤_, _<_}
+use Prim.Native.Nat.{ℕ, _≤_, _<_}
 use lib.Dec.{T, eqb, ltb, leb, leb→le, le→leb, eqb→eq, eqb-refl, ltb→lt, lt→ltb, nltb→le}
 
 pub of-T : (b : Bool) → T b → So b

@@ -8,15 +8,15 @@ use Prim.Native.Nat.{ℕ, zero, suc, _+_, _≤_, _<_}
 use native.Mathlib.Nat.{not-suc-le-zero}
 use native.Mathlib.Omega.{arith}
 use lib.Dec.{eqb, ltb}
-use lib.ListN.{length, getD, length-append, List·getD-append}
+use lib.ListN.{length, length-append, List·getD-append}
 use lib.Seq.{getD-append-seam}
 use Rattle.model.specs.Basics.{Res, refuse, ok, try, need}
 use Rattle.model.specs.Table.{sub, closed, Table, maxTypes, size, typeAt}
 use Rattle.model.specs.Relations.{subtype, conforms, strict, loose, free, related}
 use Rattle.model.specs.Restriction.{derive, derived}
-use Rattle.model.specs.Crossing.{Place, object, adapter, noPlace, maxPlaces, placeType, ownerOf, placeAt, base, baseOf, baseOwner, Reference, adapt, cross}
-use Rattle.model.specs.Requests.{layers, atLayer, renumber, crossLayers}
-use Rattle.model.specs.Chains.{permits, Permits, AllPermit}
+use Rattle.model.specs.Crossing.{Place, object, adapter, noPlace, maxPlaces, placeType, ownerOf, placeAt, base, baseOf, Reference, adapt, cross}
+use Rattle.model.specs.Requests.{layers, renumber, crossLayers}
+use Rattle.model.specs.Chains.{Permits, AllPermit}
 use Rattle.model.specs.Book.{Page, lastOr, lastType, lastClosed, emptyPage, joins, addClosed, pageAdapt, pageCross, pageCrossAll}
 use Rattle.model.proofs.Largest.{keeps-related}
 use Rattle.model.proofs.Derived.{AllBelow}

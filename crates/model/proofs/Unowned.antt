@@ -1,12 +1,10 @@
 -- Where no type with own stands in a signature, subtype is `conforms` with the own flags compared on the outside.
-use mathlib.Core.Path.{_≡_, refl, ap, sym, subst, _∙_}
+use mathlib.Core.Path.{_≡_, refl}
 use mathlib.Core.Logic.{_↔_}
-use mathlib.Core.Bool.{Bool, true, false, not, _&&_, _||_, So}
-use mathlib.Core.List.{List, [], _∷_, _++_}
+use mathlib.Core.Bool.{false, So}
+use mathlib.Core.List.{List, [], _∷_}
 use mathlib.Core.Option.{Option, none, some}
-use Prim.Native.Nat.{ℕ, zero, suc, _+_, _*_, _≤_, _<_}
-use native.Mathlib.Omega.{arith}
-use lib.ListN.{length, getD}
+use Prim.Native.Nat.{ℕ}
 use Rattle.model.specs.Basics.{_⇒_}
 use Rattle.model.specs.Table.{Table, typeAt, methodAt}
 use Rattle.model.specs.Relations.{subtype, conforms, sameRep, catLe, outerRule, related, ArgsBy, AnswerBy, Keeps}

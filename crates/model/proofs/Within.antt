@@ -1,6 +1,6 @@
 -- A state stays within its limits, with every number below its count, through every request: one induction, over what is known of its table.
 use mathlib.Core.Path.{_≡_, refl, ap, sym, subst, _∙_}
-use mathlib.Core.Bool.{Bool, true, false, not, _&&_, _||_, So, cond}
+use mathlib.Core.Bool.{Bool, true, false, not, _&&_, So}
 use mathlib.Core.List.{List, [], _∷_, _++_, map, reverse, reverseAux}
 use mathlib.Core.Option.{Option, none, some}
 use Prim.Native.Nat.{ℕ, zero, suc, _+_, _≤_, _<_}
@@ -8,17 +8,17 @@ use native.Mathlib.Nat.{not-suc-le-zero}
 use native.Mathlib.Omega.{arith}
 use native.Mathlib.Decide.{decLt, ℕ-discrete}
 use lib.Dec.{eqb, ltb}
-use lib.IntN.{ℤ, pos, negsuc}
+use lib.IntN.{ℤ}
 use lib.ListN.{length, getD, set, length-append, length-set, List·getD-append, getElem?}
 use lib.Seq.{getD-at, getD-set-same, getD-set-other}
 use Rattle.model.specs.Basics.{Res, refuse, ok, try, need, names, named}
-use Rattle.model.specs.Table.{Kind, sub, closed, Table, noMethod, maxTypes, size, typeAt, methodAt, argumentAt, answerAt, isRef, isAvail, isClass}
+use Rattle.model.specs.Table.{Kind, sub, closed, Table, noMethod, size, typeAt, methodAt, argumentAt, answerAt, isRef, isAvail, isClass}
 use Rattle.model.specs.Relations.{conforms, strict, loose, free, subtype, related}
 use Rattle.model.specs.Restriction.{mainSide, derived}
 use Rattle.model.specs.Crossing.{Place, object, adapter, noPlace, maxPlaces, placeType, ownerOf, placeAt, base, baseOf, baseOwner, Reference, adapt, cross}
-use Rattle.model.specs.Requests.{Cell, Call, System, maxCells, maxCalls, Request, new, move, call, answer, Result, pair, number, nothing, noCell, noCall, cellAt, callAt, isSheetRef, held, leaving, addCell, newRequest, moveRequest, layers, layersOf, adapterCount, wayOf, atLayer, renumber, crossLayers, passLayers, send, argumentsHeld, sendArguments, withCall, callRequest, withAnswer, give, answerRequest, serve, after}
-use Rattle.model.proofs.Tests.{ltb-so, eqb-so}
-use Rattle.model.proofs.Rules.{never, both, first, second}
+use Rattle.model.specs.Requests.{Cell, Call, System, maxCells, maxCalls, Request, new, move, call, answer, Result, pair, number, noCell, noCall, cellAt, callAt, isSheetRef, held, leaving, addCell, newRequest, moveRequest, layers, layersOf, adapterCount, wayOf, renumber, crossLayers, passLayers, send, argumentsHeld, sendArguments, withCall, callRequest, withAnswer, give, answerRequest, serve, after}
+use Rattle.model.proofs.Tests.{ltb-so}
+use Rattle.model.proofs.Rules.{first, second}
 use Rattle.model.proofs.Derived.{AllBelow, AnswerBelow, SignaturesIn}
 use Rattle.model.proofs.Order.{strict→loose, loose→free}
 use Rattle.model.proofs.ChainLaws.{sort-eq}

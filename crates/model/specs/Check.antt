@@ -2,7 +2,7 @@
 -- (a category above the last), the table breaks a rule of the first section, a cell's type isn't a sheet ref type, an object's class isn't a sheet class,
 -- an adapter's type isn't ref, or an adapter's place behind isn't below it."
 -- What is handed in is a record of numbers: counts, and codes in arrays. Its meaning and the check are both total, so that any numbers have an answer.
-use mathlib.Core.Bool.{Bool, true, false, _&&_, _||_, cond}
+use mathlib.Core.Bool.{Bool, _&&_, _||_, cond}
 use mathlib.Core.List.{List, [], _∷_}
 use mathlib.Core.Option.{Option, none, some}
 use Prim.Native.Nat.{ℕ, zero, suc}

@@ -12,10 +12,10 @@ use Rattle.model.specs.Table.{Rep, ref, Method, Ty, Table, maxSubjects, maxMeth
 use Rattle.model.specs.Check.{repOf}
 use Rattle.sheet.specs.Lines.{bytes, Row, row, cut, push, split, Reading, refused, got, Reader, give, line, follow, then, many, nothing, same, oneOf}
 use Rattle.sheet.specs.Text.{newestForm, endText}
-use Rattle.sheet.specs.Sheet.{numberLine, repLine, ownLine, methodLine, endLine, sheetType, members, oneType, body, ownInSignature, ending, sheet, answerOf, read}
+use Rattle.sheet.specs.Sheet.{numberLine, repLine, ownLine, methodLine, endLine, sheetType, members, oneType, body, ownInSignature, ending, sheet, sheetAnswer, read}
 use Rattle.text.specs.View.{result, reading}
 use Rattle.text.proofs.Laws.{from-here, at-end}
-use Rattle.reader.specs.View.{eachUnder, eachMethod, memberLines, Counted, first₁, first, afterCats, afterFirst}
+use Rattle.reader.specs.View.{eachUnder, eachMethod, membersRead, Counted, first₁, first, afterCats, afterFirst}
 
 -- What a reading's number says.
 module _ {A : Type 0} (s : List ℕ) (nr : ℕ) (x : A) (at : ℕ) (R : Reading A) (is : reading s nr x at ≡ R) where
@@ -106,27 +106,27 @@ module _ (m n c at : ℕ) (rs : List Row) where
   unfolding many methodLine typed
   after-own o = then (many (eachMethod n) m 0 []) (typed o)
 
-  members-of : follow (line ownLine at rs) after-own ≡ memberLines m n c at rs
-  unfolding memberLines after-own typed
+  members-of : follow (line ownLine at rs) after-own ≡ membersRead m n c at rs
+  unfolding membersRead after-own typed
   members-of = refl
 
-  pub member-own-no : (k a : ℕ) → refused k a ≡ line ownLine at rs → refused k a ≡ memberLines m n c at rs
+  pub member-own-no : (k a : ℕ) → refused k a ≡ line ownLine at rs → refused k a ≡ membersRead m n c at rs
   member-own-no k a e = follow-no (line ownLine at rs) after-own k a e ∙ members-of
 
   module _ (o : Bool) (at₁ : ℕ) (rs₁ : List Row) (e₁ : got o at₁ rs₁ ≡ line ownLine at rs) where
-    to-list : follow (many (eachMethod n) m 0 [] at₁ rs₁) (typed o) ≡ memberLines m n c at rs
+    to-list : follow (many (eachMethod n) m 0 [] at₁ rs₁) (typed o) ≡ membersRead m n c at rs
     unfolding after-own
     to-list = follow-ok (line ownLine at rs) after-own o at₁ rs₁ e₁ ∙ members-of
 
-    pub member-methods-no : (k a : ℕ) → refused k a ≡ many (eachMethod n) m 0 [] at₁ rs₁ → refused k a ≡ memberLines m n c at rs
+    pub member-methods-no : (k a : ℕ) → refused k a ≡ many (eachMethod n) m 0 [] at₁ rs₁ → refused k a ≡ membersRead m n c at rs
     member-methods-no k a e = follow-no (many (eachMethod n) m 0 [] at₁ rs₁) (typed o) k a e ∙ to-list
 
-    pub member-ok : (ms : List Method) (at₂ : ℕ) (rs₂ : List Row) → got ms at₂ rs₂ ≡ many (eachMethod n) m 0 [] at₁ rs₁ → got (sheetType ref c o ms) at₂ rs₂ ≡ memberLines m n c at rs
+    pub member-ok : (ms : List Method) (at₂ : ℕ) (rs₂ : List Row) → got ms at₂ rs₂ ≡ many (eachMethod n) m 0 [] at₁ rs₁ → got (sheetType ref c o ms) at₂ rs₂ ≡ membersRead m n c at rs
     unfolding typed
     member-ok ms at₂ rs₂ e = follow-ok (many (eachMethod n) m 0 [] at₁ rs₁) (typed o) ms at₂ rs₂ e ∙ to-list
 
-pub members-ref : (m n r c at : ℕ) (rs : List Row) → r ≡ 0 → memberLines m n c at rs ≡ members m n (repOf r) c at rs
-unfolding memberLines members
+pub members-ref : (m n r c at : ℕ) (rs : List Row) → r ≡ 0 → membersRead m n c at rs ≡ members m n (repOf r) c at rs
+unfolding membersRead members
 members-ref m n r c at rs e = ap (λ (z : ℕ). members m n (repOf z) c at rs) (sym e)
 
 pub members-number : (m n r c at : ℕ) (rs : List Row) → (r ≡ 0 → ⊥) → got (sheetType (repOf r) c false []) at rs ≡ members m n (repOf r) c at rs
@@ -191,9 +191,9 @@ first-body at rs =
     (λ s at rs. regroup (line (numberLine (bytes "methods=") 1 maxMethods) at rs) _ afterFirst _
     (λ m at rs. regroup (line (numberLine (bytes "cats=") 0 maxCategories) at rs) _ afterFirst _ (λ c at rs. refl))))
 
-pub sheet-of : (s : List ℕ) → answerOf (follow (follow (first 0 (split s)) afterFirst) ending) ≡ read s
+pub sheet-of : (s : List ℕ) → sheetAnswer (follow (follow (first 0 (split s)) afterFirst) ending) ≡ read s
 unfolding read sheet
-sheet-of s = ap (λ z. answerOf (follow z ending)) (sym (first-body 0 (split s)))
+sheet-of s = ap (λ z. sheetAnswer (follow z ending)) (sym (first-body 0 (split s)))
 
 -- The groups of lines behind the first four.
 module _ (h : Counted) (at : ℕ) (rs : List Row) where

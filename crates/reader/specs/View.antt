@@ -46,9 +46,9 @@ abbrev pub methodsOf : ℕ → RawType → List Methodᵐ
 methodsOf m x = cond (isRef (repOf (x .rep))) (from m 0 (λ j. methodOf (getD (x .methods) j noRawMethod))) []
 
 -- the lines of a reference type behind its `cat=` line
-unfoldable pub memberLines : ℕ → ℕ → ℕ → Reader Ty
+unfoldable pub membersRead : ℕ → ℕ → ℕ → Reader Ty
 unfolding many ownLine methodLine
-memberLines m n c = then (line ownLine) λ o. then (many (eachMethod n) m 0 []) λ ms. give (sheetType ref c o ms)
+membersRead m n c = then (line ownLine) λ o. then (many (eachMethod n) m 0 []) λ ms. give (sheetType ref c o ms)
 
 -- Own among the first n records.
 abbrev pub ownAt : List RawType → ℕ → ℕ → Bool

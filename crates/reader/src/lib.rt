@@ -4,15 +4,15 @@ ghost use mathlib.Core.Path.{_≡_};
 ghost use mathlib.Core.Bool.{true, false};
 ghost use mathlib.Core.List.{[], map};
 ghost use Prim.Native.Nat.{ℕ, _≤_, _<_};
-ghost use lib.ListN.{length, getD, set, take, drop};
+ghost use lib.ListN.{length, getD, take, drop};
 ghost use Rattle.model.specs.Basics.{any};
 ghost use Rattle.model.specs.Table.{Table, permit};
 ghost use Rattle.model.specs.Check.{noRawType, stateOf, repOf, typeOf, rawTypeFits};
-ghost use Rattle.table.specs.Store.{typesIn, linksIn, rawOf, rawLinks, typesTo};
+ghost use Rattle.table.specs.Store.{typesIn, linksIn, rawOf, typesTo};
 ghost use Rattle.sheet.specs.Lines.{split, line, then, many};
-ghost use Rattle.sheet.specs.Sheet.{malformed, answerOf, endLine, sheetType, oneType, ownIn, ending, read as readSheet};
+ghost use Rattle.sheet.specs.Sheet.{malformed, sheetAnswer, endLine, sheetType, oneType, ownIn, ending, read as readSheet};
 ghost use Rattle.text.specs.View.{reading};
-ghost use Rattle.reader.specs.View.{linksTo, methodIs, methodsNamed, linksNamed, typesNamed, eachUnder, eachMethod, methodsOf, memberLines, ownAt, ownInMethods, ownInType, countedIn, first, afterFirst, SheetIs};
+ghost use Rattle.reader.specs.View.{linksTo, methodIs, methodsNamed, linksNamed, typesNamed, eachUnder, eachMethod, methodsOf, membersRead, ownAt, ownInMethods, ownInType, countedIn, first, afterFirst, SheetIs};
 use table::Counts;
 use table::Links;
 use table::Method;
@@ -140,7 +140,7 @@ fn number_type(rep: usize, cat: usize) -> TypeRec
 // "and for ref `own=`(yes or no) and an `m=` line for each method": m methods, of a sheet with n types.
 fn ref_type(s: &[u8], c: Cursor, cat: usize, m: usize, n: usize) -> TypeGot
     requires { ⌜ (c .at ≤ length (now s)) × (cat ≤ 31) × (m ≤ 16) × (n ≤ 48) ⌝ }
-    ensures is { λ r. ⌜ ((i : ℕ) → i < n → reading (now (s .entry)) (r .no) (typeOf m n i (rawOf (r .t))) (r .next .at) ≡ memberLines m n cat (c .at) (split (drop (c .at) (now (s .entry))))) ⌝ }
+    ensures is { λ r. ⌜ ((i : ℕ) → i < n → reading (now (s .entry)) (r .no) (typeOf m n i (rawOf (r .t))) (r .next .at) ≡ membersRead m n cat (c .at) (split (drop (c .at) (now (s .entry))))) ⌝ }
     ensures within { λ r. ⌜ (r .next .at ≤ length (now (s .entry))) × ((i : ℕ) → i < n → r .no ≡ 0 → rawTypeFits m n i (rawOf (r .t)) ≡ true) ⌝ }
 {
     let o = lines::next_own(s, c);
@@ -428,7 +428,7 @@ fn refused(no: usize, at: usize) -> Sheet
 // The lines behind the first four, and the table.
 fn after_first(s: &[u8], h: First) -> Sheet
     requires { ⌜ (h .next .at ≤ length (now s)) × (h .methods ≤ 16) × (h .cats ≤ 31) ⌝ }
-    ensures { λ r. ⌜ SheetIs r (answerOf (then (afterFirst (countedIn h)) ending (h .next .at) (split (drop (h .next .at) (now (s .entry)))))) ⌝ }
+    ensures { λ r. ⌜ SheetIs r (sheetAnswer (then (afterFirst (countedIn h)) ending (h .next .at) (split (drop (h .next .at) (now (s .entry)))))) ⌝ }
 {
     let c = h.next;
     let mut links = table::empty_links();

@@ -27,7 +27,7 @@ use Rattle.restrict.specs.declared.Derived.the-variants.{Full, At}
 use Rattle.restrict.specs.declared.Begun.{Begun}
 use Rattle.restrict.specs.declared.Begun.the-variants.{Settled, New}
 use Rattle.slots.specs.Slots.{shared, fillAt, methodIn, newRecord, Finished}
-use Rattle.restrict.specs.Link.{Ready, Kept, Keeps, Coded, Gives, Begins, Stored, refIn, tabled, outcome, pendingRecord}
+use Rattle.restrict.specs.Link.{Ready, Kept, Leaves, Coded, Gives, Begins, Stored, refIn, tabled, outcome, pendingRecord}
 use Rattle.slots.proofs.Runs.{Row, methods-run}
 use Rattle.restrict.proofs.Begins.{ref-below, ref-rep, ref-type}
 use Rattle.restrict.proofs.Codes.{set-holds, denied-coded, methods-coded, new-coded}
@@ -272,7 +272,7 @@ module _ {d : Kind} {cat kind ms sh n t s : ℕ} {x y : TypeRec} {b b₀ : List 
     derive-runs (suc f) h o all = (f, make-runs f ∙ ap After (all T et f (omega arith)))
 
   -- The table is full somewhere inside.
-  pub new-full : {b₁ b′ : List ℕ} {end : ℕ} {ns : List ℕ} {m k l r : ℕ} {g : Derived} → Loop d ms sh n x y b₀ b₁ end ns m k → Keeps m l r b₁ b′ g → Comes d ms sh n x y b₀ (λ T f. none) → Gives d ms sh n t s b b′ Full
+  pub new-full : {b₁ b′ : List ℕ} {end : ℕ} {ns : List ℕ} {m k l r : ℕ} {g : Derived} → Loop d ms sh n x y b₀ b₁ end ns m k → Leaves m l r b₁ b′ g → Comes d ms sh n x y b₀ (λ T f. none) → Gives d ms sh n t s b b′ Full
   new-full now keeps all = record {
     keeps = record { long = keeps .long; kept = λ i l. keeps .kept i (let p = now .more in omega arith) ∙ now .kept i (omega arith) ∙ start-kept i l; sized = tt };
     is = λ T et f h. sym (derive-runs T et f h (λ T f. none) all .1);

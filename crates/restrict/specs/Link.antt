@@ -54,7 +54,7 @@ abbrev pub Sized : ℕ → ℕ → ℕ → Derived → Type 0
 Sized n t s Full = Unit {0}
 Sized n t s (At i m) = (n ≤ m) × (m ≤ 128) × Below t s m i
 
-pub record Keeps (n t s : ℕ) (b b′ : List ℕ) (r : Derived) : Type 0 where
+pub record Leaves (n t s : ℕ) (b b′ : List ℕ) (r : Derived) : Type 0 where
   pub long : length b′ ≡ 16384
   pub kept : Kept n b b′
   pub sized : Sized n t s r
@@ -85,7 +85,7 @@ seen t ms sh (At i m) b = some (tabled t ms sh m b, i)
 
 -- The contract of the recursion: the answer is the model's, whatever else there is in the table, and for every fuel of at least the free numbers.
 pub record Gives (d : Kind) (ms sh n t s : ℕ) (b b′ : List ℕ) (r : Derived) : Type 0 where
-  pub keeps : Keeps n t s b b′ r
+  pub keeps : Leaves n t s b b′ r
   pub is : (T : Table) → T .methods ≡ ms → (f : ℕ) → 128 ≤ n + f → seen T ms sh r b′ ≡ derive f (tabled T ms sh n b) d t s
   pub coded : Coded ms sh n b → CodedTo ms sh b′ r
 

@@ -11,7 +11,7 @@ ghost use Rattle.model.specs.Table.{sub, sup, closed};
 ghost use Rattle.model.specs.Restriction.{find, withoutNew, mainSide, derived};
 ghost use Rattle.model.specs.Check.{kindOf};
 ghost use Rattle.table.specs.Store.{typesIn, typesTo, tableIn};
-ghost use Rattle.restrict.specs.Link.{Ready, Keeps, CodesStay, Gives, Begins, Stored, outcome, foundOf, refIn, pendingRecord, tabled};
+ghost use Rattle.restrict.specs.Link.{Ready, Leaves, CodesStay, Gives, Begins, Stored, outcome, foundOf, refIn, pendingRecord, tabled};
 use slots::Slot;
 use table::Counts;
 use table::TypeRec;
@@ -255,7 +255,7 @@ fn closed(
 pub fn sub_type(b: &mut [u8; 16384], c: Counts, t: usize, s: usize) -> Derived
     requires { ⌜ Ready (c .methods) (c .sheet) (c .types) t s (now b) ⌝ }
     ensures is { λ r. ⌜ ((l : List ℕ) → outcome (now (b .exit)) l c r ≡ derived (tableIn (now (b .entry)) l c) sub t s) ⌝ }
-    ensures keeps { λ r. ⌜ Keeps (c .types) t s (now (b .entry)) (now (b .exit)) r ⌝ }
+    ensures keeps { λ r. ⌜ Leaves (c .types) t s (now (b .entry)) (now (b .exit)) r ⌝ }
     ensures codes { λ r. ⌜ CodesStay c (now (b .entry)) (now (b .exit)) r ⌝ }
 {
     sub(b, c.methods, c.sheet, c.types, t, s)
@@ -265,7 +265,7 @@ pub fn sub_type(b: &mut [u8; 16384], c: Counts, t: usize, s: usize) -> Derived
 pub fn sup_type(b: &mut [u8; 16384], c: Counts, t: usize, s: usize) -> Derived
     requires { ⌜ Ready (c .methods) (c .sheet) (c .types) t s (now b) ⌝ }
     ensures is { λ r. ⌜ ((l : List ℕ) → outcome (now (b .exit)) l c r ≡ derived (tableIn (now (b .entry)) l c) sup t s) ⌝ }
-    ensures keeps { λ r. ⌜ Keeps (c .types) t s (now (b .entry)) (now (b .exit)) r ⌝ }
+    ensures keeps { λ r. ⌜ Leaves (c .types) t s (now (b .entry)) (now (b .exit)) r ⌝ }
     ensures codes { λ r. ⌜ CodesStay c (now (b .entry)) (now (b .exit)) r ⌝ }
 {
     sup(b, c.methods, c.sheet, c.types, t, s)
@@ -275,7 +275,7 @@ pub fn sup_type(b: &mut [u8; 16384], c: Counts, t: usize, s: usize) -> Derived
 pub fn closed_type(b: &mut [u8; 16384], c: Counts, r: usize, v: usize) -> Derived
     requires { ⌜ Ready (c .methods) (c .sheet) (c .types) r v (now b) × (refIn (c .types) (now b) r ≡ true) × (refIn (c .types) (now b) v ≡ true) ⌝ }
     ensures is { λ d. ⌜ ((l : List ℕ) → outcome (now (b .exit)) l c d ≡ derived (tableIn (now (b .entry)) l c) closed r v) ⌝ }
-    ensures keeps { λ d. ⌜ Keeps (c .types) r v (now (b .entry)) (now (b .exit)) d ⌝ }
+    ensures keeps { λ d. ⌜ Leaves (c .types) r v (now (b .entry)) (now (b .exit)) d ⌝ }
     ensures codes { λ d. ⌜ CodesStay c (now (b .entry)) (now (b .exit)) d ⌝ }
 {
     closed(b, c.methods, c.sheet, c.types, r, v)

@@ -1,10 +1,10 @@
 // Document 01, "Relations over all pairs": what a relation asks of a pair of types without their signatures. States of a method, representation, category, own.
 // The pairs that signatures lead to are found in `relation`.
 ghost use mathlib.Core.Path.{_≡_};
-ghost use mathlib.Core.Bool.{Bool, false, _&&_};
+ghost use mathlib.Core.Bool.{false, _&&_};
 ghost use mathlib.Core.List.{List, []};
-ghost use Prim.Native.Nat.{ℕ, _≤_, _<_};
-ghost use lib.ListN.{length, getD};
+ghost use Prim.Native.Nat.{ℕ, _<_};
+ghost use lib.ListN.{getD};
 ghost use Rattle.model.specs.Basics.{_⇒_};
 ghost use Rattle.model.specs.Table.{permit};
 ghost use Rattle.model.specs.Relations.{stateRule, sameRep, sameSort, catLe};

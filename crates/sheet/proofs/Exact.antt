@@ -15,7 +15,7 @@ use Rattle.model.specs.Check.{RawTable, tableOf, codesFit, tableAccepted}
 use Rattle.model.proofs.Rules.{second}
 use Rattle.sheet.specs.Lines.{Row, row, split, join, Reading, refused, got, Reader, line, follow, then, nothing}
 use Rattle.sheet.specs.Text.{endText, sheetLines, withoutDerived, text, Written, writeText, write}
-use Rattle.sheet.specs.Sheet.{endLine, body, ownInSignature, ending, sheet, malformed, loaded, answerOf, read, emptyTable, tableRead}
+use Rattle.sheet.specs.Sheet.{endLine, body, ownInSignature, ending, sheet, malformed, loaded, sheetAnswer, read, emptyTable, tableRead}
 use Rattle.sheet.proofs.Steps.{cond-cases, refuse-ok, ok-value}
 use Rattle.sheet.proofs.Lines.{rows, rows-append, split-sound, split-full, clean-lines}
 use Rattle.sheet.proofs.LineKinds.{end-exact}
@@ -64,7 +64,7 @@ read-exact bs t = (λ h. from (sheet 0 (split bs)) refl h, λ p. to (p .0) (p .1
               ∙ ap (λ z. join (sheetLines z ++ (endText ∷ []))) (sym (without-none v (i .0 .count))),
         )
 
-    from : (r : Reading Table) → sheet 0 (split bs) ≡ r → answerOf r ≡ loaded t → So (validSheet t) × (bs ≡ text t)
+    from : (r : Reading Table) → sheet 0 (split bs) ≡ r → sheetAnswer r ≡ loaded t → So (validSheet t) × (bs ≡ text t)
     from (refused n at) e h = malformed-loaded h
     from (got u at rs) e h = subst (λ z. So (validSheet z) × (bs ≡ text z)) (loaded-table h) (sound u at rs e)
 
@@ -74,8 +74,8 @@ read-exact bs t = (λ h. from (sheet 0 (split bs)) refl h, λ p. to (p .0) (p .1
         let i = body-exact .full 0 t (row endText ∷ []) (v .0) in
         let j = ending-full t (i .0) (v .1) in
         ap read (e ∙ ap (λ z. join (sheetLines z ++ (endText ∷ []))) (valid-whole t h))
-        ∙ ap (λ z. answerOf (sheet 0 z)) (split-full (sheetLines t ++ (endText ∷ [])) (clean-lines (sheetLines t) (endText ∷ []) (body-exact .lf t (v .0)) (refl, tt)) ∙ rows-append (sheetLines t) (endText ∷ []))
-        ∙ ap (λ z. answerOf (follow z ending)) (i .1) ∙ ap answerOf (j .1)
+        ∙ ap (λ z. sheetAnswer (sheet 0 z)) (split-full (sheetLines t ++ (endText ∷ [])) (clean-lines (sheetLines t) (endText ∷ []) (body-exact .lf t (v .0)) (refl, tt)) ∙ rows-append (sheetLines t) (endText ∷ []))
+        ∙ ap (λ z. sheetAnswer (follow z ending)) (i .1) ∙ ap sheetAnswer (j .1)
 
 -- The premise of demand 3: what is loaded is valid.
 pub loaded-valid : (bs : List ℕ) (t : Table) → read bs ≡ loaded t → So (validSheet t)

@@ -126,14 +126,14 @@ pub data SheetAnswer : Type 0 where
   malformed : ℕ → ℕ → SheetAnswer
   loaded : Table → SheetAnswer
 
-abbrev pub answerOf : Reading Table → SheetAnswer
-answerOf (refused n at) = malformed n at
-answerOf (got t at rs) = loaded t
+abbrev pub sheetAnswer : Reading Table → SheetAnswer
+sheetAnswer (refused n at) = malformed n at
+sheetAnswer (got t at rs) = loaded t
 
 -- "Sheet read", for every string of bytes
 unfoldable pub read : List ℕ → SheetAnswer
 unfolding sheet split
-read bs = answerOf (sheet 0 (split bs))
+read bs = sheetAnswer (sheet 0 (split bs))
 
 -- "the table is always a new one, here with every count 0"
 abbrev pub emptyTable : Table

@@ -10,7 +10,6 @@ use linewriter::upto;
 use table::Links;
 use table::Method;
 use table::wide;
-ghost use mathlib.Core.Path.{_≡_};
 ghost use mathlib.Core.List.{[], _∷_};
 ghost use Prim.Native.Nat.{_≤_};
 ghost use lib.Dec.{eqb};

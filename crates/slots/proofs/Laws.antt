@@ -22,7 +22,7 @@ use Rattle.table.specs.declared.TypeRec.{TypeRec}
 use Rattle.table.specs.Store.{rawMethod}
 use Rattle.table.proofs.Laws.{absent}
 use Rattle.slots.specs.declared.Slot.the-variants.{Empty, Argument, Answer}
-use Rattle.slots.specs.Slots.{argumentSlot, answerSlot, slotOf, shared, lesser, fill, fillAt, methodIn, rawIn, Coded, keyIn, keptState}
+use Rattle.slots.specs.Slots.{argumentSlot, answerSlot, slotOf, shared, lesser, fill, fillAt, methodIn, rawIn, MethodCoded, keyIn, keptState}
 
 -- Kinds.
 pub closed-same : (kind k : ℕ) → kind ≡ 2 → leb 2 k ≡ sameKind (kindOf kind) (kindOf k)
@@ -201,7 +201,7 @@ module _ (d : Kind) (p q : RawMethod) where
       go true e = rw (es, e, left-on e, right-on e, take-shared (p .count) (q .count) (p .args) (q .args) args h k)
 
   -- its codes name something where those of both sides do
-  pub filled-coded : (st : ℕ) (args : List ℕ) (a : ℕ) → stateOf st ≡ restricted d (stateOf (p .state)) (stateOf (q .state)) → (p .state < 4 → q .state < 4 → st < 4) → Coded p → Coded q → Coded (made st args a)
+  pub filled-coded : (st : ℕ) (args : List ℕ) (a : ℕ) → stateOf st ≡ restricted d (stateOf (p .state)) (stateOf (q .state)) → (p .state < 4 → q .state < 4 → st < 4) → MethodCoded p → MethodCoded q → MethodCoded (made st args a)
   filled-coded st args a es low hp hq =
       both (so-ltb (low (ltb-so (first (ltb (p .state) 4) _ hp)) (ltb-so (first (ltb (q .state) 4) _ hq)))) (imply (permit (stateOf st)) (leb (lesser (p .count) (q .count)) 2) (λ on. so-leb (few on)))
     where

@@ -73,8 +73,8 @@ abbrev pub methodIn : TypeRec → ℕ → Method
 methodIn x j = methodOf (rawIn x j)
 
 -- the codes of a stored method name something, as the check of a table handed in asks
-abbrev pub Coded : RawMethod → Type 0
-Coded m = So (rawMethodFits m)
+abbrev pub MethodCoded : RawMethod → Type 0
+MethodCoded m = So (rawMethodFits m)
 
 -- the key of a derived type
 abbrev pub keyIn : Head → Option Key
@@ -92,4 +92,4 @@ newRecord cat kind t s ms = record { rep = 0; cat = cat; own = 0; kind = kind; l
 pub record Finished (d : Kind) (cat kind t s ms : ℕ) (x y : TypeRec) (ns : List ℕ) (z : TypeRec) : Type 0 where
   pub head : rawOf z ≡ newRecord cat kind t s (rawOf z .methods)
   pub filled : (j : ℕ) → j < ms → methodIn z j ≡ fillAt d (methodIn x) (methodIn y) ns j
-  pub coded : (j : ℕ) → j < ms → Coded (rawIn x j) → Coded (rawIn y j) → Coded (rawIn z j)
+  pub coded : (j : ℕ) → j < ms → MethodCoded (rawIn x j) → MethodCoded (rawIn y j) → MethodCoded (rawIn z j)

@@ -7,7 +7,7 @@ ghost use Rattle.model.specs.Table.{permit};
 ghost use Rattle.model.specs.Restriction.{restricted, sameKind, isKey};
 ghost use Rattle.model.specs.Check.{stateOf, kindOf, answerOf, methodOf};
 ghost use Rattle.table.specs.Store.{rawMethod, rawOf};
-ghost use Rattle.slots.specs.Slots.{answerSlot, argumentSlot, slotOf, slotAt, lesser, fill, methodIn, rawIn, Coded, Low, keyIn, keptState, newRecord, Finished};
+ghost use Rattle.slots.specs.Slots.{answerSlot, argumentSlot, slotOf, slotAt, lesser, fill, methodIn, rawIn, MethodCoded, Low, keyIn, keptState, newRecord, Finished};
 use table::Head;
 use table::Method;
 use table::TypeRec;
@@ -184,7 +184,7 @@ fn least(x: u8, y: u8) -> u8
 fn filled(kind: u8, p: Method, q: Method, args: [u8; 4], answer: u8) -> Method
     requires { ⌜ kind < 3 ⌝ }
     ensures is { λ r. ⌜ methodOf (rawMethod r) ≡ fill (kindOf kind) (methodOf (rawMethod p)) (methodOf (rawMethod q)) args answer ⌝ }
-    ensures coded { λ r. ⌜ (Coded (rawMethod p) → Coded (rawMethod q) → Coded (rawMethod r)) ⌝ }
+    ensures coded { λ r. ⌜ (MethodCoded (rawMethod p) → MethodCoded (rawMethod q) → MethodCoded (rawMethod r)) ⌝ }
 {
     let state = state_of(kind, p.state, q.state);
     let count = least(p.count, q.count);

@@ -1,18 +1,18 @@
 -- Laws over plain values: what a byte more means for a word, a decimal, a list of numbers and a line. The proofs of the functions cite them.
-use mathlib.Core.Path.{_≡_, refl, sym, ap, _∙_, subst}
+use mathlib.Core.Path.{_≡_, refl, sym, ap, _∙_}
 use mathlib.Core.Bool.{Bool, true, false, _&&_, So, cond}
 use mathlib.Core.List.{List, [], _∷_, _++_}
-use Prim.Native.Nat.{ℕ, zero, suc, _+_, _-_, _*_, _≤_, _<_}
+use Prim.Native.Nat.{ℕ, suc, _+_, _-_, _*_, _≤_, _<_}
 use native.Mathlib.Omega.{arith}
 use native.Mathlib.Numerals.{add-one}
 use lib.Dec.{eqb, leb}
 use lib.ListN.{length, getD, set, take, drop, length-drop, drop-of-length-le, length-append, take-append-drop}
 use lib.Seq.{drop-cons, take-suc, getD-drop, drop-drop, take-all, length-take-le, take-suc-set}
 use borrow.Author.Tests.{le-leb, lt-leb, eq-eqb, ne-eqb}
-use Rattle.model.specs.Basics.{Res, refuse, ok, try, need, all}
+use Rattle.model.specs.Basics.{Res, refuse, ok, try, need}
 use Rattle.model.specs.Table.{between}
 use Rattle.model.proofs.Rules.{both, first, second}
-use Rattle.sheet.specs.Lines.{Row, row, cut, push, split, Reading, refused, got, line, lineAt, starts, same, keyed}
+use Rattle.sheet.specs.Lines.{row, cut, push, split, refused, got, line, lineAt, starts, same, keyed}
 use Rattle.sheet.specs.Numbers.{Scan, fail, took, andThen, whole, isDigit, limit, digits, number, comma, numbers}
 use Rattle.sheet.specs.Sheet.{numberLine}
 use Rattle.sheet.proofs.Steps.{clash, cond-cases}

@@ -6,9 +6,10 @@ ghost use mathlib.Core.List.{[]};
 ghost use Prim.Native.Nat.{_+_, _-_, _≤_, _<_, min};
 ghost use lib.ListN.{length, take, drop};
 ghost use Rattle.sheet.specs.Lines.{split, line, starts, same};
-ghost use Rattle.sheet.specs.Numbers.{took, digits, number, numbers};
+ghost use Rattle.sheet.specs.Numbers.{digits, number, numbers};
 ghost use Rattle.sheet.specs.Sheet.{numberLine};
 ghost use Rattle.text.specs.View.{LineEnd, scanned, result, reading, passed};
+use table::wide;
 
 // Where the next line begins: its byte offset.
 pub struct Cursor {
@@ -50,12 +51,6 @@ pub struct Got {
     pub no: usize,
     pub n: usize,
     pub next: Cursor,
-}
-
-fn wide(x: u8) -> usize
-    ensures { λ r. ⌜ (r ≡ x) × (r < 256) ⌝ }
-{
-    x as usize
 }
 
 // A longer number counts as 10,000, so that digits of any length are read without overflow.

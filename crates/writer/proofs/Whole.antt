@@ -21,7 +21,7 @@ use Rattle.linewriter.specs.Fill.{Filled, Lined}
 use Rattle.linewriter.proofs.Laws.{counted, fill-is}
 use Rattle.writer.specs.declared.Wrote.the-variants.{UnfitTable, ShortBuffer, Length}
 use Rattle.writer.specs.Parts.{typeIn, linksOfCategory, typeLinesTo, underLines, countLines, frontLines, backLines, Limited}
-use Rattle.writer.specs.Answer.{left}
+use Rattle.writer.specs.Answer.{writtenOf}
 
 take-from : {A : Type 0} (f : ℕ → A) (n c i : ℕ) → n ≤ c → take n (from c i f) ≡ from n i f
 unfolding from
@@ -68,7 +68,7 @@ module _ (b l : List ℕ) (c : Counts) where
       }
 
 -- "4 if the buffer is short, buffer unchanged": the sheet was counted on an empty part of the buffer
-pub short-is : {tl : List ℕ} {n : ℕ} (r : RawTable) (buf : List ℕ) → tableAccepted r ≡ true → Filled [] tl (text (tableOf r)) n → length (tl ++ buf) < n → left ShortBuffer (tl ++ buf) ≡ write r buf
+pub short-is : {tl : List ℕ} {n : ℕ} (r : RawTable) (buf : List ℕ) → tableAccepted r ≡ true → Filled [] tl (text (tableOf r)) n → length (tl ++ buf) < n → writtenOf ShortBuffer (tl ++ buf) ≡ write r buf
 unfolding write writeText
 short-is {tl} {n} r buf h f s =
     let e : tl ++ buf ≡ buf = counted f in
@@ -77,7 +77,7 @@ short-is {tl} {n} r buf h f s =
     rw (e, h, lt-leb (length (text (tableOf r))) (length buf) (omega arith))
 
 -- "else the length, with the bytes behind it unchanged"
-pub length-is : {tl new : List ℕ} {n m : ℕ} (r : RawTable) (buf : List ℕ) → tableAccepted r ≡ true → Filled [] tl (text (tableOf r)) n → n ≤ length (tl ++ buf) → Filled (tl ++ buf) new (text (tableOf r)) m → left (Length m) new ≡ write r buf
+pub length-is : {tl new : List ℕ} {n m : ℕ} (r : RawTable) (buf : List ℕ) → tableAccepted r ≡ true → Filled [] tl (text (tableOf r)) n → n ≤ length (tl ++ buf) → Filled (tl ++ buf) new (text (tableOf r)) m → writtenOf (Length m) new ≡ write r buf
 unfolding write writeText
 length-is {tl} {new} {n} {m} r buf h f s g =
     let e : tl ++ buf ≡ buf = counted f in
@@ -87,6 +87,6 @@ length-is {tl} {new} {n} {m} r buf h f s g =
     rw (g .said, g .text (omega arith), e, h, le-leb (length (text (tableOf r))) (length buf) k)
 
 -- "A .. table handed in gets 2 before all else", and the buffer is unchanged
-pub unfit-is : (r : RawTable) (buf : List ℕ) → tableAccepted r ≡ false → left UnfitTable buf ≡ write r buf
+pub unfit-is : (r : RawTable) (buf : List ℕ) → tableAccepted r ≡ false → writtenOf UnfitTable buf ≡ write r buf
 unfolding write
 unfit-is r buf h = rw h

@@ -7,11 +7,11 @@ use Rattle.writer.specs.declared.Wrote.{Wrote}
 use Rattle.writer.specs.declared.Wrote.the-variants.{UnfitTable, ShortBuffer, Length}
 
 -- "A .. table handed in gets 2"; "4 if the buffer is short .. else the length"
-abbrev pub answerOf : Wrote → Res ℕ
-answerOf UnfitTable = refuse 2
-answerOf ShortBuffer = refuse 4
-answerOf (Length n) = ok n
+abbrev pub wroteAnswer : Wrote → Res ℕ
+wroteAnswer UnfitTable = refuse 2
+wroteAnswer ShortBuffer = refuse 4
+wroteAnswer (Length n) = ok n
 
 -- what the writer leaves: its answer, and the buffer as it is then
-abbrev pub left : Wrote → List ℕ → Written
-left w buffer = record { answer = answerOf w; buffer = buffer }
+abbrev pub writtenOf : Wrote → List ℕ → Written
+writtenOf w buffer = record { answer = wroteAnswer w; buffer = buffer }

@@ -22,7 +22,7 @@ ghost use Rattle.sheet.specs.Lines.{bytes};
 ghost use Rattle.sheet.specs.Text.{numberText, repText, ownText, typeLines, text, write};
 ghost use Rattle.linewriter.specs.Fill.{Filled, Lined};
 ghost use Rattle.writer.specs.Parts.{typeIn, methodLines, typeLinesTo, underLines, countLines, frontLines, backLines, Limited};
-ghost use Rattle.writer.specs.Answer.{left};
+ghost use Rattle.writer.specs.Answer.{writtenOf};
 
 // The writer's answer. specs/Answer.antt gives the paper's number for each case.
 pub enum Wrote {
@@ -184,7 +184,7 @@ fn put_sheet(buf: &mut [u8], b: &[u8; 16384], l: &[u8; 96], c: Counts) -> usize
 // "Sheet write: 4 if the buffer is short, buffer unchanged; else the length, with the bytes behind it unchanged", for a table that passed the check of 2.
 pub fn write_checked(buf: &mut [u8], b: &[u8; 16384], l: &[u8; 96], c: Counts) -> Wrote
     requires { ⌜ tableAccepted (rawTable (now b) (now l) c) ≡ true ⌝ }
-    ensures { λ r. ⌜ left r (now (buf .exit)) ≡ write (rawTable (now (b .entry)) (now (l .entry)) c) (now (buf .entry)) ⌝ }
+    ensures { λ r. ⌜ writtenOf r (now (buf .exit)) ≡ write (rawTable (now (b .entry)) (now (l .entry)) c) (now (buf .entry)) ⌝ }
 {
     let need = put_sheet(&mut buf[..0], b, l, c);
     if buf.len() < need {
@@ -195,7 +195,7 @@ pub fn write_checked(buf: &mut [u8], b: &[u8; 16384], l: &[u8; 96], c: Counts) -
 
 // Sheet write of any table handed in: "A .. table handed in gets 2 before all else".
 pub fn write_sheet(buf: &mut [u8], b: &[u8; 16384], l: &[u8; 96], c: Counts) -> Wrote
-    ensures { λ r. ⌜ left r (now (buf .exit)) ≡ write (rawTable (now (b .entry)) (now (l .entry)) c) (now (buf .entry)) ⌝ }
+    ensures { λ r. ⌜ writtenOf r (now (buf .exit)) ≡ write (rawTable (now (b .entry)) (now (l .entry)) c) (now (buf .entry)) ⌝ }
 {
     if tablecheck::table_fits(b, l, c) {
         return write_checked(buf, b, l, c);

@@ -1,5 +1,5 @@
 -- Rests on the check of the table, and on Compare in a checked one; a signed local is kept as 64 bits, from which `toZ-ofZ` reads it back.
-use mathlib.Core.Path.{_≡_, sym, _∙_}
+use mathlib.Core.Path.{sym, _∙_}
 use mir.Facts.{toZ-ofZ}
 use borrow.Author.Needs.{needs}
 use Rattle.search.proofs.Accepted.{accepted-checked}

@@ -1,5 +1,5 @@
 -- Each case of the answer by its definition.
-use mathlib.Core.Path.{_≡_, ap, sym, _∙_}
+use mathlib.Core.Path.{ap, sym, _∙_}
 use Rattle.compare.specs.Answered.{comparedOf}
 use Rattle.exports.specs.Codes.{comparedCode}
 use borrow.Author.Needs.{needs}

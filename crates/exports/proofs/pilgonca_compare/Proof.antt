@@ -1,5 +1,5 @@
 -- Rests on Compare; a signed local is kept as 64 bits, from which `toZ-ofZ` reads it back.
-use mathlib.Core.Path.{_≡_, ap, _∙_}
+use mathlib.Core.Path.{ap, _∙_}
 use mir.Facts.{toZ-ofZ}
 use borrow.Author.Needs.{needs}
 use Rattle.exports.specs.Codes.{comparedCode}

@@ -1,6 +1,6 @@
 -- Rests on the writer: its answer and the buffer that it leaves are the definition's.
 use borrow.Author.Needs.{needs}
-use Rattle.exports.proofs.Leaving.{left-of}
+use Rattle.exports.proofs.Leaving.{written-is}
 use Rattle.exports.proofs.pilgonca_write.Statement.{statement}
 use Rattle.exports.proofs.pilgonca_write.Tie as tie
 
@@ -14,7 +14,7 @@ same-length : tie.Need-same-length
 same-length c = search needs
 
 returns : tie.Need-returns
-returns c = left-of _ _ (c .before .before .before .before .write-sheet .ensures) (c .wrote-code .ensures .0) (c .wrote-code .ensures .1)
+returns c = written-is _ _ (c .before .before .before .before .write-sheet .ensures) (c .wrote-code .ensures .0) (c .wrote-code .ensures .1)
 
 pub pilgonca-write-spec : {M : Type 1} → statement M
 pilgonca-write-spec = tie.close (tie.spec write-sheet-requires wrote-code-requires same-length returns)

@@ -8,7 +8,7 @@ use Rattle.table.proofs.Laws.{empty-types-length, empty-links-length}
 use Rattle.table.specs.Store.{typesIn, linksIn, typesTo}
 use Rattle.table.specs.declared.Counts.{Counts}
 use Rattle.sheet.specs.Lines.{split}
-use Rattle.sheet.specs.Sheet.{answerOf, loaded}
+use Rattle.sheet.specs.Sheet.{sheetAnswer, loaded}
 use Rattle.reader.proofs.Readings.{read-no, read-ok, links-no, count-no, types-no, to-ending}
 use Rattle.reader.proofs.Stored.{table-of}
 use Rattle.reader.proofs.Named.{codes-of}
@@ -28,7 +28,7 @@ refused-requires c κs = c .if1 .taken
 
 returns : tie.Need-returns
 returns c = let h = c .before .before .before .before .before .before .before .before .before .args .h in let s = c .before .before .before .before .before .before .before .before .before .args .s .now in let at = h .next .at in let rs = split (drop at s) in let u = c .before .before .before .before .links-into in let links = linksTo (h .cats) (linksIn (u .last .1 .1 .1 .0)) in
-    subst (SheetIs (c .refused .result)) (ap answerOf (links-no (countedIn h) at rs (u .result .no) (u .result .next .at) (read-no s (u .result .no) links (u .result .next .at) _ (u .ensures .0) (c .before .if1 .taken)))) (c .refused .ensures)
+    subst (SheetIs (c .refused .result)) (ap sheetAnswer (links-no (countedIn h) at rs (u .result .no) (u .result .next .at) (read-no s (u .result .no) links (u .result .next .at) _ (u .ensures .0) (c .before .if1 .taken)))) (c .refused .ensures)
 
 slice-aggregate-next-number : tie.Need-slice-aggregate-next-number
 slice-aggregate-next-number c = search needs
@@ -42,7 +42,7 @@ refused-requires-2 c κs = c .if2 .taken
 returns-2 : tie.Need-returns-2
 returns-2 c = let h = c .before .before .before .before .before .before .before .before .before .before .before .before .before .before .args .h in let s = c .before .before .before .before .before .before .before .before .before .before .before .before .before .before .args .s .now in let at = h .next .at in let rs = split (drop at s) in let u = c .before .before .before .before .before .before .before .before .before .links-into in let links = linksTo (h .cats) (linksIn (u .last .1 .1 .1 .0)) in let k = c .before .before .before .before .next-number in
     subst (SheetIs (c .refused2 .result))
-    (ap answerOf (count-no (countedIn h) at rs links (u .result .next .at) (split (drop (u .result .next .at) s)) (read-ok s (u .result .no) links (u .result .next .at) _ (u .ensures .0) (c .before .before .before .before .before .before .if1 .left))
+    (ap sheetAnswer (count-no (countedIn h) at rs links (u .result .next .at) (split (drop (u .result .next .at) s)) (read-ok s (u .result .no) links (u .result .next .at) _ (u .ensures .0) (c .before .before .before .before .before .before .if1 .left))
     (k .result .no) (k .result .next .at) (read-no s (k .result .no) (k .result .n) (k .result .next .at) _ (k .ensures .0) (c .before .if2 .taken)))) (c .refused2 .ensures)
 
 empty-types-requires : tie.Need-empty-types-requires
@@ -57,7 +57,7 @@ refused-requires-3 c κs = c .if3 .taken
 returns-3 : tie.Need-returns-3
 returns-3 c = let h = c .before .before .before .before .before .before .before .before .before .before .before .before .before .before .before .before .before .before .before .before .args .h in let s = c .before .before .before .before .before .before .before .before .before .before .before .before .before .before .before .before .before .before .before .before .args .s .now in let at = h .next .at in let rs = split (drop at s) in let u = c .before .before .before .before .before .before .before .before .before .before .before .before .before .before .before .links-into in let links = linksTo (h .cats) (linksIn (u .last .1 .1 .1 .0)) in let k = c .before .before .before .before .before .before .before .before .before .before .next-number in let t = c .before .before .before .before .types-into in let ts = typesTo (h .methods) (k .result .n) (k .result .n) (typesIn (t .last .1 .1 .1 .1 .1 .0)) in
     subst (SheetIs (c .refused3 .result))
-    (ap answerOf (types-no (countedIn h) at rs links (u .result .next .at) (split (drop (u .result .next .at) s)) (read-ok s (u .result .no) links (u .result .next .at) _ (u .ensures .0) (c .before .before .before .before .before .before .before .before .before .before .before .before .if1 .left))
+    (ap sheetAnswer (types-no (countedIn h) at rs links (u .result .next .at) (split (drop (u .result .next .at) s)) (read-ok s (u .result .no) links (u .result .next .at) _ (u .ensures .0) (c .before .before .before .before .before .before .before .before .before .before .before .before .if1 .left))
     (k .result .n) (k .result .next .at) (split (drop (k .result .next .at) s)) (read-ok s (k .result .no) (k .result .n) (k .result .next .at) _ (k .ensures .0) (c .before .before .before .before .before .before .before .if2 .left))
     (t .result .no) (t .result .next .at) (read-no s (t .result .no) ts (t .result .next .at) _ (t .ensures .0) (c .before .if3 .taken)))) (c .refused3 .ensures)
 
@@ -71,7 +71,7 @@ returns-4 : tie.Need-returns-4
 returns-4 c = let h = c .before .before .before .before .before .before .before .before .before .before .before .before .before .before .before .before .before .before .before .before .before .before .before .before .before .args .h in let s = c .before .before .before .before .before .before .before .before .before .before .before .before .before .before .before .before .before .before .before .before .before .before .before .before .before .args .s .now in let at = h .next .at in let rs = split (drop at s) in let u = c .before .before .before .before .before .before .before .before .before .before .before .before .before .before .before .before .before .before .before .before .links-into in let links = linksTo (h .cats) (linksIn (u .last .1 .1 .1 .0)) in let k = c .before .before .before .before .before .before .before .before .before .before .before .before .before .before .before .next-number in let t = c .before .before .before .before .before .before .before .before .before .types-into in let ts = typesTo (h .methods) (k .result .n) (k .result .n) (typesIn (t .last .1 .1 .1 .1 .1 .0)) in let g = c .before .before .before .before .last-line in
     let whole : Table = record { subjects = h .subjects; methods = h .methods; cats = links; sheet = k .result .n; types = ts } in
     subst (SheetIs (c .refused4 .result))
-    (ap answerOf (read-no s (g .result .no) whole (g .result .next .at) _ (g .ensures whole refl) (c .before .if4 .taken)
+    (ap sheetAnswer (read-no s (g .result .no) whole (g .result .next .at) _ (g .ensures whole refl) (c .before .if4 .taken)
     ∙ to-ending (countedIn h) at rs links (u .result .next .at) (split (drop (u .result .next .at) s)) (read-ok s (u .result .no) links (u .result .next .at) _ (u .ensures .0) (c .before .before .before .before .before .before .before .before .before .before .before .before .before .before .before .before .before .if1 .left))
     (k .result .n) (k .result .next .at) (split (drop (k .result .next .at) s)) (read-ok s (k .result .no) (k .result .n) (k .result .next .at) _ (k .ensures .0) (c .before .before .before .before .before .before .before .before .before .before .before .before .if2 .left))
     ts (t .result .next .at) (split (drop (t .result .next .at) s)) (read-ok s (t .result .no) ts (t .result .next .at) _ (t .ensures .0) (c .before .before .before .before .before .before .if3 .left)))) (c .refused4 .ensures)
@@ -84,7 +84,7 @@ returns-5 c = let h = c .before .before .before .before .before .before .before 
     let l = u .last .1 .1 .1 .0 in
     let r : Sheet = record { no = 0; at = 0; types = b; links = l; counts = counts } in
     subst (SheetIs r)
-    (ap answerOf (read-ok s (g .result .no) whole (g .result .next .at) _ (g .ensures whole refl) (c .if4 .left)
+    (ap sheetAnswer (read-ok s (g .result .no) whole (g .result .next .at) _ (g .ensures whole refl) (c .if4 .left)
     ∙ to-ending (countedIn h) at rs links (u .result .next .at) (split (drop (u .result .next .at) s)) (read-ok s (u .result .no) links (u .result .next .at) _ (u .ensures .0) (c .before .before .before .before .before .before .before .before .before .before .before .before .before .before .before .before .if1 .left))
     (k .result .n) (k .result .next .at) (split (drop (k .result .next .at) s)) (read-ok s (k .result .no) (k .result .n) (k .result .next .at) _ (k .ensures .0) (c .before .before .before .before .before .before .before .before .before .before .before .if2 .left))
     ts (t .result .next .at) (split (drop (t .result .next .at) s)) (read-ok s (t .result .no) ts (t .result .next .at) _ (t .ensures .0) (c .before .before .before .before .before .if3 .left))))

@@ -6,7 +6,7 @@ use lib.ListN.{length}
 use borrow.Author.Needs.{needs}
 use Rattle.model.specs.Check.{RawMethod, kindOf, methodOf}
 use Rattle.table.specs.Store.{rawMethod}
-use Rattle.slots.specs.Slots.{Coded}
+use Rattle.slots.specs.Slots.{MethodCoded}
 use Rattle.slots.proofs.Laws.{filled-is, filled-coded}
 use Rattle.slots.proofs.filled.Tie as tie
 use Rattle.slots.proofs.filled.Statement.{statement}
@@ -26,7 +26,7 @@ returns c = let a = c .before .before .args in
     let made : ℕ → RawMethod = λ n. record { state = c .before .state-of .result; count = n; args = a .args; answer = a .answer } in (
       ap (λ (n : ℕ). methodOf (made n)) (c .least .ensures)
           ∙ filled-is (kindOf (a .kind)) (rawMethod (a .p)) (rawMethod (a .q)) (c .before .state-of .result) (a .args) (a .answer) (state .0) (omega arith) (omega arith),
-      λ h k. subst (λ (n : ℕ). Coded (made n)) (sym (c .least .ensures)) (filled-coded (kindOf (a .kind)) (rawMethod (a .p)) (rawMethod (a .q)) (c .before .state-of .result) (a .args) (a .answer) (state .0) (state .1) h k),
+      λ h k. subst (λ (n : ℕ). MethodCoded (made n)) (sym (c .least .ensures)) (filled-coded (kindOf (a .kind)) (rawMethod (a .p)) (rawMethod (a .q)) (c .before .state-of .result) (a .args) (a .answer) (state .0) (state .1) h k),
     )
 
 pub filled-spec : {M : Type 1} → statement M

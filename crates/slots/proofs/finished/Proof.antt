@@ -11,13 +11,13 @@ use Rattle.table.specs.declared.Method.{Method}
 use Rattle.table.specs.Store.{rawMethod}
 use Rattle.table.proofs.Laws.{absent}
 use Rattle.table.proofs.Lists.{set-next}
-use Rattle.slots.specs.Slots.{fillAt, methodIn, rawIn, Coded}
+use Rattle.slots.specs.Slots.{fillAt, methodIn, rawIn, MethodCoded}
 use Rattle.slots.proofs.Laws.{raw-methods, in-methods, filled-here}
 use Rattle.slots.proofs.finished.Tie as tie
 use Rattle.slots.proofs.finished.Statement.{statement}
 
 abbrev Inv-loop : tie.InvT-loop
-Inv-loop x y cat kind t s methods slots all₀ j₀ all j = (j ≤ methods) × (length all ≡ 16) × ((i : ℕ) → i < j → methodOf (rawMethod (getD all i absent)) ≡ fillAt (kindOf kind) (methodIn x) (methodIn y) slots i) × ((i : ℕ) → i < j → Coded (rawIn x i) → Coded (rawIn y i) → Coded (rawMethod (getD all i absent)))
+Inv-loop x y cat kind t s methods slots all₀ j₀ all j = (j ≤ methods) × (length all ≡ 16) × ((i : ℕ) → i < j → methodOf (rawMethod (getD all i absent)) ≡ fillAt (kindOf kind) (methodIn x) (methodIn y) slots i) × ((i : ℕ) → i < j → MethodCoded (rawIn x i) → MethodCoded (rawIn y i) → MethodCoded (rawMethod (getD all i absent)))
 
 abbrev μ-loop : tie.MeasureT-loop
 μ-loop x y cat kind t s methods slots all₀ j₀ all j = methods - j
@@ -86,8 +86,8 @@ loop-again c = let a = c .before .before .before .before .before .before .args i
       length-set (l .all) (l .j) (c .filled .result) ∙ l .inv .1,
       set-next (λ i m. methodOf (rawMethod m) ≡ fillAt (kindOf (a .kind)) (methodIn (a .x)) (methodIn (a .y)) (a .t8) i) (l .all) (l .j) (c .filled .result) absent h (l .inv .2)
           (filled-here (kindOf (a .kind)) (a .x) (a .y) (a .t8) (l .j) (c .before .before .method-at .result) (c .before .method-at2 .result) (c .filled .result) (c .before .before .method-at .ensures) (c .before .method-at2 .ensures) (c .filled .ensures .0)),
-      set-next (λ i m. Coded (rawIn (a .x) i) → Coded (rawIn (a .y) i) → Coded (rawMethod m)) (l .all) (l .j) (c .filled .result) absent h (l .inv .3)
-          (λ p q. c .filled .ensures .1 (subst Coded (sym (c .before .before .method-at .ensures)) p) (subst Coded (sym (c .before .method-at2 .ensures)) q)),
+      set-next (λ i m. MethodCoded (rawIn (a .x) i) → MethodCoded (rawIn (a .y) i) → MethodCoded (rawMethod m)) (l .all) (l .j) (c .filled .result) absent h (l .inv .3)
+          (λ p q. c .filled .ensures .1 (subst MethodCoded (sym (c .before .before .method-at .ensures)) p) (subst MethodCoded (sym (c .before .method-at2 .ensures)) q)),
     )
 
 new-type-requires : tie.Need-new-type-requires Inv-loop μ-loop
@@ -97,7 +97,7 @@ returns : tie.Need-returns Inv-loop μ-loop
 returns c = let l = c .before .before .loop in record {
   head = c .new-type .ensures .0;
   filled = λ j h. sym (in-methods (c .new-type .result .methods) j) ∙ ap (λ (ms : List Method). methodOf (rawMethod (getD ms j absent))) (c .new-type .ensures .1) ∙ l .inv .2 j (omega (arith, c .before .loop-test .left));
-  coded = λ j h p q. subst Coded (ap (λ (ms : List Method). rawMethod (getD ms j absent)) (sym (c .new-type .ensures .1)) ∙ raw-methods (c .new-type .result .methods) j) (l .inv .3 j (omega (arith, c .before .loop-test .left)) p q);
+  coded = λ j h p q. subst MethodCoded (ap (λ (ms : List Method). rawMethod (getD ms j absent)) (sym (c .new-type .ensures .1)) ∙ raw-methods (c .new-type .result .methods) j) (l .inv .3 j (omega (arith, c .before .loop-test .left)) p q);
 }
 
 pub finished-spec : {M : Type 1} → statement M
