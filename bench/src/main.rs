@@ -89,10 +89,27 @@ fn measure(name: &str, table: &RawTable, t: usize, s: usize) -> Result<[bool; 4]
     answer
 }
 
+/// The table with derived types of its pairs, as many as there is room for.
+fn grown(mut table: RawTable) -> RawTable {
+    for (t, s, kind) in (0..128 * 128 * 2).map(|n| (n / 256, n / 2 % 128, n % 2)) {
+        if t.max(s) < table.types as usize {
+            // what is full or known adds nothing
+            let _ = restriction::derive(&mut table, kind, t, s);
+        }
+    }
+    assert_eq!(table.types, 128);
+    table
+}
+
 fn comparisons() {
     let random = RawTable::of(&with_48_types());
     for (t, s) in [(1, 2), (5, 9), (20, 31)] {
         let name = format!("compare, 48 generated types, pair {t} {s}");
+        let _ = measure(&name, &random, t, s);
+    }
+    let random = grown(random);
+    for (t, s) in [(1, 2), (60, 100), (127, 48)] {
+        let name = format!("compare, 128 generated types, pair {t} {s}");
         let _ = measure(&name, &random, t, s);
     }
     for count in [48, 128] {

@@ -9,6 +9,9 @@ use lib.ListN.{length, take, drop, length-append, length-drop}
 use lib.Seq.{take-append-seam, drop-append-seam}
 use lib.Dec.{leb}
 use borrow.Author.Tests.{leb-true}
+use Rattle.model.specs.Requests.{Request}
+use Rattle.model.specs.Claim.{reached, Claim}
+use Rattle.model.proofs.Sheets.{demand3}
 use Rattle.model.specs.Basics.{refuse, ok}
 use Rattle.model.specs.Table.{Table, tableFits, validSheet}
 use Rattle.model.specs.Check.{RawTable, tableOf, codesFit, tableAccepted}
@@ -80,6 +83,10 @@ read-exact bs t = (λ h. from (sheet 0 (split bs)) refl h, λ p. to (p .0) (p .1
 -- The premise of demand 3: what is loaded is valid.
 pub loaded-valid : (bs : List ℕ) (t : Table) → read bs ≡ loaded t → So (validSheet t)
 loaded-valid bs t h = read-exact bs t .0 h .0
+
+-- so it holds from the bytes of a sheet on, whatever the requests are
+pub loaded-demand3 : (bs : List ℕ) (t : Table) → read bs ≡ loaded t → (qs : List Request) → Claim (reached t qs .0) (reached t qs .1)
+loaded-demand3 bs t h = demand3 t (loaded-valid bs t h)
 
 -- the text of what was read is what was read
 pub text-of-read : (bs : List ℕ) (t : Table) → read bs ≡ loaded t → text t ≡ bs
