@@ -8,7 +8,7 @@ use lib.Dec.{eqb}
 use lib.IntN.{ℤ}
 use lib.ListN.{length}
 use Rattle.model.specs.Basics.{Res, refuse, need, names, named}
-use Rattle.model.specs.Table.{Kind, closed, Table, size}
+use Rattle.model.specs.Table.{Kind, Table, size}
 use Rattle.model.specs.Restriction.{derived}
 use Rattle.model.specs.Check.{kindOf, tableAccepted}
 use Rattle.model.proofs.Rules.{never, first}
@@ -49,11 +49,6 @@ closed-asked zero refs p q h = absurd (p refl)
 closed-asked (suc zero) refs p q h = absurd (q refl)
 closed-asked (suc (suc zero)) refs p q h = h
 closed-asked (suc (suc (suc k))) refs p q h = let z : _≡_ {A = Bool} false true = h in let e : _≡_ {A = ℕ} 0 1 = cc in absurd (omega arith)
-
-pub closed-kind : (k : ℕ) → (k ≡ 0 → ⊥) → (k ≡ 1 → ⊥) → kindOf k ≡ closed
-closed-kind zero p q = absurd (p refl)
-closed-kind (suc zero) p q = absurd (q refl)
-closed-kind (suc (suc k)) p q = refl
 
 pub both-refs : (a b r : Bool) → a ≡ true → r ≡ b → r ≡ (a && b)
 both-refs a b r e h = h ∙ sym (ap (λ (z : Bool). z && b) e)

@@ -13,6 +13,7 @@ ghost use Rattle.table.specs.Store.{rawMethod, rawLinks};
 ghost use Rattle.sheet.specs.Lines.{split, line};
 ghost use Rattle.sheet.specs.Sheet.{repLine, ownLine, underLine, arguments, answer, below, signature, unsigned, methodLine};
 ghost use Rattle.text.specs.View.{scanned, result, reading};
+use table::Counts;
 use table::Links;
 use table::Method;
 use table::narrow;
@@ -246,7 +247,7 @@ fn args_at(l: &[u8], at: usize) -> Numbers
             next: at + 1,
         };
     }
-    let t = text::numbers_at(l, at, 2);
+    let t = text::numbers_at(l, at, Counts::ARGUMENTS);
     if !t.right {
         return text::no_numbers(at);
     }

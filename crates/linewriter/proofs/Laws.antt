@@ -12,6 +12,7 @@ use lib.Seq.{take-append-seam, drop-append-seam, drop-drop, length-take-le, take
 use borrow.Rule.Slice.PartMut.{midOf, putMid}
 use Rattle.sheet.specs.Lines.{join}
 use Rattle.sheet.specs.Numbers.{decimalIn, decimal}
+use Rattle.sheet.proofs.Offsets.{join-append}
 use Rattle.linewriter.specs.Fill.{Filled, Lined}
 
 pub fill-none : (l : List ℕ) → Filled l l [] 0
@@ -82,11 +83,6 @@ fill-is {old} {new} {xs} {ys} {r} e f = subst (λ z. Filled old new z r) e f
 pub ended : {old new l : List ℕ} {r : ℕ} → Filled old new (l ++ 10 ∷ []) r → Lined old new (l ∷ []) r
 unfolding join
 ended f = record { filled = f }
-
-join-append : (a b : List (List ℕ)) → join (a ++ b) ≡ join a ++ join b
-unfolding join
-join-append [] b = refl
-join-append (l ∷ a) b = ap (λ z. l ++ 10 ∷ z) (join-append a b) ∙ sym (append-assoc l (10 ∷ join a) (join b))
 
 -- lines, and lines in the rest of the buffer
 pub lines-rest : {old mid tl : List ℕ} {xs ys : List (List ℕ)} {a b k : ℕ} → Lined old mid xs a → k ≡ min a (length mid) → Lined (midOf k (length mid - k) mid) tl ys b → Lined old (putMid k (length mid - k) mid tl) (xs ++ ys) (a + b)

@@ -18,9 +18,9 @@ use Rattle.table.specs.declared.Method.{Method}
 use Rattle.table.specs.declared.Counts.{Counts}
 use Rattle.table.specs.Store.{rawMethod, rawTable, linksIn, typesIn, emptyCounts, emptyMethod}
 use Rattle.table.proofs.Laws.{absent}
+use Rattle.table.proofs.Codes.{number-rep}
 use Rattle.sheet.proofs.Types.{every-all}
 use Rattle.reader.specs.View.{methodsNamed, linksNamed, typesNamed}
-use Rattle.reader.proofs.Owned.{number-rep}
 
 -- One more record is stored, behind n others.
 module _ {A : Type 0} (f : ℕ → A → Bool) (d : A) (rs : List A) (at : ℕ) (x : A) (h : at < length rs) (new : So (f at x)) where

@@ -3,7 +3,7 @@ use mathlib.Core.Path.{_≡_, refl, sym, ap, _∙_}
 use mathlib.Core.Bool.{Bool, true, false, _&&_, _||_, cond}
 use mathlib.Core.List.{List, [], _∷_}
 use mathlib.Core.Option.{Option, none, some}
-use Prim.Native.Nat.{ℕ, zero, suc, _+_, _-_, _≤_, _<_}
+use Prim.Native.Nat.{ℕ, suc, _+_, _-_, _≤_, _<_}
 use native.Mathlib.Omega.{arith}
 use native.Mathlib.Numerals.{add-one}
 use lib.Dec.{eqb, ltb}
@@ -16,6 +16,7 @@ use Rattle.model.specs.Check.{RawType, RawMethod, noRawType, noRawMethod, state
 use Rattle.model.proofs.Largest.{getD-from-out}
 use Rattle.table.specs.Store.{typesTo}
 use Rattle.table.proofs.Tables.{types-to-at}
+use Rattle.table.proofs.Codes.{number-rep}
 use Rattle.sheet.specs.Sheet.{ownIn, ownInSignature}
 use Rattle.reader.specs.View.{methodsOf, ownAt, ownInMethods, ownInType}
 
@@ -38,11 +39,6 @@ any-same f g [] h = refl
 any-same f g (x ∷ xs) h = ap (λ z. z || any f xs) (h x) ∙ ap (λ z. g x || z) (any-same f g xs h)
 
 -- Whether a type is own.
-pub number-rep : (r : ℕ) → (r ≡ 0 → ⊥) → isRef (repOf r) ≡ false
-number-rep zero p = absurd (p refl)
-number-rep (suc zero) p = refl
-number-rep (suc (suc r)) p = refl
-
 module _ (rs : List RawType) (n a : ℕ) where
   pub own-out : n ≤ a → false ≡ ownAt rs n a
   own-out h = ap (λ z. cond z (isRef (repOf (getD rs a noRawType .rep)) && eqb (getD rs a noRawType .own) 1) false) (sym (le-ltb a n h))
@@ -97,12 +93,6 @@ permit-one s e = ap (λ (z : ℕ). permit (stateOf z)) (sym e)
 
 pub permit-two : (s : ℕ) → s ≡ 2 → true ≡ permit (stateOf s)
 permit-two s e = ap (λ (z : ℕ). permit (stateOf z)) (sym e)
-
-pub permit-none : (s : ℕ) → (s ≡ 1 → ⊥) → (s ≡ 2 → ⊥) → false ≡ permit (stateOf s)
-permit-none zero p q = refl
-permit-none (suc zero) p q = absurd (p refl)
-permit-none (suc (suc zero)) p q = absurd (q refl)
-permit-none (suc (suc (suc s))) p q = refl
 
 -- A method.
 module _ (own : ℕ → Bool) (m : RawMethod) where

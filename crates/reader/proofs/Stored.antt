@@ -19,9 +19,9 @@ use Rattle.table.specs.Store.{linksIn, typesIn, rawMethod, tableIn, typesTo, em
 use Rattle.table.proofs.Lists.{from-last, from-same, is-from}
 use Rattle.table.proofs.Tables.{types-add}
 use Rattle.table.proofs.Laws.{absent}
+use Rattle.table.proofs.Codes.{number-rep}
 use Rattle.sheet.specs.Sheet.{sheetType, emptyTable}
 use Rattle.reader.specs.View.{linksTo, methodIs}
-use Rattle.reader.proofs.Owned.{number-rep}
 
 -- the links of one category more
 pub links-none : (ls : List RawLinks) → linksTo 0 ls ≡ []

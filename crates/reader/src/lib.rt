@@ -6,8 +6,8 @@ ghost use mathlib.Core.List.{[], map};
 ghost use Prim.Native.Nat.{ℕ, _≤_, _<_};
 ghost use lib.ListN.{length, getD, take, drop};
 ghost use Rattle.model.specs.Basics.{any};
-ghost use Rattle.model.specs.Table.{Table, permit};
-ghost use Rattle.model.specs.Check.{noRawType, stateOf, repOf, typeOf, rawTypeFits};
+ghost use Rattle.model.specs.Table.{Table};
+ghost use Rattle.model.specs.Check.{noRawType, repOf, typeOf, rawTypeFits};
 ghost use Rattle.table.specs.Store.{typesIn, linksIn, rawOf, typesTo};
 ghost use Rattle.sheet.specs.Lines.{split, line, then, many};
 ghost use Rattle.sheet.specs.Sheet.{malformed, sheetAnswer, endLine, sheetType, oneType, ownIn, ending, read as readSheet};
@@ -18,6 +18,7 @@ use table::Links;
 use table::Method;
 use table::TypeRec;
 use table::narrow;
+use table::permits;
 use table::put_links;
 use table::wide;
 use text::Cursor;
@@ -253,18 +254,6 @@ fn own_in_args(b: &[u8; 16384], n: usize, m: Method) -> bool
             return true;
         }
         i += 1;
-    }
-    false
-}
-
-fn permits(state: u8) -> bool
-    ensures { λ r. ⌜ r ≡ permit (stateOf state) ⌝ }
-{
-    if state == 1 {
-        return true;
-    }
-    if state == 2 {
-        return true;
     }
     false
 }

@@ -65,7 +65,7 @@ fn search(b: &[u8; 16384], sheet: usize, n: usize, kind: u8, t: usize, s: usize)
     if found < n {
         return Begun::Settled(Derived::At(found, n));
     }
-    if 128 <= n {
+    if Counts::TYPES <= n {
         return Begun::Settled(Derived::Full);
     }
     Begun::New

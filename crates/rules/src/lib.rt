@@ -16,6 +16,7 @@ ghost use Rattle.rules.specs.Asked.{relationOf};
 use table::Counts;
 use table::Head;
 use table::Method;
+use table::permits;
 use table::wide;
 
 // The four relations, and subtype with own not compared, which step 3 of a crossing asks for.
@@ -99,16 +100,6 @@ pub fn state_rule(square: [[bool; 4]; 4], k: Relation, a: u8, b: u8) -> bool
     let i = state_index(a);
     let j = state_index(b);
     states_compare(square, i, j)
-}
-
-// Optional and avail permit a method.
-fn permits(x: u8) -> bool
-    ensures { λ r. ⌜ r ≡ permit (stateOf x) ⌝ }
-{
-    if x == 1 {
-        return true;
-    }
-    x == 2
 }
 
 pub fn both_permit(x: Method, y: Method) -> bool

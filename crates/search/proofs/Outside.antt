@@ -12,6 +12,7 @@ use Rattle.model.specs.Check.{RawType, repOf, typeOf}
 use Rattle.model.proofs.Rules.{first, never}
 use Rattle.table.specs.declared.Head.{Head}
 use Rattle.table.specs.Store.{headOf}
+use Rattle.table.proofs.Codes.{number-rep}
 use Rattle.search.specs.Parts.{repRule, ordered, owned, ownOf, outerHeads}
 
 and-one : (b : Bool) → b ≡ (b && true)
@@ -72,11 +73,6 @@ outer-sort free t x y h = same-sort (isRef (x .rep)) (isRef (y .rep)) h
 pub code-ref : (x : ℕ) → x ≡ 0 → isRef (repOf x) ≡ true
 code-ref x e = rw e
 
-pub code-number : (x : ℕ) → (x ≡ 0 → ⊥) → isRef (repOf x) ≡ false
-code-number zero h = absurd (h refl)
-code-number (suc zero) h = refl
-code-number (suc (suc x)) h = refl
-
 ref-code : (y : ℕ) → eqb y 0 ≡ isRef (repOf y)
 ref-code zero = refl
 ref-code (suc zero) = refl
@@ -90,7 +86,7 @@ sort-ref x y e = rw e (ref-code y ∙ go (isRef (repOf y)))
     go false = refl
 
 pub sort-number : (x y : ℕ) → (x ≡ 0 → ⊥) → not (eqb y 0) ≡ sameSort (repOf x) (repOf y)
-sort-number x y e = rw (code-number x e) (ap not (ref-code y) ∙ go (isRef (repOf y)))
+sort-number x y e = rw (number-rep x e) (ap not (ref-code y) ∙ go (isRef (repOf y)))
   where
     go : (b : Bool) → not b ≡ Bool·beq false b
     go true = refl
@@ -118,4 +114,4 @@ pub own-ref : (x : Head) → x .rep ≡ 0 → eqb (x .own) 1 ≡ ownOf x
 own-ref x e = rw e
 
 pub own-number : (x : Head) → (x .rep ≡ 0 → ⊥) → false ≡ ownOf x
-own-number x e = rw (code-number (x .rep) e)
+own-number x e = rw (number-rep (x .rep) e)

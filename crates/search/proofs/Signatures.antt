@@ -7,10 +7,8 @@ use mathlib.Core.Option.{some}
 use Prim.Native.Nat.{ℕ, zero, suc, _-_, _≤_, _<_}
 use native.Mathlib.Nat.{not-suc-le-zero, le-of-suc-le-suc}
 use native.Mathlib.Omega.{arith}
-use lib.Dec.{eqb}
 use lib.ListN.{length, getD, take}
 use lib.Seq.{take-all, length-take-le, getD-take}
-use borrow.Author.Tests.{ne-eqb}
 use Rattle.model.specs.Table.{Method, permit}
 use Rattle.model.specs.Relations.{Relation, stateRule, argsRule, answerRule, methodRule}
 use Rattle.model.specs.Check.{RawMethod, stateOf, answerOf, methodOf}
@@ -25,12 +23,6 @@ state-high zero l = let z : ⊥ = omega arith in absurd z
 state-high (suc zero) l = let z : ⊥ = omega arith in absurd z
 state-high (suc (suc zero)) l = let z : ⊥ = omega arith in absurd z
 state-high (suc (suc (suc n))) l = refl
-
-pub permit-is : (x : ℕ) → (x ≡ 1 → ⊥) → eqb x 2 ≡ permit (stateOf x)
-permit-is zero h = refl
-permit-is (suc zero) h = absurd (h refl)
-permit-is (suc (suc zero)) h = refl
-permit-is (suc (suc (suc n))) h = ne-eqb (suc (suc (suc n))) 2 (λ e. let z : suc (suc (suc n)) ≡ 2 = e in omega arith)
 
 -- Arguments. A count above the four slots uses all of them.
 pub used-all : (n : ℕ) → 4 ≤ n → (xs : List ℕ) → length xs ≡ 4 → take n xs ≡ take 4 xs

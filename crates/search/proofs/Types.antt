@@ -18,11 +18,12 @@ use Rattle.table.specs.declared.Head.{Head}
 use Rattle.table.specs.Store.{typesIn, headOf, tableIn}
 use Rattle.table.proofs.Lists.{from-first}
 use Rattle.table.proofs.Tables.{type-is}
+use Rattle.table.proofs.Codes.{number-rep}
 use Rattle.search.specs.Found.{found, Sound, Met, upto}
 use Rattle.search.specs.Parts.{outerHeads, methodIn}
 use Rattle.search.proofs.Pairs.{clash, stay, met-as}
 use Rattle.search.proofs.Signatures.{upto-says, upto-test}
-use Rattle.search.proofs.Outside.{heads-rule, outer-sort, code-ref, code-number}
+use Rattle.search.proofs.Outside.{heads-rule, outer-sort, code-ref}
 
 -- every method of two lists that are as long
 module _ (f : Method → Method → Bool) (z : So (f noMethod noMethod)) (n : ℕ) (x y : ℕ → Method) where
@@ -72,7 +73,7 @@ module _ (b l : List ℕ) (c : Counts) (k : Relation) (a d : ℕ) (p : a < c .ty
       pub types-numbers : (x .rep ≡ 0 → ⊥) → Sound n seen queue t → Met n W seen queue t seen queue t
       unfolding everyMethod
       types-numbers z h =
-          let f : isRef (repOf (A .rep)) ≡ false = code-number (A .rep) (λ o. z (ap (λ (v : Head). v .rep) ex ∙ o)) in
+          let f : isRef (repOf (A .rep)) ≡ false = number-rep (A .rep) (λ o. z (ap (λ (v : Head). v .rep) ex ∙ o)) in
           let g : isRef (repOf (D .rep)) ≡ false = sym sorts ∙ f in
           inr (stay n W seen queue t h (rw (rule-is (found n seen), sym outer-is ∙ e, f, g)))
 

@@ -17,7 +17,7 @@ record Ahead (at : ℕ) (rs : List Row) (at′ : ℕ) (rs′ : List Row) : Type 
   passed : rs ≡ rows lines ++ rs′
   offset : at′ ≡ at + length (join lines)
 
-join-append : (a b : List (List ℕ)) → join (a ++ b) ≡ join a ++ join b
+pub join-append : (a b : List (List ℕ)) → join (a ++ b) ≡ join a ++ join b
 unfolding join
 join-append [] b = refl
 join-append (l ∷ a) b = ap (λ z. l ++ 10 ∷ z) (join-append a b) ∙ sym (append-assoc l (10 ∷ join a) (join b))

@@ -21,6 +21,7 @@ use Rattle.table.specs.declared.Method.{Method}
 use Rattle.table.specs.declared.TypeRec.{TypeRec}
 use Rattle.table.specs.Store.{rawMethod}
 use Rattle.table.proofs.Laws.{absent}
+use Rattle.table.proofs.Codes.{closed-kind}
 use Rattle.slots.specs.declared.Slot.the-variants.{Empty, Argument, Answer}
 use Rattle.slots.specs.Slots.{argumentSlot, answerSlot, slotOf, shared, lesser, fill, fillAt, methodIn, rawIn, MethodCoded, keyIn, keptState}
 
@@ -43,18 +44,7 @@ open-same (suc zero) (suc (suc k)) h n = ne-eqb (suc (suc k)) 1 (λ e. let w : s
 open-same (suc (suc zero)) k h n = absurd (n refl)
 open-same (suc (suc (suc kind))) k h n = absurd (omega arith)
 
-closed-kind : (kind : ℕ) → (kind ≡ 0 → ⊥) → (kind ≡ 1 → ⊥) → kindOf kind ≡ closed
-closed-kind zero a b = absurd (a refl)
-closed-kind (suc zero) a b = absurd (b refl)
-closed-kind (suc (suc k)) a b = refl
-
 -- States.
-pub permit-code : (x : ℕ) → (x ≡ 1 → ⊥) → eqb x 2 ≡ permit (stateOf x)
-permit-code zero h = refl
-permit-code (suc zero) h = absurd (h refl)
-permit-code (suc (suc zero)) h = refl
-permit-code (suc (suc (suc x))) h = ne-eqb (suc (suc (suc x))) 2 (λ e. let w : suc (suc (suc x)) ≡ 2 = e in omega arith)
-
 module _ (own other lost : State) where
   pub kept-not : permit own ≡ false → own ≡ keptState own other lost
   kept-not e = rw e

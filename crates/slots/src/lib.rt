@@ -3,7 +3,6 @@
 ghost use mathlib.Core.Path.{_≡_};
 ghost use Prim.Native.Nat.{_≤_, _<_};
 ghost use lib.ListN.{length, getD, take};
-ghost use Rattle.model.specs.Table.{permit};
 ghost use Rattle.model.specs.Restriction.{restricted, sameKind, isKey};
 ghost use Rattle.model.specs.Check.{stateOf, kindOf, answerOf, methodOf};
 ghost use Rattle.table.specs.Store.{rawMethod, rawOf};
@@ -12,6 +11,7 @@ use table::Head;
 use table::Method;
 use table::TypeRec;
 use table::narrow;
+use table::permits;
 use table::wide;
 
 // What is derived for a slot of a new type: nothing, an argument or an answer, from these two types.
@@ -47,16 +47,6 @@ pub fn is_key(h: Head, kind: u8, t: usize, s: usize) -> bool
         return false;
     }
     s == r
-}
-
-// Optional and avail permit a method.
-fn permits(x: u8) -> bool
-    ensures { λ r. ⌜ r ≡ permit (stateOf x) ⌝ }
-{
-    if x == 1 {
-        return true;
-    }
-    x == 2
 }
 
 // One side's own state, except that a method it permits and the other doesn't is lost.

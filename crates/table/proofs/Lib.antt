@@ -2,3 +2,4 @@ pub mod Lists
 pub mod Laws
 pub mod Tables
 pub mod Linked
+pub mod Codes

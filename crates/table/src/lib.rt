@@ -4,7 +4,8 @@ ghost use mathlib.Core.Path.{_≡_};
 ghost use Prim.Native.Nat.{_+_, _*_, _≤_, _<_};
 ghost use lib.ListN.{length, getD, set};
 ghost use lib.Seq.{sets};
-ghost use Rattle.model.specs.Check.{noRawType, noRawMethod, noRawLinks};
+ghost use Rattle.model.specs.Table.{permit};
+ghost use Rattle.model.specs.Check.{noRawType, noRawMethod, noRawLinks, stateOf};
 ghost use Rattle.table.specs.Store.{typesIn, linksIn, rawMethod, rawOf, headOf, rawLinks, methodBytes, headBytes, emptyCounts, emptyMethod, emptyType, emptyTypes, emptyLinks};
 
 // How many of each kind a table has. In a table handed in a count may be any number.
@@ -127,6 +128,16 @@ pub fn narrow(x: usize) -> u8
     ensures { λ r. ⌜ r ≡ x ⌝ }
 {
     x as u8
+}
+
+// Optional and avail permit a method.
+pub fn permits(state: u8) -> bool
+    ensures { λ r. ⌜ r ≡ permit (stateOf state) ⌝ }
+{
+    if state == 1 {
+        return true;
+    }
+    state == 2
 }
 
 // Bytes for the types of an empty table, and for its links.

@@ -15,6 +15,7 @@ use Rattle.table.specs.declared.Counts.{Counts}
 use Rattle.table.specs.declared.Head.{Head}
 use Rattle.tablecheck.specs.Parts.{eachFrom, Limited, countsAccepted, linkAccepted, headAccepted, boundOf}
 use Rattle.tablecheck.proofs.Each.{all-take}
+use Rattle.table.proofs.Codes.{number-rep}
 
 -- A test in an `if`, and the part of the check that it stands for.
 pub refused : (r x : Bool) → r ≡ x → not r ≡ true → x ≡ false
@@ -83,11 +84,6 @@ module _ (k n a d : ℕ) where
     link-one h f = goes (between 1 2 n) _ _ e (rw (ne-eqb n 2 f) (goes (ltb a k) _ _ (lt-ltb a k h) refl))
 
 -- Representation.
-pub not-ref : (r : ℕ) → (r ≡ 0 → ⊥) → isRef (repOf r) ≡ false
-not-ref zero h = absurd (h refl)
-not-ref (suc zero) h = refl
-not-ref (suc (suc r)) h = refl
-
 pub is-ref : (r : ℕ) → r ≡ 0 → isRef (repOf r) ≡ true
 is-ref r e = rw e
 
@@ -98,7 +94,7 @@ module _ (n a : ℕ) (h : Head) where
 
   module _ (g : Head) (e : h ≡ g) (l : a < n) where
     pub stands-number : (h .rep ≡ 0 → ⊥) → true ≡ Stands g
-    stands-number r = goes (ltb a n) _ _ (lt-ltb a n l) (rw (not-ref (h .rep) r)) ∙ ap Stands e
+    stands-number r = goes (ltb a n) _ _ (lt-ltb a n l) (rw (number-rep (h .rep) r)) ∙ ap Stands e
 
     pub stands-ref : h .rep ≡ 0 → not (eqb (h .own) 1) ≡ Stands g
     stands-ref r = goes (ltb a n) _ _ (lt-ltb a n l) (rw (is-ref (h .rep) r)) ∙ ap Stands e
@@ -148,7 +144,7 @@ module _ (c : Counts) (i : ℕ) (h g : Head) (e : h ≡ g) (m : Bool) where
 
   module _ (f : headAccepted c i h ≡ true) where
     pub typed-number : (h .rep ≡ 0 → ⊥) → true ≡ Typed g
-    typed-number r = goes (headAccepted c i h) _ _ f (rw (not-ref (h .rep) r)) ∙ ap Typed e
+    typed-number r = goes (headAccepted c i h) _ _ f (rw (number-rep (h .rep) r)) ∙ ap Typed e
 
     module _ (r : h .rep ≡ 0) where
       pub typed-own : 2 ≤ h .own → false ≡ Typed g

@@ -6,9 +6,10 @@ use Rattle.model.specs.Table.{sub, sup, closed}
 use Rattle.model.specs.Check.{kindOf}
 use Rattle.model.proofs.Rules.{first, second}
 use Rattle.restrict.specs.Link.{refIn}
-use Rattle.derivation.proofs.Laws.{closed-asked, closed-kind, kind-is}
+use Rattle.derivation.proofs.Laws.{closed-asked, kind-is}
 use Rattle.derivation.proofs.derive_kind.Statement.{statement}
 use Rattle.derivation.proofs.derive_kind.Tie as tie
+use Rattle.table.proofs.Codes.{closed-kind}
 
 sub-type-requires : tie.Need-sub-type-requires
 sub-type-requires c κs = search needs

@@ -10,8 +10,9 @@ use Rattle.model.specs.Check.{noRawType, noRawMethod, methodOf}
 use Rattle.table.proofs.Lists.{length-from, from-first}
 use Rattle.table.specs.Store.{typesIn}
 use Rattle.table.specs.declared.Head.{Head}
+use Rattle.table.proofs.Codes.{number-rep}
 use Rattle.sheet.specs.Sheet.{ownIn}
-use Rattle.reader.proofs.Owned.{number-rep, any-found, any-next, any-none, methods-number, methods-ref}
+use Rattle.reader.proofs.Owned.{any-found, any-next, any-none, methods-number, methods-ref}
 use Rattle.reader.specs.View.{ownAt}
 use Rattle.reader.proofs.own_in_type.Statement.{statement}
 use Rattle.reader.proofs.own_in_type.Tie as tie
