@@ -6,11 +6,13 @@ mod restriction;
 mod search;
 mod sheets;
 
-use conformance::inputs::{damaged, with_48_types};
+use conformance::inputs::{damaged, with_48_types, worst};
 use conformance::{chains, compare, counted, counts, Asked, Derived, Loaded, PAIRS_LENGTH};
 use reference::hostile;
-use reference::raw::{RawTable, BROADER_LENGTH, METHODS_AT, METHOD_BYTES, TYPES_LENGTH};
+use reference::raw::{RawTable, BROADER_LENGTH, TYPES_LENGTH};
 use reference::sheet;
+use reference::table::MAX_CATEGORIES;
+use search::RELATIONS;
 use std::hint::black_box;
 use std::time::{Duration, Instant};
 
@@ -40,37 +42,6 @@ fn ratio(name: &str, mut proved: impl FnMut(), mut rust: impl FnMut()) {
         "{name}: ratio {:.2} ({:.2} to {:.2}), proved {:?} a call",
         ratios[3], ratios[0], ratios[6], times[3]
     );
-}
-
-/// The worst case: `count` reference types that are alike but for where their signatures lead, so that every pair is reached.
-fn worst(count: usize) -> RawTable {
-    let sheet_types = count.min(48);
-    let mut raw = RawTable {
-        subjects: 1,
-        methods: 16,
-        categories: 0,
-        sheet_types: sheet_types as u32,
-        types: count as u32,
-        ..RawTable::default()
-    };
-    for number in 0..count {
-        let within = if number < sheet_types {
-            sheet_types
-        } else {
-            count
-        };
-        let entry = raw.entry_mut(number);
-        for method in 0..16 {
-            let at = METHODS_AT + method * METHOD_BYTES;
-            let step = 1 + 3 * method;
-            entry[at] = 2;
-            entry[at + 1] = 2;
-            entry[at + 2] = ((number + step) % within) as u8;
-            entry[at + 3] = ((number * 5 + step) % within) as u8;
-            entry[at + 6] = ((number * 3 + step) % within) as u8 + 1;
-        }
-    }
-    raw
 }
 
 /// Compare at one pair of a table, both ways: the same answer, which is returned, and the ratio of their times.
@@ -112,15 +83,24 @@ fn comparisons() {
         let name = format!("compare, 128 generated types, pair {t} {s}");
         let _ = measure(&name, &random, t, s);
     }
-    for count in [48, 128] {
-        let name = format!("compare, {count} types, every pair reached");
-        let answer = measure(&name, &worst(count), count - 2, count - 1);
-        assert_eq!(
-            answer,
-            Ok([true; 4]),
-            "every pair is reached only if all are related"
-        );
+    worst_comparison("48 types, every pair reached", &worst(48, 0));
+    worst_comparison("128 types, every pair reached", &worst(128, 0));
+    worst_comparison(
+        "128 types, every pair reached, 31 categories",
+        &worst(128, MAX_CATEGORIES),
+    );
+}
+
+/// Compare where every pair is reached, in each of the four relations.
+fn worst_comparison(name: &str, table: &RawTable) {
+    let count = table.types as usize;
+    let (t, s) = (count - 2, count - 1);
+    for relation in RELATIONS {
+        let pairs = search::reached(table, relation, t, s);
+        assert_eq!(pairs, Some(count * count), "{name}");
     }
+    let answer = measure(&format!("compare, {name}"), table, t, s);
+    assert_eq!(answer, Ok([true; 4]), "{name}");
 }
 
 /// The pair table, all of whose bytes have to be the same.

@@ -1,10 +1,10 @@
-//! Compare and the pair table in safe Rust, by the algorithm of crates/relation: the check of the table, then for each relation
-//! a search for a pair that breaks a rule, over pairs found through signatures that both sides permit.
+//! Compare and the pair table in safe Rust, by the algorithm of crates/relation and crates/rules: the check of the table, then
+//! for each relation a search for a pair that breaks a rule, over pairs found through signatures that both sides permit.
 
 use crate::fits;
 use conformance::PAIRS_LENGTH;
-use reference::raw::{RawTable, METHODS_AT, METHOD_BYTES, TYPE_BYTES};
-use reference::table::MAX_SHEET_TYPES;
+use reference::raw::{RawTable, BROADER_BYTES, METHODS_AT, METHOD_BYTES};
+use reference::table::{MAX_CATEGORIES, MAX_SHEET_TYPES, MAX_TYPES};
 
 /// The relations, in the order of the answers.
 #[derive(Clone, Copy, PartialEq)]
@@ -15,99 +15,165 @@ pub enum Relation {
     Free,
 }
 
-const STATE_ORDER: [[bool; 4]; 4] = [
+pub const RELATIONS: [Relation; 4] = [
+    Relation::Subtype,
+    Relation::Strict,
+    Relation::Loose,
+    Relation::Free,
+];
+
+/// For the state of a method in T (row) and in S (column): whether a relation lets them stand together.
+type States = [[bool; 4]; 4];
+
+const STATE_ORDER: States = [
     [true, true, true, true],
     [false, true, true, true],
     [false, false, true, false],
     [false, false, false, true],
 ];
 
+const AVAIL_WHERE_AVAIL: States = [
+    [true, true, true, true],
+    [true, true, true, true],
+    [false, false, true, false],
+    [true, true, true, true],
+];
+
+const AVAIL_WHERE_PERMITTED: States = [
+    [true, true, true, true],
+    [true, true, true, true],
+    [false, true, true, false],
+    [true, true, true, true],
+];
+
+const ANY_STATES: States = [[true; 4]; 4];
+
+fn states(relation: Relation) -> &'static States {
+    match relation {
+        Relation::Subtype => &STATE_ORDER,
+        Relation::Strict => &AVAIL_WHERE_AVAIL,
+        Relation::Loose => &AVAIL_WHERE_PERMITTED,
+        Relation::Free => &ANY_STATES,
+    }
+}
+
 fn permits(state: u8) -> bool {
     state == 1 || state == 2
 }
 
-fn states(relation: Relation, a: u8, b: u8) -> bool {
-    match relation {
-        Relation::Subtype => STATE_ORDER[a as usize][b as usize],
-        Relation::Strict => a != 2 || b == 2,
-        Relation::Loose => a != 2 || permits(b),
-        Relation::Free => true,
+/// a ≤ b over the broader links: the answer for each category from 0 up to b.
+fn category_le(raw: &RawTable, a: usize, b: usize) -> bool {
+    let mut done = [false; MAX_CATEGORIES + 1];
+    for x in 0..=b {
+        done[x] = category_next(raw, &done, a, x);
     }
+    done[b]
 }
 
-/// a ≤ b over the broader links.
-fn category_le(raw: &RawTable, a: usize, b: usize) -> bool {
-    if a == 0 || a == b {
+/// a ≤ x, where `done` has the answers for the categories below x.
+fn category_next(raw: &RawTable, done: &[bool; MAX_CATEGORIES + 1], a: usize, x: usize) -> bool {
+    if a == 0 || a == x {
         return true;
     }
-    let at = b * 3;
-    (1..=raw.broader[at] as usize)
-        .any(|slot| b > 0 && category_le(raw, a, raw.broader[at + slot] as usize))
+    let links = &raw.broader[x * BROADER_BYTES..][..BROADER_BYTES];
+    let below = |link: u8| done[usize::from(link)];
+    x > 0 && (below(links[1]) || links[0] == 2 && below(links[2]))
 }
 
-fn outer(raw: &RawTable, relation: Relation, t: &[u8], s: &[u8]) -> bool {
+/// What a relation asks of representation, category and own of two types.
+fn outer(raw: &RawTable, relation: Relation, x: &[u8], y: &[u8]) -> bool {
     let rep = match relation {
-        Relation::Subtype => t[0] == s[0],
-        _ => (t[0] == 0) == (s[0] == 0),
+        Relation::Subtype => x[0] == y[0],
+        _ => (x[0] == 0) == (y[0] == 0),
     };
-    let category = matches!(relation, Relation::Loose | Relation::Free)
-        || category_le(raw, t[1] as usize, s[1] as usize);
-    let own = relation != Relation::Subtype || t[0] != 0 || t[2] != 1 || s[2] == 1;
-    rep && category && own
+    let category = || {
+        matches!(relation, Relation::Loose | Relation::Free)
+            || category_le(raw, usize::from(x[1]), usize::from(y[1]))
+    };
+    let own = || relation != Relation::Subtype || x[0] != 0 || x[2] != 1 || y[2] == 1;
+    rep && category() && own()
 }
 
-/// Whether the pair is in the largest relation.
-pub fn related(raw: &RawTable, relation: Relation, t: usize, s: usize) -> bool {
-    let mut seen = [false; 16384];
-    let mut queue = [0u16; 16384];
-    let mut tail = 0;
-    let mut find = |a: usize, b: usize, tail: &mut usize, queue: &mut [u16; 16384]| {
-        let pair = a * 128 + b;
-        if !seen[pair] {
-            seen[pair] = true;
-            queue[*tail] = pair as u16;
-            *tail += 1;
-        }
-    };
-    find(t, s, &mut tail, &mut queue);
-    let mut head = 0;
-    while head < tail {
-        let (a, b) = (queue[head] as usize / 128, queue[head] as usize % 128);
-        head += 1;
-        let x = &raw.type_bytes[a * TYPE_BYTES..(a + 1) * TYPE_BYTES];
-        let y = &raw.type_bytes[b * TYPE_BYTES..(b + 1) * TYPE_BYTES];
-        if !outer(raw, relation, x, y) {
-            return false;
-        }
-        if x[0] != 0 {
-            continue;
-        }
-        for method in 0..raw.methods as usize {
-            let at = METHODS_AT + method * METHOD_BYTES;
-            let (m, n) = (&x[at..at + METHOD_BYTES], &y[at..at + METHOD_BYTES]);
-            if !states(relation, m[0], n[0]) {
-                return false;
-            }
-            if !(permits(m[0]) && permits(n[0])) {
-                continue;
-            }
-            if m[1] != n[1] || (m[6] == 0) != (n[6] == 0) {
-                return false;
-            }
-            for slot in 0..m[1] as usize {
-                find(
-                    n[2 + slot] as usize,
-                    m[2 + slot] as usize,
-                    &mut tail,
-                    &mut queue,
-                );
-            }
-            if m[6] != 0 {
-                find(m[6] as usize - 1, n[6] as usize - 1, &mut tail, &mut queue);
-            }
+/// The pairs found, each once. Entry i has the i-th pair of the queue in its low 15 bits, and in its top bit whether the pair
+/// of number i is found.
+struct Found {
+    entries: [u16; MAX_TYPES * MAX_TYPES],
+    count: usize,
+}
+
+impl Found {
+    const TOP: u16 = 1 << 15;
+
+    fn none() -> Found {
+        Found {
+            entries: [0; MAX_TYPES * MAX_TYPES],
+            count: 0,
         }
     }
+
+    /// The pair (x, y) is found, and joins the queue if it was not.
+    fn add(&mut self, x: usize, y: usize) {
+        let pair = x * MAX_TYPES + y;
+        if self.entries[pair] & Found::TOP == 0 {
+            self.entries[pair] |= Found::TOP;
+            self.entries[self.count] |= pair as u16;
+            self.count += 1;
+        }
+    }
+
+    /// A pair of the queue.
+    fn pair(&self, at: usize) -> (usize, usize) {
+        let pair = usize::from(self.entries[at] & !Found::TOP);
+        (pair / MAX_TYPES, pair % MAX_TYPES)
+    }
+}
+
+/// The rule of one method of two types: whether states and signatures keep it, and the pairs that it leads to are found.
+fn method(found: &mut Found, states: &States, m: &[u8], n: &[u8]) -> bool {
+    if !states[usize::from(m[0])][usize::from(n[0])] {
+        return false;
+    }
+    if !(permits(m[0]) && permits(n[0])) {
+        return true;
+    }
+    if m[1] != n[1] || (m[6] == 0) != (n[6] == 0) {
+        return false;
+    }
+    let used = 2..2 + usize::from(m[1]);
+    for (a, d) in m[used.clone()].iter().zip(&n[used]) {
+        found.add(usize::from(*d), usize::from(*a));
+    }
+    if m[6] != 0 {
+        found.add(usize::from(m[6]) - 1, usize::from(n[6]) - 1);
+    }
     true
+}
+
+/// The rules of the first `count` methods of two types.
+fn methods(found: &mut Found, states: &States, count: usize, x: &[u8], y: &[u8]) -> bool {
+    let of_x = x[METHODS_AT..].chunks_exact(METHOD_BYTES).take(count);
+    let of_y = y[METHODS_AT..].chunks_exact(METHOD_BYTES);
+    of_x.zip(of_y).all(|(m, n)| method(found, states, m, n))
+}
+
+/// How many pairs are found from a pair, itself among them, if all keep the rules of the relation: then the pair is related.
+pub fn reached(raw: &RawTable, relation: Relation, t: usize, s: usize) -> Option<usize> {
+    let states = states(relation);
+    let count = raw.methods as usize;
+    let mut found = Found::none();
+    found.add(t, s);
+    let mut head = 0;
+    while head < found.count {
+        let (a, b) = found.pair(head);
+        let (x, y) = (raw.entry(a), raw.entry(b));
+        let kept =
+            outer(raw, relation, x, y) && (x[0] != 0 || methods(&mut found, states, count, x, y));
+        if !kept {
+            return None;
+        }
+        head += 1;
+    }
+    Some(found.count)
 }
 
 /// Compare on a table handed in, as the exported function does it.
@@ -122,13 +188,7 @@ pub fn compare(raw: &RawTable, t: usize, s: usize) -> Result<[bool; 4], usize> {
 }
 
 fn answers(raw: &RawTable, t: usize, s: usize) -> [bool; 4] {
-    [
-        Relation::Subtype,
-        Relation::Strict,
-        Relation::Loose,
-        Relation::Free,
-    ]
-    .map(|relation| related(raw, relation, t, s))
+    RELATIONS.map(|relation| reached(raw, relation, t, s).is_some())
 }
 
 /// The pair table of a sheet, a search for each relation at each pair; or 2.

@@ -2,8 +2,12 @@
 
 use reference::gen::{self, Plan, BIG, FULL, MEDIUM, SMALL};
 use reference::random::Random;
+use reference::raw::{RawTable, BROADER_BYTES, METHOD_BYTES};
 use reference::sheet;
-use reference::table::Table;
+use reference::table::{
+    Broader, MethodState, Representation, Signature, Table, Type, MAX_CATEGORIES, MAX_METHODS,
+    MAX_SHEET_TYPES, MAX_SUBJECTS,
+};
 
 /// A plan, its name, and how many seeds of it to take.
 pub struct Share {
@@ -40,6 +44,34 @@ pub fn with_48_types() -> Table {
         .map(|seed| table(&BIG, seed))
         .find(|table| table.sheet_types == 48)
         .expect("one seed of thirty or so has 48 types")
+}
+
+/// A sheet with as many of everything as there can be, and long lines.
+pub fn largest() -> Table {
+    let signature = Signature {
+        arguments: vec![46, 47],
+        answer: Some(45),
+    };
+    Table {
+        subjects: MAX_SUBJECTS,
+        methods: MAX_METHODS,
+        broader: (1..=MAX_CATEGORIES)
+            .map(|category| Broader {
+                first: category - 1,
+                second: Some(category / 2),
+            })
+            .collect(),
+        sheet_types: MAX_SHEET_TYPES,
+        types: (0..MAX_SHEET_TYPES)
+            .map(|number| Type {
+                representation: Representation::Ref,
+                category: number % (MAX_CATEGORIES + 1),
+                own: number < 2,
+                methods: vec![MethodState::Optional(signature.clone()); MAX_METHODS],
+            })
+            .collect(),
+        keys: Vec::new(),
+    }
 }
 
 /// The lines of a text, each with its LF.
@@ -202,4 +234,43 @@ pub fn damaged(seed: u64) -> Vec<u8> {
         damage(&mut random, &mut text);
     }
     text
+}
+
+/// The worst case: `count` reference types that are alike but for where their signatures lead, so that every pair is reached.
+/// All are in the last category: it has to be the same one, as pairs are reached both ways round, and the walk to the last is
+/// the longest.
+pub fn worst(count: usize, categories: usize) -> RawTable {
+    let mut raw = RawTable {
+        subjects: 1,
+        methods: MAX_METHODS as u32,
+        categories: categories as u32,
+        sheet_types: count.min(MAX_SHEET_TYPES) as u32,
+        types: count as u32,
+        ..RawTable::default()
+    };
+    for category in 1..=categories {
+        let at = category * BROADER_BYTES;
+        let links = [2, category - 1, category.saturating_sub(2)].map(|link| link as u8);
+        raw.broader[at..at + BROADER_BYTES].copy_from_slice(&links);
+    }
+    for number in 0..count {
+        raw.entry_mut(number)[1] = categories as u8;
+        for method in 0..MAX_METHODS {
+            let signature = worst_method(count, number, method);
+            raw.method_mut(number, method).copy_from_slice(&signature);
+        }
+    }
+    raw
+}
+
+/// A method of the worst case: avail, two arguments and an answer. The factor of the second argument is another in each method,
+/// so that two types any distance apart are led to.
+fn worst_method(count: usize, number: usize, method: usize) -> [u8; METHOD_BYTES] {
+    let within = if number < MAX_SHEET_TYPES {
+        count.min(MAX_SHEET_TYPES)
+    } else {
+        count
+    };
+    let named = |factor: usize| ((number * factor + 1 + 3 * method) % within) as u8;
+    [2, 2, named(1), named(method + 1), 0, 0, named(3) + 1]
 }

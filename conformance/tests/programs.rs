@@ -1,8 +1,9 @@
 //! The proved program `pairs` (target/bin/pairs, built by `rt ci` or `rt check pairs`) against the reference's.
 
-use conformance::inputs::{damaged, shares, table, with_48_types};
+use conformance::inputs::{damaged, largest, shares, table, with_48_types, worst};
 use conformance::process::{feed, limited, plain, run};
 use reference::pairs;
+use reference::raw;
 use reference::script::MAX_INPUT;
 use reference::sheet;
 use reference::shrink::shrink;
@@ -185,26 +186,41 @@ fn input_in_pieces() {
     }
 }
 
-/// The worst sheet: 48 types, 16 methods, and every pair reached from every other.
+/// The worst sheet: 48 types, 16 methods, 31 categories, and from a pair of two types every pair is reached.
 #[test]
 fn the_worst_sheet() {
-    let mut input = b"guide=1\nsubjects=1\nmethods=16\ncats=0\ntypes=48\n".to_vec();
-    for number in 0..48 {
-        input.extend(format!("type={number}\nrep=ref\ncat=0\nown=no\n").into_bytes());
-        for method in 0..16 {
-            let named = |factor: usize| (number * factor + 1 + 3 * method) % 48;
-            let line = format!("m=avail({},{}){}\n", named(1), named(5), named(3));
-            input.extend(line.into_bytes());
-        }
-    }
-    input.extend(b"end=sheet\n");
+    let mut input = vec![0; MAX_INPUT];
+    let length = raw::write(&worst(48, 31), &mut input).expect("it fits");
+    input.truncate(length);
     let mut seen = Seen::default();
     same(limited, &input, &mut seen, "worst sheet");
     assert_eq!(seen.pairs, 1);
-    let output = proved(limited, &input);
+    assert_eq!(ending(&proved(limited, &input), " 1 1 1 1"), 48 * 48);
+}
+
+/// How many lines of an output end with these answers.
+fn ending(output: &[u8], answers: &str) -> usize {
     let lines = output.split(|byte| *byte == b'\n');
-    assert_eq!(
-        lines.filter(|line| line.ends_with(b" 1 1 1 1")).count(),
-        48 * 48
-    );
+    lines
+        .filter(|line| line.ends_with(answers.as_bytes()))
+        .count()
+}
+
+/// The largest sheet, with 31 categories: its types differ only in category and own, and each category is below all that follow.
+#[test]
+fn the_largest_sheet() {
+    let input = sheet::text(&largest());
+    let mut seen = Seen::default();
+    for start in [plain, limited] {
+        same(start, &input, &mut seen, "largest sheet");
+    }
+    assert_eq!((seen.pairs, seen.refused), (2, [0; 4]));
+    let output = proved(limited, &input);
+    // category of T ≤ that of S: 16 categories have two types and 16 one, so 80 of 2304 pairs in the same, and half of the rest
+    let ordered = 80 + (2304 - 80) / 2;
+    // not a subtype: T is own (0 or 1) and S is not
+    let strict_only = (48 - 2) + (46 - 1);
+    assert_eq!(ending(&output, " 0 1 1 1"), strict_only);
+    assert_eq!(ending(&output, " 1 1 1 1"), ordered - strict_only);
+    assert_eq!(ending(&output, " 0 0 1 1"), 2304 - ordered);
 }

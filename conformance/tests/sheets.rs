@@ -1,7 +1,7 @@
 //! Sheet read and Sheet write in the proved core against the reference: number, offset, every byte of the table, every byte of
 //! the buffer.
 
-use conformance::inputs::{damaged, lines, shares, table, BYTES, NUMBERS};
+use conformance::inputs::{damaged, largest, lines, shares, table, BYTES, NUMBERS};
 use conformance::{counts, derive, read, write, Asked, Counts, Derived, Loaded};
 use reference::gen::{BIG, SMALL};
 use reference::hostile;
@@ -10,10 +10,7 @@ use reference::raw::{self, RawTable, BROADER_LENGTH, TYPES_LENGTH};
 use reference::refusal::Refusal;
 use reference::sheet;
 use reference::shrink::{shrink, shrink_hostile};
-use reference::table::{
-    Broader, MethodState, Representation, Signature, Table, Type, MAX_CATEGORIES, MAX_METHODS,
-    MAX_SHEET_TYPES, MAX_SUBJECTS,
-};
+use reference::table::MAX_SHEET_TYPES;
 use std::collections::BTreeMap;
 
 /// What stands in everything lent before.
@@ -322,34 +319,6 @@ fn refusals_by_hand() {
     assert_eq!(proved(extra.as_bytes()).1, Err((1, own.len())));
     assert_eq!(proved(b"").1, Err((1, 0)));
     assert_eq!(proved(b"\n").1, Err((1, 0)));
-}
-
-/// A sheet with as many of everything as there can be, and long lines.
-fn largest() -> Table {
-    let signature = Signature {
-        arguments: vec![46, 47],
-        answer: Some(45),
-    };
-    Table {
-        subjects: MAX_SUBJECTS,
-        methods: MAX_METHODS,
-        broader: (1..=MAX_CATEGORIES)
-            .map(|category| Broader {
-                first: category - 1,
-                second: Some(category / 2),
-            })
-            .collect(),
-        sheet_types: MAX_SHEET_TYPES,
-        types: (0..MAX_SHEET_TYPES)
-            .map(|number| Type {
-                representation: Representation::Ref,
-                category: number % (MAX_CATEGORIES + 1),
-                own: number < 2,
-                methods: vec![MethodState::Optional(signature.clone()); MAX_METHODS],
-            })
-            .collect(),
-        keys: Vec::new(),
-    }
 }
 
 /// At the limits: 16 subjects, 16 methods, 31 categories and 48 types; one of each and no category.

@@ -1,6 +1,7 @@
 //! Tables handed in, right, noisy and broken in one place or many: compare in the proved core against the reference's.
 
 use conformance::compare;
+use conformance::inputs::worst;
 use reference::gen::{generate, Profile};
 use reference::hostile::{self, Hostile};
 use reference::raw::{self, RawTable};
@@ -97,22 +98,7 @@ fn every_pair_of_generated_sheets() {
 /// Every pair of 128 types reached, in a stack of 256 KB.
 #[test]
 fn the_worst_comparison_needs_little_stack() {
-    let mut table = RawTable {
-        subjects: 1,
-        methods: 16,
-        sheet_types: 48,
-        types: 128,
-        ..RawTable::default()
-    };
-    for number in 0..128 {
-        let within = if number < 48 { 48 } else { 128 };
-        for method in 0..16 {
-            let answer = ((number * 3 + 1 + 5 * method) % within) as u8 + 1;
-            let argument = ((number + 1 + 3 * method) % within) as u8;
-            table.method_mut(number, method)[..3].copy_from_slice(&[2, 1, argument]);
-            table.method_mut(number, method)[6] = answer;
-        }
-    }
+    let table = worst(128, 31);
     let small = std::thread::Builder::new().stack_size(256 * 1024);
     let answer = small
         .spawn(move || compare(&table, 126, 127))

@@ -458,7 +458,7 @@ fn after_first(s: &[u8], h: First) -> Sheet
     }
 }
 
-// "Sheet read", for any bytes.
+// "Sheet read", for any bytes. Where a sheet is accepted there is no line to point at: `at` is 0, and the contract leaves it open.
 pub fn read(s: &[u8]) -> Sheet
     ensures { λ r. ⌜ SheetIs r (readSheet (now (s .entry))) ⌝ }
 {

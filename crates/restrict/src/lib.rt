@@ -71,9 +71,17 @@ fn search(b: &[u8; 16384], sheet: usize, n: usize, kind: u8, t: usize, s: usize)
     Begun::New
 }
 
-// "Sub and Sup of a type with itself are that type; of numbers, Sub is T and Sup is S": `own` is that side.
-fn begin(b: &[u8; 16384], sheet: usize, n: usize, kind: u8, t: usize, s: usize, own: usize) -> Begun
-    requires { ⌜ (kind < 2) × (sheet ≤ n) × (n ≤ 128) × (own ≡ mainSide (kindOf kind) t s) ⌝ }
+// "Sub and Sup of a type with itself are that type; of numbers, Sub is T and Sup is S": `main` is that side.
+fn begin(
+    b: &[u8; 16384],
+    sheet: usize,
+    n: usize,
+    kind: u8,
+    t: usize,
+    s: usize,
+    main: usize,
+) -> Begun
+    requires { ⌜ (kind < 2) × (sheet ≤ n) × (n ≤ 128) × (main ≡ mainSide (kindOf kind) t s) ⌝ }
     ensures { λ r. ⌜ Begins (λ T ms. withoutNew (tabled T ms sheet n (now (b .entry))) (kindOf kind) t s) n t s (now (b .entry)) r ⌝ }
 {
     if t == s {
@@ -81,11 +89,11 @@ fn begin(b: &[u8; 16384], sheet: usize, n: usize, kind: u8, t: usize, s: usize, 
     }
     let left = is_ref(b, n, t);
     if !left {
-        return Begun::Settled(Derived::At(own, n));
+        return Begun::Settled(Derived::At(main, n));
     }
     let right = is_ref(b, n, s);
     if !right {
-        return Begun::Settled(Derived::At(own, n));
+        return Begun::Settled(Derived::At(main, n));
     }
     search(b, sheet, n, kind, t, s)
 }

@@ -16,9 +16,9 @@ use Rattle.model.proofs.Derived.{AllBelow}
 use Rattle.model.proofs.Fitting.{TableFitting, table-fitting, every-at}
 use Rattle.model.proofs.Largest.{getD-from}
 use Rattle.table.specs.declared.Counts.{Counts}
-use Rattle.table.specs.Store.{rawTable, tableIn}
+use Rattle.table.specs.Store.{rawTable, tableIn, broaderOf}
 use Rattle.table.proofs.Tables.{size-is, cats-length}
-use Rattle.search.specs.Checked.{broaderOf, Checked}
+use Rattle.search.specs.Checked.{Checked}
 
 below : (n : ℕ) (xs : List ℕ) → So (all (λ k. ltb k n) xs) → AllBelow n xs
 below n [] h = tt

@@ -15,9 +15,9 @@ use Rattle.model.specs.Check.{RawLinks, noRawLinks, linksOf, tableOf}
 use Rattle.model.proofs.Largest.{getD-from, getD-from-out}
 use Rattle.model.proofs.Derived.{AllBelow}
 use Rattle.table.specs.declared.Counts.{Counts}
-use Rattle.table.specs.Store.{linksIn, tableIn}
+use Rattle.table.specs.Store.{linksIn, tableIn, broaderOf}
 use Rattle.table.proofs.Lists.{lt-or-ge}
-use Rattle.search.specs.Checked.{broaderOf, broaderIn, Checked}
+use Rattle.search.specs.Checked.{broaderIn, Checked}
 use Rattle.search.specs.Parts.{catNext}
 
 -- the order of the table is that of these links, whatever its types

@@ -15,12 +15,12 @@ use Rattle.model.proofs.Largest.{getD-from-out}
 use Rattle.model.proofs.Rules.{first, all-test, all-says, denied-fits}
 use Rattle.table.specs.declared.Counts.{Counts}
 use Rattle.table.specs.declared.Head.{Head}
-use Rattle.table.specs.Store.{typesIn, headOf, tableIn}
+use Rattle.table.specs.Store.{typesIn, headOf, tableIn, methodIn}
 use Rattle.table.proofs.Lists.{from-first}
 use Rattle.table.proofs.Tables.{type-is}
 use Rattle.table.proofs.Codes.{number-rep}
 use Rattle.search.specs.Found.{found, Sound, Met, upto}
-use Rattle.search.specs.Parts.{outerHeads, methodIn}
+use Rattle.search.specs.Parts.{outerHeads}
 use Rattle.search.proofs.Pairs.{clash, stay, met-as}
 use Rattle.search.proofs.Signatures.{upto-says, upto-test}
 use Rattle.search.proofs.Outside.{heads-rule, outer-sort, code-ref}

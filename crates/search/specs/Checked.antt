@@ -2,18 +2,12 @@
 -- Nothing is asked of the types: a number in a signature that names no type makes a pair unrelated, in the model as in the code.
 use mathlib.Core.List.{List, [], _∷_}
 use Prim.Native.Nat.{ℕ, _≤_, _<_}
-use lib.ListN.{getD}
 use Rattle.model.specs.Basics.{from}
-use Rattle.model.specs.Check.{noRawLinks, linksOf}
 use Rattle.model.proofs.Derived.{AllBelow}
 use Rattle.table.specs.declared.Counts.{Counts}
-use Rattle.table.specs.Store.{linksIn}
+use Rattle.table.specs.Store.{broaderOf}
 
--- the broader categories that category k names
-abbrev pub broaderOf : List ℕ → ℕ → List ℕ
-broaderOf l k = linksOf (getD (linksIn l) k noRawLinks)
-
--- those of every category; category 0 names none. They are `broader` of the table (proofs/Categories).
+-- the broader categories of every category; category 0 names none. They are `broader` of the table (proofs/Categories).
 unfoldable pub broaderIn : List ℕ → Counts → List (List ℕ)
 broaderIn l c = [] ∷ from (c .cats) 1 (broaderOf l)
 

@@ -6,11 +6,10 @@ use Prim.Native.Nat.{ℕ, _<_}
 use lib.Dec.{eqb}
 use lib.ListN.{getD}
 use Rattle.model.specs.Basics.{_⇒_, any}
-use Rattle.model.specs.Table.{Rep, Method, Table, isRef}
+use Rattle.model.specs.Table.{Rep, Table, isRef}
 use Rattle.model.specs.Relations.{Relation, subtype, conforms, strict, loose, free, stateRule, sameRep, sameSort, catLe}
-use Rattle.model.specs.Check.{noRawType, noRawMethod, stateOf, repOf, methodOf}
+use Rattle.model.specs.Check.{stateOf, repOf}
 use Rattle.table.specs.declared.Head.{Head}
-use Rattle.table.specs.Store.{typesIn}
 
 -- Whether a relation asks for the same representation; the others ask that both are ref or both numbers
 abbrev pub exact : Relation → Bool
@@ -55,7 +54,3 @@ Says k square = (a b : ℕ) → a < 4 → b < 4 → getD (getD square a []) b fa
 -- Category a ≤ x by the links of x, from the answers for the categories below x.
 unfoldable pub catNext : List (List ℕ) → List Bool → ℕ → ℕ → Bool
 catNext links done a x = eqb a 0 || (eqb a x || any (λ k. getD done k false) (getD links x []))
-
--- Method j of type i, as the model has it.
-abbrev pub methodIn : List ℕ → ℕ → ℕ → Method
-methodIn b i j = methodOf (getD (getD (typesIn b) i noRawType .methods) j noRawMethod)

@@ -1,4 +1,4 @@
--- Concrete sheets: Case P is read with its table and written as it was read; refusals with their numbers and offsets, one or more for each of the READINGS S1 to S13 (S4 speaks of `do=` operands; its like in a sheet is S3).
+-- Concrete sheets: Case P is read with its table and written as it was read; refusals with their numbers and offsets, one or more for each of the readings S1 to S13 of docs/DECISIONS.md (S4 speaks of `do=` operands; its like in a sheet is S3).
 use mathlib.Core.Path.{_≡_, refl}
 use mathlib.Core.Bool.{true, false, So}
 use mathlib.Core.List.{List, [], _∷_, _++_}

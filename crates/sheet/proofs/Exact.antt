@@ -107,7 +107,7 @@ same-text bs cs t h k = sym (text-of-read bs t h) ∙ text-of-read cs t k
 pub refused-empty : (bs : List ℕ) (n at : ℕ) → read bs ≡ malformed n at → tableRead (read bs) ≡ emptyTable
 refused-empty bs n at h = ap tableRead h
 
--- The text of a table that keeps the rules, derived types or not, is read back as the table without them (READINGS S17).
+-- The text of a table that keeps the rules, derived types or not, is read back as the table without them (docs/DECISIONS.md S17).
 pub read-of-fitting : (t : Table) → So (tableFits t) → read (text t) ≡ loaded (withoutDerived t)
 unfolding text
 read-of-fitting t h =

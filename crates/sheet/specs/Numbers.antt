@@ -25,7 +25,7 @@ whole (took x (b ∷ r)) = refuse 1
 abbrev pub isDigit : ℕ → Bool
 isDigit b = leb 48 b && leb b 57
 
--- A number of 10,000 or more counts as 10,000, which is above every range: its form is right and its value outside, 2 (READINGS S2).
+-- A number of 10,000 or more counts as 10,000, which is above every range: its form is right and its value outside, 2 (docs/DECISIONS.md S2).
 abbrev pub limit : ℕ → ℕ
 limit n = min n 10000
 

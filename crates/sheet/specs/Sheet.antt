@@ -1,5 +1,5 @@
 -- Document 01, "Sheet read" and "Sheet text": the reader's answer for every string of bytes.
--- "Sheet read: each line by 1 (form), 2 (number outside its range), 3 (broader category not below)": in each line kind the tests stand in this order, over the whole line (READINGS S5).
+-- "Sheet read: each line by 1 (form), 2 (number outside its range), 3 (broader category not below)": in each line kind the tests stand in this order, over the whole line (docs/DECISIONS.md S5).
 use mathlib.Core.Bool.{Bool, true, false, _&&_, _||_, cond}
 use mathlib.Core.List.{List, [], _∷_}
 use mathlib.Core.Option.{Option, none, some}

@@ -82,7 +82,7 @@ keyIn h = some (record { kind = kindOf (h .kind); left = h .left; right = h .rig
 
 -- "T's .. states, except that a method T permits and S doesn't becomes unavail", and the same of Sup with denied
 abbrev pub keptState : State → State → State → State
-keptState own other lost = cond (permit own && not (permit other)) lost own
+keptState main other lost = cond (permit main && not (permit other)) lost main
 
 -- A derived type as it is stored.
 abbrev pub newRecord : ℕ → ℕ → ℕ → ℕ → List RawMethod → RawType

@@ -49,17 +49,17 @@ pub fn is_key(h: Head, kind: u8, t: usize, s: usize) -> bool
     s == r
 }
 
-// One side's own state, except that a method it permits and the other doesn't is lost.
-fn kept_state(own: u8, other: u8, lost: u8) -> u8
-    ensures { λ r. ⌜ (stateOf r ≡ keptState (stateOf own) (stateOf other) (stateOf lost)) × (own < 4 → lost < 4 → r < 4) ⌝ }
+// The main side's state, except that a method it permits and the other doesn't is lost.
+fn kept_state(main: u8, other: u8, lost: u8) -> u8
+    ensures { λ r. ⌜ (stateOf r ≡ keptState (stateOf main) (stateOf other) (stateOf lost)) × (main < 4 → lost < 4 → r < 4) ⌝ }
 {
-    let p = permits(own);
+    let p = permits(main);
     if !p {
-        return own;
+        return main;
     }
     let q = permits(other);
     if q {
-        return own;
+        return main;
     }
     lost
 }
@@ -110,7 +110,7 @@ fn argument(m: Method, i: usize) -> usize
     wide(args[i])
 }
 
-// Argument slot i: "arguments with sides exchanged".
+// Argument slot i: "arguments Sup(S argument, T argument)", the same sides for Sub by Sup.
 fn argument_slot(p: Method, q: Method, i: usize) -> Slot
     requires { ⌜ i < 4 ⌝ }
     ensures { λ r. ⌜ (r ≡ argumentSlot i (take (p .count) (p .args)) (take (q .count) (q .args))) × Low r ⌝ }

@@ -5,7 +5,8 @@ use mathlib.Core.List.{List, [], _∷_, _++_, map}
 use lib.ListN.{getD, replicate}
 use Rattle.model.specs.Basics.{from}
 use Rattle.model.specs.Table.{Ty, Table}
-use Rattle.model.specs.Check.{RawMethod, RawType, RawLinks, RawTable, noRawType, typeOf, tableOf}
+use Rattle.model.specs.Table.{Method as Methodᵐ}
+use Rattle.model.specs.Check.{RawMethod, RawType, RawLinks, RawTable, noRawType, noRawMethod, noRawLinks, methodOf, typeOf, linksOf, tableOf}
 use Rattle.table.specs.declared.Counts.{Counts}
 use Rattle.table.specs.declared.Method.{Method}
 use Rattle.table.specs.declared.TypeRec.{TypeRec}
@@ -60,6 +61,13 @@ tableIn b l c = tableOf (rawTable b l c)
 -- The first n records as the model's types, in a table of so many methods and sheet types.
 unfoldable pub typesTo : ℕ → ℕ → ℕ → List RawType → List Ty
 typesTo methods sheet n rs = from n 0 (λ i. typeOf methods sheet i (getD rs i noRawType))
+
+-- Method j of type i, and the broader categories that category k names.
+abbrev pub methodIn : List ℕ → ℕ → ℕ → Methodᵐ
+methodIn b i j = methodOf (getD (getD (typesIn b) i noRawType .methods) j noRawMethod)
+
+abbrev pub broaderOf : List ℕ → ℕ → List ℕ
+broaderOf l k = linksOf (getD (linksIn l) k noRawLinks)
 
 -- The bytes of a record, as they are stored.
 abbrev pub methodBytes : Method → List ℕ

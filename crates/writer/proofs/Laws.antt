@@ -13,10 +13,10 @@ use Rattle.table.specs.declared.Counts.{Counts}
 use Rattle.table.specs.declared.Head.{Head}
 use Rattle.table.specs.declared.Links.{Links}
 use Rattle.table.specs.declared.Method.{Method}
-use Rattle.table.specs.Store.{typesIn, linksIn, rawMethod, rawLinks, headOf}
+use Rattle.table.specs.Store.{typesIn, linksIn, rawMethod, rawLinks, headOf, methodIn, broaderOf}
 use Rattle.sheet.specs.Lines.{bytes}
 use Rattle.sheet.specs.Text.{numberText, underText, repText, ownText, methodText, each, memberLines, typeLines}
-use Rattle.writer.specs.Parts.{typeIn, methodIn, linksOfCategory, methodLines, typeLinesTo, underLines}
+use Rattle.writer.specs.Parts.{typeIn, methodLines, typeLinesTo, underLines}
 
 -- ---- a type: x is its record and h its head
 module _ (i m s : ℕ) (x : RawType) where
@@ -88,8 +88,8 @@ unfolding underLines
 under-next l i x e =
     let p : i + 1 ≡ 1 + i = omega arith in
     ap (λ (z : RawLinks). underLines l i ++ (underText (linksOf z) ∷ [])) e
-    ∙ ap (λ z. underLines l i ++ (underText (linksOfCategory l z) ∷ [])) p
-    ∙ each-last (λ k links. underText links ∷ []) (linksOfCategory l) i 1 1
+    ∙ ap (λ z. underLines l i ++ (underText (broaderOf l z) ∷ [])) p
+    ∙ each-last (λ k links. underText links ∷ []) (broaderOf l) i 1 1
     ∙ ap (λ z. underLines l z) (sym (add-one i))
 
 -- none yet, and all of them

@@ -13,14 +13,14 @@ use Rattle.model.specs.Table.{Ty, Table, size, between, countsFit, tableFits, m
 use Rattle.model.specs.Check.{RawTable, codesFit, tableOf, tableAccepted}
 use Rattle.model.proofs.Rules.{first, second}
 use Rattle.table.specs.declared.Counts.{Counts}
-use Rattle.table.specs.Store.{rawTable}
+use Rattle.table.specs.Store.{rawTable, broaderOf}
 use Rattle.table.proofs.Lists.{length-from}
 use Rattle.sheet.specs.Lines.{bytes, join}
 use Rattle.sheet.specs.Text.{newestForm, numberText, each, typeLines, endText, sheetLines, text, writeText, write}
 use Rattle.linewriter.specs.Fill.{Filled, Lined}
 use Rattle.linewriter.proofs.Laws.{counted, fill-is}
 use Rattle.writer.specs.declared.Wrote.the-variants.{UnfitTable, ShortBuffer, Length}
-use Rattle.writer.specs.Parts.{typeIn, linksOfCategory, typeLinesTo, underLines, countLines, frontLines, backLines, Limited}
+use Rattle.writer.specs.Parts.{typeIn, typeLinesTo, underLines, countLines, frontLines, backLines, Writable}
 use Rattle.writer.specs.Answer.{writtenOf}
 
 take-from : {A : Type 0} (f : ℕ → A) (n c i : ℕ) → n ≤ c → take n (from c i f) ≡ from n i f
@@ -42,14 +42,14 @@ module _ (b l : List ℕ) (c : Counts) where
   unfolding text sheetLines tableOf frontLines backLines underLines typeLinesTo
   parts-are h =
       ap join (regroup (countLines c) (underLines l (c .cats)) (typeLinesTo b c (c .sheet)) (endText ∷ []) (numberText (bytes "types=") (c .sheet)))
-      ∙ ap (λ z. join (linesWith z (from (c .sheet) 0 (typeIn b c)))) (sym (length-from (linksOfCategory l) (c .cats) 1))
-      ∙ ap (λ z. join (linesWith (length (from (c .cats) 1 (linksOfCategory l))) z)) (sym (take-from (typeIn b c) (c .sheet) (c .types) 0 h))
+      ∙ ap (λ z. join (linesWith z (from (c .sheet) 0 (typeIn b c)))) (sym (length-from (broaderOf l) (c .cats) 1))
+      ∙ ap (λ z. join (linesWith (length (from (c .cats) 1 (broaderOf l))) z)) (sym (take-from (typeIn b c) (c .sheet) (c .types) 0 h))
 
-  pub sheet-is : {old new : List ℕ} {r : ℕ} → Limited c → Lined old new (frontLines l c ++ backLines b c) r → Filled old new (text (tableOf (rawTable b l c))) r
+  pub sheet-is : {old new : List ℕ} {r : ℕ} → Writable c → Lined old new (frontLines l c ++ backLines b c) r → Filled old new (text (tableOf (rawTable b l c))) r
   sheet-is g f = fill-is (parts-are (g .types)) (f .filled)
 
   -- what passed the check has counts within their limits
-  pub accepted-limited : tableAccepted (rawTable b l c) ≡ true → Limited c
+  pub accepted-limited : tableAccepted (rawTable b l c) ≡ true → Writable c
   unfolding tableAccepted tableFits tableOf
   accepted-limited h =
       let t : Table = tableOf (rawTable b l c) in
@@ -62,7 +62,7 @@ module _ (b l : List ℕ) (c : Counts) where
       record {
         subjects = high maxSubjects (t .subjects) (first (between 1 maxSubjects (t .subjects)) _ k);
         methods = high maxMethods (t .methods) (first (between 1 maxMethods (t .methods)) _ k₁);
-        cats = subst (λ z. z ≤ 31) (length-from (linksOfCategory l) (c .cats) 1) (leb-true (length (t .cats)) maxCategories (first (leb (length (t .cats)) maxCategories) _ k₂));
+        cats = subst (λ z. z ≤ 31) (length-from (broaderOf l) (c .cats) 1) (leb-true (length (t .cats)) maxCategories (first (leb (length (t .cats)) maxCategories) _ k₂));
         sheet = high maxSheetTypes (t .sheet) (first (between 1 maxSheetTypes (t .sheet)) _ k₃);
         types = subst (λ z. c .sheet ≤ z) (length-from (typeIn b c) (c .types) 0) (leb-true (t .sheet) (size t) (first (leb (t .sheet) (size t)) _ k₄));
       }

@@ -3,22 +3,16 @@ use mathlib.Core.List.{List, [], _∷_, _++_}
 use Prim.Native.Nat.{ℕ, _≤_}
 use lib.ListN.{getD}
 use Rattle.model.specs.Basics.{from}
-use Rattle.model.specs.Table.{Method, Ty}
-use Rattle.model.specs.Check.{noRawMethod, noRawType, noRawLinks, methodOf, typeOf, linksOf}
+use Rattle.model.specs.Table.{Ty}
+use Rattle.model.specs.Check.{noRawType, typeOf}
 use Rattle.table.specs.declared.Counts.{Counts}
-use Rattle.table.specs.Store.{typesIn, linksIn}
+use Rattle.table.specs.Store.{typesIn, methodIn, broaderOf}
 use Rattle.sheet.specs.Lines.{bytes}
 use Rattle.sheet.specs.Text.{newestForm, numberText, underText, methodText, each, typeLines, endText}
 
--- a type, a method of it, and the broader categories of a category, in the bytes
+-- a type in the bytes
 abbrev pub typeIn : List ℕ → Counts → ℕ → Ty
 typeIn b c i = typeOf (c .methods) (c .sheet) i (getD (typesIn b) i noRawType)
-
-abbrev pub methodIn : List ℕ → ℕ → ℕ → Method
-methodIn b i j = methodOf (getD (getD (typesIn b) i noRawType .methods) j noRawMethod)
-
-abbrev pub linksOfCategory : List ℕ → ℕ → List ℕ
-linksOfCategory l k = linksOf (getD (linksIn l) k noRawLinks)
 
 -- the lines of the first n methods of type i, of the first n types, and of the first n categories
 unfoldable pub methodLines : List ℕ → ℕ → ℕ → List (List ℕ)
@@ -28,7 +22,7 @@ unfoldable pub typeLinesTo : List ℕ → Counts → ℕ → List (List ℕ)
 typeLinesTo b c n = each typeLines 0 (from n 0 (typeIn b c))
 
 unfoldable pub underLines : List ℕ → ℕ → List (List ℕ)
-underLines l n = each (λ k links. underText links ∷ []) 1 (from n 1 (linksOfCategory l))
+underLines l n = each (λ k links. underText links ∷ []) 1 (from n 1 (broaderOf l))
 
 -- the lines in front of the types
 abbrev pub countLines : Counts → List (List ℕ)
@@ -42,7 +36,7 @@ unfoldable pub backLines : List ℕ → Counts → List (List ℕ)
 backLines b c = typeLinesTo b c (c .sheet) ++ (endText ∷ [])
 
 -- Counts within the limits of document 01, as far as the writer needs them.
-pub record Limited (c : Counts) : Type 0 where
+pub record Writable (c : Counts) : Type 0 where
   pub subjects : c .subjects ≤ 16
   pub methods : c .methods ≤ 16
   pub cats : c .cats ≤ 31

@@ -1,5 +1,5 @@
 // Document 01, "Sheet write": the sheet of a table. "The writer adds each line in the rest of the same lent buffer": every function lends the buffer's tail,
-// from the end of the last line, on to the next line writer. Writers are total (crate `lines`), so that the same functions count first, on an empty part of
+// from the end of the last line, on to the next line writer. Writers are total (crate `linewriter`), so that the same functions count first, on an empty part of
 // the buffer, and a short buffer stays as it is.
 use linewriter::number_line;
 use linewriter::text_line;
@@ -21,7 +21,7 @@ ghost use Rattle.table.specs.Store.{rawTable};
 ghost use Rattle.sheet.specs.Lines.{bytes};
 ghost use Rattle.sheet.specs.Text.{numberText, repText, ownText, typeLines, text, write};
 ghost use Rattle.linewriter.specs.Fill.{Filled, Lined};
-ghost use Rattle.writer.specs.Parts.{typeIn, methodLines, typeLinesTo, underLines, countLines, frontLines, backLines, Limited};
+ghost use Rattle.writer.specs.Parts.{typeIn, methodLines, typeLinesTo, underLines, countLines, frontLines, backLines, Writable};
 ghost use Rattle.writer.specs.Answer.{writtenOf};
 
 // The writer's answer. specs/Answer.antt gives the paper's number for each case.
@@ -94,7 +94,7 @@ fn type_lines(buf: &mut [u8], b: &[u8; 16384], c: Counts, i: usize) -> usize
 
 // The sheet types. "Derived types aren't written."
 fn sheet_types(buf: &mut [u8], b: &[u8; 16384], c: Counts) -> usize
-    requires { ⌜ Limited c ⌝ }
+    requires { ⌜ Writable c ⌝ }
     ensures is { λ r. ⌜ Lined (now (buf .entry)) (now (buf .exit)) (typeLinesTo (now (b .entry)) c (c .sheet)) r ⌝ }
     ensures few { λ r. ⌜ r ≤ 144960 ⌝ }
 {
@@ -130,7 +130,7 @@ fn under_lines(buf: &mut [u8], l: &[u8; 96], cats: usize) -> usize
 
 // "`guide=1`, `subjects=`, `methods=`, `cats=`"
 fn count_lines(buf: &mut [u8], c: Counts) -> usize
-    requires { ⌜ Limited c ⌝ }
+    requires { ⌜ Writable c ⌝ }
     ensures is { λ r. ⌜ Lined (now (buf .entry)) (now (buf .exit)) (countLines c) r ⌝ }
     ensures few { λ r. ⌜ r ≤ 148 ⌝ }
 {
@@ -145,7 +145,7 @@ fn count_lines(buf: &mut [u8], c: Counts) -> usize
 
 // The lines in front of the types.
 fn front_lines(buf: &mut [u8], l: &[u8; 96], c: Counts) -> usize
-    requires { ⌜ Limited c ⌝ }
+    requires { ⌜ Writable c ⌝ }
     ensures is { λ r. ⌜ Lined (now (buf .entry)) (now (buf .exit)) (frontLines (now (l .entry)) c) r ⌝ }
     ensures few { λ r. ⌜ r ≤ 2448 ⌝ }
 {
@@ -160,7 +160,7 @@ fn front_lines(buf: &mut [u8], l: &[u8; 96], c: Counts) -> usize
 
 // The types, and "`end=sheet`, nothing after".
 fn back_lines(buf: &mut [u8], b: &[u8; 16384], c: Counts) -> usize
-    requires { ⌜ Limited c ⌝ }
+    requires { ⌜ Writable c ⌝ }
     ensures is { λ r. ⌜ Lined (now (buf .entry)) (now (buf .exit)) (backLines (now (b .entry)) c) r ⌝ }
     ensures few { λ r. ⌜ r ≤ 144977 ⌝ }
 {
@@ -172,7 +172,7 @@ fn back_lines(buf: &mut [u8], b: &[u8; 16384], c: Counts) -> usize
 
 // The whole sheet.
 fn put_sheet(buf: &mut [u8], b: &[u8; 16384], l: &[u8; 96], c: Counts) -> usize
-    requires { ⌜ Limited c ⌝ }
+    requires { ⌜ Writable c ⌝ }
     ensures { λ r. ⌜ Filled (now (buf .entry)) (now (buf .exit)) (text (tableOf (rawTable (now (b .entry)) (now (l .entry)) c))) r ⌝ }
 {
     let a = front_lines(buf, l, c);

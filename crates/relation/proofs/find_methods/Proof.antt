@@ -5,8 +5,7 @@ use native.Mathlib.Omega.{arith}
 use borrow.Author.Needs.{needs}
 use Rattle.model.specs.Relations.{methodRule}
 use Rattle.model.specs.Check.{methodOf}
-use Rattle.table.specs.Store.{rawMethod}
-use Rattle.search.specs.Parts.{methodIn}
+use Rattle.table.specs.Store.{rawMethod, methodIn}
 use Rattle.search.specs.Found.{Grew, upto, seenIn, queueIn}
 use Rattle.search.proofs.Steps.{methods-start, methods-broke, methods-more, methods-end}
 use Rattle.rules.specs.Asked.{relationOf}

@@ -16,14 +16,14 @@ is-ref-requires c κs = search needs
 
 returns-2 : tie.Need-returns-2
 returns-2 c = let a = c .before .before .before .args in
-    begins-number (a .kind) (a .t) (a .s) (c .before .before .before .pre .0) (a .sheet) (a .n) (a .b .now) (a .own) (c .before .before .before .pre .3) (c .before .before .if1 .left) (not-left (refIn (a .n) (a .b .now) (a .t)) (refIn (a .n) (a .b .now) (a .s)) (sym (c .before .is-ref .ensures) ∙ not-true (c .before .is-ref .result) (c .if2 .taken)))
+    begins-number (a .kind) (a .t) (a .s) (c .before .before .before .pre .0) (a .sheet) (a .n) (a .b .now) (a .main) (c .before .before .before .pre .3) (c .before .before .if1 .left) (not-left (refIn (a .n) (a .b .now) (a .t)) (refIn (a .n) (a .b .now) (a .s)) (sym (c .before .is-ref .ensures) ∙ not-true (c .before .is-ref .result) (c .if2 .taken)))
 
 is-ref-requires-2 : tie.Need-is-ref-requires-2
 is-ref-requires-2 c κs = search needs
 
 returns-3 : tie.Need-returns-3
 returns-3 c = let a = c .before .before .before .before .before .args in
-    begins-number (a .kind) (a .t) (a .s) (c .before .before .before .before .before .pre .0) (a .sheet) (a .n) (a .b .now) (a .own) (c .before .before .before .before .before .pre .3) (c .before .before .before .before .if1 .left) (not-right (refIn (a .n) (a .b .now) (a .t)) (refIn (a .n) (a .b .now) (a .s)) (sym (c .before .is-ref2 .ensures) ∙ not-true (c .before .is-ref2 .result) (c .if3 .taken)))
+    begins-number (a .kind) (a .t) (a .s) (c .before .before .before .before .before .pre .0) (a .sheet) (a .n) (a .b .now) (a .main) (c .before .before .before .before .before .pre .3) (c .before .before .before .before .if1 .left) (not-right (refIn (a .n) (a .b .now) (a .t)) (refIn (a .n) (a .b .now) (a .s)) (sym (c .before .is-ref2 .ensures) ∙ not-true (c .before .is-ref2 .result) (c .if3 .taken)))
 
 search-requires : tie.Need-search-requires
 search-requires c κs = (omega (arith, c .before .before .before .before .before .pre .0), c .before .before .before .before .before .pre .1, c .before .before .before .before .before .pre .2, sym (c .before .before .before .is-ref .ensures) ∙ not-false (c .before .before .before .is-ref .result) (c .before .before .if2 .left), sym (c .before .is-ref2 .ensures) ∙ not-false (c .before .is-ref2 .result) (c .if3 .left))
