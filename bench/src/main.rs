@@ -10,9 +10,9 @@ use conformance::inputs::{damaged, with_48_types, worst};
 use conformance::{chains, compare, counted, counts, Asked, Derived, Loaded, PAIRS_LENGTH};
 use reference::hostile;
 use reference::raw::{RawTable, BROADER_LENGTH, TYPES_LENGTH};
+use reference::relations::RELATIONS;
 use reference::sheet;
 use reference::table::MAX_CATEGORIES;
-use search::RELATIONS;
 use std::hint::black_box;
 use std::time::{Duration, Instant};
 

@@ -4,23 +4,8 @@
 use crate::fits;
 use conformance::PAIRS_LENGTH;
 use reference::raw::{RawTable, BROADER_BYTES, METHODS_AT, METHOD_BYTES};
+use reference::relations::{Relation, RELATIONS};
 use reference::table::{MAX_CATEGORIES, MAX_SHEET_TYPES, MAX_TYPES};
-
-/// The relations, in the order of the answers.
-#[derive(Clone, Copy, PartialEq)]
-pub enum Relation {
-    Subtype,
-    Strict,
-    Loose,
-    Free,
-}
-
-pub const RELATIONS: [Relation; 4] = [
-    Relation::Subtype,
-    Relation::Strict,
-    Relation::Loose,
-    Relation::Free,
-];
 
 /// For the state of a method in T (row) and in S (column): whether a relation lets them stand together.
 type States = [[bool; 4]; 4];

@@ -1,6 +1,6 @@
 -- Compare and the pair table, from the four relations at a pair.
 use mathlib.Core.Path.{_≡_, _∙_}
-use mathlib.Core.Bool.{Bool, true, false, _&&_}
+use mathlib.Core.Bool.{true, false, _&&_}
 use mathlib.Core.List.{List}
 use Prim.Native.Nat.{ℕ, _+_, _*_, _/_, _%_, _≤_, _<_}
 use native.Mathlib.Omega.{arith}
@@ -18,8 +18,9 @@ use Rattle.operand.specs.Index.{indexOf}
 use Rattle.operand.proofs.Laws.{index-unknown, index-known}
 use Rattle.compare.specs.declared.Compared.{Compared}
 use Rattle.compare.specs.declared.Compared.the-variants.{Unfit, Unknown, Answers}
+use Rattle.compare.specs.declared.Four.{Four}
 use Rattle.compare.specs.declared.Pairs.{Pairs}
-use Rattle.compare.specs.Answered.{comparedOf, pairsGiven}
+use Rattle.compare.specs.Answered.{FourAt, comparedOf, pairsGiven}
 use Rattle.compare.specs.Pairs.{pairCode, pairEntry, pairTable, noPairs, pairsHanded}
 
 -- Compare, where x and y are the indices of the numbers handed in.
@@ -33,12 +34,12 @@ module _ (T : Table) (a b : ℤ) (x : ℕ) (ex : x ≡ indexOf a (size T)) where
     unfolding compare
     compare-right l = rw (index-known a (size T) x ex p .0, index-unknown b (size T) y ey l)
 
-    pub compare-all : (w₀ w₁ w₂ w₃ : Bool) → y < size T → w₀ ≡ related subtype T x y → w₁ ≡ related strict T x y → w₂ ≡ related loose T x y → w₃ ≡ related free T x y → comparedOf (Answers w₀ w₁ w₂ w₃) ≡ compare T a b
+    pub compare-all : y < size T → (f : Four) → FourAt T x y f → comparedOf (Answers (f .subtype) (f .strict) (f .loose) (f .free)) ≡ compare T a b
     unfolding compare related
-    compare-all w₀ w₁ w₂ w₃ q h₀ h₁ h₂ h₃ =
+    compare-all q f h =
         let k = index-known a (size T) x ex p in
         let m = index-known b (size T) y ey q in
-        rw (k .0, m .0, k .1, m .1, h₀, h₁, h₂, h₃)
+        rw (k .0, m .0, k .1, m .1, h .subtypeIs, h .strictIs, h .looseIs, h .freeIs)
 
 -- An entry of the pair table.
 module _ (b l : List ℕ) (c : Counts) (t s : ℕ) where
@@ -54,9 +55,8 @@ module _ (b l : List ℕ) (c : Counts) (t s : ℕ) where
   unfolding tableIn tableOf
   both-sheet p q = rw (lt-ltb t (c .sheet) p, lt-ltb s (c .sheet) q)
 
-  pub entry-all : (w x y z : Bool) (r : ℕ) → t < c .sheet → s < c .sheet → w ≡ related subtype (tableIn b l c) t s → x ≡ related strict (tableIn b l c) t s → y ≡ related loose (tableIn b l c) t s → z ≡ related free (tableIn b l c) t s
-      → r ≡ pairCode w x y z → r ≡ pairEntry (tableIn b l c) t s
-  entry-all w x y z r p q h₀ h₁ h₂ h₃ e = e ∙ rw (both-sheet p q, h₀, h₁, h₂, h₃)
+  pub entry-all : (f : Four) (r : ℕ) → t < c .sheet → s < c .sheet → FourAt (tableIn b l c) t s f → r ≡ pairCode (f .subtype) (f .strict) (f .loose) (f .free) → r ≡ pairEntry (tableIn b l c) t s
+  entry-all f r p q h e = e ∙ rw (both-sheet p q, h .subtypeIs, h .strictIs, h .looseIs, h .freeIs)
 
 -- The table, entry by entry.
 pub pairs-all : (T : Table) (out : List ℕ) → length out ≡ 2304 → ((k : ℕ) → k < 2304 → getD out k 0 ≡ pairEntry T (k / 48) (k % 48)) → out ≡ pairTable T

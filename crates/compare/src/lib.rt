@@ -5,7 +5,7 @@ ghost use Rattle.model.specs.Relations.{bit, compare};
 ghost use Rattle.model.specs.Check.{compareHanded};
 ghost use Rattle.table.specs.Store.{rawTable, tableIn};
 ghost use Rattle.search.specs.Checked.{Checked};
-ghost use Rattle.compare.specs.Answered.{comparedOf, pairsGiven};
+ghost use Rattle.compare.specs.Answered.{FourAt, comparedOf, pairsGiven};
 ghost use Rattle.compare.specs.Pairs.{pairCode, pairEntry, pairTable, noPairs, pairsHanded};
 use rules::Relation;
 use table::Counts;
@@ -22,8 +22,32 @@ pub enum Compared {
     },
 }
 
+// The four answers at a pair of types.
+struct Four {
+    subtype: bool,
+    strict: bool,
+    loose: bool,
+    free: bool,
+}
+
+fn answers_at(b: &[u8; 16384], l: &[u8; 96], c: Counts, t: usize, s: usize) -> Four
+    requires { ⌜ Checked (now l) c ⌝ }
+    ensures { λ r. ⌜ FourAt (tableIn (now (b .entry)) (now (l .entry)) c) t s r ⌝ }
+{
+    let subtype = relation::related_at(b, l, c, Relation::Subtype, t, s);
+    let strict = relation::related_at(b, l, c, Relation::Strict, t, s);
+    let loose = relation::related_at(b, l, c, Relation::Loose, t, s);
+    let free = relation::related_at(b, l, c, Relation::Free, t, s);
+    Four {
+        subtype,
+        strict,
+        loose,
+        free,
+    }
+}
+
 // Compare, in a table that is checked.
-pub fn compare_checked(b: &[u8; 16384], l: &[u8; 96], c: Counts, t: i64, s: i64) -> Compared
+fn compare_checked(b: &[u8; 16384], l: &[u8; 96], c: Counts, t: i64, s: i64) -> Compared
     requires { ⌜ Checked (now l) c ⌝ }
     ensures { λ r. ⌜ comparedOf r ≡ compare (tableIn (now (b .entry)) (now (l .entry)) c) t s ⌝ }
 {
@@ -35,15 +59,12 @@ pub fn compare_checked(b: &[u8; 16384], l: &[u8; 96], c: Counts, t: i64, s: i64)
     if c.types <= y {
         return Compared::Unknown;
     }
-    let subtype = relation::related_at(b, l, c, Relation::Subtype, x, y);
-    let strict = relation::related_at(b, l, c, Relation::Strict, x, y);
-    let loose = relation::related_at(b, l, c, Relation::Loose, x, y);
-    let free = relation::related_at(b, l, c, Relation::Free, x, y);
+    let a = answers_at(b, l, c, x, y);
     Compared::Answers {
-        subtype,
-        strict,
-        loose,
-        free,
+        subtype: a.subtype,
+        strict: a.strict,
+        loose: a.loose,
+        free: a.free,
     }
 }
 
@@ -88,11 +109,8 @@ fn pair_entry(b: &[u8; 16384], l: &[u8; 96], c: Counts, t: usize, s: usize) -> u
     if c.sheet <= s {
         return 0;
     }
-    let subtype = relation::related_at(b, l, c, Relation::Subtype, t, s);
-    let strict = relation::related_at(b, l, c, Relation::Strict, t, s);
-    let loose = relation::related_at(b, l, c, Relation::Loose, t, s);
-    let free = relation::related_at(b, l, c, Relation::Free, t, s);
-    pair_code(subtype, strict, loose, free)
+    let a = answers_at(b, l, c, t, s);
+    pair_code(a.subtype, a.strict, a.loose, a.free)
 }
 
 // The four answers at every pair of sheet types, that of (T, S) at T * 48 + S.

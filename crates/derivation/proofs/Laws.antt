@@ -6,14 +6,14 @@ use Prim.Native.Nat.{ℕ, zero, suc, _≤_, _<_}
 use native.Mathlib.Omega.{arith}
 use lib.Dec.{eqb}
 use lib.IntN.{ℤ}
-use lib.ListN.{length}
+use lib.ListN.{length, getD}
 use Rattle.model.specs.Basics.{Res, refuse, need, names, named}
 use Rattle.model.specs.Table.{Kind, Table, size}
 use Rattle.model.specs.Restriction.{derived}
-use Rattle.model.specs.Check.{kindOf, tableAccepted}
+use Rattle.model.specs.Check.{noRawType, kindOf, tableAccepted}
 use Rattle.model.proofs.Rules.{never, first}
 use Rattle.table.specs.declared.Counts.{Counts}
-use Rattle.table.specs.Store.{rawTable, tableIn}
+use Rattle.table.specs.Store.{typesIn, rawTable, tableIn}
 use Rattle.table.proofs.Tables.{size-is}
 use Rattle.tablecheck.specs.Parts.{Limited, countsAccepted}
 use Rattle.tablecheck.proofs.Steps.{counts-limited}
@@ -22,11 +22,11 @@ use Rattle.operand.specs.Index.{indexOf}
 use Rattle.operand.proofs.Laws.{index-unknown, index-known}
 use Rattle.restrict.specs.declared.Derived.{Derived}
 use Rattle.restrict.specs.declared.Derived.the-variants.{Full, At}
-use Rattle.restrict.specs.Link.{Ready, refIn, outcome, CodesIn, CodesStay}
+use Rattle.restrict.specs.Link.{Ready, refIn, outcome, CodesIn, Kept, CodesStay}
 use Rattle.restrict.proofs.Ends.{ref-table}
 use Rattle.derivation.specs.declared.Derivation.{Derivation}
 use Rattle.derivation.specs.Handed.{kindAsked, isRefType, deriveNamed, deriveHanded}
-use Rattle.derivation.specs.Answer.{derivationOf, refusal, CodesKept}
+use Rattle.derivation.specs.Answer.{derivationOf, refusal, Stays}
 
 -- The kinds by their codes.
 pub asked-both : (k : ℕ) (refs : Bool) → k < 2 → true ≡ kindAsked k refs
@@ -50,9 +50,6 @@ closed-asked (suc zero) refs p q h = absurd (q refl)
 closed-asked (suc (suc zero)) refs p q h = h
 closed-asked (suc (suc (suc k))) refs p q h = let z : _≡_ {A = Bool} false true = h in let e : _≡_ {A = ℕ} 0 1 = cc in absurd (omega arith)
 
-pub both-refs : (a b r : Bool) → a ≡ true → r ≡ b → r ≡ (a && b)
-both-refs a b r e h = h ∙ sym (ap (λ (z : Bool). z && b) e)
-
 pub kind-is : (b b′ : List ℕ) (c : Counts) (k t s : ℕ) (d : Kind) (r : Derived) → kindOf k ≡ d → ((l : List ℕ) → outcome b′ l c r ≡ derived (tableIn b l c) d t s) → (l : List ℕ) → outcome b′ l c r ≡ derived (tableIn b l c) (kindOf k) t s
 kind-is b b′ c k t s d r e h l = h l ∙ ap (λ (z : Kind). derived (tableIn b l c) z t s) (sym e)
 
@@ -64,8 +61,11 @@ module _ (b l : List ℕ) (c : Counts) {n : ℕ} {r : Derivation} (e : r ≡ ref
   pub refusal-same : (r .no ≡ 0 → ⊥) → r ≡ refusal (r .no) b c
   refusal-same h = e ∙ ap (λ (k : ℕ). refusal k b c) (sym (ap (λ (z : Derivation). z .no) e))
 
-  pub refusal-codes : eqb n 0 ≡ false → CodesKept b c r
-  refusal-codes h z = never (sym (ap (λ (k : ℕ). eqb k 0) (sym z ∙ ap (λ (d : Derivation). d .no) e) ∙ h))
+  pub refusal-stays : eqb n 0 ≡ false → Stays b c r
+  refusal-stays h = record {
+    kept = λ i p. ap (λ (d : Derivation). getD (typesIn (d .types)) i noRawType) e;
+    codes = λ z. never (sym (ap (λ (k : ℕ). eqb k 0) (sym z ∙ ap (λ (d : Derivation). d .no) e) ∙ h));
+  }
 
 -- What a derivation over lent bytes answered.
 module _ (b b′ : List ℕ) (c : Counts) (k : Kind) (t s : ℕ) {d : Derived} (is : (l : List ℕ) → outcome b′ l c d ≡ derived (tableIn b l c) k t s) where
@@ -75,8 +75,8 @@ module _ (b b′ : List ℕ) (c : Counts) (k : Kind) (t s : ℕ) {d : Derived} (
   pub at-is : {i m : ℕ} → d ≡ At i m → (l : List ℕ) → outcome b′ l c (At i m) ≡ derived (tableIn b l c) k t s
   at-is e l = sym (ap (outcome b′ l c) e) ∙ is l
 
-pub at-codes : (b b′ : List ℕ) (c : Counts) {d : Derived} {i m : ℕ} → d ≡ At i m → CodesStay c b b′ d → CodesKept b c (record { no = 0; number = i; count = m; types = b′ })
-at-codes b b′ c e h z l k = subst (CodesIn b′ l c) e (h l k)
+pub at-stays : (b b′ : List ℕ) (c : Counts) {d : Derived} {i m : ℕ} → d ≡ At i m → CodesStay c b b′ d → Kept (c .types) b b′ → Stays b c (record { no = 0; number = i; count = m; types = b′ })
+at-stays b b′ c e h k = record { kept = k; codes = λ z l q. subst (CodesIn b′ l c) e (h l q) }
 
 -- By the numbers of the types: x and y are the indices of the numbers handed in.
 module _ (b l : List ℕ) (c : Counts) (kind : ℕ) (t s : ℤ) where

@@ -9,15 +9,16 @@ use Rattle.model.specs.Table.{Table}
 use Rattle.model.specs.Check.{codesFit}
 use Rattle.table.specs.declared.Counts.{Counts}
 use Rattle.table.specs.Store.{rawTable, tableIn}
-use Rattle.restrict.specs.Link.{withCount}
+use Rattle.restrict.specs.Link.{withCount, Kept}
 use Rattle.derivation.specs.declared.Derivation.{Derivation}
 
 abbrev pub derivationOf : List ℕ → Counts → Derivation → Res (Table × ℕ)
 derivationOf l c r = cond (eqb (r .no) 0) (ok (tableIn (r .types) l (withCount c (r .count)), r .number)) (refuse (r .no))
 
--- Where every code of the table names something before, every code does after.
-abbrev pub CodesKept : List ℕ → Counts → Derivation → Type 0
-CodesKept b c r = r .no ≡ 0 → (l : List ℕ) → So (codesFit (rawTable b l c)) → So (codesFit (rawTable (r .types) l (withCount c (r .count))))
+-- What stays: the counted records handed in, as they are stored; and where every code of the table names something before, every code does after.
+pub record Stays (b : List ℕ) (c : Counts) (r : Derivation) : Type 0 where
+  pub kept : Kept (c .types) b (r .types)
+  pub codes : r .no ≡ 0 → (l : List ℕ) → So (codesFit (rawTable b l c)) → So (codesFit (rawTable (r .types) l (withCount c (r .count))))
 
 -- A refusal has the bytes and the count that were handed in.
 abbrev pub refusal : ℕ → List ℕ → Counts → Derivation

@@ -8,9 +8,9 @@ ghost use Rattle.model.specs.Restriction.{derived};
 ghost use Rattle.model.specs.Check.{kindOf};
 ghost use Rattle.table.specs.Store.{rawTable, tableIn};
 ghost use Rattle.tablecheck.specs.Parts.{Limited};
-ghost use Rattle.restrict.specs.Link.{Ready, refIn, outcome, CodesStay};
+ghost use Rattle.restrict.specs.Link.{Ready, refIn, outcome, Kept, CodesStay};
 ghost use Rattle.derivation.specs.Handed.{kindAsked, deriveNamed, deriveHanded};
-ghost use Rattle.derivation.specs.Answer.{derivationOf, refusal, CodesKept};
+ghost use Rattle.derivation.specs.Answer.{derivationOf, refusal, Stays};
 use restrict::Derived;
 use table::Counts;
 
@@ -55,6 +55,7 @@ fn derive_kind(b: &mut [u8; 16384], c: Counts, kind: usize, t: usize, s: usize) 
     requires { ⌜ Ready (c .methods) (c .sheet) (c .types) t s (now b) × (kindAsked kind (refIn (c .types) (now b) t && refIn (c .types) (now b) s) ≡ true) ⌝ }
     ensures { λ r. ⌜ ((l : List ℕ) → outcome (now (b .exit)) l c r ≡ derived (tableIn (now (b .entry)) l c) (kindOf kind) t s) ⌝ }
     ensures codes { λ r. ⌜ CodesStay c (now (b .entry)) (now (b .exit)) r ⌝ }
+    ensures kept { λ _. ⌜ Kept (c .types) (now (b .entry)) (now (b .exit)) ⌝ }
 {
     if kind == 0 {
         return restrict::sub_type(b, c, t, s);
@@ -70,7 +71,7 @@ fn derive_checked(b: [u8; 16384], c: Counts, kind: usize, t: usize, s: usize) ->
     requires { ⌜ Ready (c .methods) (c .sheet) (c .types) t s b × (kindAsked kind (refIn (c .types) b t && refIn (c .types) b s) ≡ true) ⌝ }
     ensures is { λ r. ⌜ ((l : List ℕ) → derivationOf l c r ≡ derived (tableIn b l c) (kindOf kind) t s) ⌝ }
     ensures refused { λ r. ⌜ ((r .no ≡ 0 → ⊥) → r ≡ refusal (r .no) b c) ⌝ }
-    ensures codes { λ r. ⌜ CodesKept b c r ⌝ }
+    ensures stays { λ r. ⌜ Stays b c r ⌝ }
 {
     let mut types = b;
     let d = derive_kind(&mut types, c, kind, t, s);
@@ -90,7 +91,7 @@ fn derive_named(b: [u8; 16384], c: Counts, kind: usize, t: i64, s: i64) -> Deriv
     requires { ⌜ Limited c ⌝ }
     ensures is { λ r. ⌜ ((l : List ℕ) → derivationOf l c r ≡ deriveNamed (tableIn b l c) kind t s) ⌝ }
     ensures refused { λ r. ⌜ ((r .no ≡ 0 → ⊥) → r ≡ refusal (r .no) b c) ⌝ }
-    ensures codes { λ r. ⌜ CodesKept b c r ⌝ }
+    ensures stays { λ r. ⌜ Stays b c r ⌝ }
 {
     let x = operand::index_of(t, c.types);
     if c.types <= x {
@@ -110,7 +111,7 @@ fn derive_named(b: [u8; 16384], c: Counts, kind: usize, t: i64, s: i64) -> Deriv
 pub fn derive(b: [u8; 16384], l: &[u8; 96], c: Counts, kind: usize, t: i64, s: i64) -> Derivation
     ensures is { λ r. ⌜ derivationOf (now (l .entry)) c r ≡ deriveHanded (rawTable b (now (l .entry)) c) kind t s ⌝ }
     ensures refused { λ r. ⌜ ((r .no ≡ 0 → ⊥) → r ≡ refusal (r .no) b c) ⌝ }
-    ensures codes { λ r. ⌜ CodesKept b c r ⌝ }
+    ensures stays { λ r. ⌜ Stays b c r ⌝ }
 {
     if tablecheck::table_fits(&b, l, c) {
         return derive_named(b, c, kind, t, s);

@@ -48,7 +48,7 @@ pub record WrittenIs (w : Written) (n old new : ℕ) (buffer : List ℕ) : Type 
   pub length : new ≡ valueOf old (w .answer)
   pub bytes : buffer ≡ w .buffer
 
--- both, for an answer with one value
+-- the number and the value together, for an answer with one value
 abbrev pub handedOut : {A : Type 0} → A → Res A → ℕ × A
 handedOut old a = (numberOf a, valueOf old a)
 

@@ -7,7 +7,7 @@ ghost use Rattle.table.specs.Store.{rawTable};
 ghost use Rattle.compare.specs.Answered.{comparedOf};
 ghost use Rattle.compare.specs.Pairs.{pairsHanded};
 ghost use Rattle.derivation.specs.Handed.{deriveHanded};
-ghost use Rattle.derivation.specs.Answer.{derivationOf, CodesKept};
+ghost use Rattle.derivation.specs.Answer.{derivationOf, Stays};
 ghost use Rattle.sheet.specs.Sheet.{read as readSheet};
 ghost use Rattle.sheet.specs.Text.{write};
 ghost use Rattle.reader.specs.View.{SheetIs};
@@ -179,7 +179,7 @@ pub extern "C" fn pilgonca_derive(
 ) -> usize
     ensures is { λ n. ⌜ derivationOf (now (links .entry)) (countsOf subjects methods cats sheet count) (derivationLeft n (now (number .exit)) (now (total .exit)) (now (types .exit))) ≡ deriveHanded (rawTable (now (types .entry)) (now (links .entry)) (countsOf subjects methods cats sheet count)) kind t s ⌝ }
     ensures refused { λ n. ⌜ ((n ≡ 0 → ⊥) → derivationLeft n (now (number .exit)) (now (total .exit)) (now (types .exit)) ≡ derivationLeft n (now (number .entry)) (now (total .entry)) (now (types .entry))) ⌝ }
-    ensures codes { λ n. ⌜ CodesKept (now (types .entry)) (countsOf subjects methods cats sheet count) (derivationLeft n (now (number .exit)) (now (total .exit)) (now (types .exit))) ⌝ }
+    ensures stays { λ n. ⌜ Stays (now (types .entry)) (countsOf subjects methods cats sheet count) (derivationLeft n (now (number .exit)) (now (total .exit)) (now (types .exit))) ⌝ }
 {
     let c = Counts {
         subjects,

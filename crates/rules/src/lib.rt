@@ -142,7 +142,7 @@ fn category_next(l: &[u8; 96], done: &[bool; 32], c: Counts, a: usize, x: usize)
 }
 
 // "a ≤ b if a is 0, a = b, or a is reached from b by broader links": the answer for each category below b, from 0 up, and then for b.
-pub fn category_le(l: &[u8; 96], c: Counts, a: usize, b: usize) -> bool
+fn category_le(l: &[u8; 96], c: Counts, a: usize, b: usize) -> bool
     requires { ⌜ Checked (now l) c ⌝ }
     ensures { λ r. ⌜ ((types : List ℕ) → r ≡ catLe (tableIn types (now (l .entry)) c) a b) ⌝ }
 {

@@ -182,7 +182,7 @@ fn put_sheet(buf: &mut [u8], b: &[u8; 16384], l: &[u8; 96], c: Counts) -> usize
 }
 
 // "Sheet write: 4 if the buffer is short, buffer unchanged; else the length, with the bytes behind it unchanged", for a table that passed the check of 2.
-pub fn write_checked(buf: &mut [u8], b: &[u8; 16384], l: &[u8; 96], c: Counts) -> Wrote
+fn write_checked(buf: &mut [u8], b: &[u8; 16384], l: &[u8; 96], c: Counts) -> Wrote
     requires { ⌜ tableAccepted (rawTable (now b) (now l) c) ≡ true ⌝ }
     ensures { λ r. ⌜ writtenOf r (now (buf .exit)) ≡ write (rawTable (now (b .entry)) (now (l .entry)) c) (now (buf .entry)) ⌝ }
 {

@@ -33,43 +33,22 @@ returns-2 c =
     let e = size-is (a .b .now) (a .l .now) (a .c) in
     compare-right (tableIn (a .b .now) (a .l .now) (a .c)) (a .t) (a .s) (index-of .result) (rw e (rw (toZ-ofZ (fits .t)) at (index-of .ensures))) (rw e (if1 .left)) (index-of2 .result) (rw e (rw (toZ-ofZ (fits .s)) at (index-of2 .ensures))) (rw e (if2 .taken))
 
-related-at-requires : tie.Need-related-at-requires
-related-at-requires c κs = c .before .before .before .before .before .before .pre
-
-related-at-requires-2 : tie.Need-related-at-requires-2
-related-at-requires-2 c κs = c .before .before .before .before .before .before .before .pre
-
-related-at-requires-3 : tie.Need-related-at-requires-3
-related-at-requires-3 c κs = c .before .before .before .before .before .before .before .before .pre
-
-related-at-requires-4 : tie.Need-related-at-requires-4
-related-at-requires-4 c κs = c .before .before .before .before .before .before .before .before .before .pre
+answers-at-requires : tie.Need-answers-at-requires
+answers-at-requires c κs = c .before .before .before .before .before .before .pre
 
 returns-3 : tie.Need-returns-3
 returns-3 c =
-    let a = c .before .before .before .before .before .before .before .before .before .before .args in
-    let index-of = c .before .before .before .before .before .before .before .before .before .index-of in
-    let fits = c .before .before .before .before .before .before .before .before .before .before .fits in
-    let if1 = c .before .before .before .before .before .before .before .if1 in
-    let index-of2 = c .before .before .before .before .before .before .index-of2 in
-    let related-at = c .before .before .before .related-at in
-    let related-at2 = c .before .before .related-at2 in
-    let related-at3 = c .before .related-at3 in
-    let related-at4 = c .related-at4 in
-    let if2 = c .before .before .before .before .if2 in
+    let a = c .before .before .before .before .before .before .before .args in
+    let index-of = c .before .before .before .before .before .before .index-of in
+    let fits = c .before .before .before .before .before .before .before .fits in
+    let if1 = c .before .before .before .before .if1 in
+    let index-of2 = c .before .before .before .index-of2 in
+    let f = c .answers-at in
+    let if2 = c .before .if2 in
     let e = size-is (a .b .now) (a .l .now) (a .c) in
-    compare-all (tableIn (a .b .now) (a .l .now) (a .c)) (a .t) (a .s) (index-of .result) (rw e (rw (toZ-ofZ (fits .t)) at (index-of .ensures))) (rw e (if1 .left)) (index-of2 .result) (rw e (rw (toZ-ofZ (fits .s)) at (index-of2 .ensures))) (related-at .result) (related-at2 .result) (related-at3 .result) (related-at4 .result) (rw e (if2 .left)) (related-at .ensures) (related-at2 .ensures) (related-at3 .ensures) (related-at4 .ensures)
+    compare-all (tableIn (a .b .now) (a .l .now) (a .c)) (a .t) (a .s) (index-of .result) (rw e (rw (toZ-ofZ (fits .t)) at (index-of .ensures))) (rw e (if1 .left)) (index-of2 .result) (rw e (rw (toZ-ofZ (fits .s)) at (index-of2 .ensures))) (rw e (if2 .left)) (f .result) (f .ensures)
 
 pub compare-checked-spec : {M : Type 1} → statement M
 compare-checked-spec =
     tie.close
-    (tie.spec
-    index-of-requires
-    returns
-    index-of-requires-2
-    returns-2
-    related-at-requires
-    related-at-requires-2
-    related-at-requires-3
-    related-at-requires-4
-    returns-3)
+    (tie.spec index-of-requires returns index-of-requires-2 returns-2 answers-at-requires returns-3)

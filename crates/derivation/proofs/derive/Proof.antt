@@ -2,7 +2,7 @@
 use mathlib.Core.Path.{refl, sym, _∙_}
 use mir.Facts.{toZ-ofZ}
 use borrow.Author.Needs.{needs}
-use Rattle.derivation.proofs.Laws.{refusal-answer, refusal-same, refusal-codes, handed-unfit, handed-fit, limits}
+use Rattle.derivation.proofs.Laws.{refusal-answer, refusal-same, refusal-stays, handed-unfit, handed-fit, limits}
 use Rattle.derivation.proofs.derive.Statement.{statement}
 use Rattle.derivation.proofs.derive.Tie as tie
 
@@ -30,7 +30,7 @@ returns-2 c =
     let a = c .before .before .before .before .args in
     let e = c .refused .ensures in
     let unfit = sym (c .before .before .table-fits .ensures) ∙ c .before .if1 .left in
-    (refusal-answer (a .t1) (a .l .now) (a .c) e _ refl (handed-unfit (a .t1) (a .l .now) (a .c) (a .kind) (a .t) (a .s) unfit), (refusal-same (a .t1) (a .l .now) (a .c) e, refusal-codes (a .t1) (a .l .now) (a .c) e refl))
+    (refusal-answer (a .t1) (a .l .now) (a .c) e _ refl (handed-unfit (a .t1) (a .l .now) (a .c) (a .kind) (a .t) (a .s) unfit), (refusal-same (a .t1) (a .l .now) (a .c) e, refusal-stays (a .t1) (a .l .now) (a .c) e refl))
 
 pub derive-spec : {M : Type 1} → statement M
 derive-spec =

@@ -3,7 +3,7 @@ use mathlib.Core.Path.{refl}
 use mathlib.Core.List.{[]}
 use borrow.Author.Needs.{needs}
 use Rattle.model.specs.Check.{kindOf}
-use Rattle.derivation.proofs.Laws.{refusal-answer, refusal-same, refusal-codes, full-is, at-is, at-codes}
+use Rattle.derivation.proofs.Laws.{refusal-answer, refusal-same, refusal-stays, full-is, at-is, at-stays}
 use Rattle.derivation.proofs.derive_checked.Statement.{statement}
 use Rattle.derivation.proofs.derive_checked.Tie as tie
 
@@ -25,13 +25,13 @@ returns c =
     let d = c .before .before .before .derive-kind in
     let e = c .refused .ensures in
     let full = full-is (a .b) (d .last .0) (a .c) (kindOf (a .kind)) (a .t) (a .s) (d .ensures .0) (c .before .enum-told .given .1) in
-    (λ l. refusal-answer (a .b) l (a .c) e _ refl (full l), (refusal-same (a .b) [] (a .c) e, refusal-codes (a .b) [] (a .c) e refl))
+    (λ l. refusal-answer (a .b) l (a .c) e _ refl (full l), (refusal-same (a .b) [] (a .c) e, refusal-stays (a .b) [] (a .c) e refl))
 
 returns-2 : tie.Need-returns-2
 returns-2 c =
     let a = c .before .before .before .before .before .args in
     let d = c .before .before .before .derive-kind in
-    (at-is (a .b) (d .last .0) (a .c) (kindOf (a .kind)) (a .t) (a .s) (d .ensures .0) (c .before .d .given .1), (λ h. absurd (h refl), at-codes (a .b) (d .last .0) (a .c) (c .before .d .given .1) (d .ensures .1)))
+    (at-is (a .b) (d .last .0) (a .c) (kindOf (a .kind)) (a .t) (a .s) (d .ensures .0) (c .before .d .given .1), (λ h. absurd (h refl), at-stays (a .b) (d .last .0) (a .c) (c .before .d .given .1) (d .ensures .1 .0) (d .ensures .1 .1)))
 
 pub derive-checked-spec : {M : Type 1} → statement M
 derive-checked-spec =

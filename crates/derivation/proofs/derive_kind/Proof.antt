@@ -17,7 +17,7 @@ sub-type-requires c κs = search needs
 returns : tie.Need-returns
 returns c =
     let a = c .before .before .before .args in
-    (kind-is (a .b .now) (c .sub-type .last .0) (a .c) (a .kind) (a .t) (a .s) sub (c .sub-type .result) (ap kindOf (c .before .before .if1 .taken)) (c .sub-type .ensures .0), c .sub-type .ensures .1 .1)
+    (kind-is (a .b .now) (c .sub-type .last .0) (a .c) (a .kind) (a .t) (a .s) sub (c .sub-type .result) (ap kindOf (c .before .before .if1 .taken)) (c .sub-type .ensures .0), (c .sub-type .ensures .1 .1, c .sub-type .ensures .1 .0 .kept))
 
 sup-type-requires : tie.Need-sup-type-requires
 sup-type-requires c κs = search needs
@@ -25,7 +25,7 @@ sup-type-requires c κs = search needs
 returns-2 : tie.Need-returns-2
 returns-2 c =
     let a = c .before .before .before .before .args in
-    (kind-is (a .b .now) (c .sup-type .last .0) (a .c) (a .kind) (a .t) (a .s) sup (c .sup-type .result) (ap kindOf (c .before .before .if2 .taken)) (c .sup-type .ensures .0), c .sup-type .ensures .1 .1)
+    (kind-is (a .b .now) (c .sup-type .last .0) (a .c) (a .kind) (a .t) (a .s) sup (c .sup-type .result) (ap kindOf (c .before .before .if2 .taken)) (c .sup-type .ensures .0), (c .sup-type .ensures .1 .1, c .sup-type .ensures .1 .0 .kept))
 
 closed-type-requires : tie.Need-closed-type-requires
 closed-type-requires c κs =
@@ -38,7 +38,7 @@ closed-type-requires c κs =
 returns-3 : tie.Need-returns-3
 returns-3 c =
     let a = c .before .before .before .before .args in
-    (kind-is (a .b .now) (c .closed-type .last .0) (a .c) (a .kind) (a .t) (a .s) closed (c .closed-type .result) (closed-kind (a .kind) (c .before .before .before .if1 .left) (c .before .before .if2 .left)) (c .closed-type .ensures .0), c .closed-type .ensures .1 .1)
+    (kind-is (a .b .now) (c .closed-type .last .0) (a .c) (a .kind) (a .t) (a .s) closed (c .closed-type .result) (closed-kind (a .kind) (c .before .before .before .if1 .left) (c .before .before .if2 .left)) (c .closed-type .ensures .0), (c .closed-type .ensures .1 .1, c .closed-type .ensures .1 .0 .kept))
 
 pub derive-kind-spec : {M : Type 1} → statement M
 derive-kind-spec =

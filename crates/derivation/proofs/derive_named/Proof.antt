@@ -4,7 +4,7 @@ use mathlib.Core.List.{[]}
 use lib.ListN.{length}
 use mir.Facts.{toZ-ofZ}
 use borrow.Author.Needs.{needs}
-use Rattle.derivation.proofs.Laws.{refusal-answer, refusal-same, refusal-codes, no-left, no-right, no-kind, named-derived, ready}
+use Rattle.derivation.proofs.Laws.{refusal-answer, refusal-same, refusal-stays, no-left, no-right, no-kind, named-derived, ready}
 use Rattle.derivation.proofs.derive_named.Statement.{statement}
 use Rattle.derivation.proofs.derive_named.Tie as tie
 
@@ -21,7 +21,7 @@ returns c =
     let x = c .before .before .before .index-of in
     let e = c .refused .ensures in
     let ex = rw (toZ-ofZ (s .fits .t)) at (x .ensures) in
-    (λ l. refusal-answer (a .t1) l (a .c) e _ refl (no-left (a .t1) l (a .c) (a .kind) (a .t) (a .s) (x .result) ex (c .before .if1 .taken)), (refusal-same (a .t1) [] (a .c) e, refusal-codes (a .t1) [] (a .c) e refl))
+    (λ l. refusal-answer (a .t1) l (a .c) e _ refl (no-left (a .t1) l (a .c) (a .kind) (a .t) (a .s) (x .result) ex (c .before .if1 .taken)), (refusal-same (a .t1) [] (a .c) e, refusal-stays (a .t1) [] (a .c) e refl))
 
 index-of-requires-2 : tie.Need-index-of-requires-2
 index-of-requires-2 c κs = search needs
@@ -39,7 +39,7 @@ returns-2 c =
     let e = c .refused2 .ensures in
     let ex = rw (toZ-ofZ (s .fits .t)) at (x .ensures) in
     let ey = rw (toZ-ofZ (s .fits .s)) at (y .ensures) in
-    (λ l. refusal-answer (a .t1) l (a .c) e _ refl (no-right (a .t1) l (a .c) (a .kind) (a .t) (a .s) (x .result) ex (b1 .if1 .left) (y .result) ey (c .before .if2 .taken)), (refusal-same (a .t1) [] (a .c) e, refusal-codes (a .t1) [] (a .c) e refl))
+    (λ l. refusal-answer (a .t1) l (a .c) e _ refl (no-right (a .t1) l (a .c) (a .kind) (a .t) (a .s) (x .result) ex (b1 .if1 .left) (y .result) ey (c .before .if2 .taken)), (refusal-same (a .t1) [] (a .c) e, refusal-stays (a .t1) [] (a .c) e refl))
 
 is-asked-requires : tie.Need-is-asked-requires
 is-asked-requires c κs = search needs
@@ -82,7 +82,7 @@ returns-4 c =
     let e = c .refused3 .ensures in
     let ex = rw (toZ-ofZ (s .fits .t)) at (x .ensures) in
     let ey = rw (toZ-ofZ (s .fits .s)) at (y .ensures) in
-    (λ l. refusal-answer (a .t1) l (a .c) e _ refl (no-kind (a .t1) l (a .c) (a .kind) (a .t) (a .s) (x .result) ex (b1 .if1 .left) (y .result) ey (b2 .if2 .left) (k .result) (k .ensures) (c .before .if3 .left)), (refusal-same (a .t1) [] (a .c) e, refusal-codes (a .t1) [] (a .c) e refl))
+    (λ l. refusal-answer (a .t1) l (a .c) e _ refl (no-kind (a .t1) l (a .c) (a .kind) (a .t) (a .s) (x .result) ex (b1 .if1 .left) (y .result) ey (b2 .if2 .left) (k .result) (k .ensures) (c .before .if3 .left)), (refusal-same (a .t1) [] (a .c) e, refusal-stays (a .t1) [] (a .c) e refl))
 
 pub derive-named-spec : {M : Type 1} → statement M
 derive-named-spec =

@@ -4,7 +4,8 @@ use borrow.Author.Tests.{not-true, not-false}
 use borrow.Author.Needs.{needs}
 use Rattle.restrict.specs.Link.{refIn}
 use Rattle.restrict.proofs.Begins.{not-left}
-use Rattle.derivation.proofs.Laws.{asked-both, asked-none, asked-closed, both-refs}
+use Rattle.tablecheck.proofs.Steps.{goes}
+use Rattle.derivation.proofs.Laws.{asked-both, asked-none, asked-closed}
 use Rattle.derivation.proofs.is_asked.Statement.{statement}
 use Rattle.derivation.proofs.is_asked.Tie as tie
 
@@ -30,7 +31,7 @@ returns-4 : tie.Need-returns-4
 returns-4 c =
     let a = c .before .before .before .before .before .args in
     let r = c .before .before .is-ref in
-    asked-closed (a .kind) _ _ (c .before .before .before .if2 .left) (both-refs _ _ _ (sym (r .ensures) ∙ not-false (r .result) (c .before .if3 .left)) (c .is-ref2 .ensures))
+    asked-closed (a .kind) _ _ (c .before .before .before .if2 .left) (goes _ _ _ (sym (r .ensures) ∙ not-false (r .result) (c .before .if3 .left)) (c .is-ref2 .ensures))
 
 pub is-asked-spec : {M : Type 1} → statement M
 is-asked-spec =

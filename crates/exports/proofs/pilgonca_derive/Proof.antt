@@ -14,7 +14,7 @@ returns : tie.Need-returns
 returns c =
     let f = c .before .before .before .before .before .fits in
     let r = c .before .before .before .derive in
-    (rw (toZ-ofZ (f .t), toZ-ofZ (f .s)) at (r .ensures .0), (λ h. absurd (h (c .before .if1 .taken)), r .ensures .1 .1))
+    (rw (toZ-ofZ (f .t), toZ-ofZ (f .s)) at (r .ensures .0), (λ h. absurd (h (c .before .if1 .taken)), record { kept = r .ensures .1 .1 .kept; codes = r .ensures .1 .1 .codes }))
 
 returns-2 : tie.Need-returns-2
 returns-2 c =
@@ -22,7 +22,7 @@ returns-2 c =
     let a = s .args in
     let r = c .before .before .derive in
     let is = rw (toZ-ofZ (s .fits .t), toZ-ofZ (s .fits .s)) at (r .ensures .0) in
-    (refusal-alone (a .links .now) (countsOf (a .subjects) (a .methods) (a .cats) (a .sheet) (a .count)) (r .result) _ (a .number .now) (a .total .now) (a .types .now) (c .if1 .left) is, (λ h. refl, λ z. absurd (c .if1 .left z)))
+    (refusal-alone (a .links .now) (countsOf (a .subjects) (a .methods) (a .cats) (a .sheet) (a .count)) (r .result) _ (a .number .now) (a .total .now) (a .types .now) (c .if1 .left) is, (λ h. refl, record { kept = λ i p. refl; codes = λ z. absurd (c .if1 .left z) }))
 
 pub pilgonca-derive-spec : {M : Type 1} → statement M
 pilgonca-derive-spec = tie.close (tie.spec derive-requires returns returns-2)
