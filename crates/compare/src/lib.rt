@@ -9,6 +9,8 @@ ghost use Rattle.compare.specs.Answered.{FourAt, comparedOf, pairsGiven}
 ghost use Rattle.compare.specs.Pairs.{pairCode, pairEntry, pairTable, noPairs, pairsHanded};
 use rules::Relation;
 use table::Counts;
+use table::LINK_BYTES;
+use table::TYPE_BYTES;
 
 // What Compare answers: 2 for a table that is not fit, 7 for a number that names no type, or the four answers.
 pub enum Compared {
@@ -30,7 +32,7 @@ struct Four {
     free: bool,
 }
 
-fn answers_at(b: &[u8; 16384], l: &[u8; 96], c: Counts, t: usize, s: usize) -> Four
+fn answers_at(b: &[u8; TYPE_BYTES], l: &[u8; LINK_BYTES], c: Counts, t: usize, s: usize) -> Four
     requires { ⌜ Checked (now l) c ⌝ }
     ensures { λ r. ⌜ FourAt (tableIn (now (b .entry)) (now (l .entry)) c) t s r ⌝ }
 {
@@ -47,7 +49,13 @@ fn answers_at(b: &[u8; 16384], l: &[u8; 96], c: Counts, t: usize, s: usize) -> F
 }
 
 // Compare, in a table that is checked.
-fn compare_checked(b: &[u8; 16384], l: &[u8; 96], c: Counts, t: i64, s: i64) -> Compared
+fn compare_checked(
+    b: &[u8; TYPE_BYTES],
+    l: &[u8; LINK_BYTES],
+    c: Counts,
+    t: i64,
+    s: i64,
+) -> Compared
     requires { ⌜ Checked (now l) c ⌝ }
     ensures { λ r. ⌜ comparedOf r ≡ compare (tableIn (now (b .entry)) (now (l .entry)) c) t s ⌝ }
 {
@@ -69,7 +77,13 @@ fn compare_checked(b: &[u8; 16384], l: &[u8; 96], c: Counts, t: i64, s: i64) -> 
 }
 
 // Compare, on any table handed in: 2 before all else.
-pub fn compare_types(b: &[u8; 16384], l: &[u8; 96], c: Counts, t: i64, s: i64) -> Compared
+pub fn compare_types(
+    b: &[u8; TYPE_BYTES],
+    l: &[u8; LINK_BYTES],
+    c: Counts,
+    t: i64,
+    s: i64,
+) -> Compared
     ensures { λ r. ⌜ comparedOf r ≡ compareHanded (rawTable (now (b .entry)) (now (l .entry)) c) t s ⌝ }
 {
     if tablecheck::table_fits(b, l, c) {
@@ -99,7 +113,7 @@ pub fn pair_code(subtype: bool, strict: bool, loose: bool, free: bool) -> u8
 }
 
 // The four answers at a pair of sheet types; 0 where one is no sheet type.
-fn pair_entry(b: &[u8; 16384], l: &[u8; 96], c: Counts, t: usize, s: usize) -> u8
+fn pair_entry(b: &[u8; TYPE_BYTES], l: &[u8; LINK_BYTES], c: Counts, t: usize, s: usize) -> u8
     requires { ⌜ Checked (now l) c ⌝ }
     ensures { λ r. ⌜ r ≡ pairEntry (tableIn (now (b .entry)) (now (l .entry)) c) t s ⌝ }
 {
@@ -114,7 +128,7 @@ fn pair_entry(b: &[u8; 16384], l: &[u8; 96], c: Counts, t: usize, s: usize) -> u
 }
 
 // The four answers at every pair of sheet types, that of (T, S) at T * 48 + S.
-pub fn pair_table(b: &[u8; 16384], l: &[u8; 96], c: Counts) -> [u8; 2304]
+pub fn pair_table(b: &[u8; TYPE_BYTES], l: &[u8; LINK_BYTES], c: Counts) -> [u8; 2304]
     requires { ⌜ Checked (now l) c ⌝ }
     ensures { λ r. ⌜ r ≡ pairTable (tableIn (now (b .entry)) (now (l .entry)) c) ⌝ }
 {
@@ -141,7 +155,7 @@ fn no_pairs() -> [u8; 2304]
 }
 
 // The pair table, on any table handed in: 2 before all else.
-pub fn pairs_of(b: &[u8; 16384], l: &[u8; 96], c: Counts) -> Pairs
+pub fn pairs_of(b: &[u8; TYPE_BYTES], l: &[u8; LINK_BYTES], c: Counts) -> Pairs
     ensures { λ r. ⌜ r ≡ pairsGiven (pairsHanded (rawTable (now (b .entry)) (now (l .entry)) c)) ⌝ }
 {
     if tablecheck::table_fits(b, l, c) {

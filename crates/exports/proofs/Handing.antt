@@ -12,8 +12,8 @@ use Rattle.table.specs.declared.Counts.{Counts}
 use Rattle.compare.specs.declared.Pairs.{Pairs}
 use Rattle.compare.specs.Pairs.{pairTable, pairsHanded}
 use Rattle.compare.specs.Answered.{pairsGiven}
-use Rattle.derivation.specs.declared.Derivation.{Derivation}
-use Rattle.derivation.specs.Answer.{derivationOf}
+use Rattle.restrict_entry.specs.declared.Derivation.{Derivation}
+use Rattle.restrict_entry.specs.Answer.{derivationOf}
 use Rattle.exports.specs.Codes.{handedOut, derivationLeft}
 
 -- by whether the table is accepted

@@ -8,9 +8,9 @@ use Rattle.model.specs.Basics.{Res, refuse, ok}
 use Rattle.model.specs.Relations.{Answers}
 use Rattle.table.specs.declared.Counts.{Counts}
 use Rattle.compare.specs.Pairs.{pairCode}
-use Rattle.derivation.specs.declared.Derivation.{Derivation}
+use Rattle.restrict_entry.specs.declared.Derivation.{Derivation}
 use Rattle.sheet.specs.Text.{Written}
-use Rattle.reader.specs.declared.Sheet.{Sheet}
+use Rattle.sheetread.specs.declared.Sheet.{Sheet}
 
 -- the counts of a table, each passed by itself
 abbrev pub countsOf : ℕ → ℕ → ℕ → ℕ → ℕ → Counts

@@ -6,17 +6,19 @@ ghost use Rattle.model.specs.Check.{compareHanded};
 ghost use Rattle.table.specs.Store.{rawTable};
 ghost use Rattle.compare.specs.Answered.{comparedOf};
 ghost use Rattle.compare.specs.Pairs.{pairsHanded};
-ghost use Rattle.derivation.specs.Handed.{deriveHanded};
-ghost use Rattle.derivation.specs.Answer.{derivationOf, Stays};
+ghost use Rattle.restrict_entry.specs.Handed.{deriveHanded};
+ghost use Rattle.restrict_entry.specs.Answer.{derivationOf, Stays};
 ghost use Rattle.sheet.specs.Sheet.{read as readSheet};
 ghost use Rattle.sheet.specs.Text.{write};
-ghost use Rattle.reader.specs.View.{SheetIs};
-ghost use Rattle.writer.specs.Answer.{wroteAnswer};
+ghost use Rattle.sheetread.specs.View.{SheetIs};
+ghost use Rattle.sheetwrite.specs.Answer.{wroteAnswer};
 ghost use Rattle.exports.specs.Codes.{countsOf, answersCode, comparedCode, sheetOf, numberOf, valueOf, WrittenIs, handedOut, derivationLeft};
 use compare::Compared;
+use numbers::wide;
+use sheetwrite::Wrote;
 use table::Counts;
-use table::wide;
-use writer::Wrote;
+use table::LINK_BYTES;
+use table::TYPE_BYTES;
 
 // Four answers as one number.
 fn answers_code(subtype: bool, strict: bool, loose: bool, free: bool) -> usize
@@ -45,8 +47,8 @@ fn compared_code(r: Compared) -> usize
 // "Compare (T, S)" on a table handed in: 2, then 7, else 16 and the four answers.
 #[no_mangle]
 pub extern "C" fn pilgonca_compare(
-    types: &[u8; 16384],
-    links: &[u8; 96],
+    types: &[u8; TYPE_BYTES],
+    links: &[u8; LINK_BYTES],
     subjects: usize,
     methods: usize,
     cats: usize,
@@ -72,14 +74,14 @@ pub extern "C" fn pilgonca_compare(
 #[no_mangle]
 pub extern "C" fn pilgonca_read(
     text: &[u8],
-    types: &mut [u8; 16384],
-    links: &mut [u8; 96],
+    types: &mut [u8; TYPE_BYTES],
+    links: &mut [u8; LINK_BYTES],
     counts: &mut [usize; 5],
     at: &mut usize,
 ) -> usize
     ensures { λ n. ⌜ SheetIs (sheetOf n (now (at .exit)) (now (types .exit)) (now (links .exit)) (now (counts .exit))) (readSheet (now (text .entry))) ⌝ }
 {
-    let r = reader::read(text);
+    let r = sheetread::read(text);
     let t = r.types;
     let l = r.links;
     let c = r.counts;
@@ -108,8 +110,8 @@ fn wrote_code(w: Wrote, length: &mut usize) -> usize
 #[no_mangle]
 pub extern "C" fn pilgonca_write(
     buffer: &mut [u8],
-    types: &[u8; 16384],
-    links: &[u8; 96],
+    types: &[u8; TYPE_BYTES],
+    links: &[u8; LINK_BYTES],
     subjects: usize,
     methods: usize,
     cats: usize,
@@ -126,15 +128,15 @@ pub extern "C" fn pilgonca_write(
         sheet,
         types: count,
     };
-    let w = writer::write_sheet(buffer, types, links, c);
+    let w = sheetwrite::write_sheet(buffer, types, links, c);
     wrote_code(w, length)
 }
 
 // The pair table of a table handed in: 0 and the four answers at every pair of sheet types, or 2 and `out` as it was.
 #[no_mangle]
 pub extern "C" fn pilgonca_pairs(
-    types: &[u8; 16384],
-    links: &[u8; 96],
+    types: &[u8; TYPE_BYTES],
+    links: &[u8; LINK_BYTES],
     subjects: usize,
     methods: usize,
     cats: usize,
@@ -164,8 +166,8 @@ pub extern "C" fn pilgonca_pairs(
 // 7 or 11, and nothing is changed.
 #[no_mangle]
 pub extern "C" fn pilgonca_derive(
-    types: &mut [u8; 16384],
-    links: &[u8; 96],
+    types: &mut [u8; TYPE_BYTES],
+    links: &[u8; LINK_BYTES],
     subjects: usize,
     methods: usize,
     cats: usize,
@@ -189,7 +191,7 @@ pub extern "C" fn pilgonca_derive(
         types: count,
     };
     let old = *types;
-    let r = derivation::derive(old, links, c, kind, t, s);
+    let r = restrict_entry::derive(old, links, c, kind, t, s);
     if r.no == 0 {
         let new = r.types;
         *types = new;

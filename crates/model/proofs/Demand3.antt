@@ -11,7 +11,7 @@ use lib.Dec.{eqb, ltb}
 use lib.IntN.{ℤ, pos, negsuc}
 use lib.ListN.{length, getD, length-append, length-set, List·getD-append, List·getD-map}
 use lib.Seq.{getD-append-seam, getD-at, map-set-same}
-use Rattle.model.specs.Basics.{Res, refuse, ok, try, need, _⇒_, all, names, named}
+use Rattle.model.specs.Basics.{Res, refuse, ok, try, need, _⇒_, all, names, named, AllBelow}
 use Rattle.model.specs.Table.{Method, Table, noMethod, size, typeAt, methodAt, argumentAt, answerAt, isRef, permit, isAvail, isSettled, isClass}
 use Rattle.model.specs.Relations.{conforms}
 use Rattle.model.specs.Crossing.{Place, object, noPlace, maxPlaces, baseOf, baseOwner, Reference, cross}
@@ -22,7 +22,6 @@ use Rattle.model.specs.Claim.{accepted, feed, follow, reached, noteOf, C
 use Rattle.model.proofs.Tests.{ltb-so}
 use Rattle.model.proofs.Rules.{never, both, first, second, applied}
 use Rattle.model.proofs.States.{each}
-use Rattle.model.proofs.Derived.{AllBelow}
 use Rattle.model.proofs.Order.{related-refl}
 use Rattle.model.proofs.Growth.{Grown, grown-refl, grown-trans}
 use Rattle.model.proofs.Completes.{all-below-more}

@@ -4,15 +4,12 @@ use mathlib.Core.Bool.{Bool, true, false, So}
 use mathlib.Core.List.{List, [], _∷_}
 use mathlib.Core.Option.{Option, none, some}
 use Prim.Native.Nat.{ℕ, _<_}
+use Rattle.model.specs.Basics.{AllBelow}
 use Rattle.model.specs.Table.{Kind, sub, sup, closed, Key, Method, Table, noMethod, size, typeAt, methodAt, permit, isRef}
 use Rattle.model.specs.Relations.{catLe}
 use Rattle.model.specs.Restriction.{restricted, argKind, answerKind, mainSide}
 
--- numbers below n
-abbrev pub AllBelow : ℕ → List ℕ → Type 0
-AllBelow n [] = Unit
-AllBelow n (x ∷ xs) = (x < n) × AllBelow n xs
-
+-- an answer type, where there is one, below n
 abbrev pub AnswerBelow : ℕ → Option ℕ → Type 0
 AnswerBelow n none = Unit
 AnswerBelow n (some x) = x < n

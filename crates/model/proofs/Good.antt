@@ -9,12 +9,13 @@ use native.Mathlib.Omega.{arith}
 use native.Mathlib.Decide.{decLt}
 use lib.Dec.{leb}
 use lib.ListN.{length, List·getD-eq-default}
+use Rattle.model.specs.Basics.{AllBelow}
 use Rattle.model.specs.Table.{maxArguments, maxSubjects, maxMethods, maxCategories, maxSheetTypes, between, countsFit, maxTypes, Rep, ref, w32, w64, sub, sup, closed, permit, methodCount, Method, Key, Kind, Table, noType, size, typeAt, methodAt, isRef}
 use Rattle.model.specs.Relations.{free, related}
 use Rattle.model.specs.Restriction.{mainSide, derive, argKind, answerKind}
 use Rattle.model.proofs.Tests.{leb-so, so-leb}
 use Rattle.model.proofs.Rules.{never, both, first, second}
-use Rattle.model.proofs.Derived.{Known, itself, ofNumber, made, ArgsFrom, AnswerFrom, DerivedMethod, past, here, AllBelow, AnswerBelow, SignaturesIn, CategoryOrder, Complete}
+use Rattle.model.proofs.Derived.{Known, itself, ofNumber, made, ArgsFrom, AnswerFrom, DerivedMethod, past, here, AnswerBelow, SignaturesIn, CategoryOrder, Complete}
 use Rattle.model.proofs.Growth.{Grown, grown-refl, cats-grow, method-same}
 use Rattle.model.proofs.Unowned.{AllUnowned, AnswerUnowned, UnownedSignatures}
 use Rattle.model.proofs.Deriving.{derive-roomy, IfSome}

@@ -7,12 +7,13 @@ use mathlib.Core.Option.{Option, none, some}
 use Prim.Native.Nat.{ℕ, _≤_, _<_}
 use native.Mathlib.Omega.{arith}
 use lib.ListN.{getD}
+use Rattle.model.specs.Basics.{AllBelow}
 use Rattle.model.specs.Table.{Ty, Table, noMethod, size, typeAt, methodAt}
 use Rattle.model.specs.Relations.{ArgsBy, AnswerBy, Relation, subtype, conforms, strict, loose, free, catLe, outerRule, related, reaches, Keeps}
 use Rattle.model.specs.Chains.{permits, Permits}
 use Rattle.model.proofs.Rules.{so-both}
 use Rattle.model.proofs.Largest.{largest, keeps-related}
-use Rattle.model.proofs.Derived.{AllBelow, SignaturesIn, AnswerBelow, CategoryOrder, here}
+use Rattle.model.proofs.Derived.{SignaturesIn, AnswerBelow, CategoryOrder, here}
 use Rattle.model.proofs.ChainLaws.{Onward, step, steps}
 
 pub record Grown (t u : Table) : Type 0 where

@@ -4,14 +4,14 @@ use mathlib.Core.Bool.{Bool, true, false, So, Bool·beq}
 use mathlib.Core.List.{List, [], _∷_}
 use mathlib.Core.Option.{Option, none, some}
 use Prim.Native.Nat.{ℕ, _<_}
-use Rattle.model.specs.Basics.{_⇒_}
+use Rattle.model.specs.Basics.{_⇒_, AllBelow}
 use Rattle.model.specs.Table.{State, Rep, ref, w32, w64, sub, sup, closed, Method, Ty, Table, noMethod, size, typeAt, methodAt, permit, isAvail, isRef}
 use Rattle.model.specs.Relations.{Relation, subtype, conforms, strict, loose, free, stateLe, sameRep, catLe, outerRule, stateRule, related, ArgsBy, AnswerBy, MethodBy, Rule, Keeps, sameSort}
 use Rattle.model.specs.Restriction.{restricted}
 use Rattle.model.proofs.Rules.{never, both, first, second, applied}
 use Rattle.model.proofs.Largest.{largest, keeps-related}
 use Rattle.model.proofs.States.{each, each₂, each₃}
-use Rattle.model.proofs.Derived.{AllBelow, AnswerBelow, CategoryOrder, SignaturesIn, Known, itself, ofNumber, made, ArgsFrom, AnswerFrom, DerivedMethod, past, here, Complete}
+use Rattle.model.proofs.Derived.{AnswerBelow, CategoryOrder, SignaturesIn, Known, itself, ofNumber, made, ArgsFrom, AnswerFrom, DerivedMethod, past, here, Complete}
 
 pub rep-refl : (r : Rep) → So (sameRep r r)
 rep-refl ref = refl

@@ -8,7 +8,7 @@ use native.Mathlib.Omega.{arith}
 use native.Mathlib.Decide.{decLt}
 use lib.Dec.{eqb, ltb, leb}
 use lib.ListN.{length}
-use Rattle.model.specs.Basics.{every, _⇒_, all, unlessMissing}
+use Rattle.model.specs.Basics.{every, _⇒_, all, unlessMissing, AllBelow}
 use Rattle.model.specs.Table.{linksFit, Kind, sub, sup, closed, Key, Method, Table, noMethod, noType, maxTypes, maxArguments, size, typeAt, methodAt, isRef, permit, standsIn, isNil, isNone, signatureFits, keyFits, signatureBound, typeFits, tableFits, validSheet}
 use Rattle.model.specs.Relations.{free, related}
 use Rattle.model.specs.Restriction.{mainSide, derive, derived}
@@ -20,7 +20,7 @@ use Rattle.model.specs.Claim.{accepted, feed, follow, reached}
 use Rattle.model.proofs.Tests.{eqb-self, ltb-so, so-ltb, leb-so, so-leb}
 use Rattle.model.proofs.Rules.{never, both, first, second}
 use Rattle.model.proofs.Largest.{keeps-related}
-use Rattle.model.proofs.Derived.{AllBelow, AnswerBelow, Known, itself, ofNumber, made, DerivedMethod, past, here, Complete}
+use Rattle.model.proofs.Derived.{AnswerBelow, Known, itself, ofNumber, made, DerivedMethod, past, here, Complete}
 use Rattle.model.proofs.Growth.{Grown, grown-refl, grown-trans, method-same}
 use Rattle.model.proofs.Unowned.{AllUnowned, AnswerUnowned}
 use Rattle.model.proofs.Deriving.{IfSome}

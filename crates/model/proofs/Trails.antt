@@ -10,7 +10,7 @@ use native.Mathlib.Omega.{arith}
 use lib.Dec.{eqb, ltb}
 use lib.ListN.{length, length-append, List·getD-append}
 use lib.Seq.{getD-append-seam}
-use Rattle.model.specs.Basics.{Res, refuse, ok, try, need}
+use Rattle.model.specs.Basics.{Res, refuse, ok, try, need, AllBelow}
 use Rattle.model.specs.Table.{sub, closed, Table, maxTypes, size, typeAt}
 use Rattle.model.specs.Relations.{subtype, conforms, strict, loose, free, related}
 use Rattle.model.specs.Restriction.{derive, derived}
@@ -19,7 +19,6 @@ use Rattle.model.specs.Requests.{layers, renumber, crossLayers}
 use Rattle.model.specs.Chains.{Permits, AllPermit}
 use Rattle.model.specs.Book.{Page, lastOr, lastType, lastClosed, emptyPage, joins, addClosed, pageAdapt, pageCross, pageCrossAll}
 use Rattle.model.proofs.Largest.{keeps-related}
-use Rattle.model.proofs.Derived.{AllBelow}
 use Rattle.model.proofs.Growth.{Grown, grown-refl, grown-trans, related-grow, permits-grow}
 use Rattle.model.proofs.Completes.{all-below-more}
 use Rattle.model.proofs.Good.{Good}

@@ -11,7 +11,7 @@ use lib.Dec.{eqb, ltb}
 use lib.IntN.{ℤ}
 use lib.ListN.{length, getD, set, length-append, length-set, List·getD-append, getElem?}
 use lib.Seq.{getD-at, getD-set-same, getD-set-other}
-use Rattle.model.specs.Basics.{Res, refuse, ok, try, need, names, named}
+use Rattle.model.specs.Basics.{Res, refuse, ok, try, need, names, named, AllBelow}
 use Rattle.model.specs.Table.{Kind, sub, closed, Table, noMethod, size, typeAt, methodAt, argumentAt, answerAt, isRef, isAvail, isClass}
 use Rattle.model.specs.Relations.{conforms, strict, loose, free, subtype, related}
 use Rattle.model.specs.Restriction.{mainSide, derived}
@@ -19,7 +19,7 @@ use Rattle.model.specs.Crossing.{Place, object, adapter, noPlace, maxPla
 use Rattle.model.specs.Requests.{Cell, Call, System, maxCells, maxCalls, Request, new, move, call, answer, Result, pair, number, noCell, noCall, cellAt, callAt, isSheetRef, held, leaving, addCell, newRequest, moveRequest, layers, layersOf, adapterCount, wayOf, renumber, crossLayers, passLayers, send, argumentsHeld, sendArguments, withCall, callRequest, withAnswer, give, answerRequest, serve, after}
 use Rattle.model.proofs.Tests.{ltb-so}
 use Rattle.model.proofs.Rules.{first, second}
-use Rattle.model.proofs.Derived.{AllBelow, AnswerBelow, SignaturesIn}
+use Rattle.model.proofs.Derived.{AnswerBelow, SignaturesIn}
 use Rattle.model.proofs.Order.{strict→loose, loose→free}
 use Rattle.model.proofs.ChainLaws.{sort-eq}
 use Rattle.model.proofs.Growth.{Grown, grown-refl, grown-trans}

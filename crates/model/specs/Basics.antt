@@ -2,7 +2,7 @@
 use mathlib.Core.Bool.{Bool, true, false, _&&_, _||_}
 use mathlib.Core.List.{List, [], _∷_}
 use mathlib.Core.Option.{Option, none, some}
-use Prim.Native.Nat.{ℕ, zero, suc}
+use Prim.Native.Nat.{ℕ, zero, suc, _<_}
 use lib.Dec.{ltb}
 use lib.IntN.{ℤ, pos, negsuc}
 
@@ -42,6 +42,11 @@ all f (x ∷ xs) = f x && all f xs
 abbrev pub every {ℓ} : {A : Type ℓ} → (ℕ → A → Bool) → ℕ → List A → Bool
 every f i [] = true
 every f i (x ∷ xs) = f i x && every f (suc i) xs
+
+-- every number of a list is below n
+abbrev pub AllBelow : ℕ → List ℕ → Type 0
+AllBelow n [] = Unit {0}
+AllBelow n (x ∷ xs) = (x < n) × AllBelow n xs
 
 -- a test of what may be missing: `over` asks that it is there
 abbrev pub over : Option ℕ → (ℕ → Bool) → Bool

@@ -135,9 +135,13 @@ countsFit t = between 1 maxSubjects (t .subjects) && (between 1 maxMethods (t .m
 abbrev pub linksFit : ℕ → List ℕ → Bool
 linksFit k links = between 1 2 (length links) && all (λ c. ltb c k) links
 
--- A type that may stand in a signature whose types are the first n. "A type with own=yes stands in no signature"
+-- What may stand in a signature: a type without own.
+abbrev pub mayStand : Ty → Bool
+mayStand x = not (x .own)
+
+-- type a may stand in a signature whose types are the first n
 abbrev pub standsIn : Table → ℕ → ℕ → Bool
-standsIn t n a = ltb a n && not (typeAt t a .own)
+standsIn t n a = ltb a n && mayStand (typeAt t a)
 
 abbrev pub isNone {ℓ} : {A : Type ℓ} → Option A → Bool
 isNone none = true

@@ -23,9 +23,9 @@ use Rattle.compare.proofs.Laws.{pair-at}
 use Rattle.sheet.specs.Lines.{bytes, join}
 use Rattle.sheet.specs.Sheet.{malformed, loaded, read}
 use Rattle.sheet.proofs.Exact.{loaded-valid}
-use Rattle.reader.specs.declared.Sheet.{Sheet}
-use Rattle.reader.specs.View.{SheetIs}
-use Rattle.linewriter.specs.Fill.{Filled}
+use Rattle.sheetread.specs.declared.Sheet.{Sheet}
+use Rattle.sheetread.specs.View.{SheetIs}
+use Rattle.textwrite.specs.Fill.{Filled}
 use Rattle.pairtext.specs.Output.{maxInput, spaced, pairLine, pairLines, answerLines, pairsOutput}
 use Rattle.pairtext.specs.Parts.{answersIn, codeLine, rowLines, codeLines}
 

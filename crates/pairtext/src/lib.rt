@@ -1,17 +1,17 @@
 // The program `pairs`: a sheet's text in, the four relations of every pair of its types out. `report` takes any bytes and says what is printed
 // (specs/Output.antt). "The writer adds each line in the rest of the same lent buffer."
-use linewriter::number_line;
-use linewriter::put_decimal;
-use linewriter::put_number;
-use linewriter::text_line;
-use linewriter::upto;
-use table::wide;
+use numbers::wide;
+use textwrite::number_line;
+use textwrite::put_decimal;
+use textwrite::put_number;
+use textwrite::text_line;
+use textwrite::upto;
 ghost use mathlib.Core.Path.{_≡_};
 ghost use mathlib.Core.List.{[], _∷_};
 ghost use Prim.Native.Nat.{_≤_, _<_};
 ghost use lib.ListN.{length, take};
 ghost use Rattle.sheet.specs.Sheet.{malformed};
-ghost use Rattle.linewriter.specs.Fill.{Filled, Lined};
+ghost use Rattle.textwrite.specs.Fill.{Filled, Lined};
 ghost use Rattle.pairtext.specs.Output.{answerLines, pairsOutput};
 ghost use Rattle.pairtext.specs.Parts.{answersText, codeLine, rowLines, codeLines};
 
@@ -101,7 +101,7 @@ fn put_report(buf: &mut [u8], s: &[u8]) -> usize
     if 32768 < s.len() {
         return text_line(buf, b"no=2");
     }
-    let x = reader::read(s);
+    let x = sheetread::read(s);
     if x.no != 0 {
         return refused_line(buf, x.no, x.at);
     }

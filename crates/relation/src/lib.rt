@@ -13,10 +13,12 @@ ghost use Rattle.search.specs.Checked.{Checked};
 ghost use Rattle.search.specs.Parts.{Says};
 ghost use Rattle.search.specs.Found.{upto, queueIn, Added, SoundIn, MetIn};
 ghost use Rattle.rules.specs.Asked.{relationOf};
+use numbers::wide;
 use rules::Relation;
 use table::Counts;
+use table::LINK_BYTES;
 use table::Method;
-use table::wide;
+use table::TYPE_BYTES;
 
 fn wide16(x: u16) -> usize
     ensures { λ r. ⌜ (r ≡ x) × (r < 65536) ⌝ }
@@ -145,7 +147,7 @@ fn find_method(
 
 // All methods of the reference types a and d.
 fn find_methods(
-    b: &[u8; 16384],
+    b: &[u8; TYPE_BYTES],
     found: &mut [u16; 16384],
     tail: usize,
     n: usize,
@@ -175,8 +177,8 @@ fn find_methods(
 
 // The rule of the pair (a, d).
 fn find_types(
-    b: &[u8; 16384],
-    l: &[u8; 96],
+    b: &[u8; TYPE_BYTES],
+    l: &[u8; LINK_BYTES],
     found: &mut [u16; 16384],
     tail: usize,
     c: Counts,
@@ -202,8 +204,8 @@ fn find_types(
 
 // The rule of the next pair in the queue.
 fn find_next(
-    b: &[u8; 16384],
-    l: &[u8; 96],
+    b: &[u8; TYPE_BYTES],
+    l: &[u8; LINK_BYTES],
     found: &mut [u16; 16384],
     tail: usize,
     head: usize,
@@ -220,8 +222,8 @@ fn find_next(
 
 // The search from (t, s) for a pair that breaks its rule.
 fn search(
-    b: &[u8; 16384],
-    l: &[u8; 96],
+    b: &[u8; TYPE_BYTES],
+    l: &[u8; LINK_BYTES],
     c: Counts,
     k: Relation,
     square: [[bool; 4]; 4],
@@ -246,7 +248,14 @@ fn search(
 }
 
 // Whether S is a subtype of T, or, in the other relations, whether T is related from S.
-pub fn related_at(b: &[u8; 16384], l: &[u8; 96], c: Counts, k: Relation, t: usize, s: usize) -> bool
+pub fn related_at(
+    b: &[u8; TYPE_BYTES],
+    l: &[u8; LINK_BYTES],
+    c: Counts,
+    k: Relation,
+    t: usize,
+    s: usize,
+) -> bool
     requires { ⌜ Checked (now l) c ⌝ }
     ensures { λ r. ⌜ r ≡ related (relationOf k) (tableIn (now (b .entry)) (now (l .entry)) c) t s ⌝ }
 {

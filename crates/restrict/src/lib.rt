@@ -14,6 +14,7 @@ ghost use Rattle.table.specs.Store.{typesIn, typesTo, tableIn};
 ghost use Rattle.restrict.specs.Link.{Ready, Leaves, CodesStay, Gives, Begins, Stored, outcome, foundOf, refIn, pendingRecord, tabled};
 use slots::Slot;
 use table::Counts;
+use table::TYPE_BYTES;
 use table::TypeRec;
 
 // What a derivation answers: the table is full, or the type's number and how many types there are now.
@@ -29,7 +30,7 @@ enum Begun {
 }
 
 // "The lowest known one is used again": its number, or n. Sheet types are not searched.
-fn lookup(b: &[u8; 16384], sheet: usize, n: usize, kind: u8, t: usize, s: usize) -> usize
+fn lookup(b: &[u8; TYPE_BYTES], sheet: usize, n: usize, kind: u8, t: usize, s: usize) -> usize
     requires { ⌜ (kind < 3) × (sheet ≤ n) × (n ≤ 128) ⌝ }
     ensures { λ r. ⌜ ((ms : ℕ) → foundOf n r ≡ find (kindOf kind) t s 0 (typesTo ms sheet n (typesIn (now (b .entry))))) ⌝ }
 {
@@ -45,7 +46,7 @@ fn lookup(b: &[u8; 16384], sheet: usize, n: usize, kind: u8, t: usize, s: usize)
 }
 
 // Whether type t is a reference type of the first n.
-pub fn is_ref(b: &[u8; 16384], n: usize, t: usize) -> bool
+pub fn is_ref(b: &[u8; TYPE_BYTES], n: usize, t: usize) -> bool
     requires { ⌜ n ≤ 128 ⌝ }
     ensures { λ r. ⌜ r ≡ refIn n (now (b .entry)) t ⌝ }
 {
@@ -57,7 +58,7 @@ pub fn is_ref(b: &[u8; 16384], n: usize, t: usize) -> bool
 }
 
 // Of two reference types: the known type, or whether there is room for a new one.
-fn search(b: &[u8; 16384], sheet: usize, n: usize, kind: u8, t: usize, s: usize) -> Begun
+fn search(b: &[u8; TYPE_BYTES], sheet: usize, n: usize, kind: u8, t: usize, s: usize) -> Begun
     requires { ⌜ (kind < 3) × (sheet ≤ n) × (n ≤ 128) × (refIn n (now b) t ≡ true) × (refIn n (now b) s ≡ true) ⌝ }
     ensures { λ r. ⌜ Begins (λ T ms. find (kindOf kind) t s 0 (typesTo ms sheet n (typesIn (now (b .entry))))) n t s (now (b .entry)) r ⌝ }
 {
@@ -73,7 +74,7 @@ fn search(b: &[u8; 16384], sheet: usize, n: usize, kind: u8, t: usize, s: usize)
 
 // "Sub and Sup of a type with itself are that type; of numbers, Sub is T and Sup is S": `main` is that side.
 fn begin(
-    b: &[u8; 16384],
+    b: &[u8; TYPE_BYTES],
     sheet: usize,
     n: usize,
     kind: u8,
@@ -99,7 +100,7 @@ fn begin(
 }
 
 // "A new one takes the next number before its signatures are derived": until then every method is denied.
-fn start(b: &mut [u8; 16384], n: usize, cat: u8, kind: u8, t: usize, s: usize)
+fn start(b: &mut [u8; TYPE_BYTES], n: usize, cat: u8, kind: u8, t: usize, s: usize)
     requires { ⌜ (n < 128) × (t < 256) × (s < 256) × (length (now b) ≡ 16384) ⌝ }
     ensures { λ _. ⌜ (typesIn (now (b .exit)) ≡ set (typesIn (now (b .entry))) n (pendingRecord cat kind t s)) × (length (now (b .exit)) ≡ 16384) ⌝ }
 {
@@ -111,7 +112,7 @@ fn start(b: &mut [u8; 16384], n: usize, cat: u8, kind: u8, t: usize, s: usize)
 
 // The type at work is stored, whole.
 fn finish(
-    b: &mut [u8; 16384],
+    b: &mut [u8; TYPE_BYTES],
     n: usize,
     x: TypeRec,
     y: TypeRec,
@@ -130,7 +131,14 @@ fn finish(
 }
 
 // Sub(T,S), in a table of so many methods, sheet types and types: T's category, "arguments Sup(S argument, T argument) and answer Sub(T answer, S answer)".
-fn sub(b: &mut [u8; 16384], methods: usize, sheet: usize, n: usize, t: usize, s: usize) -> Derived
+fn sub(
+    b: &mut [u8; TYPE_BYTES],
+    methods: usize,
+    sheet: usize,
+    n: usize,
+    t: usize,
+    s: usize,
+) -> Derived
     requires { ⌜ Ready methods sheet n t s (now b) ⌝ }
     ensures { λ r. ⌜ Gives sub methods sheet n t s (now (b .entry)) (now (b .exit)) r ⌝ }
 {
@@ -152,7 +160,7 @@ fn sub(b: &mut [u8; 16384], methods: usize, sheet: usize, n: usize, t: usize, s:
                 let Derived::At(i1, m1) = sup(b, methods, sheet, m, l1, r1) else {
                     return Derived::Full;
                 };
-                bytes[k] = table::narrow(i1);
+                bytes[k] = numbers::narrow(i1);
                 m = m1;
                 k += 1;
             }
@@ -160,7 +168,7 @@ fn sub(b: &mut [u8; 16384], methods: usize, sheet: usize, n: usize, t: usize, s:
                 let Derived::At(i2, m2) = sub(b, methods, sheet, m, l2, r2) else {
                     return Derived::Full;
                 };
-                bytes[k] = table::narrow(i2 + 1);
+                bytes[k] = numbers::narrow(i2 + 1);
                 m = m2;
                 k += 1;
             }
@@ -171,7 +179,14 @@ fn sub(b: &mut [u8; 16384], methods: usize, sheet: usize, n: usize, t: usize, s:
 }
 
 // Sup(T,S): S's category, "arguments Sub(S argument, T argument) and answer Sup(T answer, S answer)".
-fn sup(b: &mut [u8; 16384], methods: usize, sheet: usize, n: usize, t: usize, s: usize) -> Derived
+fn sup(
+    b: &mut [u8; TYPE_BYTES],
+    methods: usize,
+    sheet: usize,
+    n: usize,
+    t: usize,
+    s: usize,
+) -> Derived
     requires { ⌜ Ready methods sheet n t s (now b) ⌝ }
     ensures { λ r. ⌜ Gives sup methods sheet n t s (now (b .entry)) (now (b .exit)) r ⌝ }
 {
@@ -193,7 +208,7 @@ fn sup(b: &mut [u8; 16384], methods: usize, sheet: usize, n: usize, t: usize, s:
                 let Derived::At(i1, m1) = sub(b, methods, sheet, m, l1, r1) else {
                     return Derived::Full;
                 };
-                bytes[k] = table::narrow(i1);
+                bytes[k] = numbers::narrow(i1);
                 m = m1;
                 k += 1;
             }
@@ -201,7 +216,7 @@ fn sup(b: &mut [u8; 16384], methods: usize, sheet: usize, n: usize, t: usize, s:
                 let Derived::At(i2, m2) = sup(b, methods, sheet, m, l2, r2) else {
                     return Derived::Full;
                 };
-                bytes[k] = table::narrow(i2 + 1);
+                bytes[k] = numbers::narrow(i2 + 1);
                 m = m2;
                 k += 1;
             }
@@ -213,7 +228,7 @@ fn sup(b: &mut [u8; 16384], methods: usize, sheet: usize, n: usize, t: usize, s:
 
 // Closed(R,V), of two reference types: the category and the signatures of Sub(R,V). "It takes one number; the outer Sub it is read from takes none."
 fn closed(
-    b: &mut [u8; 16384],
+    b: &mut [u8; TYPE_BYTES],
     methods: usize,
     sheet: usize,
     n: usize,
@@ -241,7 +256,7 @@ fn closed(
                 let Derived::At(i3, m3) = sup(b, methods, sheet, m, l3, r3) else {
                     return Derived::Full;
                 };
-                bytes[k] = table::narrow(i3);
+                bytes[k] = numbers::narrow(i3);
                 m = m3;
                 k += 1;
             }
@@ -249,7 +264,7 @@ fn closed(
                 let Derived::At(i4, m4) = sub(b, methods, sheet, m, l4, r4) else {
                     return Derived::Full;
                 };
-                bytes[k] = table::narrow(i4 + 1);
+                bytes[k] = numbers::narrow(i4 + 1);
                 m = m4;
                 k += 1;
             }
@@ -260,7 +275,7 @@ fn closed(
 }
 
 // Sub(T,S), in the table of these bytes and counts.
-pub fn sub_type(b: &mut [u8; 16384], c: Counts, t: usize, s: usize) -> Derived
+pub fn sub_type(b: &mut [u8; TYPE_BYTES], c: Counts, t: usize, s: usize) -> Derived
     requires { ⌜ Ready (c .methods) (c .sheet) (c .types) t s (now b) ⌝ }
     ensures is { λ r. ⌜ ((l : List ℕ) → outcome (now (b .exit)) l c r ≡ derived (tableIn (now (b .entry)) l c) sub t s) ⌝ }
     ensures keeps { λ r. ⌜ Leaves (c .types) t s (now (b .entry)) (now (b .exit)) r ⌝ }
@@ -270,7 +285,7 @@ pub fn sub_type(b: &mut [u8; 16384], c: Counts, t: usize, s: usize) -> Derived
 }
 
 // Sup(T,S).
-pub fn sup_type(b: &mut [u8; 16384], c: Counts, t: usize, s: usize) -> Derived
+pub fn sup_type(b: &mut [u8; TYPE_BYTES], c: Counts, t: usize, s: usize) -> Derived
     requires { ⌜ Ready (c .methods) (c .sheet) (c .types) t s (now b) ⌝ }
     ensures is { λ r. ⌜ ((l : List ℕ) → outcome (now (b .exit)) l c r ≡ derived (tableIn (now (b .entry)) l c) sup t s) ⌝ }
     ensures keeps { λ r. ⌜ Leaves (c .types) t s (now (b .entry)) (now (b .exit)) r ⌝ }
@@ -280,7 +295,7 @@ pub fn sup_type(b: &mut [u8; 16384], c: Counts, t: usize, s: usize) -> Derived
 }
 
 // Closed(R,V).
-pub fn closed_type(b: &mut [u8; 16384], c: Counts, r: usize, v: usize) -> Derived
+pub fn closed_type(b: &mut [u8; TYPE_BYTES], c: Counts, r: usize, v: usize) -> Derived
     requires { ⌜ Ready (c .methods) (c .sheet) (c .types) r v (now b) × (refIn (c .types) (now b) r ≡ true) × (refIn (c .types) (now b) v ≡ true) ⌝ }
     ensures is { λ d. ⌜ ((l : List ℕ) → outcome (now (b .exit)) l c d ≡ derived (tableIn (now (b .entry)) l c) closed r v) ⌝ }
     ensures keeps { λ d. ⌜ Leaves (c .types) r v (now (b .entry)) (now (b .exit)) d ⌝ }

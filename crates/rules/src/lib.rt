@@ -13,11 +13,12 @@ ghost use Rattle.table.specs.Store.{tableIn};
 ghost use Rattle.search.specs.Checked.{Checked, broaderIn};
 ghost use Rattle.search.specs.Parts.{exact, ordered, owned, repRule, ownOf, outerHeads, Says, catNext};
 ghost use Rattle.rules.specs.Asked.{relationOf};
+use numbers::wide;
 use table::Counts;
 use table::Head;
+use table::LINK_BYTES;
 use table::Method;
 use table::permits;
-use table::wide;
 
 // The four relations, and subtype with own not compared, which step 3 of a crossing asks for.
 pub enum Relation {
@@ -113,7 +114,7 @@ pub fn both_permit(x: Method, y: Method) -> bool
 }
 
 // Whether category a ≤ x, where `done` has the answers for the categories below x.
-fn category_next(l: &[u8; 96], done: &[bool; 32], c: Counts, a: usize, x: usize) -> bool
+fn category_next(l: &[u8; LINK_BYTES], done: &[bool; 32], c: Counts, a: usize, x: usize) -> bool
     requires { ⌜ Checked (now l) c × (x < 32) ⌝ }
     ensures { λ r. ⌜ r ≡ catNext (broaderIn (now (l .entry)) c) (now (done .entry)) a x ⌝ }
 {
@@ -142,7 +143,7 @@ fn category_next(l: &[u8; 96], done: &[bool; 32], c: Counts, a: usize, x: usize)
 }
 
 // "a ≤ b if a is 0, a = b, or a is reached from b by broader links": the answer for each category below b, from 0 up, and then for b.
-fn category_le(l: &[u8; 96], c: Counts, a: usize, b: usize) -> bool
+fn category_le(l: &[u8; LINK_BYTES], c: Counts, a: usize, b: usize) -> bool
     requires { ⌜ Checked (now l) c ⌝ }
     ensures { λ r. ⌜ ((types : List ℕ) → r ≡ catLe (tableIn types (now (l .entry)) c) a b) ⌝ }
 {
@@ -234,7 +235,7 @@ fn rep_rule(k: Relation, x: u8, y: u8) -> bool
     same_sort(x, y)
 }
 
-fn category_rule(l: &[u8; 96], c: Counts, k: Relation, x: u8, y: u8) -> bool
+fn category_rule(l: &[u8; LINK_BYTES], c: Counts, k: Relation, x: u8, y: u8) -> bool
     requires { ⌜ Checked (now l) c ⌝ }
     ensures { λ r. ⌜ ((types : List ℕ) → r ≡ (ordered (relationOf k) ⇒ catLe (tableIn types (now (l .entry)) c) x y)) ⌝ }
 {
@@ -272,7 +273,7 @@ fn own_rule(k: Relation, x: Head, y: Head) -> bool
 }
 
 // What a relation asks of representation, category and own flag of T and S.
-pub fn outer_rule(l: &[u8; 96], c: Counts, k: Relation, x: Head, y: Head) -> bool
+pub fn outer_rule(l: &[u8; LINK_BYTES], c: Counts, k: Relation, x: Head, y: Head) -> bool
     requires { ⌜ Checked (now l) c ⌝ }
     ensures { λ r. ⌜ ((types : List ℕ) → r ≡ outerHeads (relationOf k) (tableIn types (now (l .entry)) c) x y) ⌝ }
 {

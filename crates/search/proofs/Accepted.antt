@@ -7,12 +7,11 @@ use native.Mathlib.Nat.{not-suc-le-zero}
 use native.Mathlib.Omega.{arith}
 use lib.Dec.{ltb, leb}
 use lib.ListN.{length, getD}
-use Rattle.model.specs.Basics.{all}
+use Rattle.model.specs.Basics.{all, AllBelow}
 use Rattle.model.specs.Table.{between, linksFit, maxCategories}
 use Rattle.model.specs.Check.{tableOf, codesFit, tableAccepted}
 use Rattle.model.proofs.Tests.{ltb-so, leb-so}
 use Rattle.model.proofs.Rules.{first, second}
-use Rattle.model.proofs.Derived.{AllBelow}
 use Rattle.model.proofs.Fitting.{TableFitting, table-fitting, every-at}
 use Rattle.model.proofs.Largest.{getD-from}
 use Rattle.table.specs.declared.Counts.{Counts}

@@ -9,11 +9,10 @@ use native.Mathlib.Omega.{arith}
 use lib.Dec.{eqb}
 use lib.ListN.{getD}
 use borrow.Author.Tests.{eq-eqb, ne-eqb}
-use Rattle.model.specs.Basics.{any}
+use Rattle.model.specs.Basics.{any, AllBelow}
 use Rattle.model.specs.Relations.{reaches, catLe}
 use Rattle.model.specs.Check.{RawLinks, noRawLinks, linksOf, tableOf}
 use Rattle.model.proofs.Largest.{getD-from, getD-from-out}
-use Rattle.model.proofs.Derived.{AllBelow}
 use Rattle.table.specs.declared.Counts.{Counts}
 use Rattle.table.specs.Store.{linksIn, tableIn, broaderOf}
 use Rattle.table.proofs.Lists.{lt-or-ge}

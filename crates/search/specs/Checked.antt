@@ -2,8 +2,7 @@
 -- Nothing is asked of the types: a number in a signature that names no type makes a pair unrelated, in the model as in the code.
 use mathlib.Core.List.{List, [], _∷_}
 use Prim.Native.Nat.{ℕ, _≤_, _<_}
-use Rattle.model.specs.Basics.{from}
-use Rattle.model.proofs.Derived.{AllBelow}
+use Rattle.model.specs.Basics.{from, AllBelow}
 use Rattle.table.specs.declared.Counts.{Counts}
 use Rattle.table.specs.Store.{broaderOf}
 

@@ -7,12 +7,12 @@ ghost use Rattle.model.specs.Restriction.{restricted, sameKind, isKey};
 ghost use Rattle.model.specs.Check.{stateOf, kindOf, answerOf, methodOf};
 ghost use Rattle.table.specs.Store.{rawMethod, rawOf};
 ghost use Rattle.slots.specs.Slots.{answerSlot, argumentSlot, slotOf, slotAt, lesser, fill, methodIn, rawIn, MethodCoded, Low, keyIn, keptState, newRecord, Finished};
+use numbers::narrow;
+use numbers::wide;
 use table::Head;
 use table::Method;
 use table::TypeRec;
-use table::narrow;
 use table::permits;
-use table::wide;
 
 // What is derived for a slot of a new type: nothing, an argument or an answer, from these two types.
 pub enum Slot {

@@ -1,12 +1,14 @@
 -- How a table stands in bytes. Type i has 128 bytes from i * 128 on: six numbers, ten spare bytes, and from 16 on seven bytes for each of 16 methods:
 -- state, count of arguments, four arguments, answer. The broader links of category k are three bytes from k * 3 on. What the records mean is the model's (Check).
+use mathlib.Core.Bool.{Bool, _&&_}
 use Prim.Native.Nat.{ℕ, _+_, _*_}
+use lib.Dec.{eqb}
 use mathlib.Core.List.{List, [], _∷_, _++_, map}
 use lib.ListN.{getD, replicate}
 use Rattle.model.specs.Basics.{from}
-use Rattle.model.specs.Table.{Ty, Table}
+use Rattle.model.specs.Table.{Ty, Table, isRef}
 use Rattle.model.specs.Table.{Method as Methodᵐ}
-use Rattle.model.specs.Check.{RawMethod, RawType, RawLinks, RawTable, noRawType, noRawMethod, noRawLinks, methodOf, typeOf, linksOf, tableOf}
+use Rattle.model.specs.Check.{RawMethod, RawType, RawLinks, RawTable, noRawType, noRawMethod, noRawLinks, methodOf, typeOf, repOf, linksOf, tableOf}
 use Rattle.table.specs.declared.Counts.{Counts}
 use Rattle.table.specs.declared.Method.{Method}
 use Rattle.table.specs.declared.TypeRec.{TypeRec}
@@ -68,6 +70,14 @@ methodIn b i j = methodOf (getD (getD (typesIn b) i noRawType .methods) j noRawM
 
 abbrev pub broaderOf : List ℕ → ℕ → List ℕ
 broaderOf l k = linksOf (getD (linksIn l) k noRawLinks)
+
+-- own=yes: only a reference type has the flag
+abbrev pub ownOf : RawType → Bool
+ownOf x = isRef (repOf (x .rep)) && eqb (x .own) 1
+
+-- The counts, with so many types.
+abbrev pub withCount : Counts → ℕ → Counts
+withCount c n = record { subjects = c .subjects; methods = c .methods; cats = c .cats; sheet = c .sheet; types = n }
 
 -- The bytes of a record, as they are stored.
 abbrev pub methodBytes : Method → List ℕ

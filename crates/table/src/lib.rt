@@ -8,6 +8,11 @@ ghost use Rattle.model.specs.Table.{permit};
 ghost use Rattle.model.specs.Check.{noRawType, noRawMethod, noRawLinks, stateOf};
 ghost use Rattle.table.specs.Store.{typesIn, linksIn, rawMethod, rawOf, headOf, rawLinks, methodBytes, headBytes, emptyCounts, emptyMethod, emptyType, emptyTypes, emptyLinks};
 
+// The bytes of the types of a table, and of its broader links.
+pub const TYPE_BYTES: usize = 16384;
+
+pub const LINK_BYTES: usize = 96;
+
 // How many of each kind a table has. In a table handed in a count may be any number.
 pub struct Counts {
     pub subjects: usize,
@@ -115,21 +120,6 @@ pub struct Links {
     pub second: u8,
 }
 
-// A byte as a number.
-pub fn wide(x: u8) -> usize
-    ensures { λ r. ⌜ (r ≡ x) × (r < 256) ⌝ }
-{
-    x as usize
-}
-
-// A number below 256 as a byte.
-pub fn narrow(x: usize) -> u8
-    requires { ⌜ x < 256 ⌝ }
-    ensures { λ r. ⌜ r ≡ x ⌝ }
-{
-    x as u8
-}
-
 // Optional and avail permit a method.
 pub fn permits(state: u8) -> bool
     ensures { λ r. ⌜ r ≡ permit (stateOf state) ⌝ }
@@ -141,20 +131,20 @@ pub fn permits(state: u8) -> bool
 }
 
 // Bytes for the types of an empty table, and for its links.
-pub fn empty_types() -> [u8; 16384]
+pub fn empty_types() -> [u8; TYPE_BYTES]
     ensures { λ r. ⌜ r ≡ emptyTypes ⌝ }
 {
     [0u8; 16384]
 }
 
-pub fn empty_links() -> [u8; 96]
+pub fn empty_links() -> [u8; LINK_BYTES]
     ensures { λ r. ⌜ r ≡ emptyLinks ⌝ }
 {
     [0u8; 96]
 }
 
 // The broader categories of category k.
-pub fn get_links(l: &[u8; 96], k: usize) -> Links
+pub fn get_links(l: &[u8; LINK_BYTES], k: usize) -> Links
     requires { ⌜ k < 32 ⌝ }
     ensures { λ r. ⌜ rawLinks r ≡ getD (linksIn (now (l .entry))) k noRawLinks ⌝ }
 {
@@ -167,7 +157,7 @@ pub fn get_links(l: &[u8; 96], k: usize) -> Links
 }
 
 // Store the broader categories of category k.
-pub fn put_links(l: &mut [u8; 96], k: usize, x: Links)
+pub fn put_links(l: &mut [u8; LINK_BYTES], k: usize, x: Links)
     requires { ⌜ (k < 32) × (length (now l) ≡ 96) ⌝ }
     ensures { λ _. ⌜ (linksIn (now (l .exit)) ≡ set (linksIn (now (l .entry))) k (rawLinks x)) × (length (now (l .exit)) ≡ 96) ⌝ }
 {
@@ -178,7 +168,7 @@ pub fn put_links(l: &mut [u8; 96], k: usize, x: Links)
 }
 
 // Type i without its methods.
-pub fn get_head(b: &[u8; 16384], i: usize) -> Head
+pub fn get_head(b: &[u8; TYPE_BYTES], i: usize) -> Head
     requires { ⌜ i < 128 ⌝ }
     ensures { λ r. ⌜ r ≡ headOf (getD (typesIn (now (b .entry))) i noRawType) ⌝ }
 {
@@ -194,7 +184,7 @@ pub fn get_head(b: &[u8; 16384], i: usize) -> Head
 }
 
 // Method j of type i.
-pub fn get_method(b: &[u8; 16384], i: usize, j: usize) -> Method
+pub fn get_method(b: &[u8; TYPE_BYTES], i: usize, j: usize) -> Method
     requires { ⌜ (i < 128) × (j < 16) ⌝ }
     ensures { λ r. ⌜ rawMethod r ≡ getD (getD (typesIn (now (b .entry))) i noRawType .methods) j noRawMethod ⌝ }
 {
@@ -209,7 +199,7 @@ pub fn get_method(b: &[u8; 16384], i: usize, j: usize) -> Method
 }
 
 // Type i.
-pub fn get_type(b: &[u8; 16384], i: usize) -> TypeRec
+pub fn get_type(b: &[u8; TYPE_BYTES], i: usize) -> TypeRec
     requires { ⌜ i < 128 ⌝ }
     ensures is { λ r. ⌜ rawOf r ≡ getD (typesIn (now (b .entry))) i noRawType ⌝ }
     ensures shape { λ r. ⌜ length (r .methods) ≡ 16 ⌝ }
@@ -234,7 +224,7 @@ pub fn get_type(b: &[u8; 16384], i: usize) -> TypeRec
     }
 }
 
-fn put_method(b: &mut [u8; 16384], at: usize, m: Method)
+fn put_method(b: &mut [u8; TYPE_BYTES], at: usize, m: Method)
     requires { ⌜ at + 7 ≤ 16384 ⌝ }
     ensures bytes { λ _. ⌜ now (b .exit) ≡ sets (now (b .entry)) at (methodBytes m) ⌝ }
     ensures shape { λ _. ⌜ length (m .args) ≡ 4 ⌝ }
@@ -248,7 +238,7 @@ fn put_method(b: &mut [u8; 16384], at: usize, m: Method)
     b[at + 6] = m.answer;
 }
 
-fn put_head(b: &mut [u8; 16384], at: usize, t: TypeRec)
+fn put_head(b: &mut [u8; TYPE_BYTES], at: usize, t: TypeRec)
     requires { ⌜ at + 6 ≤ 16384 ⌝ }
     ensures bytes { λ _. ⌜ now (b .exit) ≡ sets (now (b .entry)) at (headBytes t) ⌝ }
     ensures shape { λ _. ⌜ length (t .methods) ≡ 16 ⌝ }
@@ -262,7 +252,7 @@ fn put_head(b: &mut [u8; 16384], at: usize, t: TypeRec)
 }
 
 // Store t as type i. The spare bytes of the type stay.
-pub fn put_type(b: &mut [u8; 16384], i: usize, t: TypeRec)
+pub fn put_type(b: &mut [u8; TYPE_BYTES], i: usize, t: TypeRec)
     requires { ⌜ (i < 128) × (length (now b) ≡ 16384) ⌝ }
     ensures { λ _. ⌜ (typesIn (now (b .exit)) ≡ set (typesIn (now (b .entry))) i (rawOf t)) × (length (now (b .exit)) ≡ 16384) ⌝ }
 {

@@ -11,7 +11,9 @@ ghost use Rattle.table.specs.Store.{typesIn, linksIn, rawTable, rawMethod};
 ghost use Rattle.tablecheck.specs.Parts.{Limited, countsAccepted, linkAccepted, linksAccepted, mayStand, signatureAccepted, methodAccepted, methodsAccepted, keyAccepted, headAccepted, boundOf, typeAccepted, typesAccepted, argsAccepted};
 use table::Counts;
 use table::Head;
+use table::LINK_BYTES;
 use table::Method;
+use table::TYPE_BYTES;
 
 // A count in its range.
 fn within(low: usize, high: usize, n: usize) -> bool
@@ -45,14 +47,14 @@ fn counts_fit(c: Counts) -> bool
 }
 
 // "Category k, from 1, names one or two broader categories below k, 0 allowed."
-fn link_fits(l: &[u8; 96], k: usize) -> bool
+fn link_fits(l: &[u8; LINK_BYTES], k: usize) -> bool
     requires { ⌜ k < 32 ⌝ }
     ensures { λ r. ⌜ r ≡ linkAccepted k (getD (linksIn (now (l .entry))) k noRawLinks) ⌝ }
 {
     let x = table::get_links(l, k);
-    let count = table::wide(x.count);
-    let first = table::wide(x.first);
-    let second = table::wide(x.second);
+    let count = numbers::wide(x.count);
+    let first = numbers::wide(x.first);
+    let second = numbers::wide(x.second);
     if !within(1, 2, count) {
         return false;
     }
@@ -65,7 +67,7 @@ fn link_fits(l: &[u8; 96], k: usize) -> bool
     true
 }
 
-fn links_fit(l: &[u8; 96], cats: usize) -> bool
+fn links_fit(l: &[u8; LINK_BYTES], cats: usize) -> bool
     requires { ⌜ cats ≤ 31 ⌝ }
     ensures { λ r. ⌜ r ≡ linksAccepted cats (linksIn (now (l .entry))) ⌝ }
 {
@@ -80,7 +82,7 @@ fn links_fit(l: &[u8; 96], cats: usize) -> bool
 }
 
 // Type a stands in a signature whose types are the first n. "A type with own=yes stands in no signature"
-fn stands_in(b: &[u8; 16384], n: usize, a: usize) -> bool
+fn stands_in(b: &[u8; TYPE_BYTES], n: usize, a: usize) -> bool
     requires { ⌜ n ≤ 128 ⌝ }
     ensures { λ r. ⌜ r ≡ mayStand (typesIn (now (b .entry))) n a ⌝ }
 {
@@ -95,15 +97,15 @@ fn stands_in(b: &[u8; 16384], n: usize, a: usize) -> bool
 }
 
 // The argument types of a method.
-fn args_fit(b: &[u8; 16384], n: usize, m: Method) -> bool
+fn args_fit(b: &[u8; TYPE_BYTES], n: usize, m: Method) -> bool
     requires { ⌜ (n ≤ 128) × (m .count ≤ 4) ⌝ }
     ensures { λ r. ⌜ r ≡ argsAccepted (typesIn (now (b .entry))) n (rawMethod m) ⌝ }
 {
-    let count = table::wide(m.count);
+    let count = numbers::wide(m.count);
     let mut i: usize = 0;
     while i < count {
         let x = m.args[i];
-        if !stands_in(b, n, table::wide(x)) {
+        if !stands_in(b, n, numbers::wide(x)) {
             return false;
         }
         i += 1;
@@ -112,18 +114,18 @@ fn args_fit(b: &[u8; 16384], n: usize, m: Method) -> bool
 }
 
 // "a signature, 0 to 2 argument types and one answer type or none"
-fn signature_fits(b: &[u8; 16384], n: usize, m: Method) -> bool
+fn signature_fits(b: &[u8; TYPE_BYTES], n: usize, m: Method) -> bool
     requires { ⌜ n ≤ 128 ⌝ }
     ensures { λ r. ⌜ r ≡ signatureAccepted (typesIn (now (b .entry))) n (rawMethod m) ⌝ }
 {
-    let count = table::wide(m.count);
+    let count = numbers::wide(m.count);
     if Counts::ARGUMENTS < count {
         return false;
     }
     if !args_fit(b, n, m) {
         return false;
     }
-    let answer = table::wide(m.answer);
+    let answer = numbers::wide(m.answer);
     if answer == 0 {
         return true;
     }
@@ -131,11 +133,11 @@ fn signature_fits(b: &[u8; 16384], n: usize, m: Method) -> bool
 }
 
 // "Optional and avail carry a signature", denied and unavail do not.
-fn method_fits(b: &[u8; 16384], n: usize, m: Method) -> bool
+fn method_fits(b: &[u8; TYPE_BYTES], n: usize, m: Method) -> bool
     requires { ⌜ n ≤ 128 ⌝ }
     ensures { λ r. ⌜ r ≡ methodAccepted (typesIn (now (b .entry))) n (rawMethod m) ⌝ }
 {
-    let state = table::wide(m.state);
+    let state = numbers::wide(m.state);
     if 4 <= state {
         return false;
     }
@@ -149,7 +151,7 @@ fn method_fits(b: &[u8; 16384], n: usize, m: Method) -> bool
 }
 
 // The methods of type i, whose signatures hold types below n.
-fn methods_fit(b: &[u8; 16384], i: usize, n: usize, methods: usize) -> bool
+fn methods_fit(b: &[u8; TYPE_BYTES], i: usize, n: usize, methods: usize) -> bool
     requires { ⌜ (i < 128) × (n ≤ 128) × (methods ≤ 16) ⌝ }
     ensures { λ r. ⌜ r ≡ methodsAccepted (typesIn (now (b .entry))) n methods (getD (typesIn (now (b .entry))) i noRawType) ⌝ }
 {
@@ -173,10 +175,10 @@ fn key_fits(h: Head, c: Counts, i: usize) -> bool
     if 3 <= h.kind {
         return false;
     }
-    if c.types <= table::wide(h.left) {
+    if c.types <= numbers::wide(h.left) {
         return false;
     }
-    table::wide(h.right) < c.types
+    numbers::wide(h.right) < c.types
 }
 
 fn head_fits(h: Head, c: Counts, i: usize) -> bool
@@ -185,7 +187,7 @@ fn head_fits(h: Head, c: Counts, i: usize) -> bool
     if 3 <= h.rep {
         return false;
     }
-    if c.cats < table::wide(h.cat) {
+    if c.cats < numbers::wide(h.cat) {
         return false;
     }
     key_fits(h, c, i)
@@ -203,7 +205,7 @@ fn bound(c: Counts, i: usize) -> usize
 }
 
 // Type i: a number type has neither own flag nor methods.
-fn type_fits(b: &[u8; 16384], c: Counts, i: usize) -> bool
+fn type_fits(b: &[u8; TYPE_BYTES], c: Counts, i: usize) -> bool
     requires { ⌜ Limited c × (i < c .types) ⌝ }
     ensures { λ r. ⌜ r ≡ typeAccepted (typesIn (now (b .entry))) c i (getD (typesIn (now (b .entry))) i noRawType) ⌝ }
 {
@@ -220,7 +222,7 @@ fn type_fits(b: &[u8; 16384], c: Counts, i: usize) -> bool
     methods_fit(b, i, bound(c, i), c.methods)
 }
 
-fn types_fit(b: &[u8; 16384], c: Counts) -> bool
+fn types_fit(b: &[u8; TYPE_BYTES], c: Counts) -> bool
     requires { ⌜ Limited c ⌝ }
     ensures { λ r. ⌜ r ≡ typesAccepted (typesIn (now (b .entry))) c ⌝ }
 {
@@ -236,7 +238,7 @@ fn types_fit(b: &[u8; 16384], c: Counts) -> bool
 }
 
 // Whether a table that is handed in is taken: b the bytes of the types, l those of the broader links.
-pub fn table_fits(b: &[u8; 16384], l: &[u8; 96], c: Counts) -> bool
+pub fn table_fits(b: &[u8; TYPE_BYTES], l: &[u8; LINK_BYTES], c: Counts) -> bool
     ensures { λ r. ⌜ r ≡ tableAccepted (rawTable (now (b .entry)) (now (l .entry)) c) ⌝ }
 {
     if !counts_fit(c) {

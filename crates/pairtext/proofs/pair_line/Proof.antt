@@ -1,6 +1,6 @@
 -- Rests on `fill-rest`, twice, and `line-is`; `line-short` says how long the line is at most.
 use Rattle.pairtext.proofs.Laws.{line-is, line-short}
-use Rattle.linewriter.proofs.Laws.{fill-rest, fill-is, ended}
+use Rattle.textwrite.proofs.Laws.{fill-rest, fill-is, ended}
 use native.Mathlib.Omega.{arith}
 use borrow.Author.Needs.{needs}
 use Rattle.pairtext.proofs.pair_line.Statement.{statement}

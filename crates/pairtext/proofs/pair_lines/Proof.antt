@@ -1,8 +1,8 @@
 -- Rests on `lines-rest` and `rows-next`: the loop has written the pairs of the first t types.
 use Rattle.pairtext.proofs.Laws.{rows-none, rows-next, rows-all}
 use Rattle.pairtext.specs.Parts.{codeLines}
-use Rattle.linewriter.proofs.Laws.{lines-none, lines-rest, lines-are}
-use Rattle.linewriter.specs.Fill.{Lined}
+use Rattle.textwrite.proofs.Laws.{lines-none, lines-rest, lines-are}
+use Rattle.textwrite.specs.Fill.{Lined}
 use Prim.Native.Nat.{_-_, _*_, _≤_}
 use native.Mathlib.Omega.{arith}
 use borrow.Author.Needs.{needs}

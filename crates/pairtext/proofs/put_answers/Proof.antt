@@ -1,6 +1,6 @@
 -- Rests on `fill-rest`, three times, and `answers-are`.
 use Rattle.pairtext.proofs.Laws.{answers-are}
-use Rattle.linewriter.proofs.Laws.{fill-rest, fill-is}
+use Rattle.textwrite.proofs.Laws.{fill-rest, fill-is}
 use native.Mathlib.Omega.{arith}
 use borrow.Author.Needs.{needs}
 use Rattle.pairtext.proofs.put_answers.Statement.{statement}

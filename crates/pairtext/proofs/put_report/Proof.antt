@@ -3,7 +3,7 @@ use mathlib.Core.Path.{ap, _∙_}
 use Rattle.sheet.specs.Lines.{join}
 use Rattle.pairtext.specs.Parts.{codeLines}
 use Rattle.pairtext.proofs.Whole.{sheet-checked, sheet-few, accepted-prints, refused-prints, long-prints}
-use Rattle.linewriter.proofs.Laws.{fill-is}
+use Rattle.textwrite.proofs.Laws.{fill-is}
 use native.Mathlib.Omega.{arith}
 use borrow.Author.Needs.{needs}
 use Rattle.pairtext.proofs.put_report.Statement.{statement}

@@ -1,8 +1,8 @@
 -- Rests on `lines-rest` and `row-next`: the loop has written the pairs of T with the first s types.
 use Rattle.pairtext.proofs.Laws.{row-none, row-next, row-all}
 use Rattle.pairtext.specs.Parts.{rowLines}
-use Rattle.linewriter.proofs.Laws.{lines-none, lines-rest, lines-are}
-use Rattle.linewriter.specs.Fill.{Lined}
+use Rattle.textwrite.proofs.Laws.{lines-none, lines-rest, lines-are}
+use Rattle.textwrite.specs.Fill.{Lined}
 use Prim.Native.Nat.{_-_, _*_, _≤_}
 use native.Mathlib.Omega.{arith}
 use borrow.Author.Needs.{needs}

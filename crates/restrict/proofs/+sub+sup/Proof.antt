@@ -9,7 +9,7 @@ use borrow.Fn.PlainCycle.{Measures, is, falls, and}
 use Rattle.model.specs.Table.{sub, sup}
 use Rattle.model.specs.Check.{RawType}
 use Rattle.table.proofs.get_type.Reads as get-type-reads
-use Rattle.table.proofs.narrow.Reads as narrow-reads
+use Rattle.numbers.proofs.narrow.Reads as narrow-reads
 use Rattle.slots.proofs.slot_at.Reads as slot-at-reads
 use Rattle.restrict.proofs.Ends.{Started, started, settled, new-left, new-right, new-room, start-loop, new-full, new-at}
 use Rattle.restrict.proofs.Turns.{Loop, turn-empty, argument-ready, argument-full, argument-low, argument-turn, answer-ready, answer-full, answer-low, answer-turn}

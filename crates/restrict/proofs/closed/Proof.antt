@@ -6,7 +6,7 @@ use borrow.Author.Needs.{needs}
 use Rattle.model.specs.Table.{closed}
 use Rattle.model.specs.Check.{RawType}
 use Rattle.table.proofs.get_type.Reads as get-type-reads
-use Rattle.table.proofs.narrow.Reads as narrow-reads
+use Rattle.numbers.proofs.narrow.Reads as narrow-reads
 use Rattle.slots.proofs.slot_at.Reads as slot-at-reads
 use Rattle.restrict.proofs.Begins.{closed-begins}
 use Rattle.restrict.proofs.Ends.{Started, started, settled, new-left, new-right, new-room, start-loop, new-full, new-at}

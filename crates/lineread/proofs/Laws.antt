@@ -1,0 +1,386 @@
+-- Laws over plain values for the line kinds: words, broader categories, signatures and methods. The proofs of the functions cite them.
+use mathlib.Core.Path.{_≡_, refl, sym, ap, _∙_}
+use mathlib.Core.Bool.{Bool, true, false, _&&_, cond}
+use mathlib.Core.List.{List, [], _∷_, _++_}
+use mathlib.Core.Option.{Option, none, some}
+use Prim.Native.Nat.{ℕ, zero, suc, _+_, _≤_, _<_}
+use native.Mathlib.Omega.{arith}
+use native.Mathlib.Numerals.{add-one}
+use lib.Dec.{eqb, ltb, leb}
+use lib.ListN.{length, getD, set, take, drop}
+use lib.Seq.{length-take-le, take-suc-set, take-suc, getD-take}
+use borrow.Author.Tests.{leb-true, leb-false, lt-ltb, le-ltb, le-leb, eq-eqb, ne-eqb}
+use Rattle.model.specs.Basics.{Res, refuse, ok, try, need, _⇒_, all, unlessMissing}
+use Rattle.model.specs.Table.{State, denied, optional, avail, unavail, Rep, ref, w32, w64, Method, permit, maxArguments, between}
+use Rattle.model.specs.Check.{stateOf, answerOf, methodOf, rawMethodFits}
+use Rattle.model.proofs.Rules.{never, both, imply}
+use Rattle.sheet.specs.Lines.{bytes, starts, same, keyed, oneOf}
+use Rattle.sheet.specs.Numbers.{Scan, fail, took, andThen, whole, number, numbers}
+use Rattle.sheet.specs.Text.{repText, ownText, stateText}
+use Rattle.sheet.specs.Sheet.{repLine, ownLine, underLine, closing, arguments, answer, below, signature, unsigned, methodLine}
+use Rattle.sheet.proofs.Steps.{refuse-ok}
+use Rattle.textread.specs.View.{result}
+use Rattle.textread.proofs.Laws.{from-here, at-end}
+
+-- a refusal's number isn't 0
+pub result-refused : {A : Type 0} (nr : ℕ) (x : A) → 0 < nr → result nr x ≡ refuse nr
+result-refused nr x h = ap (λ z. cond z (ok x) (refuse nr)) (ne-eqb nr 0 (λ e. omega arith))
+
+-- what is refused is not accepted
+pub not-accepted : {A : Type 0} {C : Type 0} (nr k : ℕ) (x : A) → result nr x ≡ refuse k → nr ≡ 0 → C
+not-accepted nr k x e z = refuse-ok (sym e ∙ ap (λ b. cond b (ok x) (refuse nr)) (eq-eqb nr 0 z))
+
+-- Words.
+module _ (l : List ℕ) where
+  rep-third : Res Rep
+  rep-third = cond (same (repText w64) l) (ok w64) (refuse 1)
+
+  rep-second : Res Rep
+  rep-second = cond (same (repText w32) l) (ok w32) rep-third
+
+  pub rep-ref : same (repText ref) l ≡ true → ok ref ≡ repLine l
+  unfolding repLine oneOf rep-second rep-third
+  rep-ref e = ap (λ z. cond z (ok ref) rep-second) (sym e)
+
+  module _ (a : same (repText ref) l ≡ false) where
+    to-second : rep-second ≡ repLine l
+    unfolding repLine oneOf rep-second rep-third
+    to-second = ap (λ z. cond z (ok ref) rep-second) (sym a)
+
+    pub rep-w32 : same (repText w32) l ≡ true → ok w32 ≡ repLine l
+    unfolding rep-second
+    rep-w32 e = ap (λ z. cond z (ok w32) rep-third) (sym e) ∙ to-second
+
+    module _ (b : same (repText w32) l ≡ false) where
+      to-third : rep-third ≡ repLine l
+      unfolding rep-second
+      to-third = ap (λ z. cond z (ok w32) rep-third) (sym b) ∙ to-second
+
+      pub rep-w64 : same (repText w64) l ≡ true → ok w64 ≡ repLine l
+      unfolding rep-third
+      rep-w64 e = ap (λ z. cond z (ok w64) (refuse 1)) (sym e) ∙ to-third
+
+      pub rep-none : same (repText w64) l ≡ false → refuse 1 ≡ repLine l
+      unfolding rep-third
+      rep-none e = ap (λ z. cond z (ok w64) (refuse 1)) (sym e) ∙ to-third
+
+  own-second : Res Bool
+  own-second = cond (same (ownText false) l) (ok false) (refuse 1)
+
+  pub own-yes : same (ownText true) l ≡ true → ok true ≡ ownLine l
+  unfolding ownLine oneOf own-second
+  own-yes e = ap (λ z. cond z (ok true) own-second) (sym e)
+
+  module _ (a : same (ownText true) l ≡ false) where
+    to-own : own-second ≡ ownLine l
+    unfolding ownLine oneOf own-second
+    to-own = ap (λ z. cond z (ok true) own-second) (sym a)
+
+    pub own-no : same (ownText false) l ≡ true → ok false ≡ ownLine l
+    unfolding own-second
+    own-no e = ap (λ z. cond z (ok false) (refuse 1)) (sym e) ∙ to-own
+
+    pub own-none : same (ownText false) l ≡ false → refuse 1 ≡ ownLine l
+    unfolding own-second
+    own-none e = ap (λ z. cond z (ok false) (refuse 1)) (sym e) ∙ to-own
+
+-- Numbers below a bound, one after the other.
+module _ (items : List ℕ) (count i n : ℕ) (four : length items ≡ 4) (few : count ≤ 4) (inv : all (below n) (take count items) ≡ all (below n) (drop i (take count items))) where
+  here : i < count → all (below n) (take count items) ≡ ltb (getD items i 0) n && all (below n) (drop (i + 1) (take count items))
+  here h =
+      let e : length (take count items) ≡ count = length-take-le count items (omega arith) in
+      inv ∙ ap (all (below n)) (from-here (take count items) i (omega arith)) ∙ ap (λ z. ltb z n && all (below n) (drop (i + 1) (take count items))) (getD-take count items i 0 h)
+
+  pub below-not : i < count → n ≤ getD items i 0 → false ≡ all (below n) (take count items)
+  below-not h k = sym (here h ∙ ap (λ z. z && all (below n) (drop (i + 1) (take count items))) (le-ltb (getD items i 0) n k))
+
+  pub below-next : i < count → getD items i 0 < n → all (below n) (take count items) ≡ all (below n) (drop (i + 1) (take count items))
+  below-next h k = here h ∙ ap (λ z. z && all (below n) (drop (i + 1) (take count items))) (lt-ltb (getD items i 0) n k)
+
+  pub below-all : count ≤ i → true ≡ all (below n) (take count items)
+  below-all h =
+      let e : length (take count items) ≡ count = length-take-le count items (omega arith) in
+      sym (inv ∙ ap (all (below n)) (at-end (take count items) i (omega arith)))
+
+-- a number more is kept as a byte
+pub kept-next : (items bytes : List ℕ) (i x : ℕ) → i < length items → i < length bytes → x ≡ getD items i 0 → take i bytes ≡ take i items → take (i + 1) (set bytes i x) ≡ take (i + 1) items
+kept-next items bytes i x h k e q =
+    ap (λ z. take z (set bytes i x)) (add-one i) ∙ take-suc-set bytes i x k ∙ ap (λ z. z ++ x ∷ []) q ∙ ap (λ z. take i items ++ z ∷ []) e
+    ∙ sym (take-suc items i 0 h) ∙ ap (λ z. take z items) (sym (add-one i))
+
+-- a bound that is allowed
+pub all-leb : (c : ℕ) (xs : List ℕ) → all (λ n. leb n c) xs ≡ all (below (c + 1)) xs
+all-leb c [] = refl
+all-leb c (x ∷ xs) = ap (λ z. z && all (λ n. leb n c) xs) (one x) ∙ ap (λ z. ltb x (c + 1) && z) (all-leb c xs)
+  where
+    go : (x : ℕ) (b : Bool) → leb x c ≡ b → b ≡ ltb x (c + 1)
+    go x true e = sym (lt-ltb x (c + 1) (omega (arith, leb-true x c e)))
+    go x false e = sym (le-ltb x (c + 1) (omega (arith, leb-false x c e)))
+
+    one : (x : ℕ) → leb x c ≡ ltb x (c + 1)
+    one x = go x (leb x c) refl
+
+-- An `under=` line.
+module _ (c k : ℕ) (l : List ℕ) where
+  lower : List ℕ → Res (List ℕ)
+  lower xs = need (all (λ n. ltb n k) xs) 3 λ _. ok xs
+
+  ranged : List ℕ → Res (List ℕ)
+  ranged xs = need (all (λ n. leb n c) xs) 2 λ _. lower xs
+
+  after-key : Bool → Res (List ℕ)
+  after-key b = try (need b 1 λ _. ok (drop 6 l)) λ r. try (whole (numbers 2 [] r)) ranged
+
+  line-of : after-key (starts (bytes "under=") l) ≡ underLine c k l
+  unfolding underLine keyed after-key ranged lower
+  line-of = refl
+
+  pub under-key : starts (bytes "under=") l ≡ false → refuse 1 ≡ underLine c k l
+  unfolding after-key
+  under-key e = ap after-key (sym e) ∙ line-of
+
+  module _ (h : starts (bytes "under=") l ≡ true) where
+    behind-key : try (whole (numbers 2 [] (drop 6 l))) ranged ≡ underLine c k l
+    unfolding after-key
+    behind-key = ap after-key (sym h) ∙ line-of
+
+    pub under-wrong : fail ≡ numbers 2 [] (drop 6 l) → refuse 1 ≡ underLine c k l
+    under-wrong e = ap (λ z. try (whole z) ranged) e ∙ behind-key
+
+    module _ (xs : List ℕ) (e : ℕ) (q : took xs (drop e l) ≡ numbers 2 [] (drop 6 l)) where
+      taken : try (whole (took xs (drop e l))) ranged ≡ underLine c k l
+      taken = ap (λ z. try (whole z) ranged) q ∙ behind-key
+
+      pub under-behind : e < length l → refuse 1 ≡ underLine c k l
+      under-behind j = ap (λ z. try (whole (took xs z)) ranged) (sym (from-here l e j)) ∙ taken
+
+      module _ (j : length l ≤ e) where
+        alone : ranged xs ≡ underLine c k l
+        alone = ap (λ z. try (whole (took xs z)) ranged) (sym (at-end l e j)) ∙ taken
+
+        pub under-above : all (below (c + 1)) xs ≡ false → refuse 2 ≡ underLine c k l
+        unfolding ranged
+        under-above b = ap (λ z. need z 2 λ _. lower xs) (sym (all-leb c xs ∙ b)) ∙ alone
+
+        module _ (b : all (below (c + 1)) xs ≡ true) where
+          known : lower xs ≡ underLine c k l
+          unfolding ranged
+          known = ap (λ z. need z 2 λ _. lower xs) (sym (all-leb c xs ∙ b)) ∙ alone
+
+          pub under-high : all (below k) xs ≡ false → refuse 3 ≡ underLine c k l
+          unfolding lower
+          under-high d = ap (λ z. need z 3 λ _. ok xs) (sym d) ∙ known
+
+          pub under-good : all (below k) xs ≡ true → ok xs ≡ underLine c k l
+          unfolding lower
+          under-good d = ap (λ z. need z 3 λ _. ok xs) (sym d) ∙ known
+
+-- one or two numbers of four, as links
+pub one-or-two : (p : List ℕ) (count : ℕ) → length p ≡ 4 → 1 ≤ count → count ≤ 2 → cond (eqb count 2) (getD p 0 0 ∷ getD p 1 0 ∷ []) (getD p 0 0 ∷ []) ≡ take count p
+one-or-two [] count e h k = absurd (omega arith)
+one-or-two (a ∷ []) count e h k = absurd (omega arith)
+one-or-two (a ∷ b ∷ p) zero e h k = absurd (omega arith)
+one-or-two (a ∷ b ∷ p) (suc zero) e h k = refl
+one-or-two (a ∷ b ∷ p) (suc (suc zero)) e h k = refl
+one-or-two (a ∷ b ∷ p) (suc (suc (suc n))) e h k = absurd (omega arith)
+
+pub one-or-two-fits : (n count : ℕ) → n ≡ count → 1 ≤ count → count ≤ 2 → between 1 2 n ≡ true
+one-or-two-fits n count e h k = both (le-leb 1 n (omega arith)) (le-leb n 2 (omega arith))
+
+-- The arguments of a signature.
+pub args-none : (l : List ℕ) (at : ℕ) → at ≡ length l → fail ≡ arguments (drop at l)
+unfolding arguments
+args-none l at h = sym (ap arguments (at-end l at (omega arith)))
+
+module _ (l : List ℕ) (at : ℕ) (h : at < length l) where
+  args-here : arguments (drop at l) ≡ cond (eqb (getD l at 0) 41) (took [] (drop (at + 1) l)) (andThen (numbers 2 [] (drop at l)) closing)
+  unfolding arguments
+  args-here = ap arguments (from-here l at h) ∙ ap (λ z. cond (eqb (getD l at 0) 41) (took [] (drop (at + 1) l)) (andThen (numbers 2 [] z) closing)) (sym (from-here l at h))
+
+  pub args-empty : getD l at 0 ≡ 41 → took [] (drop (at + 1) l) ≡ arguments (drop at l)
+  args-empty q = sym (args-here ∙ ap (λ z. cond z (took [] (drop (at + 1) l)) (andThen (numbers 2 [] (drop at l)) closing)) (eq-eqb (getD l at 0) 41 q))
+
+  module _ (ne : getD l at 0 ≡ 41 → ⊥) where
+    args-list : arguments (drop at l) ≡ andThen (numbers 2 [] (drop at l)) closing
+    args-list = args-here ∙ ap (λ z. cond z (took [] (drop (at + 1) l)) (andThen (numbers 2 [] (drop at l)) closing)) (ne-eqb (getD l at 0) 41 ne)
+
+    pub args-wrong : fail ≡ numbers 2 [] (drop at l) → fail ≡ arguments (drop at l)
+    args-wrong q = sym (args-list ∙ ap (λ z. andThen z closing) (sym q))
+
+    module _ (xs : List ℕ) (e : ℕ) (q : took xs (drop e l) ≡ numbers 2 [] (drop at l)) where
+      listed : arguments (drop at l) ≡ closing xs (drop e l)
+      listed = args-list ∙ ap (λ z. andThen z closing) (sym q)
+
+      pub args-open : e ≡ length l → fail ≡ arguments (drop at l)
+      args-open b = sym (listed ∙ ap (closing xs) (at-end l e (omega arith)))
+
+      pub args-other : e < length l → (getD l e 0 ≡ 41 → ⊥) → fail ≡ arguments (drop at l)
+      args-other b w = sym (listed ∙ ap (closing xs) (from-here l e b) ∙ ap (λ z. cond z (took xs (drop (e + 1) l)) fail) (ne-eqb (getD l e 0) 41 w))
+
+      pub args-closed : e < length l → getD l e 0 ≡ 41 → took xs (drop (e + 1) l) ≡ arguments (drop at l)
+      args-closed b w = sym (listed ∙ ap (closing xs) (from-here l e b) ∙ ap (λ z. cond z (took xs (drop (e + 1) l)) fail) (eq-eqb (getD l e 0) 41 w))
+
+  -- its answer
+  answer-here : answer (drop at l) ≡ cond (eqb (getD l at 0) 45) (took none (drop (at + 1) l)) (andThen (number (drop at l)) (λ n r. took (some n) r))
+  unfolding answer
+  answer-here = ap answer (from-here l at h) ∙ ap (λ z. cond (eqb (getD l at 0) 45) (took none (drop (at + 1) l)) (andThen (number z) (λ n r. took (some n) r))) (sym (from-here l at h))
+
+  pub answer-dash : getD l at 0 ≡ 45 → took none (drop (at + 1) l) ≡ answer (drop at l)
+  answer-dash q = sym (answer-here ∙ ap (λ z. cond z (took none (drop (at + 1) l)) (andThen (number (drop at l)) (λ n r. took (some n) r))) (eq-eqb (getD l at 0) 45 q))
+
+  module _ (ne : getD l at 0 ≡ 45 → ⊥) where
+    answer-number : answer (drop at l) ≡ andThen (number (drop at l)) (λ n r. took (some n) r)
+    answer-number = answer-here ∙ ap (λ z. cond z (took none (drop (at + 1) l)) (andThen (number (drop at l)) (λ n r. took (some n) r))) (ne-eqb (getD l at 0) 45 ne)
+
+    pub answer-wrong : fail ≡ number (drop at l) → fail ≡ answer (drop at l)
+    answer-wrong q = sym (answer-number ∙ ap (λ z. andThen z (λ n r. took (some n) r)) (sym q))
+
+    pub answer-took : (n e : ℕ) → took n (drop e l) ≡ number (drop at l) → took (answerOf (n + 1)) (drop e l) ≡ answer (drop at l)
+    answer-took n e q = ap (λ z. took (answerOf z) (drop e l)) (add-one n) ∙ sym (answer-number ∙ ap (λ z. andThen z (λ n r. took (some n) r)) (sym q))
+
+pub answer-none : (l : List ℕ) (at : ℕ) → at ≡ length l → fail ≡ answer (drop at l)
+unfolding answer
+answer-none l at h = sym (ap answer (at-end l at (omega arith)))
+
+-- an answer among n types
+answer-low : (a n : ℕ) → a ≤ n → unlessMissing (answerOf a) (below n) ≡ true
+answer-low zero n h = refl
+answer-low (suc a) n h = lt-ltb a n (omega arith)
+
+answer-high : (a n : ℕ) → n < a → unlessMissing (answerOf a) (below n) ≡ false
+answer-high zero n h = absurd (omega arith)
+answer-high (suc a) n h = le-ltb a n (omega arith)
+
+-- A signature.
+module _ (n : ℕ) (s : State) (l : List ℕ) where
+  method : List ℕ → Option ℕ → Method
+  method xs o = record { state = s; args = xs; answer = o }
+
+  checked : Method → Res Method
+  checked m = need (all (below n) (m .args) && unlessMissing (m .answer) (below n)) 2 λ _. ok m
+
+  after-args : Scan (List ℕ) → Res Method
+  after-args r = try (whole (andThen r λ xs q. andThen (answer q) λ o p. took (method xs o) p)) checked
+
+  after-answer : List ℕ → Scan (Option ℕ) → Res Method
+  after-answer xs r = try (whole (andThen r λ o p. took (method xs o) p)) checked
+
+  signature-of : after-args (arguments l) ≡ signature n s l
+  unfolding signature method checked after-args
+  signature-of = refl
+
+  pub signature-args : fail ≡ arguments l → refuse 1 ≡ signature n s l
+  unfolding after-args
+  signature-args e = ap after-args e ∙ signature-of
+
+  module _ (xs r : List ℕ) (e : took xs r ≡ arguments l) where
+    behind-args : after-answer xs (answer r) ≡ signature n s l
+    unfolding after-args after-answer
+    behind-args = ap after-args e ∙ signature-of
+
+    pub signature-answer : fail ≡ answer r → refuse 1 ≡ signature n s l
+    unfolding after-answer
+    signature-answer q = ap (after-answer xs) q ∙ behind-args
+
+    module _ (a : ℕ) (w : List ℕ) (k : ℕ) (q : took (answerOf a) (drop k w) ≡ answer r) where
+      both-taken : try (whole (took (method xs (answerOf a)) (drop k w))) checked ≡ signature n s l
+      unfolding after-answer
+      both-taken = ap (after-answer xs) q ∙ behind-args
+
+      pub signature-behind : k < length w → refuse 1 ≡ signature n s l
+      signature-behind h = ap (λ z. try (whole (took (method xs (answerOf a)) z)) checked) (sym (from-here w k h)) ∙ both-taken
+
+      module _ (h : length w ≤ k) where
+        complete : need (all (below n) xs && unlessMissing (answerOf a) (below n)) 2 (λ _. ok (method xs (answerOf a))) ≡ signature n s l
+        unfolding checked method
+        complete = ap (λ z. try (whole (took (method xs (answerOf a)) z)) checked) (sym (at-end w k h)) ∙ both-taken
+
+        pub signature-high : all (below n) xs ≡ false → refuse 2 ≡ signature n s l
+        signature-high b = ap (λ z. need (z && unlessMissing (answerOf a) (below n)) 2 (λ _. ok (method xs (answerOf a)))) (sym b) ∙ complete
+
+        module _ (b : all (below n) xs ≡ true) where
+          args-below : need (unlessMissing (answerOf a) (below n)) 2 (λ _. ok (method xs (answerOf a))) ≡ signature n s l
+          args-below = ap (λ z. need (z && unlessMissing (answerOf a) (below n)) 2 (λ _. ok (method xs (answerOf a)))) (sym b) ∙ complete
+
+          pub signature-answer-high : n < a → refuse 2 ≡ signature n s l
+          signature-answer-high d = ap (λ z. need z 2 (λ _. ok (method xs (answerOf a)))) (sym (answer-high a n d)) ∙ args-below
+
+          pub signature-good : a ≤ n → ok (record { state = s; args = xs; answer = answerOf a }) ≡ signature n s l
+          unfolding method
+          signature-good d = ap (λ z. need z 2 (λ _. ok (method xs (answerOf a)))) (sym (answer-low a n d)) ∙ args-below
+
+-- What a method's bytes mean.
+means : State → Bool → ℕ → List ℕ → ℕ → Method
+means s b count args a = record { state = s; args = cond b (take count args) []; answer = cond b (answerOf a) none }
+
+pub signed-means : (s count answer a k : ℕ) (args xs : List ℕ) → permit (stateOf s) ≡ true → count ≡ k → take k args ≡ xs → answer ≡ a
+    → methodOf (record { state = s; count = count; args = args; answer = answer }) ≡ record { state = stateOf s; args = xs; answer = answerOf a }
+unfolding means
+signed-means s count answer a k args xs p e q f =
+    ap (λ z. means (stateOf s) z count args answer) p
+    ∙ ap (λ (z : ℕ). let m : Method = record { state = stateOf s; args = take z args; answer = answerOf answer } in m) e
+    ∙ ap (λ (z : List ℕ). let m : Method = record { state = stateOf s; args = z; answer = answerOf answer } in m) q
+    ∙ ap (λ (z : ℕ). let m : Method = record { state = stateOf s; args = xs; answer = answerOf z } in m) f
+
+pub unsigned-means : (s count answer : ℕ) (args : List ℕ) → permit (stateOf s) ≡ false → methodOf (record { state = s; count = count; args = args; answer = answer }) ≡ unsigned (stateOf s)
+unfolding means
+unsigned-means s count answer args p = ap (λ z. means (stateOf s) z count args answer) p
+
+-- its codes name a state, and a number of arguments where it permits
+permits-below : (s : ℕ) → permit (stateOf s) ≡ true → s < 4
+permits-below zero p = never p
+permits-below (suc zero) p = omega arith
+permits-below (suc (suc zero)) p = omega arith
+permits-below (suc (suc (suc s))) p = never p
+
+pub signed-fits : (s count answer k : ℕ) (args : List ℕ) → permit (stateOf s) ≡ true → count ≡ k → k ≤ 2 → rawMethodFits (record { state = s; count = count; args = args; answer = answer }) ≡ true
+signed-fits s count answer k args p e h = both (lt-ltb s 4 (permits-below s p)) (imply (permit (stateOf s)) _ (λ _. le-leb count 2 (omega arith)))
+
+pub unsigned-fits : (s count answer : ℕ) (args : List ℕ) → permit (stateOf s) ≡ false → s < 4 → rawMethodFits (record { state = s; count = count; args = args; answer = answer }) ≡ true
+unsigned-fits s count answer args p h = both (lt-ltb s 4 h) (ap (λ z. z ⇒ leb count maxArguments) p)
+
+-- An `m=` line.
+module _ (n : ℕ) (l : List ℕ) where
+  fourth : Res Method
+  fourth = cond (same (stateText unavail) l) (ok (unsigned unavail)) (refuse 1)
+
+  third : Res Method
+  third = cond (same (stateText denied) l) (ok (unsigned denied)) fourth
+
+  second : Res Method
+  second = cond (starts (stateText optional) l) (signature n optional (drop 11 l)) third
+
+  pub method-avail : starts (stateText avail) l ≡ true → signature n avail (drop 8 l) ≡ methodLine n l
+  unfolding methodLine second third fourth
+  method-avail e = ap (λ z. cond z (signature n avail (drop 8 l)) second) (sym e)
+
+  module _ (a : starts (stateText avail) l ≡ false) where
+    to-second′ : second ≡ methodLine n l
+    unfolding methodLine second third fourth
+    to-second′ = ap (λ z. cond z (signature n avail (drop 8 l)) second) (sym a)
+
+    pub method-optional : starts (stateText optional) l ≡ true → signature n optional (drop 11 l) ≡ methodLine n l
+    unfolding second
+    method-optional e = ap (λ z. cond z (signature n optional (drop 11 l)) third) (sym e) ∙ to-second′
+
+    module _ (b : starts (stateText optional) l ≡ false) where
+      to-third′ : third ≡ methodLine n l
+      unfolding second
+      to-third′ = ap (λ z. cond z (signature n optional (drop 11 l)) third) (sym b) ∙ to-second′
+
+      pub method-denied : same (stateText denied) l ≡ true → ok (unsigned denied) ≡ methodLine n l
+      unfolding third
+      method-denied e = ap (λ z. cond z (ok (unsigned denied)) fourth) (sym e) ∙ to-third′
+
+      module _ (d : same (stateText denied) l ≡ false) where
+        to-fourth : fourth ≡ methodLine n l
+        unfolding third
+        to-fourth = ap (λ z. cond z (ok (unsigned denied)) fourth) (sym d) ∙ to-third′
+
+        pub method-unavail : same (stateText unavail) l ≡ true → ok (unsigned unavail) ≡ methodLine n l
+        unfolding fourth
+        method-unavail e = ap (λ z. cond z (ok (unsigned unavail)) (refuse 1)) (sym e) ∙ to-fourth
+
+        pub method-none : same (stateText unavail) l ≡ false → refuse 1 ≡ methodLine n l
+        unfolding fourth
+        method-none e = ap (λ z. cond z (ok (unsigned unavail)) (refuse 1)) (sym e) ∙ to-fourth

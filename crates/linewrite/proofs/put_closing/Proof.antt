@@ -1,0 +1,72 @@
+-- Rests on `fill-rest`, twice.
+use Rattle.linewrite.proofs.Laws.{closing-is}
+use Rattle.textwrite.proofs.Laws.{fill-rest, fill-is}
+use native.Mathlib.Omega.{arith}
+use borrow.Author.Needs.{needs}
+use Rattle.linewrite.proofs.put_closing.Statement.{statement}
+use Rattle.linewrite.proofs.put_closing.Tie as tie
+
+put-byte-requires : tie.Need-put-byte-requires
+put-byte-requires c κs = search needs
+
+upto-requires : tie.Need-upto-requires
+upto-requires c κs = search needs
+
+sub-put-answer : tie.Need-sub-put-answer
+sub-put-answer c = search needs
+
+part-put-answer-start : tie.Need-part-put-answer-start
+part-put-answer-start c = search needs
+
+part-put-answer-end : tie.Need-part-put-answer-end
+part-put-answer-end c = search needs
+
+put-answer-requires : tie.Need-put-answer-requires
+put-answer-requires c κs = search needs
+
+add-d : tie.Need-add-d
+add-d c = search needs
+
+upto-requires-2 : tie.Need-upto-requires-2
+upto-requires-2 c κs = search needs
+
+sub-put-byte : tie.Need-sub-put-byte
+sub-put-byte c = search needs
+
+part-put-byte-start : tie.Need-part-put-byte-start
+part-put-byte-start c = search needs
+
+part-put-byte-end : tie.Need-part-put-byte-end
+part-put-byte-end c = search needs
+
+put-byte-requires-2 : tie.Need-put-byte-requires-2
+put-byte-requires-2 c κs = search needs
+
+add-result : tie.Need-add-result
+add-result c = search needs
+
+same-length : tie.Need-same-length
+same-length c = search needs
+
+returns : tie.Need-returns
+returns c = (fill-is (closing-is (c .before .before .before .before .before .before .before .before .before .before .before .before .before .before .before .args .answer)) (fill-rest (fill-rest (c .before .before .before .before .before .before .before .before .before .before .before .before .put-byte .ensures) (c .before .before .before .before .before .before .before .before .before .upto .ensures .0) (c .before .before .before .before .before .before .before .put-answer .ensures .0)) (c .before .before .before .before .upto2 .ensures .0) (c .before .before .put-byte2 .ensures)), omega (arith, c .before .before .before .before .before .before .before .before .before .before .before .before .put-byte .ensures .said, c .before .before .before .before .before .before .before .put-answer .ensures .1, c .before .before .put-byte2 .ensures .said))
+
+pub put-closing-spec : {M : Type 1} → statement M
+put-closing-spec =
+    tie.close
+    (tie.spec
+    put-byte-requires
+    upto-requires
+    sub-put-answer
+    part-put-answer-start
+    part-put-answer-end
+    put-answer-requires
+    add-d
+    upto-requires-2
+    sub-put-byte
+    part-put-byte-start
+    part-put-byte-end
+    put-byte-requires-2
+    add-result
+    same-length
+    returns)

@@ -1,0 +1,44 @@
+-- Rests on what follows the first number, by the count.
+use Rattle.linewrite.proofs.Laws.{second-is, second-none}
+use Rattle.textwrite.proofs.Laws.{fill-is}
+use native.Mathlib.Omega.{arith}
+use borrow.Author.Needs.{needs}
+use Rattle.linewrite.proofs.put_second.Statement.{statement}
+use Rattle.linewrite.proofs.put_second.Tie as tie
+
+slice-aggregate-number-line : tie.Need-slice-aggregate-number-line
+slice-aggregate-number-line c = search needs
+
+wide-requires : tie.Need-wide-requires
+wide-requires c κs = search needs
+
+number-line-requires : tie.Need-number-line-requires
+number-line-requires c κs = search needs
+
+same-length : tie.Need-same-length
+same-length c = search needs
+
+returns : tie.Need-returns
+returns c = (fill-is (second-is (c .before .before .before .before .before .before .before .before .before .args .x) (c .before .before .before .wide .result) (c .before .before .before .before .before .before .if1 .taken) (c .before .before .before .wide .ensures .0)) (c .before .before .number-line .ensures .0 .filled), c .before .before .number-line .ensures .1)
+
+put-byte-requires : tie.Need-put-byte-requires
+put-byte-requires c κs = search needs
+
+same-length-2 : tie.Need-same-length-2
+same-length-2 c = search needs
+
+returns-2 : tie.Need-returns-2
+returns-2 c = (fill-is (second-none (c .before .before .before .before .before .before .before .args .x) (c .before .before .before .before .if1 .left)) (c .before .before .put-byte .ensures), omega (arith, c .before .before .put-byte .ensures .said))
+
+pub put-second-spec : {M : Type 1} → statement M
+put-second-spec =
+    tie.close
+    (tie.spec
+    slice-aggregate-number-line
+    wide-requires
+    number-line-requires
+    same-length
+    returns
+    put-byte-requires
+    same-length-2
+    returns-2)

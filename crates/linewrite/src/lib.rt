@@ -1,0 +1,158 @@
+// Document 01, "Sheet text": each kind of line of a sheet that is more than a key and a number, written in front of a lent buffer. Inside a line too the rest of
+// the buffer, from the end of what is written, is lent on to the next writer. Every code has a line, so that nothing is asked of the bytes.
+use numbers::wide;
+use table::Links;
+use table::Method;
+use textwrite::number_line;
+use textwrite::put_byte;
+use textwrite::put_bytes;
+use textwrite::put_decimal;
+use textwrite::put_number;
+use textwrite::text_line;
+use textwrite::upto;
+ghost use mathlib.Core.List.{[], _∷_};
+ghost use Prim.Native.Nat.{_≤_};
+ghost use lib.Dec.{eqb};
+ghost use lib.ListN.{length, take};
+ghost use Rattle.model.specs.Check.{repOf, answerOf, methodOf, linksOf};
+ghost use Rattle.table.specs.Store.{rawMethod, rawLinks};
+ghost use Rattle.sheet.specs.Numbers.{commas};
+ghost use Rattle.sheet.specs.Text.{underText, repText, ownText, answerText, methodText};
+ghost use Rattle.textwrite.specs.Fill.{Filled, Lined};
+ghost use Rattle.linewrite.specs.Pieces.{argumentText, closingText, signedText, secondText};
+
+// Argument i of a signature.
+fn put_argument(buf: &mut [u8], i: usize, n: usize) -> usize
+    ensures is { λ r. ⌜ Filled (now (buf .entry)) (now (buf .exit)) (argumentText i n) r ⌝ }
+    ensures few { λ r. ⌜ r ≤ 36 ⌝ }
+{
+    if i == 0 {
+        return put_decimal(buf, n);
+    }
+    put_number(buf, b",", n)
+}
+
+// The first `count` arguments of a signature, of which there are four slots.
+fn put_arguments(buf: &mut [u8], count: usize, args: [u8; 4]) -> usize
+    ensures is { λ r. ⌜ Filled (now (buf .entry)) (now (buf .exit)) (commas (take count args)) r ⌝ }
+    ensures few { λ r. ⌜ r ≤ 144 ⌝ }
+{
+    let n = upto(count, 4);
+    let mut at: usize = 0;
+    let mut i: usize = 0;
+    while i < n {
+        let a = wide(args[i]);
+        let k = upto(at, buf.len());
+        let c = put_argument(&mut buf[k..], i, a);
+        at += c;
+        i += 1;
+    }
+    at
+}
+
+// "a missing answer `-`"
+fn put_answer(buf: &mut [u8], answer: u8) -> usize
+    ensures is { λ r. ⌜ Filled (now (buf .entry)) (now (buf .exit)) (answerText (answerOf answer)) r ⌝ }
+    ensures few { λ r. ⌜ r ≤ 20 ⌝ }
+{
+    if answer == 0 {
+        return put_byte(buf, 45);
+    }
+    let n = wide(answer - 1);
+    put_decimal(buf, n)
+}
+
+// The end of a signature: the bracket, the answer, and the end of the line.
+fn put_closing(buf: &mut [u8], answer: u8) -> usize
+    ensures is { λ r. ⌜ Filled (now (buf .entry)) (now (buf .exit)) (closingText answer) r ⌝ }
+    ensures few { λ r. ⌜ r ≤ 22 ⌝ }
+{
+    let a = put_byte(buf, 41);
+    let k = upto(a, buf.len());
+    let b = put_answer(&mut buf[k..], answer);
+    let d = a + b;
+    let j = upto(d, buf.len());
+    let c = put_byte(&mut buf[j..], 10);
+    d + c
+}
+
+// "A state with signature is written `avail(0,3)2`": the line of a permitted method, whose key ends in the bracket.
+fn signed_line(buf: &mut [u8], key: &[u8], m: Method) -> usize
+    requires { ⌜ length (now key) ≤ 16 ⌝ }
+    ensures is { λ r. ⌜ Lined (now (buf .entry)) (now (buf .exit)) (signedText (now (key .entry)) (m .count) (m .args) (m .answer) ∷ []) r ⌝ }
+    ensures few { λ r. ⌜ r ≤ 182 ⌝ }
+{
+    let args = m.args;
+    let a = put_bytes(buf, key);
+    let k = upto(a, buf.len());
+    let b = put_arguments(&mut buf[k..], wide(m.count), args);
+    let d = a + b;
+    let j = upto(d, buf.len());
+    let c = put_closing(&mut buf[j..], m.answer);
+    d + c
+}
+
+// "an `m=` line for each method"
+pub fn method_line(buf: &mut [u8], m: Method) -> usize
+    ensures is { λ r. ⌜ Lined (now (buf .entry)) (now (buf .exit)) (methodText (methodOf (rawMethod m)) ∷ []) r ⌝ }
+    ensures few { λ r. ⌜ r ≤ 182 ⌝ }
+{
+    let state = m.state;
+    if state == 0 {
+        return text_line(buf, b"m=denied");
+    }
+    if state == 1 {
+        return signed_line(buf, b"m=optional(", m);
+    }
+    if state == 2 {
+        return signed_line(buf, b"m=avail(", m);
+    }
+    text_line(buf, b"m=unavail")
+}
+
+// "`rep=`": "ref, w32 or w64"
+pub fn rep_line(buf: &mut [u8], rep: u8) -> usize
+    ensures is { λ r. ⌜ Lined (now (buf .entry)) (now (buf .exit)) (repText (repOf rep) ∷ []) r ⌝ }
+    ensures few { λ r. ⌜ r ≤ 17 ⌝ }
+{
+    if rep == 0 {
+        return text_line(buf, b"rep=ref");
+    }
+    if rep == 1 {
+        return text_line(buf, b"rep=w32");
+    }
+    text_line(buf, b"rep=w64")
+}
+
+// "`own=`(yes or no)"
+pub fn own_line(buf: &mut [u8], own: u8) -> usize
+    ensures is { λ r. ⌜ Lined (now (buf .entry)) (now (buf .exit)) (ownText (eqb own 1) ∷ []) r ⌝ }
+    ensures few { λ r. ⌜ r ≤ 17 ⌝ }
+{
+    if own == 1 {
+        return text_line(buf, b"own=yes");
+    }
+    text_line(buf, b"own=no")
+}
+
+// What follows the first number of an `under=` line: the second, where there is one, and the end of the line.
+fn put_second(buf: &mut [u8], x: Links) -> usize
+    ensures is { λ r. ⌜ Filled (now (buf .entry)) (now (buf .exit)) (secondText x) r ⌝ }
+    ensures few { λ r. ⌜ r ≤ 37 ⌝ }
+{
+    if x.count == 2 {
+        return number_line(buf, b",", wide(x.second));
+    }
+    put_byte(buf, 10)
+}
+
+// "one `under=` line (one or two numbers, comma) for each category"
+pub fn under_line(buf: &mut [u8], x: Links) -> usize
+    ensures is { λ r. ⌜ Lined (now (buf .entry)) (now (buf .exit)) (underText (linksOf (rawLinks x)) ∷ []) r ⌝ }
+    ensures few { λ r. ⌜ r ≤ 73 ⌝ }
+{
+    let a = put_number(buf, b"under=", wide(x.first));
+    let k = upto(a, buf.len());
+    let c = put_second(&mut buf[k..], x);
+    a + c
+}

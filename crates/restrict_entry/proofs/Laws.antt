@@ -1,0 +1,131 @@
+-- The definition by its refusals, in their order, and what a checked table gives to the derivation.
+use mathlib.Core.Path.{_≡_, refl, sym, ap, _∙_, subst}
+use mathlib.Core.Bool.{Bool, true, false, _&&_}
+use mathlib.Core.List.{List}
+use Prim.Native.Nat.{ℕ, zero, suc, _≤_, _<_}
+use native.Mathlib.Omega.{arith}
+use lib.Dec.{eqb}
+use lib.IntN.{ℤ}
+use lib.ListN.{length, getD}
+use Rattle.model.specs.Basics.{Res, refuse, need, names, named}
+use Rattle.model.specs.Table.{Kind, Table, size}
+use Rattle.model.specs.Restriction.{derived}
+use Rattle.model.specs.Check.{noRawType, kindOf, tableAccepted}
+use Rattle.model.proofs.Rules.{never, first}
+use Rattle.table.specs.declared.Counts.{Counts}
+use Rattle.table.specs.Store.{typesIn, rawTable, tableIn}
+use Rattle.table.proofs.Tables.{size-is}
+use Rattle.tablecheck.specs.Parts.{Limited, countsAccepted}
+use Rattle.tablecheck.proofs.Steps.{counts-limited}
+use Rattle.tablecheck.proofs.Laws.{accepted-is}
+use Rattle.operand.specs.Index.{indexOf}
+use Rattle.operand.proofs.Laws.{index-unknown, index-known}
+use Rattle.restrict.specs.declared.Derived.{Derived}
+use Rattle.restrict.specs.declared.Derived.the-variants.{Full, At}
+use Rattle.restrict.specs.Link.{Ready, refIn, outcome, CodesIn, Kept, CodesStay}
+use Rattle.restrict.proofs.Ends.{ref-table}
+use Rattle.restrict_entry.specs.declared.Derivation.{Derivation}
+use Rattle.restrict_entry.specs.Handed.{kindAsked, isRefType, deriveNamed, deriveHanded}
+use Rattle.restrict_entry.specs.Answer.{derivationOf, refusal, Stays}
+
+-- The kinds by their codes.
+pub asked-both : (k : ℕ) (refs : Bool) → k < 2 → true ≡ kindAsked k refs
+asked-both zero refs h = refl
+asked-both (suc zero) refs h = refl
+asked-both (suc (suc k)) refs h = absurd (omega arith)
+
+pub asked-none : (k : ℕ) (refs : Bool) → 2 ≤ k → (k ≡ 2 → ⊥) → false ≡ kindAsked k refs
+asked-none zero refs h e = absurd (omega arith)
+asked-none (suc zero) refs h e = absurd (omega arith)
+asked-none (suc (suc zero)) refs h e = absurd (e refl)
+asked-none (suc (suc (suc k))) refs h e = refl
+
+pub asked-closed : (k : ℕ) (r refs : Bool) → k ≡ 2 → r ≡ refs → r ≡ kindAsked k refs
+asked-closed k r refs e h = h ∙ sym (ap (λ (z : ℕ). kindAsked z refs) e)
+
+-- a kind that is neither Sub nor Sup is Closed, of reference types
+pub closed-asked : (k : ℕ) (refs : Bool) → (k ≡ 0 → ⊥) → (k ≡ 1 → ⊥) → kindAsked k refs ≡ true → refs ≡ true
+closed-asked zero refs p q h = absurd (p refl)
+closed-asked (suc zero) refs p q h = absurd (q refl)
+closed-asked (suc (suc zero)) refs p q h = h
+closed-asked (suc (suc (suc k))) refs p q h = let z : _≡_ {A = Bool} false true = h in let e : _≡_ {A = ℕ} 0 1 = cc in absurd (omega arith)
+
+pub kind-is : (b b′ : List ℕ) (c : Counts) (k t s : ℕ) (d : Kind) (r : Derived) → kindOf k ≡ d → ((l : List ℕ) → outcome b′ l c r ≡ derived (tableIn b l c) d t s) → (l : List ℕ) → outcome b′ l c r ≡ derived (tableIn b l c) (kindOf k) t s
+kind-is b b′ c k t s d r e h l = h l ∙ ap (λ (z : Kind). derived (tableIn b l c) z t s) (sym e)
+
+-- A refusal.
+module _ (b l : List ℕ) (c : Counts) {n : ℕ} {r : Derivation} (e : r ≡ refusal n b c) where
+  pub refusal-answer : (d : Res (Table × ℕ)) → eqb n 0 ≡ false → refuse n ≡ d → derivationOf l c r ≡ d
+  refusal-answer d h w = ap (derivationOf l c) e ∙ rw h w
+
+  pub refusal-same : (r .no ≡ 0 → ⊥) → r ≡ refusal (r .no) b c
+  refusal-same h = e ∙ ap (λ (k : ℕ). refusal k b c) (sym (ap (λ (z : Derivation). z .no) e))
+
+  pub refusal-stays : eqb n 0 ≡ false → Stays b c r
+  refusal-stays h = record {
+    kept = λ i p. ap (λ (d : Derivation). getD (typesIn (d .types)) i noRawType) e;
+    codes = λ z. never (sym (ap (λ (k : ℕ). eqb k 0) (sym z ∙ ap (λ (d : Derivation). d .no) e) ∙ h));
+  }
+
+-- What a derivation over lent bytes answered.
+module _ (b b′ : List ℕ) (c : Counts) (k : Kind) (t s : ℕ) {d : Derived} (is : (l : List ℕ) → outcome b′ l c d ≡ derived (tableIn b l c) k t s) where
+  pub full-is : d ≡ Full → (l : List ℕ) → refuse 11 ≡ derived (tableIn b l c) k t s
+  full-is e l = sym (ap (outcome b′ l c) e) ∙ is l
+
+  pub at-is : {i m : ℕ} → d ≡ At i m → (l : List ℕ) → outcome b′ l c (At i m) ≡ derived (tableIn b l c) k t s
+  at-is e l = sym (ap (outcome b′ l c) e) ∙ is l
+
+pub at-stays : (b b′ : List ℕ) (c : Counts) {d : Derived} {i m : ℕ} → d ≡ At i m → CodesStay c b b′ d → Kept (c .types) b b′ → Stays b c (record { no = 0; number = i; count = m; types = b′ })
+at-stays b b′ c e h k = record { kept = k; codes = λ z l q. subst (CodesIn b′ l c) e (h l q) }
+
+-- By the numbers of the types: x and y are the indices of the numbers handed in.
+module _ (b l : List ℕ) (c : Counts) (kind : ℕ) (t s : ℤ) where
+  abbrev T : Table
+  T = tableIn b l c
+
+  abbrev Answer : Bool → Bool → Bool → Res (Table × ℕ) → Res (Table × ℕ)
+  Answer left right asked d = need (left && right) 7 λ _. need asked 7 λ _. d
+
+  named-is : deriveNamed T kind t s ≡ Answer (names t (size T)) (names s (size T)) (kindAsked kind (isRefType T (named t) && isRefType T (named s))) (derived T (kindOf kind) (named t) (named s))
+  unfolding deriveNamed
+  named-is = refl
+
+  module _ (x : ℕ) (ex : x ≡ indexOf t (c .types)) where
+    pub no-left : c .types ≤ x → refuse 7 ≡ deriveNamed T kind t s
+    no-left h = let u : names t (size T) ≡ false = rw (size-is b l c) (index-unknown t (c .types) x ex h) in sym (named-is ∙ rw u)
+
+    module _ (p : x < c .types) (y : ℕ) (ey : y ≡ indexOf s (c .types)) where
+      left-known : (names t (size T) ≡ true) × (named t ≡ x)
+      left-known = let k = index-known t (c .types) x ex p in (rw (size-is b l c) (k .0), k .1)
+
+      pub no-right : c .types ≤ y → refuse 7 ≡ deriveNamed T kind t s
+      no-right h = let u : names s (size T) ≡ false = rw (size-is b l c) (index-unknown s (c .types) y ey h) in sym (named-is ∙ rw (left-known .0, u))
+
+      module _ (q : y < c .types) (asked : Bool) (ea : asked ≡ kindAsked kind (refIn (c .types) b x && refIn (c .types) b y)) where
+        right-known : (names s (size T) ≡ true) × (named s ≡ y)
+        right-known = let k = index-known s (c .types) y ey q in (rw (size-is b l c) (k .0), k .1)
+
+        known : deriveNamed T kind t s ≡ Answer true true asked (derived T (kindOf kind) x y)
+        known = named-is ∙ rw (left-known .0, right-known .0, left-known .1, right-known .1, ref-table b l c x, ref-table b l c y, ea)
+
+        pub no-kind : asked ≡ false → refuse 7 ≡ deriveNamed T kind t s
+        no-kind h = sym (known ∙ rw h)
+
+        pub named-derived : asked ≡ true → derived T (kindOf kind) x y ≡ deriveNamed T kind t s
+        named-derived h = sym (known ∙ rw h)
+
+  -- On a table handed in.
+  pub handed-unfit : tableAccepted (rawTable b l c) ≡ false → refuse 2 ≡ deriveHanded (rawTable b l c) kind t s
+  unfolding deriveHanded
+  handed-unfit e = rw e
+
+  pub handed-fit : tableAccepted (rawTable b l c) ≡ true → deriveNamed T kind t s ≡ deriveHanded (rawTable b l c) kind t s
+  unfolding deriveHanded tableIn
+  handed-fit e = rw e
+
+-- What a checked table gives to the derivation.
+pub limits : (b l : List ℕ) (c : Counts) → tableAccepted (rawTable b l c) ≡ true → Limited c
+limits b l c e = counts-limited c (first (countsAccepted c) _ (sym (accepted-is b l c) ∙ e))
+
+pub ready : (b : List ℕ) (c : Counts) {t s : ℕ} → Limited c → length b ≡ 16384 → t < c .types → s < c .types → Ready (c .methods) (c .sheet) (c .types) t s b
+ready b c h long p q = let n = h .types in record { methods = h .methods; sheet = h .sheet; types = n; left = omega arith; right = omega arith; long = long }

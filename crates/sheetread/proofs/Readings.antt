@@ -1,0 +1,292 @@
+-- Laws of readings: one reader behind another, several in a row, the groups of a sheet's lines, and what the code's answers say of them.
+use mathlib.Core.Path.{_≡_, refl, sym, ap, _∙_}
+use mathlib.Core.Bool.{Bool, true, false, cond}
+use mathlib.Core.List.{List, [], _∷_, _++_}
+use Prim.Native.Nat.{ℕ, zero, suc, _+_, _-_, _≤_, _<_}
+use native.Mathlib.Omega.{arith}
+use lib.Dec.{eqb}
+use lib.ListN.{length, getD, drop}
+use borrow.Author.Tests.{eq-eqb, ne-eqb}
+use Rattle.model.specs.Basics.{refuse, ok}
+use Rattle.model.specs.Table.{Rep, ref, Method, Ty, Table, maxSubjects, maxMethods, maxCategories, maxSheetTypes}
+use Rattle.model.specs.Check.{repOf}
+use Rattle.sheet.specs.Lines.{bytes, Row, row, cut, push, split, Reading, refused, got, Reader, give, line, follow, then, many, nothing, same, oneOf}
+use Rattle.sheet.specs.Text.{newestForm, endText}
+use Rattle.sheet.specs.Sheet.{numberLine, repLine, ownLine, methodLine, endLine, sheetType, members, oneType, body, ownInSignature, ending, sheet, sheetAnswer, read}
+use Rattle.textread.specs.View.{result, reading}
+use Rattle.textread.proofs.Laws.{from-here, at-end}
+use Rattle.sheetread.specs.View.{eachUnder, eachMethod, membersRead, Counted, first₁, first, afterCats, afterFirst}
+
+-- What a reading's number says.
+module _ {A : Type 0} (s : List ℕ) (nr : ℕ) (x : A) (at : ℕ) (R : Reading A) (is : reading s nr x at ≡ R) where
+  pub read-no : (nr ≡ 0 → ⊥) → refused nr at ≡ R
+  read-no h = ap (λ z. cond z (got x at (split (drop at s))) (refused nr at)) (sym (ne-eqb nr 0 h)) ∙ is
+
+  pub read-ok : nr ≡ 0 → got x at (split (drop at s)) ≡ R
+  read-ok h = ap (λ z. cond z (got x at (split (drop at s))) (refused nr at)) (sym (eq-eqb nr 0 h)) ∙ is
+
+pub refused-is : {A : Type 0} (s : List ℕ) (nr k at a : ℕ) (x : A) (R : Reading A) → (k ≡ 0 → ⊥) → nr ≡ k → at ≡ a → refused k a ≡ R → reading s nr x at ≡ R
+refused-is s nr k at a x R h e f q =
+    ap (λ (z : ℕ). reading s z x at) e ∙ ap (λ (z : ℕ). reading s k x z) f ∙ ap (λ z. cond z (got x a (split (drop a s))) (refused k a)) (ne-eqb k 0 h) ∙ q
+
+-- One reader behind another.
+module _ {A B : Type 0} (R : Reading A) (k : A → Reader B) where
+  pub follow-no : (n at : ℕ) → refused n at ≡ R → refused n at ≡ follow R k
+  follow-no n at e = ap (λ z. follow z k) e
+
+  pub follow-ok : (x : A) (at : ℕ) (rs : List Row) → got x at rs ≡ R → k x at rs ≡ follow R k
+  follow-ok x at rs e = ap (λ z. follow z k) e
+
+-- two readers as one
+pub regroup : {A B C : Type 0} (R : Reading A) (k : A → Reader B) (e : B → Reader C) (f : A → Reader C) → ((x : A) (at : ℕ) (rs : List Row) → f x at rs ≡ follow (k x at rs) e) → follow R f ≡ follow (follow R k) e
+regroup (refused n at) k e f h = refl
+regroup (got x at rs) k e f h = h x at rs
+
+-- Several in a row: j of n are read, the next has number i.
+module _ {A : Type 0} (p : ℕ → Reader A) (n j i : ℕ) (acc : List A) (at : ℕ) (rs : List Row) (R : Reading (List A)) (inv : many p (n - j) i acc at rs ≡ R) where
+  pub many-done : n ≤ j → got acc at rs ≡ R
+  unfolding many
+  many-done h = let e : n - j ≡ 0 = omega arith in ap (λ z. many p z i acc at rs) (sym e) ∙ inv
+
+  module _ (h : j < n) where
+    one-more : follow (p i at rs) (λ x. many p (n - (j + 1)) (suc i) (acc ++ x ∷ [])) ≡ R
+    unfolding many
+    one-more = let e : n - j ≡ suc (n - (j + 1)) = omega arith in ap (λ z. many p z i acc at rs) (sym e) ∙ inv
+
+    pub many-stop : (k a : ℕ) → refused k a ≡ p i at rs → refused k a ≡ R
+    many-stop k a e = ap (λ z. follow z (λ x. many p (n - (j + 1)) (suc i) (acc ++ x ∷ []))) e ∙ one-more
+
+    pub many-next : (x : A) (a : ℕ) (q : List Row) (i′ : ℕ) (acc′ : List A) → got x a q ≡ p i at rs → i′ ≡ suc i → acc′ ≡ acc ++ x ∷ [] → many p (n - (j + 1)) i′ acc′ a q ≡ R
+    many-next x a q i′ acc′ e f g =
+        ap (λ z. many p (n - (j + 1)) z acc′ a q) f ∙ ap (λ z. many p (n - (j + 1)) (suc i) z a q) g
+        ∙ ap (λ z. follow z (λ x. many p (n - (j + 1)) (suc i) (acc ++ x ∷ []))) e ∙ one-more
+
+-- A type's lines.
+module _ (m c n i at : ℕ) (rs : List Row) where
+  after-rep : Rep → Reader Ty
+  unfolding numberLine members
+  after-rep r = then (line (numberLine (bytes "cat=") 0 c)) λ k. members m n r k
+
+  after-number : ℕ → Reader Ty
+  unfolding repLine after-rep
+  after-number x = then (line repLine) after-rep
+
+  type-of : follow (line (numberLine (bytes "type=") i i) at rs) after-number ≡ oneType m c n i at rs
+  unfolding oneType after-number after-rep
+  type-of = refl
+
+  pub type-number-no : (k a : ℕ) → refused k a ≡ line (numberLine (bytes "type=") i i) at rs → refused k a ≡ oneType m c n i at rs
+  type-number-no k a e = follow-no (line (numberLine (bytes "type=") i i) at rs) after-number k a e ∙ type-of
+
+  module _ (x : ℕ) (at₁ : ℕ) (rs₁ : List Row) (e₁ : got x at₁ rs₁ ≡ line (numberLine (bytes "type=") i i) at rs) where
+    to-rep : follow (line repLine at₁ rs₁) after-rep ≡ oneType m c n i at rs
+    unfolding after-number
+    to-rep = follow-ok (line (numberLine (bytes "type=") i i) at rs) after-number x at₁ rs₁ e₁ ∙ type-of
+
+    pub type-rep-no : (k a : ℕ) → refused k a ≡ line repLine at₁ rs₁ → refused k a ≡ oneType m c n i at rs
+    type-rep-no k a e = follow-no (line repLine at₁ rs₁) after-rep k a e ∙ to-rep
+
+    module _ (r : Rep) (at₂ : ℕ) (rs₂ : List Row) (e₂ : got r at₂ rs₂ ≡ line repLine at₁ rs₁) where
+      to-cat : follow (line (numberLine (bytes "cat=") 0 c) at₂ rs₂) (λ k. members m n r k) ≡ oneType m c n i at rs
+      unfolding after-rep
+      to-cat = follow-ok (line repLine at₁ rs₁) after-rep r at₂ rs₂ e₂ ∙ to-rep
+
+      pub type-cat-no : (k a : ℕ) → refused k a ≡ line (numberLine (bytes "cat=") 0 c) at₂ rs₂ → refused k a ≡ oneType m c n i at rs
+      type-cat-no k a e = follow-no (line (numberLine (bytes "cat=") 0 c) at₂ rs₂) (λ k. members m n r k) k a e ∙ to-cat
+
+      pub type-members : (k at₃ : ℕ) (rs₃ : List Row) → got k at₃ rs₃ ≡ line (numberLine (bytes "cat=") 0 c) at₂ rs₂ → members m n r k at₃ rs₃ ≡ oneType m c n i at rs
+      type-members k at₃ rs₃ e = follow-ok (line (numberLine (bytes "cat=") 0 c) at₂ rs₂) (λ k. members m n r k) k at₃ rs₃ e ∙ to-cat
+
+-- the lines of a reference type
+module _ (m n c at : ℕ) (rs : List Row) where
+  typed : Bool → List Method → Reader Ty
+  typed o ms = give (sheetType ref c o ms)
+
+  after-own : Bool → Reader Ty
+  unfolding many methodLine typed
+  after-own o = then (many (eachMethod n) m 0 []) (typed o)
+
+  members-of : follow (line ownLine at rs) after-own ≡ membersRead m n c at rs
+  unfolding membersRead after-own typed
+  members-of = refl
+
+  pub member-own-no : (k a : ℕ) → refused k a ≡ line ownLine at rs → refused k a ≡ membersRead m n c at rs
+  member-own-no k a e = follow-no (line ownLine at rs) after-own k a e ∙ members-of
+
+  module _ (o : Bool) (at₁ : ℕ) (rs₁ : List Row) (e₁ : got o at₁ rs₁ ≡ line ownLine at rs) where
+    to-list : follow (many (eachMethod n) m 0 [] at₁ rs₁) (typed o) ≡ membersRead m n c at rs
+    unfolding after-own
+    to-list = follow-ok (line ownLine at rs) after-own o at₁ rs₁ e₁ ∙ members-of
+
+    pub member-methods-no : (k a : ℕ) → refused k a ≡ many (eachMethod n) m 0 [] at₁ rs₁ → refused k a ≡ membersRead m n c at rs
+    member-methods-no k a e = follow-no (many (eachMethod n) m 0 [] at₁ rs₁) (typed o) k a e ∙ to-list
+
+    pub member-ok : (ms : List Method) (at₂ : ℕ) (rs₂ : List Row) → got ms at₂ rs₂ ≡ many (eachMethod n) m 0 [] at₁ rs₁ → got (sheetType ref c o ms) at₂ rs₂ ≡ membersRead m n c at rs
+    unfolding typed
+    member-ok ms at₂ rs₂ e = follow-ok (many (eachMethod n) m 0 [] at₁ rs₁) (typed o) ms at₂ rs₂ e ∙ to-list
+
+pub members-ref : (m n r c at : ℕ) (rs : List Row) → r ≡ 0 → membersRead m n c at rs ≡ members m n (repOf r) c at rs
+unfolding membersRead members
+members-ref m n r c at rs e = ap (λ (z : ℕ). members m n (repOf z) c at rs) (sym e)
+
+pub members-number : (m n r c at : ℕ) (rs : List Row) → (r ≡ 0 → ⊥) → got (sheetType (repOf r) c false []) at rs ≡ members m n (repOf r) c at rs
+unfolding members
+members-number m n zero c at rs h = absurd (h refl)
+members-number m n (suc zero) c at rs h = refl
+members-number m n (suc (suc r)) c at rs h = refl
+
+-- The first four lines, and the whole sheet behind them.
+counted : ℕ → ℕ → ℕ → Reader Counted
+counted s m c = give (record { subjects = s; methods = m; cats = c })
+
+cats-next : ℕ → ℕ → Reader Counted
+unfolding numberLine counted
+cats-next s m = then (line (numberLine (bytes "cats=") 0 maxCategories)) (counted s m)
+
+methods-next : ℕ → Reader Counted
+unfolding numberLine cats-next
+methods-next s = then (line (numberLine (bytes "methods=") 1 maxMethods)) (cats-next s)
+
+module _ (at : ℕ) (rs : List Row) where
+  first-of : follow (line (numberLine (bytes "guide=") 1 newestForm) at rs) first₁ ≡ first at rs
+  unfolding first
+  first-of = refl
+
+  pub guide-no : (k a : ℕ) → refused k a ≡ line (numberLine (bytes "guide=") 1 newestForm) at rs → refused k a ≡ first at rs
+  guide-no k a e = follow-no (line (numberLine (bytes "guide=") 1 newestForm) at rs) first₁ k a e ∙ first-of
+
+  module _ (g at₁ : ℕ) (rs₁ : List Row) (e₁ : got g at₁ rs₁ ≡ line (numberLine (bytes "guide=") 1 newestForm) at rs) where
+    to-subjects : follow (line (numberLine (bytes "subjects=") 1 maxSubjects) at₁ rs₁) methods-next ≡ first at rs
+    unfolding methods-next cats-next counted
+    to-subjects = follow-ok (line (numberLine (bytes "guide=") 1 newestForm) at rs) first₁ g at₁ rs₁ e₁ ∙ first-of
+
+    pub subjects-no : (k a : ℕ) → refused k a ≡ line (numberLine (bytes "subjects=") 1 maxSubjects) at₁ rs₁ → refused k a ≡ first at rs
+    subjects-no k a e = follow-no (line (numberLine (bytes "subjects=") 1 maxSubjects) at₁ rs₁) methods-next k a e ∙ to-subjects
+
+    module _ (s at₂ : ℕ) (rs₂ : List Row) (e₂ : got s at₂ rs₂ ≡ line (numberLine (bytes "subjects=") 1 maxSubjects) at₁ rs₁) where
+      to-methods : follow (line (numberLine (bytes "methods=") 1 maxMethods) at₂ rs₂) (cats-next s) ≡ first at rs
+      unfolding methods-next
+      to-methods = follow-ok (line (numberLine (bytes "subjects=") 1 maxSubjects) at₁ rs₁) methods-next s at₂ rs₂ e₂ ∙ to-subjects
+
+      pub methods-no : (k a : ℕ) → refused k a ≡ line (numberLine (bytes "methods=") 1 maxMethods) at₂ rs₂ → refused k a ≡ first at rs
+      methods-no k a e = follow-no (line (numberLine (bytes "methods=") 1 maxMethods) at₂ rs₂) (cats-next s) k a e ∙ to-methods
+
+      module _ (m at₃ : ℕ) (rs₃ : List Row) (e₃ : got m at₃ rs₃ ≡ line (numberLine (bytes "methods=") 1 maxMethods) at₂ rs₂) where
+        to-cats : follow (line (numberLine (bytes "cats=") 0 maxCategories) at₃ rs₃) (counted s m) ≡ first at rs
+        unfolding cats-next
+        to-cats = follow-ok (line (numberLine (bytes "methods=") 1 maxMethods) at₂ rs₂) (cats-next s) m at₃ rs₃ e₃ ∙ to-methods
+
+        pub cats-no : (k a : ℕ) → refused k a ≡ line (numberLine (bytes "cats=") 0 maxCategories) at₃ rs₃ → refused k a ≡ first at rs
+        cats-no k a e = follow-no (line (numberLine (bytes "cats=") 0 maxCategories) at₃ rs₃) (counted s m) k a e ∙ to-cats
+
+        pub first-ok : (c at₄ : ℕ) (rs₄ : List Row) → got c at₄ rs₄ ≡ line (numberLine (bytes "cats=") 0 maxCategories) at₃ rs₃ → got (record { subjects = s; methods = m; cats = c }) at₄ rs₄ ≡ first at rs
+        unfolding counted
+        first-ok c at₄ rs₄ e = follow-ok (line (numberLine (bytes "cats=") 0 maxCategories) at₃ rs₃) (counted s m) c at₄ rs₄ e ∙ to-cats
+
+pub first-body : (at : ℕ) (rs : List Row) → body at rs ≡ follow (first at rs) afterFirst
+unfolding body first afterFirst afterCats
+first-body at rs =
+    regroup (line (numberLine (bytes "guide=") 1 newestForm) at rs) first₁ afterFirst _
+    (λ g at rs. regroup (line (numberLine (bytes "subjects=") 1 maxSubjects) at rs) _ afterFirst _
+    (λ s at rs. regroup (line (numberLine (bytes "methods=") 1 maxMethods) at rs) _ afterFirst _
+    (λ m at rs. regroup (line (numberLine (bytes "cats=") 0 maxCategories) at rs) _ afterFirst _ (λ c at rs. refl))))
+
+pub sheet-of : (s : List ℕ) → sheetAnswer (follow (follow (first 0 (split s)) afterFirst) ending) ≡ read s
+unfolding read sheet
+sheet-of s = ap (λ z. sheetAnswer (follow z ending)) (sym (first-body 0 (split s)))
+
+-- The groups of lines behind the first four.
+module _ (h : Counted) (at : ℕ) (rs : List Row) where
+  tabled : List (List ℕ) → ℕ → List Ty → Reader Table
+  tabled links n ts = give (record { subjects = h .subjects; methods = h .methods; cats = links; sheet = n; types = ts })
+
+  listed : List (List ℕ) → ℕ → Reader Table
+  unfolding many oneType tabled
+  listed links n = then (many (oneType (h .methods) (h .cats) n) n 0 []) (tabled links n)
+
+  all-of : follow (follow (many (eachUnder (h .cats)) (h .cats) 1 [] at rs) (afterCats h)) ending ≡ then (afterFirst h) ending at rs
+  unfolding afterFirst
+  all-of = refl
+
+  pub links-no : (k a : ℕ) → refused k a ≡ many (eachUnder (h .cats)) (h .cats) 1 [] at rs → refused k a ≡ then (afterFirst h) ending at rs
+  links-no k a e = ap (λ z. follow (follow z (afterCats h)) ending) e ∙ all-of
+
+  module _ (links : List (List ℕ)) (at₁ : ℕ) (rs₁ : List Row) (e₁ : got links at₁ rs₁ ≡ many (eachUnder (h .cats)) (h .cats) 1 [] at rs) where
+    to-count : follow (follow (line (numberLine (bytes "types=") 1 maxSheetTypes) at₁ rs₁) (listed links)) ending ≡ then (afterFirst h) ending at rs
+    unfolding afterCats listed tabled
+    to-count = ap (λ z. follow (follow z (afterCats h)) ending) e₁ ∙ all-of
+
+    pub count-no : (k a : ℕ) → refused k a ≡ line (numberLine (bytes "types=") 1 maxSheetTypes) at₁ rs₁ → refused k a ≡ then (afterFirst h) ending at rs
+    count-no k a e = ap (λ z. follow (follow z (listed links)) ending) e ∙ to-count
+
+    module _ (n at₂ : ℕ) (rs₂ : List Row) (e₂ : got n at₂ rs₂ ≡ line (numberLine (bytes "types=") 1 maxSheetTypes) at₁ rs₁) where
+      to-types : follow (follow (many (oneType (h .methods) (h .cats) n) n 0 [] at₂ rs₂) (tabled links n)) ending ≡ then (afterFirst h) ending at rs
+      unfolding listed
+      to-types = ap (λ z. follow (follow z (listed links)) ending) e₂ ∙ to-count
+
+      pub types-no : (k a : ℕ) → refused k a ≡ many (oneType (h .methods) (h .cats) n) n 0 [] at₂ rs₂ → refused k a ≡ then (afterFirst h) ending at rs
+      types-no k a e = ap (λ z. follow (follow z (tabled links n)) ending) e ∙ to-types
+
+      pub to-ending : (ts : List Ty) (at₃ : ℕ) (rs₃ : List Row) → got ts at₃ rs₃ ≡ many (oneType (h .methods) (h .cats) n) n 0 [] at₂ rs₂ → ending (record { subjects = h .subjects; methods = h .methods; cats = links; sheet = n; types = ts }) at₃ rs₃ ≡ then (afterFirst h) ending at rs
+      unfolding tabled
+      to-ending ts at₃ rs₃ e = ap (λ z. follow (follow z (tabled links n)) ending) e ∙ to-types
+
+-- The `end=sheet` line.
+pub end-yes : (l : List ℕ) → same endText l ≡ true → result 0 tt ≡ endLine l
+unfolding endLine oneOf
+end-yes l e = ap (λ z. cond z (ok tt) (refuse 1)) (sym e)
+
+pub end-no : (l : List ℕ) → same endText l ≡ false → result 1 tt ≡ endLine l
+unfolding endLine oneOf
+end-no l e = ap (λ z. cond z (ok tt) (refuse 1)) (sym e)
+
+-- bytes that are left make a row
+push-some : (at b : ℕ) (rs : List Row) → nothing at (push b rs) ≡ refused 1 at
+push-some at b [] = refl
+push-some at b (row l ∷ rs) = refl
+push-some at b (cut l ∷ rs) = refl
+
+more-left : (at b : ℕ) (l : List ℕ) → nothing at (split (b ∷ l)) ≡ refused 1 at
+unfolding split
+more-left at b l = go (eqb b 10)
+  where
+    go : (t : Bool) → nothing at (cond t (row [] ∷ split l) (push b (split l))) ≡ refused 1 at
+    go true = refl
+    go false = push-some at b (split l)
+
+module _ (t : Table) (s : List ℕ) (last : ℕ) where
+  after-nothing : Unit {0} → Reader Table
+  unfolding ownInSignature
+  after-nothing u at rs = cond (ownInSignature t) (refused 3 last) (got t at rs)
+
+  after-end : Unit {0} → Reader Table
+  unfolding after-nothing
+  after-end u = then nothing after-nothing
+
+  ending-of : follow (line endLine last (split (drop last s))) after-end ≡ ending t last (split (drop last s))
+  unfolding ending after-end after-nothing
+  ending-of = refl
+
+  pub ending-no : (k a : ℕ) → refused k a ≡ line endLine last (split (drop last s)) → refused k a ≡ ending t last (split (drop last s))
+  ending-no k a e = follow-no (line endLine last (split (drop last s))) after-end k a e ∙ ending-of
+
+  module _ (a : ℕ) (e : got tt a (split (drop a s)) ≡ line endLine last (split (drop last s))) where
+    to-nothing : follow (nothing a (split (drop a s))) after-nothing ≡ ending t last (split (drop last s))
+    unfolding after-end
+    to-nothing = follow-ok (line endLine last (split (drop last s))) after-end tt a (split (drop a s)) e ∙ ending-of
+
+    pub ending-more : a < length s → refused 1 a ≡ ending t last (split (drop last s))
+    ending-more h = follow-no (nothing a (split (drop a s))) after-nothing 1 a (sym (ap (λ z. nothing a (split z)) (from-here s a h) ∙ more-left a (getD s a 0) (drop (a + 1) s))) ∙ to-nothing
+
+    module _ (h : length s ≤ a) where
+      alone : cond (ownInSignature t) (refused 3 last) (got t a (split (drop a s))) ≡ ending t last (split (drop last s))
+      unfolding after-nothing split
+      alone =
+          ap (λ z. cond (ownInSignature t) (refused 3 last) (got t a (split z))) (at-end s a h)
+          ∙ ap (λ z. follow (nothing a (split z)) after-nothing) (sym (at-end s a h)) ∙ to-nothing
+
+      pub ending-own : ownInSignature t ≡ true → refused 3 last ≡ ending t last (split (drop last s))
+      ending-own q = ap (λ z. cond z (refused 3 last) (got t a (split (drop a s)))) (sym q) ∙ alone
+
+      pub ending-good : ownInSignature t ≡ false → got t a (split (drop a s)) ≡ ending t last (split (drop last s))
+      ending-good q = ap (λ z. cond z (refused 3 last) (got t a (split (drop a s)))) (sym q) ∙ alone

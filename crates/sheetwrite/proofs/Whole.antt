@@ -1,0 +1,92 @@
+-- The parts together are the text of the table's sheet; what the check of 2 says of the counts; and the writer's two answers.
+use mathlib.Core.Path.{_≡_, refl, sym, ap, _∙_, subst}
+use mathlib.Core.Bool.{true, false, So}
+use mathlib.Core.List.{List, [], _∷_, _++_, append-assoc}
+use Prim.Native.Nat.{ℕ, zero, suc, _≤_, _<_}
+use native.Mathlib.Nat.{le-of-suc-le-suc}
+use native.Mathlib.Omega.{arith}
+use lib.Dec.{leb}
+use lib.ListN.{length, take}
+use borrow.Author.Tests.{leb-true, le-leb, lt-leb}
+use Rattle.model.specs.Basics.{from}
+use Rattle.model.specs.Table.{Ty, Table, size, between, countsFit, tableFits, maxSubjects, maxMethods, maxCategories, maxSheetTypes}
+use Rattle.model.specs.Check.{RawTable, codesFit, tableOf, tableAccepted}
+use Rattle.model.proofs.Rules.{first, second}
+use Rattle.table.specs.declared.Counts.{Counts}
+use Rattle.table.specs.Store.{rawTable, broaderOf}
+use Rattle.table.proofs.Lists.{length-from}
+use Rattle.sheet.specs.Lines.{bytes, join}
+use Rattle.sheet.specs.Text.{newestForm, numberText, each, typeLines, endText, sheetLines, text, writeText, write}
+use Rattle.textwrite.specs.Fill.{Filled, Lined}
+use Rattle.textwrite.proofs.Laws.{counted, fill-is}
+use Rattle.sheetwrite.specs.declared.Wrote.the-variants.{UnfitTable, ShortBuffer, Length}
+use Rattle.sheetwrite.specs.Parts.{typeIn, typeLinesTo, underLines, countLines, frontLines, backLines, Writable}
+use Rattle.sheetwrite.specs.Answer.{writtenOf}
+
+take-from : {A : Type 0} (f : ℕ → A) (n c i : ℕ) → n ≤ c → take n (from c i f) ≡ from n i f
+unfolding from
+take-from f zero c i h = refl
+take-from f (suc n) zero i h = absurd (omega arith)
+take-from f (suc n) (suc c) i h = ap (λ z. f i ∷ z) (take-from f n c (suc i) (le-of-suc-le-suc h))
+
+regroup : (front u x e : List (List ℕ)) (t : List ℕ) → (front ++ (u ++ (t ∷ []))) ++ (x ++ e) ≡ (front ++ (u ++ (t ∷ x))) ++ e
+regroup front u x e t = simp append-assoc
+
+module _ (b l : List ℕ) (c : Counts) where
+  -- the sheet's lines and the last, with the number of categories and the list of types as they stand in the table
+  abbrev linesWith : ℕ → List Ty → List (List ℕ)
+  linesWith n ts = (numberText (bytes "guide=") newestForm ∷ numberText (bytes "subjects=") (c .subjects) ∷ numberText (bytes "methods=") (c .methods) ∷ numberText (bytes "cats=") n
+      ∷ (underLines l (c .cats) ++ (numberText (bytes "types=") (c .sheet) ∷ each typeLines 0 ts))) ++ (endText ∷ [])
+
+  parts-are : c .sheet ≤ c .types → join (frontLines l c ++ backLines b c) ≡ text (tableOf (rawTable b l c))
+  unfolding text sheetLines tableOf frontLines backLines underLines typeLinesTo
+  parts-are h =
+      ap join (regroup (countLines c) (underLines l (c .cats)) (typeLinesTo b c (c .sheet)) (endText ∷ []) (numberText (bytes "types=") (c .sheet)))
+      ∙ ap (λ z. join (linesWith z (from (c .sheet) 0 (typeIn b c)))) (sym (length-from (broaderOf l) (c .cats) 1))
+      ∙ ap (λ z. join (linesWith (length (from (c .cats) 1 (broaderOf l))) z)) (sym (take-from (typeIn b c) (c .sheet) (c .types) 0 h))
+
+  pub sheet-is : {old new : List ℕ} {r : ℕ} → Writable c → Lined old new (frontLines l c ++ backLines b c) r → Filled old new (text (tableOf (rawTable b l c))) r
+  sheet-is g f = fill-is (parts-are (g .types)) (f .filled)
+
+  -- what passed the check has counts within their limits
+  pub accepted-limited : tableAccepted (rawTable b l c) ≡ true → Writable c
+  unfolding tableAccepted tableFits tableOf
+  accepted-limited h =
+      let t : Table = tableOf (rawTable b l c) in
+      let k : So (countsFit t) = first (countsFit t) _ (second (codesFit (rawTable b l c)) _ h) in
+      let k₁ = second (between 1 maxSubjects (t .subjects)) _ k in
+      let k₂ = second (between 1 maxMethods (t .methods)) _ k₁ in
+      let k₃ = second (leb (length (t .cats)) maxCategories) _ k₂ in
+      let k₄ = second (between 1 maxSheetTypes (t .sheet)) _ k₃ in
+      let high : (n m : ℕ) → So (between 1 n m) → m ≤ n = λ n m q. leb-true m n (second (leb 1 m) _ q) in
+      record {
+        subjects = high maxSubjects (t .subjects) (first (between 1 maxSubjects (t .subjects)) _ k);
+        methods = high maxMethods (t .methods) (first (between 1 maxMethods (t .methods)) _ k₁);
+        cats = subst (λ z. z ≤ 31) (length-from (broaderOf l) (c .cats) 1) (leb-true (length (t .cats)) maxCategories (first (leb (length (t .cats)) maxCategories) _ k₂));
+        sheet = high maxSheetTypes (t .sheet) (first (between 1 maxSheetTypes (t .sheet)) _ k₃);
+        types = subst (λ z. c .sheet ≤ z) (length-from (typeIn b c) (c .types) 0) (leb-true (t .sheet) (size t) (first (leb (t .sheet) (size t)) _ k₄));
+      }
+
+-- "4 if the buffer is short, buffer unchanged": the sheet was counted on an empty part of the buffer
+pub short-is : {tl : List ℕ} {n : ℕ} (r : RawTable) (buf : List ℕ) → tableAccepted r ≡ true → Filled [] tl (text (tableOf r)) n → length (tl ++ buf) < n → writtenOf ShortBuffer (tl ++ buf) ≡ write r buf
+unfolding write writeText
+short-is {tl} {n} r buf h f s =
+    let e : tl ++ buf ≡ buf = counted f in
+    let q : length (tl ++ buf) ≡ length buf = ap length e in
+    let w = f .said in
+    rw (e, h, lt-leb (length (text (tableOf r))) (length buf) (omega arith))
+
+-- "else the length, with the bytes behind it unchanged"
+pub length-is : {tl new : List ℕ} {n m : ℕ} (r : RawTable) (buf : List ℕ) → tableAccepted r ≡ true → Filled [] tl (text (tableOf r)) n → n ≤ length (tl ++ buf) → Filled (tl ++ buf) new (text (tableOf r)) m → writtenOf (Length m) new ≡ write r buf
+unfolding write writeText
+length-is {tl} {new} {n} {m} r buf h f s g =
+    let e : tl ++ buf ≡ buf = counted f in
+    let q : length (tl ++ buf) ≡ length buf = ap length e in
+    let w = f .said in
+    let k : length (text (tableOf r)) ≤ length buf = omega arith in
+    rw (g .said, g .text (omega arith), e, h, le-leb (length (text (tableOf r))) (length buf) k)
+
+-- "A .. table handed in gets 2 before all else", and the buffer is unchanged
+pub unfit-is : (r : RawTable) (buf : List ℕ) → tableAccepted r ≡ false → writtenOf UnfitTable buf ≡ write r buf
+unfolding write
+unfit-is r buf h = rw h

@@ -1,0 +1,71 @@
+-- The digits from here on give the same number. Rests on the laws of digits.
+use mathlib.Core.Path.{_≡_, _∙_}
+use Prim.Native.Nat.{_≤_, _-_}
+use native.Mathlib.Omega.{arith}
+use lib.ListN.{length, drop}
+use borrow.Author.Needs.{needs}
+use Rattle.sheet.specs.Numbers.{digits}
+use Rattle.textread.proofs.Laws.{digits-low, digits-high, digits-more, digits-end}
+use Rattle.textread.proofs.digits_at.Statement.{statement}
+use Rattle.textread.proofs.digits_at.Tie as tie
+
+abbrev Inv-loop : tie.InvT-loop
+Inv-loop l at a i₀ n₀ i n = (i ≤ length l) × (n ≤ 10000) × (digits n (drop i l) ≡ digits a (drop at l))
+
+abbrev μ-loop : tie.MeasureT-loop
+μ-loop l at a i₀ n₀ i n = length l - i
+
+loop-holds : tie.Need-loop-holds Inv-loop μ-loop
+loop-holds c = search needs
+
+shared-slice-read-wide : tie.Need-shared-slice-read-wide Inv-loop μ-loop
+shared-slice-read-wide c = search needs
+
+wide-requires : tie.Need-wide-requires Inv-loop μ-loop
+wide-requires c κs = search needs
+
+returns : tie.Need-returns Inv-loop μ-loop
+returns c = (digits-low _ _ _ _ (c .before .before .before .loop-test .taken) (c .before .wide .ensures .0) (c .if1 .taken) ∙ c .before .before .before .before .loop .inv .2, omega arith)
+
+returns-2 : tie.Need-returns-2 Inv-loop μ-loop
+returns-2 c = (digits-high _ _ _ _ (c .before .before .before .before .loop-test .taken) (c .before .before .wide .ensures .0) (c .before .if1 .left) (c .if2 .taken) ∙ c .before .before .before .before .before .loop .inv .2, omega arith)
+
+mul-limit : tie.Need-mul-limit Inv-loop μ-loop
+mul-limit c = search needs
+
+add-limit : tie.Need-add-limit Inv-loop μ-loop
+add-limit c = search needs
+
+limit-requires : tie.Need-limit-requires Inv-loop μ-loop
+limit-requires c κs = search needs
+
+add-i : tie.Need-add-i Inv-loop μ-loop
+add-i c = search needs
+
+loop-less : tie.Need-loop-less Inv-loop μ-loop
+loop-less c = search needs
+
+loop-again : tie.Need-loop-again Inv-loop μ-loop
+loop-again c = (omega arith, omega arith, digits-more _ _ _ _ (c .before .before .before .before .before .loop-test .taken) (c .before .before .before .wide .ensures .0) _ (c .before .before .if1 .left) (c .before .if2 .left) (c .limit .ensures .0) ∙ c .before .before .before .before .before .before .loop .inv .2)
+
+returns-3 : tie.Need-returns-3 Inv-loop μ-loop
+returns-3 c = (digits-end _ _ _ (c .loop-test .left) ∙ c .before .loop .inv .2, omega arith)
+
+pub digits-at-spec : {M : Type 1} → statement M
+digits-at-spec =
+    tie.close
+    (tie.spec
+    Inv-loop
+    μ-loop
+    loop-holds
+    shared-slice-read-wide
+    wide-requires
+    returns
+    returns-2
+    mul-limit
+    add-limit
+    limit-requires
+    add-i
+    loop-less
+    loop-again
+    returns-3)

@@ -1,0 +1,49 @@
+-- Rests on `fill-rest`: the key, and the decimal in the rest of the buffer.
+use Rattle.textwrite.proofs.Laws.{fill-rest}
+use Rattle.sheet.specs.Text.{numberText}
+use native.Mathlib.Omega.{arith}
+use borrow.Author.Needs.{needs}
+use Rattle.textwrite.proofs.put_number.Statement.{statement}
+use Rattle.textwrite.proofs.put_number.Tie as tie
+
+put-bytes-requires : tie.Need-put-bytes-requires
+put-bytes-requires c κs = search needs
+
+upto-requires : tie.Need-upto-requires
+upto-requires c κs = search needs
+
+sub-put-decimal : tie.Need-sub-put-decimal
+sub-put-decimal c = search needs
+
+part-put-decimal-start : tie.Need-part-put-decimal-start
+part-put-decimal-start c = search needs
+
+part-put-decimal-end : tie.Need-part-put-decimal-end
+part-put-decimal-end c = search needs
+
+put-decimal-requires : tie.Need-put-decimal-requires
+put-decimal-requires c κs = search needs
+
+add-result : tie.Need-add-result
+add-result c = search needs
+
+same-length : tie.Need-same-length
+same-length c = search needs
+
+returns : tie.Need-returns
+unfolding numberText
+returns c = (fill-rest (c .before .before .before .before .before .before .before .put-bytes .ensures) (c .before .before .before .before .upto .ensures .0) (c .before .before .put-decimal .ensures .0), omega (arith, c .before .before .before .before .before .before .before .put-bytes .ensures .said, c .before .before .put-decimal .ensures .1, c .before .before .before .before .before .before .before .before .before .before .before .pre))
+
+pub put-number-spec : {M : Type 1} → statement M
+put-number-spec =
+    tie.close
+    (tie.spec
+    put-bytes-requires
+    upto-requires
+    sub-put-decimal
+    part-put-decimal-start
+    part-put-decimal-end
+    put-decimal-requires
+    add-result
+    same-length
+    returns)
