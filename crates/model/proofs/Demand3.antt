@@ -22,12 +22,13 @@ use Rattle.model.specs.Claim.{accepted, feed, follow, reached, noteOf, C
 use Rattle.model.proofs.Tests.{ltb-so}
 use Rattle.model.proofs.Rules.{never, both, first, second, applied}
 use Rattle.model.proofs.States.{each}
+use Rattle.model.proofs.Lists.{prefix-refl, prefix-trans, prefix-add}
 use Rattle.model.proofs.Order.{related-refl}
 use Rattle.model.proofs.Growth.{Grown, grown-refl, grown-trans}
 use Rattle.model.proofs.Completes.{all-below-more}
 use Rattle.model.proofs.Good.{Good}
 use Rattle.model.proofs.Steps.{IfOk, ok-try, ok-map, ok-need, Settled}
-use Rattle.model.proofs.Trails.{Kept, kept-trans, kept-add, unwinds-in, unwinds-type, layers-are, base-is, Track, Trailed, track-grow, Flown, cross-ok, crossLayers-ok}
+use Rattle.model.proofs.Trails.{Kept, unwinds-in, unwinds-type, layers-are, base-is, Track, Trailed, track-grow, Flown, cross-ok, crossLayers-ok}
 
 -- the book of a state whose cells have the pages gs
 abbrev bookOf : System → List Page → Book
@@ -99,10 +100,10 @@ module _ (s : System) (gs : List Page) (j : Joined s gs) where
   addCell-ok : (r : ℕ) (b : Table × Page) (f₀ : Reference) → f₀ .table ≡ s .table → Kept (s .places) (f₀ .places) → (f : Reference) → Flown f₀ b f → IfOk (addCell s r f) (λ x. Sent s (addPage (bookOf s gs) b) (x .0))
   unfolding addCell s′ cell
   addCell-ok r b f₀ e k f h = ok-need _ (ltb (length (s .cells)) maxCells) 13 _ λ _.
-      added s gs j r f b (h .good) (subst (λ t. Grown t (f .table)) e (h .grow)) (kept-trans k (h .kept)) (h .book) (h .track) (h .trailed)
+      added s gs j r f b (h .good) (subst (λ t. Grown t (f .table)) e (h .grow)) (prefix-trans noPlace k (h .kept)) (h .book) (h .track) (h .trailed)
 
   kept-self : Kept (s .places) (s .places)
-  kept-self = record { more = omega arith; same = λ i l. refl }
+  kept-self = prefix-refl noPlace (s .places)
 
   send-ok : (r k : ℕ) (ts : List (Option ℕ)) → k < length (s .cells) → IfOk (send s r k ts) (λ x. Sent s (copyPage (bookOf s gs) k ts) (x .0))
   unfolding send copyPage
@@ -225,7 +226,7 @@ module _ (s : System) (gs : List Page) (j : Joined s gs) where
           ok-try (Flown f (pageCross t (emptyPage c) (named to))) _ (cross f (named to) (named subject)) _
           (cross-ok f (j .good) (emptyPage c) k (named to) (named subject)) λ g h.
           ok-map (λ x. Sent s (addPage (bookOf s gs) (pageCross t (emptyPage c) (named to))) (x .0)) (λ x. Entered (addPage (bookOf s gs) (pageCross t (emptyPage c) (named to))) (x .0)) (λ x. entered) (addCell s (named subject) g)
-          (addCell-ok s gs j (named subject) (pageCross t (emptyPage c) (named to)) f refl (kept-add (s .places) x) g h)
+          (addCell-ok s gs j (named subject) (pageCross t (emptyPage c) (named to)) f refl (prefix-add noPlace (s .places) x) g h)
 
   move-ok : (subject k receiver to : ℤ) → IfOk (moveRequest s subject k receiver to) (λ x. Entered (enter (bookOf s gs) (move subject k receiver to)) (x .0))
   unfolding moveRequest enter copyPage pageCrossAll
