@@ -22,3 +22,4 @@ pub mod Within
 pub mod Checked
 pub mod Reached
 pub mod Crossings
+pub mod Records
