@@ -2,7 +2,7 @@
 -- accepted, the counted records are determined, and only what lies past a count is open.
 use mathlib.Core.Path.{_≡_}
 use mathlib.Core.Bool.{cond}
-use mathlib.Core.List.{List, map}
+use mathlib.Core.List.{List, [], _∷_, map}
 use mathlib.Core.Option.{Option, none, some}
 use Prim.Native.Nat.{ℕ, suc}
 use lib.Dec.{ltb}
@@ -68,6 +68,22 @@ rawPlace (adapter behind type) = record { code = 1; first = behind; second = typ
 
 abbrev pub rawCall : Call → RawCall
 rawCall c = record { caller = c .caller; cell = c .cell; method = c .method; answered = bit (c .answered) }
+
+-- the whole table; category 0 names none
+abbrev pub rawTableOf : Table → RawTable
+rawTableOf t = record {
+  subjects = t .subjects;
+  methods = t .methods;
+  cats = length (t .cats);
+  sheet = t .sheet;
+  types = size t;
+  links = noRawLinks ∷ map rawLinks (t .cats);
+  records = map rawType (t .types);
+}
+
+-- the state of a loaded sheet
+abbrev pub rawLoaded : RawTable → RawSystem
+rawLoaded r = record { table = r; cells = 0; places = 0; calls = 0; cellRecords = []; placeRecords = []; callRecords = [] }
 
 -- ---- What is counted: the arrays cut to their counts. The links of category k stand at k, so that there is one more of them.
 abbrev pub countedTable : RawTable → RawTable
