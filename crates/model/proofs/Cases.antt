@@ -2,48 +2,17 @@
 use mathlib.Core.Path.{_≡_, refl}
 use mathlib.Core.Bool.{Bool, true, false, _&&_}
 use mathlib.Core.List.{List, [], _∷_, _++_}
-use mathlib.Core.Option.{Option, none, some}
+use mathlib.Core.Option.{none, some}
 use Prim.Native.Nat.{ℕ}
-use lib.IntN.{ℤ, pos, negsuc}
-use lib.ListN.{length, drop}
+use lib.IntN.{pos, negsuc}
+use lib.ListN.{drop}
 use Rattle.model.specs.Basics.{all}
-use Rattle.model.specs.Table.{ref, State, denied, optional, avail, unavail, Kind, sub, sup, closed, Method, Ty, Table, noType, size, validSheet}
-use Rattle.model.specs.Requests.{Request, new, move, call, answer, pair, number, nothing, Outcome, got, refused, loaded, run}
+use Rattle.model.specs.Table.{denied, optional, avail, unavail, sub, sup, closed, Ty, Table, noType, size, validSheet}
+use Rattle.model.specs.Requests.{Request, move, pair, number, nothing, Outcome, got, refused, loaded, run}
 use Rattle.model.specs.Chains.{permits, offered}
 use Rattle.model.specs.Book.{Book, pageAt, enter}
 use Rattle.model.specs.Claim.{follow, reached}
-
--- ---- small words for sheets: a method's state with its signature, a reference type, and one with a key
-abbrev with : State → List ℕ → Option ℕ → Method
-with s xs a = record { state = s; args = xs; answer = a }
-
-abbrev bare : State → Method
-bare s = with s [] none
-
-abbrev type : List Method → Ty
-type ms = record { rep = ref; cat = 0; own = false; methods = ms; key = none }
-
-abbrev owned : List Method → Ty
-owned ms = record { rep = ref; cat = 0; own = true; methods = ms; key = none }
-
-abbrev derivedAs : Kind → ℕ → ℕ → List Method → Ty
-derivedAs d l r ms = record { rep = ref; cat = 0; own = false; methods = ms; key = some (record { kind = d; left = l; right = r }) }
-
-abbrev sheetOf : ℕ → ℕ → List Ty → Table
-sheetOf subjects methods ts = record { subjects = subjects; methods = methods; cats = []; sheet = length ts; types = ts }
-
--- requests with numbers that are not negative
-abbrev new′ : ℕ → ℕ → ℕ → Request
-new′ a b c = new (pos a) (pos b) (pos c)
-
-abbrev move′ : ℕ → ℕ → ℕ → ℕ → Request
-move′ a b c d = move (pos a) (pos b) (pos c) (pos d)
-
-abbrev call′ : ℕ → ℕ → ℕ → List ℤ → Request
-call′ a b c vs = call (pos a) (pos b) (pos c) vs
-
-abbrev answer′ : ℕ → ℕ → Option ℤ → Request
-answer′ a b v = answer (pos a) (pos b) v
+use Rattle.model.proofs.Words.{with, bare, type, owned, derivedAs, sheetOf, new′, move′, call′, answer′}
 
 -- ---- "Case P. Three subjects, methods 0 read, 1 mark, 2 erase."
 abbrev pub caseP : Table
@@ -56,7 +25,7 @@ caseP = sheetOf 3 3 (noType
     ∷ [])
 
 -- A reference that gets two adapters: type 1 takes method 1 away, type 2 does not show method 2, and type 3 asks for it again. Type 4 is the class with own.
-abbrev twice : Table
+abbrev pub twice : Table
 twice = sheetOf 2 3 (
     type (bare avail ∷ bare avail ∷ bare avail ∷ [])
     ∷ type (bare avail ∷ bare unavail ∷ bare avail ∷ [])
@@ -66,7 +35,7 @@ twice = sheetOf 2 3 (
     ∷ [])
 
 -- Answers that are references: type 1 answers with 2, which shows nothing, and type 3 with 4, which asks for method 1 again.
-abbrev answering : Table
+abbrev pub answering : Table
 answering = sheetOf 2 2 (
     type (with avail [] (some 0) ∷ bare avail ∷ [])
     ∷ type (with avail [] (some 2) ∷ bare denied ∷ [])
@@ -76,7 +45,7 @@ answering = sheetOf 2 2 (
     ∷ [])
 
 -- Signatures of signatures: the two sides differ in every argument and answer, and those differ again.
-abbrev nested : Table
+abbrev pub nested : Table
 nested = sheetOf 1 2 (
     type (with avail (2 ∷ 3 ∷ []) (some 4) ∷ with avail (3 ∷ []) (some 5) ∷ [])
     ∷ type (with optional (3 ∷ 2 ∷ []) (some 5) ∷ with avail (2 ∷ []) (some 4) ∷ [])
@@ -94,7 +63,7 @@ all-valid = refl
 abbrev two : List Request
 two = new′ 0 1 4 ∷ move′ 0 0 1 2 ∷ []
 
-abbrev three : List Request
+abbrev pub three : List Request
 three = two ++ (move′ 1 1 2 3 ∷ [])
 
 -- ---- Demand 3 evaluated: what the state offers in a cell and what the book says of its page, each computed on its own

@@ -1,3 +1,4 @@
+pub mod Words
 pub mod Cases
 pub mod Tests
 pub mod Rules
@@ -26,3 +27,4 @@ pub mod Records
 pub mod Onward
 pub mod Returned
 pub mod Loaded
+pub mod Worked

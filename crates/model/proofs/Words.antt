@@ -1,0 +1,56 @@
+-- Small words for sheets and requests that are written out in cases: one maker for each record, so that a new field of it is named here alone.
+use mathlib.Core.Bool.{Bool, true, false}
+use mathlib.Core.List.{List, []}
+use mathlib.Core.Option.{Option, none, some}
+use Prim.Native.Nat.{ℕ}
+use lib.IntN.{ℤ, pos}
+use lib.ListN.{length}
+use Rattle.model.specs.Table.{ref, State, Kind, Key, Method, Ty, Table}
+use Rattle.model.specs.Crossing.{Place}
+use Rattle.model.specs.Requests.{Cell, Call, System, Request, new, move, call, answer}
+
+-- a method's state with its signature, or without
+abbrev pub with : State → List ℕ → Option ℕ → Method
+with s xs a = record { state = s; args = xs; answer = a }
+
+abbrev pub bare : State → Method
+bare s = with s [] none
+
+-- a reference type: of the sheet, with own, and derived
+abbrev pub refType : Bool → Option Key → List Method → Ty
+refType own key ms = record { rep = ref; cat = 0; own = own; methods = ms; key = key }
+
+abbrev pub type : List Method → Ty
+type = refType false none
+
+abbrev pub owned : List Method → Ty
+owned = refType true none
+
+abbrev pub derivedAs : Kind → ℕ → ℕ → List Method → Ty
+derivedAs d l r = refType false (some (record { kind = d; left = l; right = r }))
+
+-- a table whose first so many types are the sheet's, and one of sheet types alone
+abbrev pub tableFrom : ℕ → ℕ → ℕ → List Ty → Table
+tableFrom subjects methods sheet ts = record { subjects = subjects; methods = methods; cats = []; sheet = sheet; types = ts }
+
+abbrev pub sheetOf : ℕ → ℕ → List Ty → Table
+sheetOf subjects methods ts = tableFrom subjects methods (length ts) ts
+
+abbrev pub cell : ℕ → ℕ → ℕ → Cell
+cell holder type place = record { holder = holder; type = type; place = place }
+
+abbrev pub stateFrom : Table → List Cell → List Place → List Call → System
+stateFrom t cs ps ds = record { table = t; cells = cs; places = ps; calls = ds }
+
+-- requests with numbers that are not negative
+abbrev pub new′ : ℕ → ℕ → ℕ → Request
+new′ a b c = new (pos a) (pos b) (pos c)
+
+abbrev pub move′ : ℕ → ℕ → ℕ → ℕ → Request
+move′ a b c d = move (pos a) (pos b) (pos c) (pos d)
+
+abbrev pub call′ : ℕ → ℕ → ℕ → List ℤ → Request
+call′ a b c vs = call (pos a) (pos b) (pos c) vs
+
+abbrev pub answer′ : ℕ → ℕ → Option ℤ → Request
+answer′ a b v = answer (pos a) (pos b) v
