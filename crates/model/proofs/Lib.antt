@@ -28,3 +28,4 @@ pub mod Onward
 pub mod Returned
 pub mod Loaded
 pub mod Worked
+pub mod Unfit

@@ -1,18 +1,18 @@
 -- Worked cases beside those of document 01: references in arguments and answers through adapters, with the cells and places they become, and the refusals that no case of
 -- 01 meets. Everything is computed from the definitions, but for a full table of types (11), which is a law over every such table.
 use mathlib.Core.Path.{_≡_, refl, ap, _∙_}
-use mathlib.Core.Bool.{Bool, true, false}
+use mathlib.Core.Bool.{Bool, true, false, So}
 use mathlib.Core.List.{List, [], _∷_, _++_}
 use mathlib.Core.Option.{Option, none, some}
 use Prim.Native.Nat.{ℕ}
 use lib.Dec.{ltb}
 use lib.IntN.{pos, negsuc}
-use lib.ListN.{length, drop, replicate}
-use Rattle.model.specs.Basics.{Res, refuse, ok, need, try}
-use Rattle.model.specs.Table.{denied, optional, avail, unavail, Kind, sub, Method, Table, noType, maxTypes, size, typeAt, withTypes}
-use Rattle.model.specs.Relations.{subtype, loose, free, related}
+use lib.ListN.{length, drop, set, replicate}
+use Rattle.model.specs.Basics.{Res, refuse, ok, then, need, try}
+use Rattle.model.specs.Table.{denied, optional, avail, unavail, Kind, sub, Method, Table, maxTypes, size, typeAt, withTypes}
+use Rattle.model.specs.Relations.{subtype, loose, related}
 use Rattle.model.specs.Restriction.{withoutNew, entry, pending, deriveMethods, make, derive, derived}
-use Rattle.model.specs.Crossing.{Place, object, adapter, baseOf, baseOwner, Reference, adapt, cross}
+use Rattle.model.specs.Crossing.{Place, object, adapter, Reference, adapt, cross}
 use Rattle.model.specs.Requests.{Cell, System, Request, Outcome, got, refused, move, pair, number, nothing, noCall, loaded, run}
 use Rattle.model.proofs.Words.{with, bare, type, sheetOf, cell, stateFrom, new′, move′, call′, answer′}
 use Rattle.model.proofs.Cases.{caseP, twice}
@@ -147,3 +147,41 @@ refusals =
 pub refusals-worked : AllWork refusals
 unfolding run
 refusals-worked = (refl, (refl, (refl, (refl, (refl, (refl, (refl, (refl, tt))))))))
+
+-- ---- 11, over every table of 128 types: nothing new is derived. With 127 there is room for one, if the types of its signatures are there.
+abbrev Methods : Type 0
+Methods = Option (Table × List Method)
+
+-- a derivation, by the number that a new type takes, what is known, the room, and the methods derived
+abbrev making : Table → ℕ → Kind → ℕ → ℕ → Option ℕ → Bool → Methods → Res (Table × ℕ)
+making t n d l r known room ms = elim (elim known as (λ _. Option (Table × ℕ)) [
+  | some i ↦ some (t, i)
+  | none ↦ elim room [ false ↦ none | true ↦ then ms λ p. some (withTypes (p .0) (set (p .0 .types) n (entry t d l r (p .1))), n) ]
+]) [ none ↦ refuse 11 | some p ↦ ok p ]
+
+abbrev derivedMethods : Table → Kind → ℕ → ℕ → Methods
+derivedMethods t d l r = deriveMethods (derive 127) d (withTypes t (t .types ++ (pending t d l r ∷ []))) (typeAt t l .methods) (typeAt t r .methods)
+
+derived-by : (t : Table) (d : Kind) (l r n : ℕ) → size t ≡ n → withoutNew t d l r ≡ none → derived t d l r ≡ making t n d l r none (ltb n maxTypes) (derivedMethods t d l r)
+unfolding derived derive make
+derived-by t d l r n e w = ap (λ o. making t (size t) d l r o (ltb (size t) maxTypes) (derivedMethods t d l r)) w ∙ ap (λ k. making t k d l r none (ltb k maxTypes) (derivedMethods t d l r)) e
+
+pub full-refused : (t : Table) (d : Kind) (l r : ℕ) → size t ≡ 128 → withoutNew t d l r ≡ none → derived t d l r ≡ refuse 11
+full-refused t d l r e w = derived-by t d l r 128 e w
+
+pub last-made : (t : Table) (d : Kind) (l r : ℕ) → size t ≡ 127 → withoutNew t d l r ≡ none → (p : Table × List Method) → derivedMethods t d l r ≡ some p
+    → derived t d l r ≡ ok (withTypes (p .0) (set (p .0 .types) 127 (entry t d l r (p .1))), 127)
+last-made t d l r e w p m = derived-by t d l r 127 e w ∙ ap (making t 127 d l r none true) m
+
+-- a crossing that wants a new Sub in such a table is refused with 11
+pub full-crossing : (f : Reference) (to r : ℕ) → typeAt (f .table) to .own ≡ false → So (related loose (f .table) to (f .type)) → related subtype (f .table) to (f .type) ≡ false
+    → size (f .table) ≡ 128 → withoutNew (f .table) sub to (f .type) ≡ none → cross f to r ≡ refuse 11
+unfolding cross
+full-crossing f to r own lo st e w = go (typeAt t to .own) own (related loose t to (f .type)) lo (related subtype t to (f .type)) st (derived t sub to (f .type)) (full-refused t sub to (f .type) e w) _ _
+  where
+    t : Table
+    t = f .table
+
+    go : (a : Bool) → a ≡ false → (b : Bool) → b ≡ true → (c : Bool) → c ≡ false → (m : Res (Table × ℕ)) → m ≡ refuse 11 → (u v : Res Reference)
+        → _≡_ {A = Res Reference} (elim a [ true ↦ u | false ↦ need b 8 λ _. elim c [ true ↦ v | false ↦ try m λ x. adapt (x .0) (f .places) to (x .1) (f .place) ] ]) (refuse 11)
+    go a p b q c s m z u v = rw (p, q, s, z)
