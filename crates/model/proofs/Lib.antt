@@ -1,5 +1,8 @@
 pub mod Words
 pub mod Cases
+pub mod Answers
+pub mod Worked
+pub mod Unfit
 pub mod Tests
 pub mod Rules
 pub mod Largest
@@ -27,5 +30,3 @@ pub mod Records
 pub mod Onward
 pub mod Returned
 pub mod Loaded
-pub mod Worked
-pub mod Unfit

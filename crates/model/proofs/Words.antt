@@ -5,7 +5,7 @@ use mathlib.Core.Option.{Option, none, some}
 use Prim.Native.Nat.{ℕ}
 use lib.IntN.{ℤ, pos}
 use lib.ListN.{length}
-use Rattle.model.specs.Table.{ref, State, Kind, Key, Method, Ty, Table}
+use Rattle.model.specs.Table.{Rep, ref, State, Kind, Key, Method, Ty, Table}
 use Rattle.model.specs.Crossing.{Place}
 use Rattle.model.specs.Requests.{Cell, Call, System, Request, new, move, call, answer}
 
@@ -16,25 +16,31 @@ with s xs a = record { state = s; args = xs; answer = a }
 abbrev pub bare : State → Method
 bare s = with s [] none
 
--- a reference type: of the sheet, with own, and derived
-abbrev pub refType : Bool → Option Key → List Method → Ty
-refType own key ms = record { rep = ref; cat = 0; own = own; methods = ms; key = key }
+-- a reference type: of the sheet, of a category, with own, and derived
+abbrev pub refType : ℕ → Bool → Option Key → List Method → Ty
+refType cat own key ms = record { rep = ref; cat = cat; own = own; methods = ms; key = key }
 
 abbrev pub type : List Method → Ty
-type = refType false none
+type = refType 0 false none
+
+abbrev pub typeIn : ℕ → List Method → Ty
+typeIn cat = refType cat false none
 
 abbrev pub owned : List Method → Ty
-owned = refType true none
+owned = refType 0 true none
+
+abbrev pub numberIn : Rep → ℕ → Ty
+numberIn rep cat = record { rep = rep; cat = cat; own = false; methods = []; key = none }
 
 abbrev pub derivedAs : Kind → ℕ → ℕ → List Method → Ty
-derivedAs d l r = refType false (some (record { kind = d; left = l; right = r }))
+derivedAs d l r = refType 0 false (some (record { kind = d; left = l; right = r }))
 
--- a table whose first so many types are the sheet's, and one of sheet types alone
-abbrev pub tableFrom : ℕ → ℕ → ℕ → List Ty → Table
-tableFrom subjects methods sheet ts = record { subjects = subjects; methods = methods; cats = []; sheet = sheet; types = ts }
+-- a table of sheet types, with categories and without
+abbrev pub sheetIn : List (List ℕ) → ℕ → ℕ → List Ty → Table
+sheetIn cats subjects methods ts = record { subjects = subjects; methods = methods; cats = cats; sheet = length ts; types = ts }
 
 abbrev pub sheetOf : ℕ → ℕ → List Ty → Table
-sheetOf subjects methods ts = tableFrom subjects methods (length ts) ts
+sheetOf subjects methods ts = sheetIn [] subjects methods ts
 
 abbrev pub cell : ℕ → ℕ → ℕ → Cell
 cell holder type place = record { holder = holder; type = type; place = place }
