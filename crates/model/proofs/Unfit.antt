@@ -8,21 +8,21 @@ use Prim.Native.Nat.{ℕ, _+_}
 use lib.IntN.{pos}
 use lib.ListN.{replicate}
 use Rattle.model.specs.Basics.{from}
-use Rattle.model.specs.Table.{optional, avail, unavail, closed, Table, noType}
+use Rattle.model.specs.Table.{optional, avail, unavail, closed, Table, noType, signed, bare}
 use Rattle.model.specs.Crossing.{object, adapter}
 use Rattle.model.specs.Requests.{Call, System, Request, Outcome, got, refused, pair}
 use Rattle.model.specs.Check.{RawPlace, RawCall, RawSystem, systemAccepted}
 use Rattle.model.specs.Handed.{rawTableOf, rawLoaded, rawType, storedFrom, serveHanded}
-use Rattle.model.proofs.Words.{with, bare, type, derivedAs, sheetOf, cell, stateFrom, move′, call′, answer′}
+use Rattle.model.proofs.Words.{type, derivedAs, sheetOf, cell, stateFrom, move′, call′, answer′}
 
 -- Type 1 takes and answers numbers, 2 references, 3 neither; 5 takes a reference whose method is only optional, and an object of class 6 has it not.
 abbrev sheet : Table
 sheet = sheetOf 2 1 (noType
-    ∷ type (with avail (0 ∷ []) (some 0) ∷ [])
-    ∷ type (with avail (3 ∷ []) (some 3) ∷ [])
+    ∷ type (signed avail (0 ∷ []) (some 0) ∷ [])
+    ∷ type (signed avail (3 ∷ []) (some 3) ∷ [])
     ∷ type (bare avail ∷ [])
     ∷ type (bare optional ∷ [])
-    ∷ type (with avail (4 ∷ []) (some 4) ∷ [])
+    ∷ type (signed avail (4 ∷ []) (some 4) ∷ [])
     ∷ type (bare unavail ∷ [])
     ∷ [])
 
@@ -105,7 +105,7 @@ odd-codes = (refl, refl, refl)
 abbrev noSlots : List ℕ
 noSlots = 0 ∷ 0 ∷ 0 ∷ 0 ∷ []
 
-pub record-of-type : rawType (derivedAs closed 6 3 (with avail (14 ∷ 16 ∷ []) (some 18) ∷ bare unavail ∷ with optional (9 ∷ []) none ∷ [])) ≡ record {
+pub record-of-type : rawType (derivedAs closed 6 3 (signed avail (14 ∷ 16 ∷ []) (some 18) ∷ bare unavail ∷ signed optional (9 ∷ []) none ∷ [])) ≡ record {
   rep = 0;
   cat = 0;
   own = 0;

@@ -5,16 +5,9 @@ use mathlib.Core.Option.{Option, none, some}
 use Prim.Native.Nat.{ℕ}
 use lib.IntN.{ℤ, pos}
 use lib.ListN.{length}
-use Rattle.model.specs.Table.{Rep, ref, State, Kind, Key, Method, Ty, Table}
+use Rattle.model.specs.Table.{Rep, ref, Kind, Key, Method, Ty, Table}
 use Rattle.model.specs.Crossing.{Place}
 use Rattle.model.specs.Requests.{Cell, Call, System, Request, new, move, call, answer}
-
--- a method's state with its signature, or without
-abbrev pub with : State → List ℕ → Option ℕ → Method
-with s xs a = record { state = s; args = xs; answer = a }
-
-abbrev pub bare : State → Method
-bare s = with s [] none
 
 -- a reference type: of the sheet, of a category, with own, and derived
 abbrev pub refType : ℕ → Bool → Option Key → List Method → Ty

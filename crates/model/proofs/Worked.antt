@@ -9,12 +9,12 @@ use lib.Dec.{ltb}
 use lib.IntN.{pos, negsuc}
 use lib.ListN.{length, drop, set, replicate}
 use Rattle.model.specs.Basics.{Res, refuse, ok, then, need, try}
-use Rattle.model.specs.Table.{denied, optional, avail, unavail, Kind, sub, Method, Table, maxTypes, size, typeAt, withTypes}
+use Rattle.model.specs.Table.{denied, optional, avail, unavail, Kind, sub, Method, Table, maxTypes, size, typeAt, withTypes, signed, bare}
 use Rattle.model.specs.Relations.{subtype, loose, related}
 use Rattle.model.specs.Restriction.{withoutNew, entry, pending, deriveMethods, make, derive, derived}
 use Rattle.model.specs.Crossing.{Place, object, adapter, Reference, adapt, cross}
 use Rattle.model.specs.Requests.{Cell, System, Request, Outcome, got, refused, move, pair, number, nothing, noCall, loaded, run}
-use Rattle.model.proofs.Words.{with, bare, type, sheetOf, cell, stateFrom, new′, move′, call′, answer′}
+use Rattle.model.proofs.Words.{type, sheetOf, cell, stateFrom, new′, move′, call′, answer′}
 use Rattle.model.proofs.Cases.{caseP, twice}
 
 -- Requests on a state: what they come to, and the cells and places that there are more at the end.
@@ -38,28 +38,28 @@ AllWork (w ∷ ws) = Works w × AllWork ws
 -- ---- arguments: type 2 takes method 1 away, so that a cell of it has an adapter; the class takes an argument of type 1, type 2 one of type 3.
 abbrev passing : Table
 passing = sheetOf 2 2 (
-    type (with avail (1 ∷ []) none ∷ bare avail ∷ [])
+    type (signed avail (1 ∷ []) none ∷ bare avail ∷ [])
     ∷ type (bare denied ∷ bare avail ∷ [])
-    ∷ type (with avail (3 ∷ []) none ∷ bare unavail ∷ [])
+    ∷ type (signed avail (3 ∷ []) none ∷ bare unavail ∷ [])
     ∷ type (bare unavail ∷ bare avail ∷ [])
     ∷ [])
 
 -- the same with two arguments, exchanged between the class and the cell's type
 abbrev passingTwo : Table
 passingTwo = sheetOf 2 2 (
-    type (with avail (1 ∷ 2 ∷ []) none ∷ bare avail ∷ [])
+    type (signed avail (1 ∷ 2 ∷ []) none ∷ bare avail ∷ [])
     ∷ type (bare denied ∷ bare avail ∷ [])
     ∷ type (bare unavail ∷ bare avail ∷ [])
-    ∷ type (with avail (2 ∷ 1 ∷ []) none ∷ bare unavail ∷ [])
+    ∷ type (signed avail (2 ∷ 1 ∷ []) none ∷ bare unavail ∷ [])
     ∷ [])
 
 -- ---- answers: as `twice`, every type answering method 0 with a reference
 abbrev answeringTwice : Table
 answeringTwice = sheetOf 2 3 (
-    type (with avail [] (some 0) ∷ bare avail ∷ bare avail ∷ [])
-    ∷ type (with avail [] (some 0) ∷ bare unavail ∷ bare avail ∷ [])
-    ∷ type (with avail [] (some 4) ∷ bare denied ∷ bare denied ∷ [])
-    ∷ type (with avail [] (some 4) ∷ bare denied ∷ bare optional ∷ [])
+    type (signed avail [] (some 0) ∷ bare avail ∷ bare avail ∷ [])
+    ∷ type (signed avail [] (some 0) ∷ bare unavail ∷ bare avail ∷ [])
+    ∷ type (signed avail [] (some 4) ∷ bare denied ∷ bare denied ∷ [])
+    ∷ type (signed avail [] (some 4) ∷ bare denied ∷ bare optional ∷ [])
     ∷ type (bare denied ∷ bare unavail ∷ bare avail ∷ [])
     ∷ [])
 

@@ -12,7 +12,7 @@ use Rattle.model.specs.Table.{State, denied, optional, avail, unavail, R
 use Rattle.model.specs.Relations.{bit}
 use Rattle.model.specs.Crossing.{Place, object, adapter}
 use Rattle.model.specs.Requests.{Call, System, Request, Result, Outcome, got, refused, noCell, serve}
-use Rattle.model.specs.Check.{RawMethod, RawType, RawLinks, RawTable, RawPlace, RawCall, RawSystem, noRawType, noRawLinks, noRawPlace, noRawCall, firstOf, systemOf, systemAccepted}
+use Rattle.model.specs.Check.{RawMethod, RawType, RawLinks, RawTable, RawPlace, RawCall, RawSystem, noRawType, noRawLinks, noRawPlace, noRawCall, withRecords, firstOf, systemOf, systemAccepted}
 
 -- ---- The record that stands for a thing of the model: what it has no use for is 0.
 abbrev pub stateCode : State → ℕ
@@ -87,15 +87,7 @@ rawLoaded r = record { table = r; cells = 0; places = 0; calls = 0; cellRecords 
 
 -- ---- What is counted: the arrays cut to their counts. The links of category k stand at k, so that there is one more of them.
 abbrev pub countedTable : RawTable → RawTable
-countedTable r = record {
-  subjects = r .subjects;
-  methods = r .methods;
-  cats = r .cats;
-  sheet = r .sheet;
-  types = r .types;
-  links = firstOf (suc (r .cats)) noRawLinks (r .links);
-  records = firstOf (r .types) noRawType (r .records);
-}
+countedTable r = withRecords r (r .types) (firstOf (suc (r .cats)) noRawLinks (r .links)) (firstOf (r .types) noRawType (r .records))
 
 unfoldable pub counted : RawSystem → RawSystem
 counted r = record {
@@ -111,15 +103,8 @@ counted r = record {
 -- ---- What an accepted request leaves of the state r, the model's being s: a type counted before is stored as it was, whatever its record holds where it has no use;
 -- a new one as the record that stands for it. The records of places and calls say nothing but what the model's do, so that the old ones are as they were but for `answered`.
 abbrev pub storedTable : RawTable → Table → RawTable
-storedTable r t = record {
-  subjects = r .subjects;
-  methods = r .methods;
-  cats = r .cats;
-  sheet = r .sheet;
-  types = size t;
-  links = firstOf (suc (r .cats)) noRawLinks (r .links);
-  records = from (size t) 0 (λ i. cond (ltb i (r .types)) (getD (r .records) i noRawType) (rawType (typeAt t i)));
-}
+storedTable r t = withRecords r (size t) (firstOf (suc (r .cats)) noRawLinks (r .links))
+    (from (size t) 0 (λ i. cond (ltb i (r .types)) (getD (r .records) i noRawType) (rawType (typeAt t i))))
 
 unfoldable pub storedFrom : RawSystem → System → RawSystem
 storedFrom r s = record {
