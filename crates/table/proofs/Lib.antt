@@ -3,3 +3,4 @@ pub mod Laws
 pub mod Tables
 pub mod Linked
 pub mod Codes
+pub mod Exact
