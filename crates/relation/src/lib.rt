@@ -19,6 +19,7 @@ use numbers::wide;
 use numbers::wide16;
 use rules::Relation;
 use table::Counts;
+use table::Head;
 use table::LINK_BYTES;
 use table::Method;
 use table::TYPE_BYTES;
@@ -189,7 +190,7 @@ fn find_types(
     if !fine {
         return 0;
     }
-    if x.rep != 0 {
+    if x.rep != Head::REF {
         return tail;
     }
     find_methods(b, found, tail, c.types, c.methods, k, square, a, d)

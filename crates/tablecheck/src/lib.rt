@@ -9,9 +9,10 @@ ghost use Rattle.model.specs.Table.{between};
 ghost use Rattle.model.specs.Check.{noRawType, noRawLinks, tableAccepted};
 ghost use Rattle.table.specs.Store.{typesIn, linksIn, rawTable, rawMethod};
 ghost use Rattle.table.specs.Limits.{Limits};
-ghost use Rattle.tablecheck.specs.Parts.{countsAccepted, linkAccepted, linksAccepted, mayStand, signatureAccepted, methodAccepted, methodsAccepted, keyAccepted, headAccepted, boundOf, typeAccepted, typesAccepted, argsAccepted};
+ghost use Rattle.tablecheck.specs.Parts.{countsAccepted, linkAccepted, linksAccepted, standsAs, signatureAccepted, methodAccepted, methodsAccepted, keyAccepted, headAccepted, boundOf, typeAccepted, typesAccepted, argsAccepted};
 use table::Counts;
 use table::Head;
+use table::Key;
 use table::LINK_BYTES;
 use table::Method;
 use table::TYPE_BYTES;
@@ -85,16 +86,12 @@ fn links_fit(l: &[u8; LINK_BYTES], cats: usize) -> bool
 // Type a stands in a signature whose types are the first n. "A type with own=yes stands in no signature"
 fn stands_in(b: &[u8; TYPE_BYTES], n: usize, a: usize) -> bool
     requires { ⌜ n ≤ 128 ⌝ }
-    ensures { λ r. ⌜ r ≡ mayStand (typesIn (now (b .entry))) n a ⌝ }
+    ensures { λ r. ⌜ r ≡ standsAs (typesIn (now (b .entry))) n a ⌝ }
 {
     if n <= a {
         return false;
     }
-    let h = table::get_head(b, a);
-    if h.rep != 0 {
-        return true;
-    }
-    h.own != 1
+    table::may_stand(b, a)
 }
 
 // The argument types of a method.
@@ -138,14 +135,13 @@ fn method_fits(b: &[u8; TYPE_BYTES], n: usize, m: Method) -> bool
     requires { ⌜ n ≤ 128 ⌝ }
     ensures { λ r. ⌜ r ≡ methodAccepted (typesIn (now (b .entry))) n (rawMethod m) ⌝ }
 {
-    let state = numbers::wide(m.state);
-    if 4 <= state {
+    if Method::UNAVAIL < m.state {
         return false;
     }
-    if state == 0 {
+    if m.state == Method::DENIED {
         return true;
     }
-    if state == 3 {
+    if m.state == Method::UNAVAIL {
         return true;
     }
     signature_fits(b, n, m)
@@ -173,7 +169,7 @@ fn key_fits(h: Head, c: Counts, i: usize) -> bool
     if i < c.sheet {
         return true;
     }
-    if 3 <= h.kind {
+    if Key::CLOSED < h.kind {
         return false;
     }
     if c.types <= numbers::wide(h.left) {
@@ -185,7 +181,7 @@ fn key_fits(h: Head, c: Counts, i: usize) -> bool
 fn head_fits(h: Head, c: Counts, i: usize) -> bool
     ensures { λ r. ⌜ r ≡ headAccepted c i h ⌝ }
 {
-    if 3 <= h.rep {
+    if Head::W64 < h.rep {
         return false;
     }
     if c.cats < numbers::wide(h.cat) {
@@ -214,10 +210,10 @@ fn type_fits(b: &[u8; TYPE_BYTES], c: Counts, i: usize) -> bool
     if !head_fits(h, c, i) {
         return false;
     }
-    if h.rep != 0 {
+    if h.rep != Head::REF {
         return true;
     }
-    if 2 <= h.own {
+    if Head::OWN < h.own {
         return false;
     }
     methods_fit(b, i, bound(c, i), c.methods)
