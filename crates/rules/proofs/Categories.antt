@@ -1,4 +1,4 @@
--- "a ≤ b if a is 0, a = b, or a is reached from b by broader links": worked out for the categories in order, since links fall.
+-- The order of categories (T7), worked out for the categories from 0 up, since links fall.
 use mathlib.Core.Path.{_≡_, refl, ap, sym, _∙_}
 use mathlib.Core.Logic.{⊎-elim}
 use mathlib.Core.Bool.{Bool, true, false, _||_, cond}

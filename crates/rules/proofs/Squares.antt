@@ -29,7 +29,7 @@ says : (k : Relation) (o : List (List Bool)) → Row k o 0 → Row k o 1 → Row
 unfolding Says
 says k o p q r s a b l m = four (Row k o) p q r s a l b m
 
--- "denied ≤ every state; optional ≤ optional, avail, unavail; avail ≤ avail; unavail ≤ unavail; no others"
+-- the order of states (R1)
 abbrev pub order : List (List Bool)
 order = (true ∷ true ∷ true ∷ true ∷ []) ∷ (false ∷ true ∷ true ∷ true ∷ []) ∷ (false ∷ false ∷ true ∷ false ∷ []) ∷ (false ∷ false ∷ false ∷ true ∷ []) ∷ []
 

@@ -17,12 +17,12 @@ unfoldable pub eachFrom : ℕ → ℕ → (ℕ → Bool) → Bool
 eachFrom zero i f = true
 eachFrom (suc c) i f = f i && eachFrom c (suc i) f
 
--- "a count is outside its limits"
+-- every count within its limits (H1)
 abbrev pub countsAccepted : Counts → Bool
 countsAccepted c = between 1 maxSubjects (c .subjects) && (between 1 maxMethods (c .methods) && (leb (c .cats) maxCategories
     && (between 1 maxSheetTypes (c .sheet) && (leb (c .sheet) (c .types) && leb (c .types) maxTypes))))
 
--- "Category k, from 1, names one or two broader categories below k, 0 allowed."
+-- T6: category k names one or two categories below it
 abbrev pub linkAccepted : ℕ → RawLinks → Bool
 linkAccepted k x = between 1 2 (x .count) && linksFit k (linksOf x)
 
@@ -39,14 +39,14 @@ signatureAccepted rs n m = leb (m .count) maxArguments && (argsAccepted rs n m &
 abbrev pub methodAccepted : List RawType → ℕ → RawMethod → Bool
 methodAccepted rs n m = ltb (m .state) 4 && (permit (stateOf (m .state)) ⇒ signatureAccepted rs n m)
 
--- Only a derived type has a kind, a left and a right.
+-- Only a derived type has a kind, a left and a right (T17).
 abbrev pub keyAccepted : Counts → ℕ → Head → Bool
 keyAccepted c i h = ltb i (c .sheet) || (ltb (h .kind) 3 && (ltb (h .left) (c .types) && ltb (h .right) (c .types)))
 
 abbrev pub headAccepted : Counts → ℕ → Head → Bool
 headAccepted c i h = ltb (h .rep) 3 && (leb (h .cat) (c .cats) && keyAccepted c i h)
 
--- the types that may stand in the signatures of type i are the first so many
+-- the types that may stand in the signatures of type i are the first so many (T15)
 abbrev pub boundOf : Counts → ℕ → ℕ
 boundOf c i = cond (ltb i (c .sheet)) (c .sheet) (c .types)
 
