@@ -63,7 +63,11 @@ module _ (b l : List ℕ) (c : Counts) (k : Relation) (a d : ℕ) (p : a < c .ty
   module _ (n : ℕ) (marks : List Bool) (queue : List ℕ) (t : ℕ) where
     -- the heads break it
     pub types-broke : (marks′ : List Bool) (queue′ : List ℕ) → fine ≡ false → Met n W marks queue t marks′ queue′ 0
-    types-broke marks′ queue′ e = inl (record { zero = refl; none = λ M i w. clash (first (outerRule k (tableIn b l c) (typeOf (c .methods) (c .sheet) a A) (typeOf (c .methods) (c .sheet) d D)) _ (rw (rule-is M) at w)) (sym outer-is ∙ e) })
+    types-broke marks′ queue′ e = inl (record {
+      zero = refl;
+      none = λ M i w. clash
+          (first (outerRule k (tableIn b l c) (typeOf (c .methods) (c .sheet) a A) (typeOf (c .methods) (c .sheet) d D)) _ (rw (rule-is M) at w)) (sym outer-is ∙ e);
+    })
 
     module _ (e : fine ≡ true) where
       sorts : isRef (repOf (A .rep)) ≡ isRef (repOf (D .rep))

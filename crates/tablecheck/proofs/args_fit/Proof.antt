@@ -37,7 +37,8 @@ stands-in-requires c κs = search needs
 returns : tie.Need-returns Inv-loop μ-loop
 returns c = let a = c .before .before .before .before .before .before .before .args in
     let l = c .before .before .before .before .before .loop in
-    sym (l .inv .1 ∙ rest-broken (λ k. standsAs (typesIn (a .b .now)) (a .n) (getD (a .t3 .args) k 0)) (c .before .before .before .before .before .before .wide .result) (l .i) (c .before .before .before .before .loop-test .taken)
+    sym (l .inv .1 ∙ rest-broken (λ k. standsAs (typesIn (a .b .now)) (a .n) (getD (a .t3 .args) k 0)) (c .before .before .before .before .before .before .wide .result) (l .i)
+    (c .before .before .before .before .loop-test .taken)
     (ap (standsAs (typesIn (a .b .now)) (a .n)) (sym (c .before .before .wide2 .ensures .0)) ∙ refused (c .before .stands-in .result) _ (c .before .stands-in .ensures) (c .if1 .taken)))
 
 add-i : tie.Need-add-i Inv-loop μ-loop
@@ -50,7 +51,8 @@ loop-again : tie.Need-loop-again Inv-loop μ-loop
 loop-again c = let a = c .before .before .before .before .before .before .before .args in
     let l = c .before .before .before .before .before .loop in (
       omega arith,
-      l .inv .1 ∙ rest-next (λ k. standsAs (typesIn (a .b .now)) (a .n) (getD (a .t3 .args) k 0)) (c .before .before .before .before .before .before .wide .result) (l .i) (c .before .before .before .before .loop-test .taken)
+      l .inv .1 ∙ rest-next (λ k. standsAs (typesIn (a .b .now)) (a .n) (getD (a .t3 .args) k 0)) (c .before .before .before .before .before .before .wide .result) (l .i)
+          (c .before .before .before .before .loop-test .taken)
           (ap (standsAs (typesIn (a .b .now)) (a .n)) (sym (c .before .before .wide2 .ensures .0)) ∙ passed (c .before .stands-in .result) _ (c .before .stands-in .ensures) (c .if1 .left)),
     )
 

@@ -52,7 +52,8 @@ returns-4 c =
     let own = c .before .before .if3 .left in
     c .methods-fit .ensures
     ∙ ap (λ (n : ℕ). methodsAccepted (typesIn (a .b .now)) n (a .c .methods) (getD (typesIn (a .b .now)) (a .i) noRawType)) (c .before .bound .ensures .0)
-    ∙ typed-ref (a .c) (a .i) (h .result) _ (h .ensures) _ (passed (f .result) _ (f .ensures) (c .before .before .before .before .before .before .if1 .left)) (c .before .before .before .before .if2 .left) (omega (arith, own))
+    ∙ typed-ref (a .c) (a .i) (h .result) _ (h .ensures) _ (passed (f .result) _ (f .ensures) (c .before .before .before .before .before .before .if1 .left))
+    (c .before .before .before .before .if2 .left) (omega (arith, own))
 
 pub type-fits-spec : {M : Type 1} → statement M
 type-fits-spec =
