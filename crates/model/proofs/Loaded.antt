@@ -12,7 +12,8 @@ use Rattle.model.specs.Basics.{from}
 use Rattle.model.specs.Table.{Key, Table, noMethod, noType, maxMethods, size, typeAt, methodAt, permit, between, linksFit, isNone, signatureFits, keyFits, signatureBound, tableFits}
 use Rattle.model.specs.Requests.{loaded}
 use Rattle.model.specs.Check.{RawTable, noRawLinks, noRawType, typeOf, linksOf, tableOf, systemOf, rawTypeFits, codesFit, tableAccepted, stateCodesFit, systemAccepted}
-use Rattle.model.specs.Handed.{rawType, rawLinks, rawTableOf, rawLoaded}
+use Rattle.model.specs.Records.{typeRecord, linksRecord}
+use Rattle.model.specs.Handed.{rawTableOf, rawLoaded}
 use Rattle.model.proofs.Tests.{ltb-so, leb-so}
 use Rattle.model.proofs.Rules.{both, first, second}
 use Rattle.model.proofs.Lists.{is-from, from-shift, getD-map-in, all-from, every-from}
@@ -50,21 +51,21 @@ module _ (t : Table) (f : TableFitting t) where
   link-fits : (k : ℕ) → k < length (t .cats) → So (between 1 2 (length (getD (t .cats) k [])))
   link-fits k l = first (between 1 2 (length (getD (t .cats) k []))) _ (every-at linksFit [] 1 (t .cats) (f .links) k l)
 
-  link-at : (k : ℕ) → k < length (t .cats) → getD (map rawLinks (t .cats)) k noRawLinks ≡ rawLinks (getD (t .cats) k [])
-  link-at k l = getD-map-in rawLinks (t .cats) k [] noRawLinks l
+  link-at : (k : ℕ) → k < length (t .cats) → getD (map linksRecord (t .cats)) k noRawLinks ≡ linksRecord (getD (t .cats) k [])
+  link-at k l = getD-map-in linksRecord (t .cats) k [] noRawLinks l
 
-  type-at : (i : ℕ) → i < size t → getD (map rawType (t .types)) i noRawType ≡ rawType (typeAt t i)
-  type-at i l = getD-map-in rawType (t .types) i noType noRawType l
+  type-at : (i : ℕ) → i < size t → getD (map typeRecord (t .types)) i noRawType ≡ typeRecord (typeAt t i)
+  type-at i l = getD-map-in typeRecord (t .types) i noType noRawType l
 
   links-mean : from (length (t .cats)) 1 (λ k. linksOf (getD (rawTableOf t .links) k noRawLinks)) ≡ t .cats
   links-mean = from-shift (λ k. linksOf (getD (rawTableOf t .links) k noRawLinks)) (length (t .cats)) 0
-      ∙ is-from (λ k. linksOf (getD (map rawLinks (t .cats)) k noRawLinks)) (length (t .cats)) [] (t .cats) refl λ k l. sym (ap linksOf (link-at k l) ∙ links-back (getD (t .cats) k []) (link-fits k l))
+      ∙ is-from (λ k. linksOf (getD (map linksRecord (t .cats)) k noRawLinks)) (length (t .cats)) [] (t .cats) refl λ k l. sym (ap linksOf (link-at k l) ∙ links-back (getD (t .cats) k []) (link-fits k l))
 
   pub table-back : tableOf (rawTableOf t) ≡ t
   unfolding tableOf
   table-back = rw (
     links-mean,
-    is-from (λ i. typeOf (t .methods) (t .sheet) i (getD (map rawType (t .types)) i noRawType)) (size t) noType (t .types) refl λ i l.
+    is-from (λ i. typeOf (t .methods) (t .sheet) i (getD (map typeRecord (t .types)) i noRawType)) (size t) noType (t .types) refl λ i l.
         sym (ap (typeOf (t .methods) (t .sheet) i) (type-at i l) ∙ type-back (t .methods) (t .sheet) i (typeAt t i) few (fitting-shaped i l)),
   )
 
@@ -72,7 +73,7 @@ module _ (t : Table) (f : TableFitting t) where
   unfolding codesFit
   table-codes = both
       (all-from (λ k. getD (rawTableOf t .links) k noRawLinks) (λ x. between 1 2 (x .count)) (length (t .cats)) 1 go)
-      (every-from (λ i. getD (map rawType (t .types)) i noRawType) (rawTypeFits (t .methods) (t .sheet)) (size t) 0 λ i l u. let k : i < size t = omega arith in
+      (every-from (λ i. getD (map typeRecord (t .types)) i noRawType) (rawTypeFits (t .methods) (t .sheet)) (size t) 0 λ i l u. let k : i < size t = omega arith in
       subst (λ x. So (rawTypeFits (t .methods) (t .sheet) i x)) (sym (type-at i k)) (type-codes (t .methods) (t .sheet) i (typeAt t i) (fitting-shaped i k)))
     where
       go : (j : ℕ) → 1 ≤ j → j < 1 + length (t .cats) → So (between 1 2 (getD (rawTableOf t .links) j noRawLinks .count))

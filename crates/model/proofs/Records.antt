@@ -14,18 +14,19 @@ use Rattle.model.specs.Relations.{bit}
 use Rattle.model.specs.Crossing.{Place, object, adapter}
 use Rattle.model.specs.Requests.{Call, flagged}
 use Rattle.model.specs.Check.{noRawMethod, stateOf, repOf, kindOf, answerOf, methodOf, typeOf, linksOf, placeOf, callOf, rawMethodFits, rawTypeFits}
-use Rattle.model.specs.Handed.{stateCode, repCode, kindCode, answerCode, keyCodes, argumentSlots, rawMethod, rawType, rawLinks, rawPlace, rawCall}
+use Rattle.model.specs.Records.{stateCode, repCode, kindCode, answerCode, keyCodes, argumentSlots, methodRecord, typeRecord, linksRecord}
+use Rattle.model.specs.Handed.{placeRecord, callRecord}
 use Rattle.model.proofs.Tests.{leb-so, so-leb}
 use Rattle.model.proofs.Rules.{never, both, second, imply}
 use Rattle.model.proofs.Largest.{getD-from-out}
 use Rattle.model.proofs.Lists.{from-first, is-from, take-from, all-from}
 
 -- ---- places and calls
-pub place-back : (p : Place) → placeOf (rawPlace p) ≡ p
+pub place-back : (p : Place) → placeOf (placeRecord p) ≡ p
 place-back (object class owner) = refl
 place-back (adapter behind type) = refl
 
-pub place-code : (p : Place) → So (ltb (rawPlace p .code) 2)
+pub place-code : (p : Place) → So (ltb (placeRecord p .code) 2)
 place-code (object class owner) = refl
 place-code (adapter behind type) = refl
 
@@ -37,14 +38,14 @@ flag-code : (b : Bool) → So (ltb (bit b) 2)
 flag-code true = refl
 flag-code false = refl
 
-pub call-back : (c : Call) → callOf (rawCall c) ≡ c
+pub call-back : (c : Call) → callOf (callRecord c) ≡ c
 call-back c = ap (flagged c) (flag-back (c .answered))
 
-pub call-code : (c : Call) → So (ltb (rawCall c .answered) 2)
+pub call-code : (c : Call) → So (ltb (callRecord c .answered) 2)
 call-code c = flag-code (c .answered)
 
 -- ---- links
-pub links-back : (xs : List ℕ) → So (between 1 2 (length xs)) → linksOf (rawLinks xs) ≡ xs
+pub links-back : (xs : List ℕ) → So (between 1 2 (length xs)) → linksOf (linksRecord xs) ≡ xs
 links-back [] h = never h
 links-back (a ∷ []) h = refl
 links-back (a ∷ b ∷ []) h = refl
@@ -63,7 +64,7 @@ answer-back none = refl
 answer-back (some a) = refl
 
 abbrev MethodBack : State → List ℕ → Option ℕ → Type 0
-MethodBack s xs a = _≡_ {A = Method} (methodOf (rawMethod (signed s xs a))) (signed s xs a)
+MethodBack s xs a = _≡_ {A = Method} (methodOf (methodRecord (signed s xs a))) (signed s xs a)
 
 bare-back : (s : State) → permit s ≡ false → stateOf (stateCode s) ≡ s → (xs : List ℕ) (a : Option ℕ) → (xs ≡ []) × (a ≡ none) → MethodBack s xs a
 bare-back s e b xs a u = rw (u .0, u .1, b, e)
@@ -71,7 +72,7 @@ bare-back s e b xs a u = rw (u .0, u .1, b, e)
 signed-back : (s : State) → permit s ≡ true → stateOf (stateCode s) ≡ s → (xs : List ℕ) (a : Option ℕ) → length xs ≤ argumentSlots → MethodBack s xs a
 signed-back s e b xs a l = rw (b, e, take-from (λ j. getD xs j 0) (length xs) argumentSlots 0 l, args-back xs l, answer-back a)
 
-pub method-back : (m : Method) → MethodShaped m → methodOf (rawMethod m) ≡ m
+pub method-back : (m : Method) → MethodShaped m → methodOf (methodRecord m) ≡ m
 method-back m h = go (m .state) (m .args) (m .answer) (let l = h .short in omega arith) (h .unsigned)
   where
     go : (s : State) (xs : List ℕ) (a : Option ℕ) → length xs ≤ argumentSlots → (permit s ≡ false → (xs ≡ []) × (a ≡ none)) → MethodBack s xs a
@@ -80,7 +81,7 @@ method-back m h = go (m .state) (m .args) (m .answer) (let l = h .short in omega
     go avail xs a l u = signed-back avail refl refl xs a l
     go unavail xs a l u = bare-back unavail refl refl xs a (u refl)
 
-pub method-codes : (m : Method) → length (m .args) ≤ maxArguments → So (rawMethodFits (rawMethod m))
+pub method-codes : (m : Method) → length (m .args) ≤ maxArguments → So (rawMethodFits (methodRecord m))
 method-codes m l = go (m .state)
   where
     state-code : (s : State) → So (ltb (stateCode s) 4)
@@ -121,36 +122,36 @@ key-back (some k) false e = go (k .kind) (k .left) (k .right)
     go closed l r = refl
 
 -- method j of the record
-method-at : (x : Ty) (j : ℕ) → j < maxMethods → getD (rawType x .methods) j noRawMethod ≡ rawMethod (getD (x .methods) j noMethod)
-method-at x j l = from-first (λ j. rawMethod (getD (x .methods) j noMethod)) maxMethods j noRawMethod l
+method-at : (x : Ty) (j : ℕ) → j < maxMethods → getD (typeRecord x .methods) j noRawMethod ≡ methodRecord (getD (x .methods) j noMethod)
+method-at x j l = from-first (λ j. methodRecord (getD (x .methods) j noMethod)) maxMethods j noRawMethod l
 
 methods-back : (methods : ℕ) (x : Ty) → methods ≤ maxMethods → length (x .methods) ≡ methodCount (x .rep) methods → ((m : ℕ) → MethodShaped (getD (x .methods) m noMethod))
-    → cond (isRef (x .rep)) (from methods 0 (λ j. methodOf (getD (rawType x .methods) j noRawMethod))) [] ≡ x .methods
+    → cond (isRef (x .rep)) (from methods 0 (λ j. methodOf (getD (typeRecord x .methods) j noRawMethod))) [] ≡ x .methods
 methods-back methods x l long h = go (x .rep) long
   where
     none-left : (ms : List Method) → length ms ≡ 0 → [] ≡ ms
     none-left [] e = refl
     none-left (m ∷ ms) e = absurd (omega arith)
 
-    go : (r : Rep) → length (x .methods) ≡ methodCount r methods → cond (isRef r) (from methods 0 (λ j. methodOf (getD (rawType x .methods) j noRawMethod))) [] ≡ x .methods
-    go ref e = is-from (λ j. methodOf (getD (rawType x .methods) j noRawMethod)) methods noMethod (x .methods) e λ j p.
+    go : (r : Rep) → length (x .methods) ≡ methodCount r methods → cond (isRef r) (from methods 0 (λ j. methodOf (getD (typeRecord x .methods) j noRawMethod))) [] ≡ x .methods
+    go ref e = is-from (λ j. methodOf (getD (typeRecord x .methods) j noRawMethod)) methods noMethod (x .methods) e λ j p.
         sym (ap methodOf (method-at x j (omega arith)) ∙ method-back (getD (x .methods) j noMethod) (h j))
     go w32 e = none-left (x .methods) e
     go w64 e = none-left (x .methods) e
 
-pub type-back : (methods sheet i : ℕ) (x : Ty) → methods ≤ maxMethods → Shaped methods sheet i x → typeOf methods sheet i (rawType x) ≡ x
+pub type-back : (methods sheet i : ℕ) (x : Ty) → methods ≤ maxMethods → Shaped methods sheet i x → typeOf methods sheet i (typeRecord x) ≡ x
 type-back methods sheet i x l h = build (rep-back (x .rep)) (x .cat)
     (ap (λ r. isRef r && eqb (bit (x .own)) 1) (rep-back (x .rep)) ∙ own-back (isRef (x .rep)) (x .own) (h .own))
-    (ap (λ r. cond (isRef r) (from methods 0 (λ j. methodOf (getD (rawType x .methods) j noRawMethod))) []) (rep-back (x .rep)) ∙ methods-back methods x l (h .long) (h .method))
+    (ap (λ r. cond (isRef r) (from methods 0 (λ j. methodOf (getD (typeRecord x .methods) j noRawMethod))) []) (rep-back (x .rep)) ∙ methods-back methods x l (h .long) (h .method))
     (key-back (x .key) (ltb i sheet) (h .key))
   where
     build : {a b : Rep} → a ≡ b → (c : ℕ) → {o p : Bool} → o ≡ p → {ms ns : List Method} → ms ≡ ns → {k l : Option Key} → k ≡ l
         → _≡_ {A = Ty} (record { rep = a; cat = c; own = o; methods = ms; key = k }) (record { rep = b; cat = c; own = p; methods = ns; key = l })
     build p c q r s = rw (p, q, r, s)
 
-pub type-codes : (methods sheet i : ℕ) (x : Ty) → Shaped methods sheet i x → So (rawTypeFits methods sheet i (rawType x))
+pub type-codes : (methods sheet i : ℕ) (x : Ty) → Shaped methods sheet i x → So (rawTypeFits methods sheet i (typeRecord x))
 type-codes methods sheet i x h = both (rep-code (x .rep)) (both
-    (imply (isRef (repOf (repCode (x .rep)))) _ λ _. both (flag-code (x .own)) (all-from (λ j. getD (rawType x .methods) j noRawMethod) rawMethodFits methods 0 λ j a b. go j (decLt j maxMethods)))
+    (imply (isRef (repOf (repCode (x .rep)))) _ λ _. both (flag-code (x .own)) (all-from (λ j. getD (typeRecord x .methods) j noRawMethod) rawMethodFits methods 0 λ j a b. go j (decLt j maxMethods)))
     (or-right (ltb i sheet) (key-code (x .key))))
   where
     rep-code : (r : Rep) → So (ltb (repCode r) 3)
@@ -171,6 +172,6 @@ type-codes methods sheet i x h = both (rep-code (x .rep)) (both
     or-right true h = refl
     or-right false h = h
 
-    go : (j : ℕ) → Dec (j < maxMethods) → So (rawMethodFits (getD (rawType x .methods) j noRawMethod))
+    go : (j : ℕ) → Dec (j < maxMethods) → So (rawMethodFits (getD (typeRecord x .methods) j noRawMethod))
     go j (yes l) = rw (method-at x j l) (method-codes (getD (x .methods) j noMethod) (h .method j .short))
-    go j (no l) = rw (getD-from-out (λ j. rawMethod (getD (x .methods) j noMethod)) noRawMethod maxMethods 0 j (omega arith))
+    go j (no l) = rw (getD-from-out (λ j. methodRecord (getD (x .methods) j noMethod)) noRawMethod maxMethods 0 j (omega arith))

@@ -18,7 +18,8 @@ use Rattle.model.specs.Restriction.{derive, derived}
 use Rattle.model.specs.Crossing.{Place, noPlace, placeAt}
 use Rattle.model.specs.Requests.{Cell, Call, System, Request, Result, refused, noCell, noCall, callAt, flagged, loaded, serve, after}
 use Rattle.model.specs.Check.{RawType, RawTable, RawPlace, RawCall, RawSystem, noRawType, noRawLinks, noRawPlace, noRawCall, typeOf, linksOf, placeOf, callOf, firstOf, typesOf, tableOf, systemOf, rawTypeFits, codesFit, stateCodesFit, systemFits, systemAccepted}
-use Rattle.model.specs.Handed.{rawType, rawPlace, rawCall, storedTable, storedFrom, counted, handBack, serveHanded, Returns}
+use Rattle.model.specs.Records.{typeRecord}
+use Rattle.model.specs.Handed.{placeRecord, callRecord, storedTable, storedFrom, counted, handBack, serveHanded, Returns}
 use Rattle.model.specs.Book.{Book, opened}
 use Rattle.model.specs.Claim.{accepted, feed, follow, reached}
 use Rattle.model.proofs.Tests.{ltb-so, so-ltb, ltb-no, leb-so}
@@ -141,15 +142,15 @@ module _ (r : RawTable) (fits : So (tableFits (tableOf r))) (t : Table) (a : Add
 
   -- the record of type i, and what it means
   abbrev recordAt : ℕ → RawType
-  recordAt i = cond (ltb i (r .types)) (getD (r .records) i noRawType) (rawType (typeAt t i))
+  recordAt i = cond (ltb i (r .types)) (getD (r .records) i noRawType) (typeRecord (typeAt t i))
 
   pub record-before : (i : ℕ) → i < r .types → recordAt i ≡ getD (r .records) i noRawType
-  record-before i l = ap (λ b. cond b (getD (r .records) i noRawType) (rawType (typeAt t i))) (so-ltb l)
+  record-before i l = ap (λ b. cond b (getD (r .records) i noRawType) (typeRecord (typeAt t i))) (so-ltb l)
 
   record-means : (i : ℕ) → i < size t → typeOf (r .methods) (r .sheet) i (recordAt i) ≡ typeAt t i
   record-means i l = go (ltb i (r .types)) refl
     where
-      go : (b : Bool) → ltb i (r .types) ≡ b → typeOf (r .methods) (r .sheet) i (cond b (getD (r .records) i noRawType) (rawType (typeAt t i))) ≡ typeAt t i
+      go : (b : Bool) → ltb i (r .types) ≡ b → typeOf (r .methods) (r .sheet) i (cond b (getD (r .records) i noRawType) (typeRecord (typeAt t i))) ≡ typeAt t i
       go true e = let k : i < r .types = ltb-so e in sym (a .grown .same i (omega (arith, counted-is)) ∙ old-type i k)
       go false e = type-back (r .methods) (r .sheet) i (typeAt t i) few-methods (new-shaped i (ltb-no e) l)
 
@@ -170,11 +171,11 @@ pub system-means : (r : RawSystem) → So (tableFits (tableOf (r .table))) → (
 unfolding systemOf storedFrom
 system-means r fits s a = rw (table-means (r .table) fits (s .table) a, first-all noCell (s .cells) (length (s .cells)) refl, places, calls)
   where
-    places : from (length (s .places)) 0 (λ k. placeOf (getD (map rawPlace (s .places)) k noRawPlace)) ≡ s .places
-    places = is-from (λ k. placeOf (getD (map rawPlace (s .places)) k noRawPlace)) (length (s .places)) noPlace (s .places) refl λ k l. sym (ap placeOf (List·getD-map rawPlace (s .places) k noPlace) ∙ place-back (placeAt (s .places) k))
+    places : from (length (s .places)) 0 (λ k. placeOf (getD (map placeRecord (s .places)) k noRawPlace)) ≡ s .places
+    places = is-from (λ k. placeOf (getD (map placeRecord (s .places)) k noRawPlace)) (length (s .places)) noPlace (s .places) refl λ k l. sym (ap placeOf (List·getD-map placeRecord (s .places) k noPlace) ∙ place-back (placeAt (s .places) k))
 
-    calls : from (length (s .calls)) 0 (λ j. callOf (getD (map rawCall (s .calls)) j noRawCall)) ≡ s .calls
-    calls = is-from (λ j. callOf (getD (map rawCall (s .calls)) j noRawCall)) (length (s .calls)) noCall (s .calls) refl λ j l. sym (ap callOf (List·getD-map rawCall (s .calls) j noCall) ∙ call-back (callAt s j))
+    calls : from (length (s .calls)) 0 (λ j. callOf (getD (map callRecord (s .calls)) j noRawCall)) ≡ s .calls
+    calls = is-from (λ j. callOf (getD (map callRecord (s .calls)) j noRawCall)) (length (s .calls)) noCall (s .calls) refl λ j l. sym (ap callOf (List·getD-map callRecord (s .calls) j noCall) ∙ call-back (callAt s j))
 
 -- what the check says of a state that is handed in
 pub accepted-codes : (r : RawSystem) → So (systemAccepted r) → So (codesFit (r .table)) × So (stateCodesFit r) × So (systemFits (systemOf r))
@@ -216,7 +217,7 @@ pub record Before (r r′ : RawSystem) : Type 0 where
   pub places : (p : ℕ) → p < r .places → getD (r′ .placeRecords) p noRawPlace ≡ getD (r .placeRecords) p noRawPlace
   pub calls : (j : ℕ) → j < r .calls → getD (r′ .callRecords) j noRawCall ≡ rawFlagged (getD (r .callRecords) j noRawCall) (getD (r′ .callRecords) j noRawCall .answered)
 
-place-forth : (c f s : ℕ) → So (ltb c 2) → _≡_ {A = RawPlace} (rawPlace (placeOf (record { code = c; first = f; second = s }))) (record { code = c; first = f; second = s })
+place-forth : (c f s : ℕ) → So (ltb c 2) → _≡_ {A = RawPlace} (placeRecord (placeOf (record { code = c; first = f; second = s }))) (record { code = c; first = f; second = s })
 place-forth zero f s h = refl
 place-forth (suc zero) f s h = refl
 place-forth (suc (suc c)) f s h = let l : suc (suc c) < 2 = ltb-so h in absurd (omega arith)
@@ -226,20 +227,20 @@ module _ (r : RawSystem) (h : So (systemAccepted r)) (s : System) (o : Onward (s
   unfolding systemOf
   old-cell k l = let f : ℕ → Cell = λ k. getD (r .cellRecords) k noCell in o .cells .same k (omega (arith, length-from f (r .cells) 0)) ∙ from-first f (r .cells) k noCell l
 
-  old-place : (p : ℕ) → p < r .places → rawPlace (placeAt (s .places) p) ≡ getD (r .placeRecords) p noRawPlace
+  old-place : (p : ℕ) → p < r .places → placeRecord (placeAt (s .places) p) ≡ getD (r .placeRecords) p noRawPlace
   unfolding systemOf stateCodesFit
   old-place p l =
       let f : ℕ → Place = λ k. placeOf (getD (r .placeRecords) k noRawPlace) in let x = getD (r .placeRecords) p noRawPlace in
       let c = all-at (λ p. ltb (p .code) 2) noRawPlace (firstOf (r .places) noRawPlace (r .placeRecords))
       (first (all (λ p. ltb (p .code) 2) (firstOf (r .places) noRawPlace (r .placeRecords))) _ (accepted-codes r h .1)) p (omega (arith, length-from (λ k. getD (r .placeRecords) k noRawPlace) (r .places) 0)) in
       let e = from-first (λ k. getD (r .placeRecords) k noRawPlace) (r .places) p noRawPlace l in
-      ap rawPlace (o .places .same p (omega (arith, length-from f (r .places) 0)) ∙ from-first f (r .places) p noPlace l) ∙ place-forth (x .code) (x .first) (x .second) (subst (λ y. So (ltb (y .code) 2)) e c)
+      ap placeRecord (o .places .same p (omega (arith, length-from f (r .places) 0)) ∙ from-first f (r .places) p noPlace l) ∙ place-forth (x .code) (x .first) (x .second) (subst (λ y. So (ltb (y .code) 2)) e c)
 
-  old-call : (j : ℕ) → j < r .calls → rawCall (callAt s j) ≡ rawFlagged (getD (r .callRecords) j noRawCall) (rawCall (callAt s j) .answered)
+  old-call : (j : ℕ) → j < r .calls → callRecord (callAt s j) ≡ rawFlagged (getD (r .callRecords) j noRawCall) (callRecord (callAt s j) .answered)
   unfolding systemOf
   old-call j l = let f : ℕ → Call = λ k. callOf (getD (r .callRecords) k noRawCall) in
-      ap rawCall (o .calls .same j (omega (arith, length-from f (r .calls) 0)))
-      ∙ ap (λ c. rawCall (flagged c (callAt s j .answered))) (from-first f (r .calls) j noCall l)
+      ap callRecord (o .calls .same j (omega (arith, length-from f (r .calls) 0)))
+      ∙ ap (λ c. callRecord (flagged c (callAt s j .answered))) (from-first f (r .calls) j noCall l)
 
   types-more : (i : ℕ) → i < r .table .types → i < size (s .table)
   unfolding systemOf tableOf
@@ -249,10 +250,10 @@ module _ (r : RawSystem) (h : So (systemAccepted r)) (s : System) (o : Onward (s
   unfolding storedFrom
   stored-before = record {
     links = λ k l. from-first (λ k. getD (r .table .links) k noRawLinks) (suc (r .table .cats)) k noRawLinks (omega arith);
-    types = λ i l. from-first _ (size (s .table)) i noRawType (types-more i l) ∙ ap (λ b. cond b (getD (r .table .records) i noRawType) (rawType (typeAt (s .table) i))) (so-ltb l);
+    types = λ i l. from-first _ (size (s .table)) i noRawType (types-more i l) ∙ ap (λ b. cond b (getD (r .table .records) i noRawType) (typeRecord (typeAt (s .table) i))) (so-ltb l);
     cells = old-cell;
-    places = λ p l. List·getD-map rawPlace (s .places) p noPlace ∙ old-place p l;
-    calls = λ j l. let e = List·getD-map rawCall (s .calls) j noCall in e ∙ old-call j l ∙ sym (ap (λ c. rawFlagged (getD (r .callRecords) j noRawCall) (c .answered)) e);
+    places = λ p l. List·getD-map placeRecord (s .places) p noPlace ∙ old-place p l;
+    calls = λ j l. let e = List·getD-map callRecord (s .calls) j noCall in e ∙ old-call j l ∙ sym (ap (λ c. rawFlagged (getD (r .callRecords) j noRawCall) (c .answered)) e);
   }
 
 before-self : (r : RawSystem) → Before r r
@@ -278,8 +279,8 @@ stored-counted r s = rw (
   first-all noRawLinks (firstOf (suc (r .table .cats)) noRawLinks (r .table .links)) (suc (r .table .cats)) (length-from _ (suc (r .table .cats)) 0),
   first-all noRawType (storedTable (r .table) (s .table) .records) (size (s .table)) (length-from _ (size (s .table)) 0),
   first-all noCell (s .cells) (length (s .cells)) refl,
-  first-all noRawPlace (map rawPlace (s .places)) (length (s .places)) (length-map (s .places) rawPlace),
-  first-all noRawCall (map rawCall (s .calls)) (length (s .calls)) (length-map (s .calls) rawCall),
+  first-all noRawPlace (map placeRecord (s .places)) (length (s .places)) (length-map (s .places) placeRecord),
+  first-all noRawCall (map callRecord (s .calls)) (length (s .calls)) (length-map (s .calls) callRecord),
 )
 
 pub definition-returns : (r : RawSystem) (q : Request) → Returns r q (serveHanded r q .outcome) (serveHanded r q .state)
@@ -308,7 +309,7 @@ module _ (r : RawTable) (fits : So (tableFits (tableOf r))) (codes : So (codesFi
       links : from (r .cats) 1 (λ k. getD (storedTable r t .links) k noRawLinks) ≡ from (r .cats) 1 (λ k. getD (r .links) k noRawLinks)
       links = from-same _ _ (r .cats) 1 (λ k l u. from-first (λ k. getD (r .links) k noRawLinks) (suc (r .cats)) k noRawLinks (omega arith))
 
-      go : (i : ℕ) → i < size t → (b : Bool) → ltb i (r .types) ≡ b → So (rawTypeFits (r .methods) (r .sheet) i (cond b (getD (r .records) i noRawType) (rawType (typeAt t i))))
+      go : (i : ℕ) → i < size t → (b : Bool) → ltb i (r .types) ≡ b → So (rawTypeFits (r .methods) (r .sheet) i (cond b (getD (r .records) i noRawType) (typeRecord (typeAt t i))))
       go i l true e = let k : i < r .types = ltb-so e in
           subst (λ x. So (rawTypeFits (r .methods) (r .sheet) i x)) (from-first (λ i. getD (r .records) i noRawType) (r .types) i noRawType k)
           (subst (λ n. So (rawTypeFits (r .methods) (r .sheet) n (getD (from (r .types) 0 (λ i. getD (r .records) i noRawType)) i noRawType))) (zero-add i)
@@ -318,8 +319,8 @@ module _ (r : RawTable) (fits : So (tableFits (tableOf r))) (codes : So (codesFi
 stored-state-codes : (r : RawSystem) (s : System) → So (stateCodesFit (storedFrom r s))
 unfolding stateCodesFit storedFrom
 stored-state-codes r s = both
-    (all-from _ (λ p. ltb (p .code) 2) (length (s .places)) 0 λ p l k. rw (List·getD-map rawPlace (s .places) p noPlace) (place-code (placeAt (s .places) p)))
-    (all-from _ (λ c. ltb (c .answered) 2) (length (s .calls)) 0 λ j l k. rw (List·getD-map rawCall (s .calls) j noCall) (call-code (callAt s j)))
+    (all-from _ (λ p. ltb (p .code) 2) (length (s .places)) 0 λ p l k. rw (List·getD-map placeRecord (s .places) p noPlace) (place-code (placeAt (s .places) p)))
+    (all-from _ (λ c. ltb (c .answered) 2) (length (s .calls)) 0 λ j l k. rw (List·getD-map callRecord (s .calls) j noCall) (call-code (callAt s j)))
 
 -- A state that passed and is served passes again if the model's state fits: its codes always do.
 pub accepted-again : (r : RawSystem) → So (systemAccepted r) → (q : Request) → So (systemFits (after (systemOf r) (serve (systemOf r) q))) → So (systemAccepted (serveHanded r q .state))

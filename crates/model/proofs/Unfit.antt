@@ -12,7 +12,8 @@ use Rattle.model.specs.Table.{optional, avail, unavail, closed, Table, n
 use Rattle.model.specs.Crossing.{object, adapter}
 use Rattle.model.specs.Requests.{Call, System, Request, Outcome, got, refused, pair}
 use Rattle.model.specs.Check.{RawPlace, RawCall, RawSystem, systemAccepted}
-use Rattle.model.specs.Handed.{rawTableOf, rawLoaded, rawType, storedFrom, serveHanded}
+use Rattle.model.specs.Records.{typeRecord}
+use Rattle.model.specs.Handed.{rawTableOf, rawLoaded, storedFrom, serveHanded}
 use Rattle.model.proofs.Words.{type, derivedAs, sheetOf, cell, stateFrom, move′, call′, answer′}
 
 -- Type 1 takes and answers numbers, 2 references, 3 neither; 5 takes a reference whose method is only optional, and an object of class 6 has it not.
@@ -105,7 +106,7 @@ odd-codes = (refl, refl, refl)
 abbrev noSlots : List ℕ
 noSlots = 0 ∷ 0 ∷ 0 ∷ 0 ∷ []
 
-pub record-of-type : rawType (derivedAs closed 6 3 (signed avail (14 ∷ 16 ∷ []) (some 18) ∷ bare unavail ∷ signed optional (9 ∷ []) none ∷ [])) ≡ record {
+pub record-of-type : typeRecord (derivedAs closed 6 3 (signed avail (14 ∷ 16 ∷ []) (some 18) ∷ bare unavail ∷ signed optional (9 ∷ []) none ∷ [])) ≡ record {
   rep = 0;
   cat = 0;
   own = 0;
@@ -120,6 +121,6 @@ pub record-of-type : rawType (derivedAs closed 6 3 (signed avail (14 ∷ 16 ∷ 
 unfolding from
 record-of-type = refl
 
-pub record-of-number : rawType noType ≡ record { rep = 1; cat = 0; own = 0; kind = 0; left = 0; right = 0; methods = replicate 16 (record { state = 0; count = 0; args = noSlots; answer = 0 }) }
+pub record-of-number : typeRecord noType ≡ record { rep = 1; cat = 0; own = 0; kind = 0; left = 0; right = 0; methods = replicate 16 (record { state = 0; count = 0; args = noSlots; answer = 0 }) }
 unfolding from
 record-of-number = refl

@@ -2,72 +2,25 @@
 -- accepted, the counted records are determined, and only what lies past a count is open.
 use mathlib.Core.Path.{_≡_}
 use mathlib.Core.Bool.{cond}
-use mathlib.Core.List.{List, [], _∷_, map}
-use mathlib.Core.Option.{Option, none, some}
+use mathlib.Core.List.{[], _∷_, map}
 use Prim.Native.Nat.{ℕ, suc}
 use lib.Dec.{ltb}
 use lib.ListN.{length, getD}
 use Rattle.model.specs.Basics.{Res, refuse, ok, need, from}
-use Rattle.model.specs.Table.{State, denied, optional, avail, unavail, Rep, ref, w32, w64, Kind, sub, sup, closed, Key, Method, Ty, Table, noMethod, maxMethods, size, typeAt}
+use Rattle.model.specs.Table.{Table, size, typeAt}
 use Rattle.model.specs.Relations.{bit}
 use Rattle.model.specs.Crossing.{Place, object, adapter}
 use Rattle.model.specs.Requests.{Call, System, Request, Result, Outcome, got, refused, noCell, serve}
-use Rattle.model.specs.Check.{RawMethod, RawType, RawLinks, RawTable, RawPlace, RawCall, RawSystem, noRawType, noRawLinks, noRawPlace, noRawCall, withRecords, firstOf, systemOf, systemAccepted}
+use Rattle.model.specs.Records.{typeRecord, linksRecord}
+use Rattle.model.specs.Check.{RawTable, RawPlace, RawCall, RawSystem, noRawType, noRawLinks, noRawPlace, noRawCall, withRecords, firstOf, systemOf, systemAccepted}
 
--- ---- The record that stands for a thing of the model: what it has no use for is 0.
-abbrev pub stateCode : State → ℕ
-stateCode denied = 0
-stateCode optional = 1
-stateCode avail = 2
-stateCode unavail = 3
+-- ---- The records that stand for a place and for a call; those for types and links are in Records.
+abbrev pub placeRecord : Place → RawPlace
+placeRecord (object class owner) = record { code = 0; first = class; second = owner }
+placeRecord (adapter behind type) = record { code = 1; first = behind; second = type }
 
-abbrev pub repCode : Rep → ℕ
-repCode ref = 0
-repCode w32 = 1
-repCode w64 = 2
-
-abbrev pub kindCode : Kind → ℕ
-kindCode sub = 0
-kindCode sup = 1
-kindCode closed = 2
-
-abbrev pub answerCode : Option ℕ → ℕ
-answerCode none = 0
-answerCode (some a) = suc a
-
--- a sheet type has no key: kind, left and right are 0
-abbrev pub keyCodes : Option Key → ℕ × ℕ × ℕ
-keyCodes none = (0, 0, 0)
-keyCodes (some k) = (kindCode (k .kind), k .left, k .right)
-
--- four slots for arguments in every record
-abbrev pub argumentSlots : ℕ
-argumentSlots = 4
-
-abbrev pub rawMethod : Method → RawMethod
-rawMethod m = record { state = stateCode (m .state); count = length (m .args); args = from argumentSlots 0 (λ j. getD (m .args) j 0); answer = answerCode (m .answer) }
-
--- 16 methods in every record
-abbrev pub rawType : Ty → RawType
-rawType x = record {
-  rep = repCode (x .rep);
-  cat = x .cat;
-  own = bit (x .own);
-  kind = keyCodes (x .key) .0;
-  left = keyCodes (x .key) .1;
-  right = keyCodes (x .key) .2;
-  methods = from maxMethods 0 (λ j. rawMethod (getD (x .methods) j noMethod));
-}
-
-abbrev pub rawLinks : List ℕ → RawLinks
-rawLinks xs = record { count = length xs; first = getD xs 0 0; second = getD xs 1 0 }
-
-abbrev pub rawPlace : Place → RawPlace
-rawPlace (object class owner) = record { code = 0; first = class; second = owner }
-rawPlace (adapter behind type) = record { code = 1; first = behind; second = type }
-
-abbrev pub rawCall : Call → RawCall
-rawCall c = record { caller = c .caller; cell = c .cell; method = c .method; answered = bit (c .answered) }
+abbrev pub callRecord : Call → RawCall
+callRecord c = record { caller = c .caller; cell = c .cell; method = c .method; answered = bit (c .answered) }
 
 -- the whole table; category 0 names none
 abbrev pub rawTableOf : Table → RawTable
@@ -77,8 +30,8 @@ rawTableOf t = record {
   cats = length (t .cats);
   sheet = t .sheet;
   types = size t;
-  links = noRawLinks ∷ map rawLinks (t .cats);
-  records = map rawType (t .types);
+  links = noRawLinks ∷ map linksRecord (t .cats);
+  records = map typeRecord (t .types);
 }
 
 -- the state of a loaded sheet
@@ -104,7 +57,7 @@ counted r = record {
 -- a new one as the record that stands for it. The records of places and calls say nothing but what the model's do, so that the old ones are as they were but for `answered`.
 abbrev pub storedTable : RawTable → Table → RawTable
 storedTable r t = withRecords r (size t) (firstOf (suc (r .cats)) noRawLinks (r .links))
-    (from (size t) 0 (λ i. cond (ltb i (r .types)) (getD (r .records) i noRawType) (rawType (typeAt t i))))
+    (from (size t) 0 (λ i. cond (ltb i (r .types)) (getD (r .records) i noRawType) (typeRecord (typeAt t i))))
 
 unfoldable pub storedFrom : RawSystem → System → RawSystem
 storedFrom r s = record {
@@ -113,8 +66,8 @@ storedFrom r s = record {
   places = length (s .places);
   calls = length (s .calls);
   cellRecords = s .cells;
-  placeRecords = map rawPlace (s .places);
-  callRecords = map rawCall (s .calls);
+  placeRecords = map placeRecord (s .places);
+  callRecords = map callRecord (s .calls);
 }
 
 -- ---- A request on a state that is handed in: 2 before all else.
