@@ -12,7 +12,7 @@ use Rattle.model.specs.Requests.{Request, move, pair, number, nothing, O
 use Rattle.model.specs.Chains.{permits, offered}
 use Rattle.model.specs.Book.{Book, pageAt, enter}
 use Rattle.model.specs.Claim.{follow, reached}
-use Rattle.model.proofs.Words.{type, owned, derivedAs, sheetOf, new′, move′, call′, answer′}
+use Rattle.model.proofs.CasesWords.{type, owned, derivedAs, sheetOf, new′, move′, call′, answer′}
 
 -- ---- "Case P. Three subjects, methods 0 read, 1 mark, 2 erase."
 abbrev pub caseP : Table

@@ -1,8 +1,8 @@
-pub mod Words
+pub mod CasesWords
 pub mod Cases
-pub mod Answers
-pub mod Worked
-pub mod Unfit
+pub mod CasesAnswers
+pub mod CasesWorked
+pub mod CasesHanded
 pub mod Tests
 pub mod Rules
 pub mod Largest

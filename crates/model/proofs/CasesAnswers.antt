@@ -8,7 +8,7 @@ use Rattle.model.specs.Basics.{Res, refuse, ok}
 use Rattle.model.specs.Table.{w32, w64, State, denied, optional, avail, unavail, Kind, sub, sup, closed, Table, validSheet, bare}
 use Rattle.model.specs.Relations.{Answers, compare}
 use Rattle.model.specs.Restriction.{restricted}
-use Rattle.model.proofs.Words.{typeIn, owned, numberIn, sheetIn}
+use Rattle.model.proofs.CasesWords.{typeIn, owned, numberIn, sheetIn}
 
 -- Categories 1 and 3 have none broader, 2 names 1. Types 0 to 3 differ in category alone, 4 and 5 are numbers, 6 to 8 have category 0 and another state, 9 is 0 with own.
 abbrev kinds : Table

@@ -14,7 +14,7 @@ use Rattle.model.specs.Relations.{subtype, loose, related}
 use Rattle.model.specs.Restriction.{withoutNew, entry, pending, deriveMethods, make, derive, derived}
 use Rattle.model.specs.Crossing.{Place, object, adapter, Reference, adapt, cross}
 use Rattle.model.specs.Requests.{Cell, System, Request, Outcome, got, refused, move, pair, number, nothing, noCall, loaded, run}
-use Rattle.model.proofs.Words.{type, sheetOf, cell, stateFrom, new′, move′, call′, answer′}
+use Rattle.model.proofs.CasesWords.{type, sheetOf, cell, stateFrom, new′, move′, call′, answer′}
 use Rattle.model.proofs.Cases.{caseP, twice}
 
 -- Requests on a state: what they come to, and the cells and places that there are more at the end.
