@@ -1,4 +1,4 @@
--- What Compare answers and what restriction makes of two states, written out and computed from the definitions.
+-- What Compare answers (R8 to R14) and what restriction makes of two states, written out and computed from the definitions.
 use mathlib.Core.Path.{_≡_, refl}
 use mathlib.Core.Bool.{Bool, true, false}
 use mathlib.Core.List.{List, [], _∷_, map}
@@ -64,7 +64,7 @@ states = denied ∷ optional ∷ avail ∷ unavail ∷ []
 abbrev restrictedBy : Kind → List (List State)
 restrictedBy d = map (λ a. map (restricted d a) states) states
 
--- Sub: the left's, unless the right permits less
+-- Sub: the left's, unless the right permits less (D2)
 pub sub-states : restrictedBy sub ≡
     (denied ∷ denied ∷ denied ∷ denied ∷ [])
     ∷ (unavail ∷ optional ∷ optional ∷ unavail ∷ [])
@@ -73,7 +73,7 @@ pub sub-states : restrictedBy sub ≡
     ∷ []
 sub-states = refl
 
--- Sup: the right's, unless the left permits less
+-- Sup: the right's, unless the left permits less (D4)
 pub sup-states : restrictedBy sup ≡
     (denied ∷ denied ∷ denied ∷ unavail ∷ [])
     ∷ (denied ∷ optional ∷ avail ∷ unavail ∷ [])
@@ -82,7 +82,7 @@ pub sup-states : restrictedBy sup ≡
     ∷ []
 sup-states = refl
 
--- Closed: avail where the left permits and the right has it avail, else unavail
+-- Closed: avail where the left permits and the right has it avail, else unavail (D8)
 pub closed-states : restrictedBy closed ≡
     (unavail ∷ unavail ∷ unavail ∷ unavail ∷ [])
     ∷ (unavail ∷ unavail ∷ avail ∷ unavail ∷ [])

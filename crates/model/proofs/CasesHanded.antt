@@ -1,5 +1,5 @@
 -- Worked cases on states that are handed in: layers that do not fit the value on its way (8 at its first crossing, 19 later), codes that name nothing (2), and what is
--- stored. No loaded sheet leads to these states; they pass the check all the same. Everything is computed from the definitions.
+-- stored. No loaded sheet leads to these states; they pass the check all the same (H16). Everything is computed from the definitions.
 use mathlib.Core.Path.{_≡_, refl}
 use mathlib.Core.Bool.{false, true}
 use mathlib.Core.List.{List, [], _∷_, _++_}
@@ -56,16 +56,16 @@ AllMeet (m ∷ ms) = (serveHanded handed (m .request) .outcome ≡ m .gives) × 
 
 abbrev pub unfitLayers : List Meets
 unfitLayers =
-    -- an argument meets 19 at the class: a reference where it takes a number, a number where it takes a reference, either where it takes nothing
+    -- an argument meets 19 at the class (C15): a reference where it takes a number, a number where it takes a reference, either where it takes nothing
     record { request = call′ 1 0 0 (pos 6 ∷ []); gives = refused 19 }
     ∷ record { request = call′ 1 1 0 (pos 6 ∷ []); gives = refused 19 }
     ∷ record { request = call′ 1 2 0 (pos 6 ∷ []); gives = refused 19 }
     ∷ record { request = call′ 1 3 0 (pos 6 ∷ []); gives = refused 19 }
-    -- what would be 8 or 10 stays so at the cell type's own argument type, and is 19 at the class's
+    -- what would be 8 or 10 stays so at the cell type's own argument type, and is 19 at the class's (C13)
     ∷ record { request = call′ 1 0 0 (pos 8 ∷ []); gives = refused 8 }
     ∷ record { request = call′ 1 0 0 (pos 7 ∷ []); gives = refused 10 }
     ∷ record { request = call′ 1 4 0 (pos 7 ∷ []); gives = refused 19 }
-    -- an answer meets 8 at the class, its first crossing, and 19 at an adapter behind which the class fits
+    -- an answer meets 8 at the class, its first crossing, and 19 at an adapter behind which the class fits (A9)
     ∷ record { request = answer′ 0 0 (some (pos 9)); gives = refused 8 }
     ∷ record { request = answer′ 0 1 (some (pos 9)); gives = refused 8 }
     ∷ record { request = answer′ 0 2 (some (pos 9)); gives = refused 8 }
@@ -79,7 +79,7 @@ pub unfit-layers : AllMeet unfitLayers
 unfolding serveHanded storedFrom
 unfit-layers = (refl, (refl, (refl, (refl, (refl, (refl, (refl, (refl, (refl, (refl, (refl, (refl, (refl, tt)))))))))))))
 
--- ---- codes: a counted place is object (0) or adapter (1), a counted call is answered (1) or not (0); past a count anything may stand
+-- ---- codes: a counted place is object (0) or adapter (1), a counted call is answered (1) or not (0); past a count anything may stand (H2, Q16)
 abbrev oddPlace : RawPlace
 oddPlace = record { code = 2; first = 0; second = 0 }
 
@@ -98,11 +98,13 @@ odd places calls = record {
   callRecords = handed .callRecords ++ (oddCall ∷ []);
 }
 
-pub odd-codes : (serveHanded (odd 0 0) (move′ 1 6 0 3) .outcome ≡ got (pair 10 2)) × (serveHanded (odd 1 0) (move′ 1 6 0 3) .outcome ≡ refused 2) × (serveHanded (odd 0 1) (move′ 1 6 0 3) .outcome ≡ refused 2)
+pub odd-codes : (serveHanded (odd 0 0) (move′ 1 6 0 3) .outcome ≡ got (pair 10 2))
+    × (serveHanded (odd 1 0) (move′ 1 6 0 3) .outcome ≡ refused 2)
+    × (serveHanded (odd 0 1) (move′ 1 6 0 3) .outcome ≡ refused 2)
 unfolding serveHanded storedFrom
 odd-codes = (refl, refl, refl)
 
--- ---- records: what stands for a derived type, its codes, slots and the methods past the table's, which are 0
+-- ---- records: what stands for a derived type, its codes, slots and the methods past the table's, which are 0 (B2 to B10, B14 to B18)
 abbrev noSlots : List ℕ
 noSlots = 0 ∷ 0 ∷ 0 ∷ 0 ∷ []
 

@@ -1,5 +1,5 @@
--- Worked cases beside those of document 01: references in arguments and answers through adapters, with the cells and places they become, and the refusals that no case of
--- 01 meets. Everything is computed from the definitions, but for a full table of types (11), which is a law over every such table.
+-- Worked cases beside Case P (K13): references in arguments and answers through adapters, with the cells and places they become, and the refusals that Case P
+-- does not meet. Everything is computed from the definitions, but for a full table of types (11), which is a law over every such table.
 use mathlib.Core.Path.{_≡_, refl, ap, _∙_}
 use mathlib.Core.Bool.{Bool, true, false, So}
 use mathlib.Core.List.{List, [], _∷_, _++_}
@@ -65,8 +65,8 @@ answeringTwice = sheetOf 2 3 (
 
 abbrev pub references : List Work
 references =
-    -- An argument through an adapter: the owner of the called object holds the new cell, of the class's argument type, over the adapter that the argument's own type
-    -- asked for; the owner uses it, and it is the argument's object that is called, through one adapter.
+    -- An argument through an adapter (C11, C12, C17): the owner of the called object holds the new cell, of the class's argument type, over the adapter that the first layer
+    -- asked for; the owner uses it, and it is the argument's object that is called, through one adapter (C19).
     record {
       state = loaded passing;
       requests = new′ 0 0 2 ∷ move′ 0 0 1 2 ∷ new′ 1 0 0 ∷ call′ 1 1 0 (pos 2 ∷ []) ∷ call′ 0 3 1 [] ∷ answer′ 1 1 none ∷ [];
@@ -74,7 +74,7 @@ references =
       cells = cell 0 2 1 ∷ cell 1 2 1 ∷ cell 1 0 2 ∷ cell 0 1 3 ∷ [];
       places = object 0 0 ∷ adapter 0 6 ∷ object 0 1 ∷ adapter 2 9 ∷ [];
     }
-    -- Two arguments: a cell for each, in order, of the class's first and second argument type.
+    -- Two arguments (C10, C17): a cell for each, in order, of the class's first and second argument type.
     ∷ record {
       state = loaded passingTwo;
       requests = new′ 0 0 3 ∷ move′ 0 0 1 3 ∷ new′ 1 0 0 ∷ new′ 1 0 0 ∷ call′ 1 1 0 (pos 2 ∷ pos 3 ∷ []) ∷ [];
@@ -82,7 +82,7 @@ references =
       cells = cell 0 3 1 ∷ cell 1 3 1 ∷ cell 1 0 2 ∷ cell 1 0 3 ∷ cell 0 1 4 ∷ cell 0 2 5 ∷ [];
       places = object 0 0 ∷ adapter 0 7 ∷ object 0 1 ∷ object 0 1 ∷ adapter 2 11 ∷ adapter 3 13 ∷ [];
     }
-    -- An answer through two adapters: the caller holds the new cell, of the cell type's answer type.
+    -- An answer through two adapters (A7, A8, A10): the caller holds the new cell, of the cell type's answer type.
     ∷ record {
       state = loaded answeringTwice;
       requests = new′ 0 0 1 ∷ move′ 0 0 1 2 ∷ move′ 1 1 1 3 ∷ call′ 1 2 0 [] ∷ new′ 0 0 0 ∷ answer′ 0 0 (some (pos 3)) ∷ [];
@@ -103,7 +103,7 @@ full cells places calls = stateFrom twice (replicate cells (cell 0 0 0)) (replic
 
 abbrev pub refusals : List Work
 refusals =
-    -- 6: a cell unknown, another's, or negative, moved and called
+    -- 6: a cell unknown, another's, or negative, moved and called (M2, C2)
     record {
       state = loaded caseP;
       requests = new′ 0 1 4 ∷ move′ 0 0 1 2 ∷ move′ 0 2 1 2 ∷ move′ 1 0 1 2 ∷ move (pos 0) (negsuc 0) (pos 1) (pos 2) ∷ call′ 1 0 0 [] ∷ [];
@@ -111,23 +111,25 @@ refusals =
       cells = cell 0 4 0 ∷ cell 1 2 0 ∷ [];
       places = object 1 0 ∷ [];
     }
-    -- 15 for too few and too many arguments; 16 on the far side of both ends of w32, and the ends themselves accepted
+    -- 15 for too few and too many arguments (C4); 16 on the far side of both ends of w32, and the ends themselves accepted (C14)
     ∷ record {
       state = loaded caseP;
-      requests = new′ 0 1 4 ∷ call′ 0 0 1 [] ∷ call′ 0 0 1 (pos 5 ∷ pos 6 ∷ []) ∷ call′ 0 0 1 (pos 2147483648 ∷ []) ∷ call′ 0 0 1 (pos 2147483647 ∷ []) ∷ call′ 0 0 1 (negsuc 2147483648 ∷ []) ∷ call′ 0 0 1 (negsuc 2147483647 ∷ []) ∷ [];
+      requests = new′ 0 1 4 ∷ call′ 0 0 1 [] ∷ call′ 0 0 1 (pos 5 ∷ pos 6 ∷ []) ∷ call′ 0 0 1 (pos 2147483648 ∷ []) ∷ call′ 0 0 1 (pos 2147483647 ∷ [])
+          ∷ call′ 0 0 1 (negsuc 2147483648 ∷ []) ∷ call′ 0 0 1 (negsuc 2147483647 ∷ []) ∷ [];
       gives = got (pair 0 0) ∷ refused 15 ∷ refused 15 ∷ refused 16 ∷ got (pair 0 0) ∷ refused 16 ∷ got (pair 1 0) ∷ [];
       cells = cell 0 4 0 ∷ [];
       places = object 1 0 ∷ [];
     }
-    -- answers: 6 for a call unknown and for one who does not own the base, 15 for nothing where a number is due, then 17 once it is given
+    -- answers: 6 for a call unknown and for one who does not own the base, 15 for nothing where a number is due, then 17 once it is given (A2, A3, A5)
     ∷ record {
       state = loaded caseP;
-      requests = new′ 0 1 4 ∷ move′ 0 0 1 2 ∷ call′ 1 1 0 [] ∷ answer′ 0 1 (some (pos 5)) ∷ answer′ 1 0 (some (pos 5)) ∷ answer′ 0 0 none ∷ answer′ 0 0 (some (pos 5)) ∷ answer′ 0 0 (some (pos 5)) ∷ [];
+      requests = new′ 0 1 4 ∷ move′ 0 0 1 2 ∷ call′ 1 1 0 [] ∷ answer′ 0 1 (some (pos 5)) ∷ answer′ 1 0 (some (pos 5)) ∷ answer′ 0 0 none ∷ answer′ 0 0 (some (pos 5))
+          ∷ answer′ 0 0 (some (pos 5)) ∷ [];
       gives = got (pair 0 0) ∷ got (pair 1 0) ∷ got (pair 0 0) ∷ refused 6 ∷ refused 6 ∷ refused 15 ∷ got (number (pos 5)) ∷ refused 17 ∷ [];
       cells = cell 0 4 0 ∷ cell 1 2 0 ∷ [];
       places = object 1 0 ∷ [];
     }
-    -- 15 for an argument's cell that is another's, and one that is unknown
+    -- 15 for an argument's cell that is another's, and one that is unknown (C5)
     ∷ record {
       state = loaded passing;
       requests = new′ 0 0 0 ∷ move′ 0 0 1 0 ∷ call′ 1 1 0 (pos 0 ∷ []) ∷ call′ 1 1 0 (pos 2 ∷ []) ∷ [];
@@ -135,12 +137,18 @@ refusals =
       cells = cell 0 0 0 ∷ cell 1 0 0 ∷ [];
       places = object 0 0 ∷ [];
     }
-    -- 12: the last place is given to an object; one further, or an adapter behind it, finds none. A reference that needs no place still moves.
-    ∷ record { state = full 1 127 0; requests = new′ 0 0 1 ∷ new′ 0 0 0 ∷ new′ 0 0 0 ∷ move′ 0 0 1 1 ∷ move′ 0 0 1 0 ∷ []; gives = refused 12 ∷ got (pair 1 127) ∷ refused 12 ∷ refused 12 ∷ got (pair 2 0) ∷ []; cells = cell 0 0 127 ∷ cell 1 0 0 ∷ []; places = object 0 0 ∷ [] }
+    -- 12: the last place is given to an object; one further, or an adapter behind it, finds none (N4, N5, X9). A reference that needs no place still moves.
+    ∷ record {
+      state = full 1 127 0;
+      requests = new′ 0 0 1 ∷ new′ 0 0 0 ∷ new′ 0 0 0 ∷ move′ 0 0 1 1 ∷ move′ 0 0 1 0 ∷ [];
+      gives = refused 12 ∷ got (pair 1 127) ∷ refused 12 ∷ refused 12 ∷ got (pair 2 0) ∷ [];
+      cells = cell 0 0 127 ∷ cell 1 0 0 ∷ [];
+      places = object 0 0 ∷ [];
+    }
     ∷ record { state = full 1 126 0; requests = new′ 0 0 1 ∷ []; gives = got (pair 1 127) ∷ []; cells = cell 0 1 127 ∷ []; places = object 0 0 ∷ adapter 126 6 ∷ [] }
-    -- 13: cell 255 is the last
+    -- 13: cell 255 is the last (N7, M5)
     ∷ record { state = full 255 1 0; requests = move′ 0 0 1 0 ∷ move′ 0 0 1 0 ∷ new′ 0 0 0 ∷ []; gives = got (pair 255 0) ∷ refused 13 ∷ refused 13 ∷ []; cells = cell 1 0 0 ∷ []; places = [] }
-    -- 18: call 255 is the last
+    -- 18: call 255 is the last (C7)
     ∷ record { state = full 1 1 255; requests = call′ 0 0 0 [] ∷ call′ 0 0 0 [] ∷ []; gives = got (pair 255 0) ∷ refused 18 ∷ []; cells = []; places = [] }
     ∷ []
 
@@ -148,7 +156,7 @@ pub refusals-worked : AllWork refusals
 unfolding run
 refusals-worked = (refl, (refl, (refl, (refl, (refl, (refl, (refl, (refl, tt))))))))
 
--- ---- 11, over every table of 128 types: nothing new is derived. With 127 there is room for one, if the types of its signatures are there.
+-- ---- 11, over every table of 128 types: nothing new is derived (D15). With 127 there is room for one, if the types of its signatures are there.
 abbrev Methods : Type 0
 Methods = Option (Table × List Method)
 
@@ -173,11 +181,12 @@ pub last-made : (t : Table) (d : Kind) (l r : ℕ) → size t ≡ 127 → withou
     → derived t d l r ≡ ok (withTypes (p .0) (set (p .0 .types) 127 (entry t d l r (p .1))), 127)
 last-made t d l r e w p m = derived-by t d l r 127 e w ∙ ap (making t 127 d l r none true) m
 
--- a crossing that wants a new Sub in such a table is refused with 11
+-- a crossing that wants a new Sub in such a table is refused with 11 (X5)
 pub full-crossing : (f : Reference) (to r : ℕ) → typeAt (f .table) to .own ≡ false → So (related loose (f .table) to (f .type)) → related subtype (f .table) to (f .type) ≡ false
     → size (f .table) ≡ 128 → withoutNew (f .table) sub to (f .type) ≡ none → cross f to r ≡ refuse 11
 unfolding cross
-full-crossing f to r own lo st e w = go (typeAt t to .own) own (related loose t to (f .type)) lo (related subtype t to (f .type)) st (derived t sub to (f .type)) (full-refused t sub to (f .type) e w) _ _
+full-crossing f to r own lo st e w = go (typeAt t to .own) own (related loose t to (f .type)) lo (related subtype t to (f .type)) st
+    (derived t sub to (f .type)) (full-refused t sub to (f .type) e w) _ _
   where
     t : Table
     t = f .table

@@ -59,7 +59,8 @@ module _ (t : Table) (f : TableFitting t) where
 
   links-mean : from (length (t .cats)) 1 (λ k. linksOf (getD (rawTableOf t .links) k noRawLinks)) ≡ t .cats
   links-mean = from-shift (λ k. linksOf (getD (rawTableOf t .links) k noRawLinks)) (length (t .cats)) 0
-      ∙ is-from (λ k. linksOf (getD (map linksRecord (t .cats)) k noRawLinks)) (length (t .cats)) [] (t .cats) refl λ k l. sym (ap linksOf (link-at k l) ∙ links-back (getD (t .cats) k []) (link-fits k l))
+      ∙ is-from (λ k. linksOf (getD (map linksRecord (t .cats)) k noRawLinks)) (length (t .cats)) [] (t .cats) refl λ k l.
+      sym (ap linksOf (link-at k l) ∙ links-back (getD (t .cats) k []) (link-fits k l))
 
   pub table-back : tableOf (rawTableOf t) ≡ t
   unfolding tableOf

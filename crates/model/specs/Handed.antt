@@ -1,5 +1,5 @@
--- What is returned to the one who hands a state in: the number or the result, and the state as records of numbers again. Refused, it is what was handed in, all of it;
--- accepted, the counted records are determined, and only what lies past a count is open.
+-- What is returned to the one who hands a state in: the number or the result, and the state as records of numbers again. Refused, it is what was handed in, all of it (Q14);
+-- accepted, the counted records are determined, and only what lies past a count is open (Q15, E3).
 use mathlib.Core.Path.{_≡_}
 use mathlib.Core.Bool.{cond}
 use mathlib.Core.List.{[], _∷_, map}
@@ -70,7 +70,7 @@ storedFrom r s = record {
   callRecords = map callRecord (s .calls);
 }
 
--- ---- A request on a state that is handed in: 2 before all else.
+-- ---- A request on a state that is handed in: 2 before all else (Q13).
 pub record Served : Type 0 where
   pub outcome : Outcome
   pub state : RawSystem
