@@ -137,7 +137,7 @@ provedCases =
     ∷ record { table = caseP; requests = three ++ (move′ 2 2 2 5 ∷ []); gives = got (pair 0 0) ∷ got (pair 1 0) ∷ got (pair 2 1) ∷ refused 10 ∷ []; types = 8 }
     -- "new 0 2 2: 7"
     ∷ record { table = caseP; requests = new′ 0 2 2 ∷ []; gives = refused 7 ∷ []; types = 6 }
-    -- "erase called on cell 1: 14; mark on cell 2: 14"
+    -- "erase called on cell 1: 14; mark on cell 2: 14", which is only optional in type 3
     ∷ record { table = caseP; requests = two ++ (call′ 1 1 2 [] ∷ []); gives = got (pair 0 0) ∷ got (pair 1 0) ∷ refused 14 ∷ []; types = 6 }
     ∷ record { table = caseP; requests = three ++ (call′ 2 2 1 (pos 7 ∷ []) ∷ []); gives = got (pair 0 0) ∷ got (pair 1 0) ∷ got (pair 2 1) ∷ refused 14 ∷ []; types = 8 }
     -- further: a number answered through an adapter, one too large for w32, and numbers that are negative
