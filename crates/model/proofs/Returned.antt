@@ -9,7 +9,7 @@ use Prim.Native.Nat.{ℕ, zero, suc, _+_, _≤_, _<_}
 use native.Mathlib.Nat.{zero-add}
 use native.Mathlib.Omega.{arith}
 use native.Mathlib.Decide.{decLt}
-use lib.Dec.{ltb, leb}
+use lib.Dec.{ltb}
 use lib.ListN.{length, getD, List·getD-map, length-map}
 use Rattle.model.specs.Basics.{Res, refuse, ok, need, all, every, from}
 use Rattle.model.specs.Table.{Kind, Key, Ty, Table, noMethod, noType, maxMethods, maxTypes, size, typeAt, permit, isNone, methodCount, between, tableFits, validSheet}
@@ -22,13 +22,13 @@ use Rattle.model.specs.Records.{typeRecord}
 use Rattle.model.specs.Handed.{placeRecord, callRecord, storedTable, storedFrom, counted, handBack, serveHanded, Returns}
 use Rattle.model.specs.Book.{Book, opened}
 use Rattle.model.specs.Claim.{accepted, feed, follow, reached}
-use Rattle.model.proofs.Tests.{ltb-so, so-ltb, ltb-no, leb-so}
+use Rattle.model.proofs.Tests.{ltb-so, so-ltb, ltb-no}
 use Rattle.model.proofs.Rules.{both, first, second}
 use Rattle.model.proofs.Lists.{length-from, from-first, is-from, from-same, all-from, every-from, first-all}
 use Rattle.model.proofs.Growth.{Grown, grown-refl, grown-trans}
 use Rattle.model.proofs.Deriving.{IfSome}
 use Rattle.model.proofs.Completes.{Inv, Got, Fresh}
-use Rattle.model.proofs.Good.{Sound, sheet-within, derive-inv, derive-sound}
+use Rattle.model.proofs.Good.{Sound, counted-of, sheet-within, derive-inv, derive-sound}
 use Rattle.model.proofs.Steps.{IfOk}
 use Rattle.model.proofs.Fitting.{all-at, every-at, table-fitting}
 use Rattle.model.proofs.Within.{SystemIn, serve-in}
@@ -67,13 +67,8 @@ module _ (t₀ : Table) where
 
   pub added-derives : (t : Table) → Added t → (d : Kind) (l r : ℕ) → So (related free t l r)
       → IfOk (derived t d l r) (λ x. Added (x .0) × Grown t (x .0) × (x .1 < size (x .0)) × (Unit {0} → Unit {0}))
-  added-derives t a d l r h = derived-of _ t d l r (go (derive maxTypes t d l r) (derive-inv t (a .sound .methods) maxTypes d l r h) (derive-sound t (a .sound) maxTypes d l r h room))
+  added-derives t a d l r h = derived-of _ t d l r (go (derive maxTypes t d l r) (derive-inv t (a .sound .methods) maxTypes d l r h) (derive-sound t (a .sound) maxTypes d l r h (counted-of t (a .sound .counts) .types)))
     where
-      room : size t ≤ maxTypes
-      room = let c = a .sound .counts in
-          let a₁ = between 1 16 (t .subjects) in let a₂ = between 1 16 (t .methods) in let a₃ = leb (length (t .cats)) 31 in let a₄ = between 1 48 (t .sheet) in
-          leb-so (second (leb (t .sheet) (size t)) _ (second a₄ _ (second a₃ _ (second a₂ _ (second a₁ _ c)))))
-
       go : (o : Option (Table × ℕ)) → IfSome o (Got t t (λ j. ⊥) d l r) → IfSome o (λ x. Sound (x .0) × Grown t (x .0) × (x .1 < size (x .0)))
           → IfSome o (λ x. Added (x .0) × Grown t (x .0) × (x .1 < size (x .0)) × (Unit {0} → Unit {0}))
       go none w s = tt
@@ -119,8 +114,7 @@ module _ (r : RawTable) (fits : So (tableFits (tableOf r))) (t : Table) (a : Add
   old-type i l = from-first (λ i. typeOf (r .methods) (r .sheet) i (getD (r .records) i noRawType)) (r .types) i noType l
 
   few-methods : r .methods ≤ maxMethods
-  few-methods = let c = a .sound .counts in let m : t .methods ≤ maxMethods = leb-so (second (leb 1 (t .methods)) _ (first (between 1 16 (t .methods)) _ (second (between 1 16 (t .subjects)) _ c))) in
-      subst (λ n. n ≤ maxMethods) methods-are m
+  few-methods = subst (λ n. n ≤ maxMethods) methods-are (counted-of t (a .sound .counts) .methods)
 
   sheet-counted : r .sheet ≤ r .types
   sheet-counted = let f = table-fitting (tableOf r) fits in omega (arith, f .sheet, counts-are .2, counts-are .3)
