@@ -6,6 +6,7 @@ pub mod Crossing
 pub mod Requests
 pub mod Check
 pub mod Records
+pub mod Handed
 pub mod Chains
 pub mod Book
 pub mod Claim

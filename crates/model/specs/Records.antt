@@ -1,6 +1,6 @@
 -- The record that stands for a type of the model, and the one for a category's broader ones: what they have no use for is 0, so that a stored record is determined.
 -- Kind, left and right of a sheet type are 0; a number type has no own and no methods; a method that isn't permitted has no signature; unused slots are 0.
-use mathlib.Core.List.{List, [], _∷_}
+use mathlib.Core.List.{List}
 use mathlib.Core.Option.{Option, none, some}
 use Prim.Native.Nat.{ℕ, suc}
 use lib.ListN.{length, getD}
@@ -35,11 +35,14 @@ keyCodes none = (0, 0, 0)
 keyCodes (some k) = (kindCode (k .kind), k .left, k .right)
 
 -- four slots for arguments in every record
+abbrev pub argumentSlots : ℕ
+argumentSlots = 4
+
 abbrev pub methodRecord : Method → RawMethod
 methodRecord m = record {
   state = stateCode (m .state);
   count = length (m .args);
-  args = getD (m .args) 0 0 ∷ getD (m .args) 1 0 ∷ getD (m .args) 2 0 ∷ getD (m .args) 3 0 ∷ [];
+  args = from argumentSlots 0 (λ j. getD (m .args) j 0);
   answer = answerCode (m .answer);
 }
 

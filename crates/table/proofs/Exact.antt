@@ -1,15 +1,15 @@
 -- When a stored record is exact (specs/Records), for whoever makes records; and how bytes grow by one record.
-use mathlib.Core.Path.{_≡_, refl, sym, ap, _∙_, subst}
+use mathlib.Core.Path.{_≡_, refl, sym, ap, _∙_}
 use mathlib.Core.Logic.{⊎-elim}
-use mathlib.Core.Bool.{Bool, true, false, cond}
-use mathlib.Core.List.{List, [], _∷_, _++_, map, flatten, append-assoc}
-use mathlib.Core.Option.{Option, none, some}
-use Prim.Native.Nat.{ℕ, zero, suc, _+_, _-_, _*_, _≤_, _<_}
+use mathlib.Core.Bool.{true, false, cond}
+use mathlib.Core.List.{List, [], _∷_, _++_}
+use mathlib.Core.Option.{none, some}
+use Prim.Native.Nat.{ℕ, zero, suc, _+_, _-_, _≤_, _<_}
 use native.Mathlib.Nat.{le-of-suc-le-suc, not-suc-le-zero, le-trans}
 use native.Mathlib.Omega.{arith}
 use lib.Dec.{eqb, ltb}
 use borrow.Author.Tests.{lt-ltb, le-ltb}
-use lib.ListN.{length, getD, take, drop, replicate, length-append, length-replicate, length-take, List·getD-eq-default}
+use lib.ListN.{length, getD, take, drop, replicate, length-append, length-replicate, List·getD-eq-default}
 use lib.Seq.{sets, sets-eq, getD-take, length-take-le, take-append-seam, drop-append-add}
 use Rattle.model.specs.Basics.{from}
 use Rattle.model.specs.Table.{permit, Method, noMethod}
@@ -67,11 +67,11 @@ mk-eq p q r t = cc
 
 -- A method without a signature, and one with a signature whose other slots are 0.
 pub unsigned-exact : (s : ℕ) → s < 4 → permit (stateOf s) ≡ false → MethodExact (record { state = s; count = 0; args = 0 ∷ 0 ∷ 0 ∷ 0 ∷ []; answer = 0 })
-unfolding mk
+unfolding mk from
 unsigned-exact s h p = rw p (mk-eq (state-back s h) refl refl refl)
 
 pub signed-exact : (m : RawMethod) → m .state < 4 → permit (stateOf (m .state)) ≡ true → m .count ≤ 4 → length (m .args) ≡ 4 → ((k : ℕ) → m .count ≤ k → getD (m .args) k 0 ≡ 0) → MethodExact m
-unfolding mk
+unfolding mk from
 signed-exact m h p n l z =
     rw p
     (mk-eq (state-back (m .state) h) (length-take-le (m .count) (m .args) (omega arith))
@@ -110,7 +110,7 @@ module _ (ms sh i : ℕ) (x : RawType) (l : length (x .methods) ≡ 16) (key : K
 
   -- A reference type whose methods are exact, and blank behind the last.
   pub ref-exact : x .rep ≡ 0 → x .own < 2 → ((j : ℕ) → j < ms → MethodExact (getD (x .methods) j noRawMethod)) → ((j : ℕ) → ms ≤ j → j < 16 → getD (x .methods) j noRawMethod ≡ blank) → TypeExact ms sh i x
-  unfolding TypeExact mkT
+  unfolding TypeExact mkT from
   ref-exact r o e z =
       let f : ℕ → Method = λ j. methodOf (getD (x .methods) j noRawMethod) in
       rw (ref-rep (x .rep) r)
@@ -123,7 +123,7 @@ module _ (ms sh i : ℕ) (x : RawType) (l : length (x .methods) ≡ 16) (key : K
 
   -- A number type, which has neither own nor methods.
   pub number-exact : (x .rep ≡ 0 → ⊥) → x .rep < 3 → x .own ≡ 0 → ((j : ℕ) → j < 16 → getD (x .methods) j noRawMethod ≡ blank) → TypeExact ms sh i x
-  unfolding TypeExact mkT
+  unfolding TypeExact mkT from
   number-exact n r o z =
       rw (number-rep (x .rep) n)
       (mkT-eq (x .cat) (rep-back (x .rep) r) (sym o) key (stored-methods [] z))

@@ -106,7 +106,7 @@ mkT-eq : {a b c d e f a′ b′ c′ d′ e′ f′ : ℕ} {m m′ : List RawMet
 mkT-eq p₀ p₁ p₂ p₃ p₄ p₅ p₆ = cc
 
 -- n bytes of one list from `at` on are those of another from `at′` on
-Agree : List ℕ → ℕ → List ℕ → ℕ → ℕ → Type 0
+unfoldable pub Agree : List ℕ → ℕ → List ℕ → ℕ → ℕ → Type 0
 Agree b at b′ at′ n = (p : ℕ) → p < n → getD b (at + p) 0 ≡ getD b′ (at′ + p) 0
 
 at-zero : (b : List ℕ) (at : ℕ) → getD b (at + 0) 0 ≡ getD b at 0
@@ -128,7 +128,7 @@ method-agree : (b : List ℕ) (at : ℕ) (b′ : List ℕ) (at′ : ℕ) → Agr
 unfolding Agree mk
 method-agree b at b′ at′ h = mk-eq (agree-first b at b′ at′ 7 h (omega arith)) (h 1 (omega arith)) (h 2 (omega arith)) (h 3 (omega arith)) (h 4 (omega arith)) (h 5 (omega arith)) (h 6 (omega arith))
 
-type-agree : (b : List ℕ) (at : ℕ) (b′ : List ℕ) (at′ : ℕ) → Agree b at b′ at′ 128 → rawTypeAt b at ≡ rawTypeAt b′ at′
+pub type-agree : (b : List ℕ) (at : ℕ) (b′ : List ℕ) (at′ : ℕ) → Agree b at b′ at′ 128 → rawTypeAt b at ≡ rawTypeAt b′ at′
 unfolding Agree mkT rawMethodsAt
 type-agree b at b′ at′ h =
     mkT-eq (agree-first b at b′ at′ 128 h (omega arith)) (h 1 (omega arith)) (h 2 (omega arith)) (h 3 (omega arith)) (h 4 (omega arith)) (h 5 (omega arith))

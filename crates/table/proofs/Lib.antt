@@ -4,3 +4,4 @@ pub mod Tables
 pub mod Linked
 pub mod Codes
 pub mod Exact
+pub mod Whole

@@ -1,10 +1,10 @@
 -- The bytes that stand for a table of the model: its records one behind the other, and 0 behind them.
 use mathlib.Core.Path.{_≡_}
-use mathlib.Core.List.{List, _++_, map, flatten}
+use mathlib.Core.List.{List, [], _∷_, _++_, map, flatten}
 use Prim.Native.Nat.{ℕ, _-_}
 use lib.ListN.{length, replicate}
 use Rattle.model.specs.Table.{Table, Ty, size}
-use Rattle.model.specs.Check.{RawMethod, RawType, noRawLinks, methodOf, typeOf}
+use Rattle.model.specs.Check.{RawMethod, RawType, methodOf, typeOf}
 use Rattle.model.specs.Records.{methodRecord, typeRecord, linksRecord}
 use Rattle.table.specs.declared.Counts.{Counts}
 use Rattle.table.specs.Store.{recordBytes, linksBytes}
@@ -24,10 +24,10 @@ unfoldable pub typeBytes : List Ty → List ℕ
 unfolding padded
 typeBytes xs = padded 16384 (flatten (map bytesOf xs))
 
--- category 0 names none: its bytes are 0
+-- category 0, which names none, in front: its bytes are 0
 unfoldable pub linkBytes : List (List ℕ) → List ℕ
 unfolding padded
-linkBytes cs = padded 96 (linksBytes noRawLinks ++ flatten (map linkBytesOf cs))
+linkBytes cs = padded 96 (flatten (map linkBytesOf ([] ∷ cs)))
 
 abbrev pub countsOf : Table → Counts
 countsOf t = record { subjects = t .subjects; methods = t .methods; cats = length (t .cats); sheet = t .sheet; types = size t }
