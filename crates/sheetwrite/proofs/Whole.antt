@@ -9,10 +9,11 @@ use lib.Dec.{leb}
 use lib.ListN.{length, take}
 use borrow.Author.Tests.{leb-true, le-leb, lt-leb}
 use Rattle.model.specs.Basics.{from}
-use Rattle.model.specs.Table.{Ty, Table, size, between, countsFit, tableFits, maxSubjects, maxMethods, maxCategories, maxSheetTypes}
+use Rattle.model.specs.Table.{Ty, Table, size, between, countsFit, tableFits, maxSubjects, maxMethods, maxCategories, maxSheetTypes, maxTypes}
 use Rattle.model.specs.Check.{RawTable, codesFit, tableOf, tableAccepted}
 use Rattle.model.proofs.Rules.{first, second}
 use Rattle.table.specs.declared.Counts.{Counts}
+use Rattle.table.specs.Limits.{Limits}
 use Rattle.table.specs.Store.{rawTable, broaderOf}
 use Rattle.table.proofs.Lists.{length-from}
 use Rattle.sheet.specs.Lines.{bytes, join}
@@ -20,7 +21,7 @@ use Rattle.sheet.specs.Text.{newestForm, numberText, each, typeLines, endText, 
 use Rattle.textwrite.specs.Fill.{Filled, Lined}
 use Rattle.textwrite.proofs.Laws.{counted, fill-is}
 use Rattle.sheetwrite.specs.declared.Wrote.the-variants.{UnfitTable, ShortBuffer, Length}
-use Rattle.sheetwrite.specs.Parts.{typeIn, typeLinesTo, underLines, countLines, frontLines, backLines, Writable}
+use Rattle.sheetwrite.specs.Parts.{typeIn, typeLinesTo, underLines, countLines, frontLines, backLines}
 use Rattle.sheetwrite.specs.Answer.{writtenOf}
 
 take-from : {A : Type 0} (f : ℕ → A) (n c i : ℕ) → n ≤ c → take n (from c i f) ≡ from n i f
@@ -45,13 +46,13 @@ module _ (b l : List ℕ) (c : Counts) where
       ∙ ap (λ z. join (linesWith z (from (c .sheet) 0 (typeIn b c)))) (sym (length-from (broaderOf l) (c .cats) 1))
       ∙ ap (λ z. join (linesWith (length (from (c .cats) 1 (broaderOf l))) z)) (sym (take-from (typeIn b c) (c .sheet) (c .types) 0 h))
 
-  pub sheet-is : {old new : List ℕ} {r : ℕ} → Writable c → Lined old new (frontLines l c ++ backLines b c) r → Filled old new (text (tableOf (rawTable b l c))) r
-  sheet-is g f = fill-is (parts-are (g .types)) (f .filled)
+  pub sheet-is : {old new : List ℕ} {r : ℕ} → Limits c → Lined old new (frontLines l c ++ backLines b c) r → Filled old new (text (tableOf (rawTable b l c))) r
+  sheet-is g f = fill-is (parts-are (g .counted)) (f .filled)
 
   -- what passed the check has counts within their limits
-  pub accepted-limited : tableAccepted (rawTable b l c) ≡ true → Writable c
+  pub accepted-limits : tableAccepted (rawTable b l c) ≡ true → Limits c
   unfolding tableAccepted tableFits tableOf
-  accepted-limited h =
+  accepted-limits h =
       let t : Table = tableOf (rawTable b l c) in
       let k : So (countsFit t) = first (countsFit t) _ (second (codesFit (rawTable b l c)) _ h) in
       let k₁ = second (between 1 maxSubjects (t .subjects)) _ k in
@@ -62,9 +63,10 @@ module _ (b l : List ℕ) (c : Counts) where
       record {
         subjects = high maxSubjects (t .subjects) (first (between 1 maxSubjects (t .subjects)) _ k);
         methods = high maxMethods (t .methods) (first (between 1 maxMethods (t .methods)) _ k₁);
-        cats = subst (λ z. z ≤ 31) (length-from (broaderOf l) (c .cats) 1) (leb-true (length (t .cats)) maxCategories (first (leb (length (t .cats)) maxCategories) _ k₂));
+        cats = subst (λ z. z ≤ maxCategories) (length-from (broaderOf l) (c .cats) 1) (leb-true (length (t .cats)) maxCategories (first (leb (length (t .cats)) maxCategories) _ k₂));
         sheet = high maxSheetTypes (t .sheet) (first (between 1 maxSheetTypes (t .sheet)) _ k₃);
-        types = subst (λ z. c .sheet ≤ z) (length-from (typeIn b c) (c .types) 0) (leb-true (t .sheet) (size t) (first (leb (t .sheet) (size t)) _ k₄));
+        counted = subst (λ z. c .sheet ≤ z) (length-from (typeIn b c) (c .types) 0) (leb-true (t .sheet) (size t) (first (leb (t .sheet) (size t)) _ k₄));
+        types = subst (λ z. z ≤ maxTypes) (length-from (typeIn b c) (c .types) 0) (leb-true (size t) maxTypes (second (leb (t .sheet) (size t)) _ k₄));
       }
 
 -- "4 if the buffer is short, buffer unchanged": the sheet was counted on an empty part of the buffer

@@ -1,5 +1,5 @@
 -- Rests on what the check says of the counts, and on the two answers, `short-is` and `length-is`.
-use Rattle.sheetwrite.proofs.Whole.{accepted-limited, short-is, length-is}
+use Rattle.sheetwrite.proofs.Whole.{accepted-limits, short-is, length-is}
 use Rattle.table.specs.Store.{rawTable}
 use borrow.Author.Needs.{needs}
 use Rattle.sheetwrite.proofs.write_checked.Statement.{statement}
@@ -12,7 +12,7 @@ slice-aggregate-put-sheet : tie.Need-slice-aggregate-put-sheet
 slice-aggregate-put-sheet c = search needs
 
 put-sheet-requires : tie.Need-put-sheet-requires
-put-sheet-requires c κs = accepted-limited (c .before .before .args .b .now) (c .before .before .args .l .now) (c .before .before .args .c) (c .before .before .pre)
+put-sheet-requires c κs = accepted-limits (c .before .before .args .b .now) (c .before .before .args .l .now) (c .before .before .args .c) (c .before .before .pre)
 
 same-length : tie.Need-same-length
 same-length c = search needs
@@ -21,7 +21,7 @@ returns : tie.Need-returns
 returns c = let a = c .before .before .before .before .before .before .args in short-is (rawTable (a .b .now) (a .l .now) (a .c)) (a .buf .now) (c .before .before .before .before .before .before .pre) (c .before .before .before .put-sheet .ensures) (c .if1 .taken)
 
 put-sheet-requires-2 : tie.Need-put-sheet-requires-2
-put-sheet-requires-2 c κs = accepted-limited (c .before .before .before .before .before .before .before .args .b .now) (c .before .before .before .before .before .before .before .args .l .now) (c .before .before .before .before .before .before .before .args .c) (c .before .before .before .before .before .before .before .pre)
+put-sheet-requires-2 c κs = accepted-limits (c .before .before .before .before .before .before .before .args .b .now) (c .before .before .before .before .before .before .before .args .l .now) (c .before .before .before .before .before .before .before .args .c) (c .before .before .before .before .before .before .before .pre)
 
 same-length-2 : tie.Need-same-length-2
 same-length-2 c = search needs
