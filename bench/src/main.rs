@@ -7,7 +7,7 @@ mod search;
 mod sheets;
 
 use conformance::inputs::{damaged, with_48_types, worst};
-use conformance::{chains, compare, counted, counts, Asked, Derived, Loaded, PAIRS_LENGTH};
+use conformance::{chains, compare, counts, Asked, Loaded, PAIRS_LENGTH};
 use reference::hostile;
 use reference::raw::{RawTable, BROADER_LENGTH, TYPES_LENGTH};
 use reference::relations::RELATIONS;
@@ -203,27 +203,23 @@ fn without_end(text: &[u8]) -> &[u8] {
 /// A derivation, each time on the table as it was first; both have to give the same number and types.
 fn derivation(name: &str, table: &RawTable, (kind, t, s): (usize, i64, i64)) {
     let asked = Asked { kind, t, s };
-    let mut derived = Derived {
-        number: 0,
-        types: 0,
-    };
+    let (mut number, mut now) = (0, counts(table));
     let (mut theirs, mut ours) = (table.clone(), table.clone());
-    let code = conformance::derive(&mut theirs, counts(table), asked, &mut derived);
+    let code = conformance::derive(&mut theirs, &mut now, asked, &mut number);
     let result = restriction::derive(&mut ours, kind, t as usize, s as usize);
-    assert_eq!((code, Ok(derived.number)), (0, result));
-    theirs.types = derived.types as u32;
-    assert!(theirs.types == ours.types && counted::types(&theirs) == counted::types(&ours));
+    assert_eq!((code, Ok(number), now), (0, result, counts(&ours)));
+    assert!(theirs.type_bytes == ours.type_bytes, "the types differ");
     let new = ours.types - table.types;
     ratio(
         &format!("derive, {name}, {new} new types"),
         || {
             theirs.type_bytes = table.type_bytes;
-            let counts = counts(table);
+            let mut counts = counts(table);
             black_box(conformance::derive(
                 &mut theirs,
-                counts,
+                &mut counts,
                 asked,
-                &mut derived,
+                &mut number,
             ));
         },
         || {
