@@ -15,19 +15,20 @@ use Rattle.model.specs.Basics.{Res, refuse, ok, try, need, _⇒_, all, n
 use Rattle.model.specs.Table.{Method, Table, noMethod, size, typeAt, methodAt, argumentAt, answerAt, isRef, permit, isAvail, isSettled, isClass}
 use Rattle.model.specs.Relations.{conforms}
 use Rattle.model.specs.Crossing.{Place, object, noPlace, maxPlaces, baseOf, baseOwner, Reference, cross}
-use Rattle.model.specs.Requests.{Cell, Call, System, maxCells, maxCalls, loaded, Request, new, move, call, answer, Result, pair, number, noCell, noCall, cellAt, callAt, isSheetRef, held, leaving, addCell, newRequest, moveRequest, adapterCount, wayOf, crossLayers, passLayers, send, argumentsHeld, sendArguments, withCall, callRequest, withAnswer, give, answerRequest, serve, after}
+use Rattle.model.specs.Requests.{Cell, Call, System, maxCells, maxCalls, loaded, Request, new, move, call, answer, Result, pair, number, noCell, noCall, cellAt, callAt, isSheetRef, held, leaving, withCell, addCell, newRequest, moveRequest, adapterCount, wayOf, crossLayers, passLayers, send, argumentsHeld, sendArguments, withCall, callRequest, flagged, withAnswer, give, answerRequest, serve, after}
 use Rattle.model.specs.Chains.{permits, offered}
 use Rattle.model.specs.Book.{Page, Note, Book, lastType, emptyPage, pageCross, pageCrossAll, addPage, pageWay, copyPage, copyArguments, addNote, copyAnswer, enter}
 use Rattle.model.specs.Claim.{accepted, feed, follow, reached, noteOf, Claim}
 use Rattle.model.proofs.Tests.{ltb-so}
 use Rattle.model.proofs.Rules.{never, both, first, second, applied}
 use Rattle.model.proofs.States.{each}
+use Rattle.model.proofs.Lists.{prefix-refl, prefix-trans, prefix-add}
 use Rattle.model.proofs.Order.{related-refl}
 use Rattle.model.proofs.Growth.{Grown, grown-refl, grown-trans}
 use Rattle.model.proofs.Completes.{all-below-more}
 use Rattle.model.proofs.Good.{Good}
 use Rattle.model.proofs.Steps.{IfOk, ok-try, ok-map, ok-need, Settled}
-use Rattle.model.proofs.Trails.{Kept, kept-trans, kept-add, unwinds-in, unwinds-type, layers-are, base-is, Track, Trailed, track-grow, Flown, cross-ok, crossLayers-ok}
+use Rattle.model.proofs.Trails.{Kept, unwinds-in, unwinds-type, layers-are, base-is, Track, Trailed, track-grow, Flown, cross-ok, crossLayers-ok}
 
 -- the book of a state whose cells have the pages gs
 abbrev bookOf : System → List Page → Book
@@ -59,9 +60,6 @@ module _ (s : System) (gs : List Page) (j : Joined s gs) (r : ℕ) (f : Referenc
   cell : Cell
   cell = record { holder = r; type = f .type; place = f .place }
 
-  s′ : System
-  s′ = record { table = f .table; cells = s .cells ++ (cell ∷ []); places = f .places; calls = s .calls }
-
   cells-long : length (s .cells ++ (cell ∷ [])) ≡ suc (length (s .cells))
   cells-long = length-append (s .cells) (cell ∷ []) ∙ omega arith
 
@@ -76,8 +74,8 @@ module _ (s : System) (gs : List Page) (j : Joined s gs) (r : ℕ) (f : Referenc
       go (no l) u = let e : length (s .cells) ≡ k = omega arith in
           rw (getD-at (s .cells) cell [] noCell k e, getD-at gs (b .1) [] noPage k (omega (arith, j .long))) this
 
-  added : Sent s (addPage (bookOf s gs) b) s′
-  unfolding s′
+  added : Sent s (addPage (bookOf s gs) b) (withCell s r f)
+  unfolding cell
   added = record {
     pages = gs ++ (b .1 ∷ []);
     book = ap (λ t. record { table = t; pages = gs ++ (b .1 ∷ []); calls = map noteOf (s .calls) }) book;
@@ -97,12 +95,12 @@ module _ (s : System) (gs : List Page) (j : Joined s gs) (r : ℕ) (f : Referenc
 module _ (s : System) (gs : List Page) (j : Joined s gs) where
   -- from a reference whose table is the state's, and whose places are at least the state's
   addCell-ok : (r : ℕ) (b : Table × Page) (f₀ : Reference) → f₀ .table ≡ s .table → Kept (s .places) (f₀ .places) → (f : Reference) → Flown f₀ b f → IfOk (addCell s r f) (λ x. Sent s (addPage (bookOf s gs) b) (x .0))
-  unfolding addCell s′ cell
+  unfolding addCell cell
   addCell-ok r b f₀ e k f h = ok-need _ (ltb (length (s .cells)) maxCells) 13 _ λ _.
-      added s gs j r f b (h .good) (subst (λ t. Grown t (f .table)) e (h .grow)) (kept-trans k (h .kept)) (h .book) (h .track) (h .trailed)
+      added s gs j r f b (h .good) (subst (λ t. Grown t (f .table)) e (h .grow)) (prefix-trans noPlace k (h .kept)) (h .book) (h .track) (h .trailed)
 
   kept-self : Kept (s .places) (s .places)
-  kept-self = record { more = omega arith; same = λ i l. refl }
+  kept-self = prefix-refl noPlace (s .places)
 
   send-ok : (r k : ℕ) (ts : List (Option ℕ)) → k < length (s .cells) → IfOk (send s r k ts) (λ x. Sent s (copyPage (bookOf s gs) k ts) (x .0))
   unfolding send copyPage
@@ -225,7 +223,7 @@ module _ (s : System) (gs : List Page) (j : Joined s gs) where
           ok-try (Flown f (pageCross t (emptyPage c) (named to))) _ (cross f (named to) (named subject)) _
           (cross-ok f (j .good) (emptyPage c) k (named to) (named subject)) λ g h.
           ok-map (λ x. Sent s (addPage (bookOf s gs) (pageCross t (emptyPage c) (named to))) (x .0)) (λ x. Entered (addPage (bookOf s gs) (pageCross t (emptyPage c) (named to))) (x .0)) (λ x. entered) (addCell s (named subject) g)
-          (addCell-ok s gs j (named subject) (pageCross t (emptyPage c) (named to)) f refl (kept-add (s .places) x) g h)
+          (addCell-ok s gs j (named subject) (pageCross t (emptyPage c) (named to)) f refl (prefix-add noPlace (s .places) x) g h)
 
   move-ok : (subject k receiver to : ℤ) → IfOk (moveRequest s subject k receiver to) (λ x. Entered (enter (bookOf s gs) (move subject k receiver to)) (x .0))
   unfolding moveRequest enter copyPage pageCrossAll
@@ -327,7 +325,7 @@ module _ (s : System) (gs : List Page) (j : Joined s gs) where
       track = jx .track;
       trailed = jx .trailed;
       callsIn = λ a u. subst (λ z. z .page < length (x .cells)) (sym (List·getD-map noteOf (x .calls) a noCall) ∙ ap (λ ks. getD ks a (noteOf noCall)) (sym notes-same) ∙ List·getD-map noteOf (withAnswer x i .calls) a noCall)
-          (jx .callsIn a (omega (arith, length-set (x .calls) i (record { caller = callAt x i .caller; cell = callAt x i .cell; method = callAt x i .method; answered = true }))));
+          (jx .callsIn a (omega (arith, length-set (x .calls) i (flagged (callAt x i) true))));
     }
 
     answered-book : bookOf x gs′ ≡ bookOf (withAnswer x i) gs′

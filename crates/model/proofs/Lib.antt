@@ -2,6 +2,7 @@ pub mod Cases
 pub mod Tests
 pub mod Rules
 pub mod Largest
+pub mod Lists
 pub mod States
 pub mod Derived
 pub mod Order
@@ -21,3 +22,4 @@ pub mod Within
 pub mod Checked
 pub mod Reached
 pub mod Crossings
+pub mod Records

@@ -55,7 +55,7 @@ module _ (t : Table) (n : ℕ) where
       go false s z = let e = z refl in rw (e .0, e .1)
 
 -- a method of a type that fits has no signature where it isn't permitted
-unsigned : (t : Table) (n : ℕ) (m : Method) → So (signatureFits t n m) → permit (m .state) ≡ false → (m .args ≡ []) × (m .answer ≡ none)
+pub unsigned : (t : Table) (n : ℕ) (m : Method) → So (signatureFits t n m) → permit (m .state) ≡ false → (m .args ≡ []) × (m .answer ≡ none)
 unsigned t n m h e = go (permit (m .state)) e h
   where
     nil : (xs : List ℕ) → So (isNil xs) → xs ≡ []
@@ -70,6 +70,11 @@ unsigned t n m h e = go (permit (m .state)) e h
         → (m .args ≡ []) × (m .answer ≡ none)
     go true e h = never (sym e)
     go false e h = (nil (m .args) (first (isNil (m .args)) _ h), nothing (m .answer) (second (isNil (m .args)) _ h))
+
+-- nor has one of a derived type
+pub derived-unsigned : (t : Table) (d : Kind) (a b c : Method) → DerivedMethod t d a b c → permit (c .state) ≡ false → (c .args ≡ []) × (c .answer ≡ none)
+derived-unsigned t d a b c (past p q r) e = rw r (refl, refl)
+derived-unsigned t d a b c (here p q r) e = r e
 
 module _ (t₀ t : Table) (valid : So (validSheet t₀)) (good : Good t) (x : Grown t₀ t) where
   f₀ : TableFitting t₀
@@ -100,15 +105,11 @@ module _ (t₀ t : Table) (valid : So (validSheet t₀)) (good : Good t) (x : Gr
       (rw (bound-is i l, e) (subst (λ n. AllBelow n (methodAt t₀ i m .args) × AnswerBelow n (methodAt t₀ i m .answer)) b (signature-below t₀ (signatureBound t₀ i) (methodAt t₀ i m) h)))
       (good .unowned i m) (λ q. rw e (unsigned t₀ (signatureBound t₀ i) (methodAt t₀ i m) h (subst (λ y. permit (y .state) ≡ false) e q)))
 
-  derived-unsigned : (d : Kind) (a b c : Method) → DerivedMethod t d a b c → permit (c .state) ≡ false → (c .args ≡ []) × (c .answer ≡ none)
-  derived-unsigned d a b c (past p q r) e = rw r (refl, refl)
-  derived-unsigned d a b c (here p q r) e = r e
-
   -- a derived type
   new-method : (i m : ℕ) → t .sheet ≤ i → i < size t → So (signatureFits t (signatureBound t i) (methodAt t i m))
   new-method i m l u = let k = good .keyed i l u in
       signature-fits t (signatureBound t i) (methodAt t i m) (λ _. good .short i m) (rw (bound-late i l) (good .sigs i m)) (good .unowned i m)
-      (derived-unsigned (k .0 .kind) _ _ _ (good .complete i (k .0) (k .1) .at m))
+      (derived-unsigned t (k .0 .kind) _ _ _ (good .complete i (k .0) (k .1) .at m))
 
   key-fits : (i : ℕ) → i < size t → Dec (i < t .sheet) → So (keyFits t i (typeAt t i .key))
   key-fits i u (yes l) =

@@ -19,24 +19,15 @@ use Rattle.model.specs.Requests.{layers, renumber, crossLayers}
 use Rattle.model.specs.Chains.{Permits, AllPermit}
 use Rattle.model.specs.Book.{Page, lastOr, lastType, lastClosed, emptyPage, joins, addClosed, pageAdapt, pageCross, pageCrossAll}
 use Rattle.model.proofs.Largest.{keeps-related}
+use Rattle.model.proofs.Lists.{Prefix, prefix-refl, prefix-trans, prefix-add}
 use Rattle.model.proofs.Growth.{Grown, grown-refl, grown-trans, related-grow, permits-grow}
 use Rattle.model.proofs.Completes.{all-below-more}
 use Rattle.model.proofs.Good.{Good}
 use Rattle.model.proofs.Steps.{IfOk, ok-try, ok-map, ok-need, finish, Crossed, typed, typed-ok, Settled, settled-grow, orElse, Before, Passed}
 
 -- places are only added
-pub record Kept (ps qs : List Place) : Type 0 where
-  pub more : length ps ≤ length qs
-  pub same : (i : ℕ) → i < length ps → placeAt qs i ≡ placeAt ps i
-
-pub kept-refl : (ps : List Place) → Kept ps ps
-kept-refl ps = record { more = omega arith; same = λ i l. refl }
-
-pub kept-trans : {ps qs rs : List Place} → Kept ps qs → Kept qs rs → Kept ps rs
-kept-trans e f = record { more = omega (arith, e .more, f .more); same = λ i l. f .same i (omega (arith, e .more)) ∙ e .same i l }
-
-pub kept-add : (ps : List Place) (x : Place) → Kept ps (ps ++ (x ∷ []))
-kept-add ps x = record { more = omega (arith, length-append ps (x ∷ [])); same = λ i l. List·getD-append ps (x ∷ []) noPlace i l }
+abbrev pub Kept : List Place → List Place → Type 0
+Kept ps qs = Prefix noPlace ps qs
 
 -- place p is the closed types ks, outermost first, over an object of class c
 abbrev pub Unwinds : List Place → ℕ → ℕ → List ℕ → Type 0
@@ -300,14 +291,14 @@ module _ (f : Reference) (good : Good (f .table)) (g : Page) (k : Track f g) (to
   landed : (u : Table) (w : Bool) (a : Option ℕ) → Passed (f .table) (f .type) to (lastClosed g) (g .class) (record { table = u; unwraps = w; adapter = a })
       → IfOk (land (f .places) to (f .place) b (record { table = u; unwraps = w; adapter = a })) (Flown f (u, crossedPage g to (record { table = u; unwraps = w; adapter = a })))
   unfolding land
-  landed u w none h = settle u w none h (f .places) (kept-refl (f .places)) (cond w b (f .place)) (behind w)
+  landed u w none h = settle u w none h (f .places) (prefix-refl noPlace (f .places)) (cond w b (f .place)) (behind w)
   landed u w (some c) h = let ps = f .places in let q = cond w b (f .place) in ok-need _ (ltb (length ps) maxPlaces) 12 _ λ _.
-      settle u w (some c) h (ps ++ (adapter q c ∷ [])) (kept-add ps _) (length ps) (
+      settle u w (some c) h (ps ++ (adapter q c ∷ [])) (prefix-add noPlace ps _) (length ps) (
         q,
         omega (arith, length-append ps (adapter q c ∷ [])),
         getD-append-seam ps (adapter q c) [] noPlace,
         unwinds-in ps q (g .class) (cond w [] (g .closed)) (behind w),
-        unwinds-kept (kept-add ps _) q (g .class) (cond w [] (g .closed)) (behind w),
+        unwinds-kept (prefix-add noPlace ps _) q (g .class) (cond w [] (g .closed)) (behind w),
       )
 
   from-typed : (m : Res Crossed) → IfOk m (Passed (f .table) (f .type) to (lastClosed g) (g .class)) → IfOk m (λ x. pageCross (f .table) g to ≡ (x .table, crossedPage g to x))
@@ -339,12 +330,12 @@ ok-renumber Q b (refuse e) h = tt
 ok-renumber Q b (ok a) h = h
 
 flown-on : {f g h : Reference} {b c : Table × Page} → Flown f b g → Flown g c h → Flown f c h
-flown-on p q = record { good = q .good; grow = grown-trans (p .grow) (q .grow); kept = kept-trans (p .kept) (q .kept); book = q .book; track = q .track; trailed = q .trailed }
+flown-on p q = record { good = q .good; grow = grown-trans (p .grow) (q .grow); kept = prefix-trans noPlace (p .kept) (q .kept); book = q .book; track = q .track; trailed = q .trailed }
 
 -- so do several in turn
 pub crossLayers-ok : (ts : List (Option ℕ)) (first : Bool) (f : Reference) → Good (f .table) → (r : ℕ) (g : Page) → Track f g → Trailed f g → IfOk (crossLayers first f r ts) (Flown f (pageCrossAll (f .table) g ts))
 unfolding crossLayers pageCrossAll
-crossLayers-ok [] c f good r g k z = record { good = good; grow = grown-refl (f .table); kept = kept-refl (f .places); book = refl; track = k; trailed = z }
+crossLayers-ok [] c f good r g k z = record { good = good; grow = grown-refl (f .table); kept = prefix-refl noPlace (f .places); book = refl; track = k; trailed = z }
 crossLayers-ok (none ∷ ts) c f good r g k z = tt
 crossLayers-ok (some x ∷ ts) c f good r g k z =
     let y = pageCross (f .table) g x in

@@ -16,7 +16,7 @@ use Rattle.model.specs.Table.{Kind, sub, closed, Table, noMethod, size, 
 use Rattle.model.specs.Relations.{conforms, strict, loose, free, subtype, related}
 use Rattle.model.specs.Restriction.{mainSide, derived}
 use Rattle.model.specs.Crossing.{Place, object, adapter, noPlace, maxPlaces, placeType, ownerOf, placeAt, base, baseOf, baseOwner, Reference, adapt, cross}
-use Rattle.model.specs.Requests.{Cell, Call, System, maxCells, maxCalls, Request, new, move, call, answer, Result, pair, number, noCell, noCall, cellAt, callAt, isSheetRef, held, leaving, addCell, newRequest, moveRequest, layers, layersOf, adapterCount, wayOf, renumber, crossLayers, passLayers, send, argumentsHeld, sendArguments, withCall, callRequest, withAnswer, give, answerRequest, serve, after}
+use Rattle.model.specs.Requests.{Cell, Call, System, maxCells, maxCalls, Request, new, move, call, answer, Result, pair, number, noCell, noCall, cellAt, callAt, isSheetRef, held, leaving, withCell, addCell, newRequest, moveRequest, layers, layersOf, adapterCount, wayOf, renumber, crossLayers, passLayers, send, argumentsHeld, sendArguments, withCall, callRequest, flagged, withAnswer, give, answerRequest, serve, after}
 use Rattle.model.proofs.Tests.{ltb-so}
 use Rattle.model.proofs.Rules.{first, second}
 use Rattle.model.proofs.Derived.{AnswerBelow, SignaturesIn}
@@ -289,7 +289,7 @@ module _ (TP : Table → Type 0) (RF : Table → ℕ → Type 0)
       long = length-append (s .cells) (c ∷ []) ∙ omega arith
 
       s′ : System
-      s′ = record { table = f .table; cells = s .cells ++ (c ∷ []); places = f .places; calls = s .calls }
+      s′ = withCell s r f
 
       go : Grown (s .table) (f .table) → (k : ℕ) → Dec (k < length (s .cells)) → k < suc (length (s .cells)) → CellIn s′ (getD (s .cells ++ (c ∷ [])) k noCell)
       go g k (yes i) u = rw (List·getD-append (s .cells) (c ∷ []) noCell k i) (cell-grow s h (f .table) g (f .places) (omega (arith, w .more)) (s .cells ++ (c ∷ [])) (s .calls) (cellAt s k) (h .cells k i))
@@ -467,7 +467,7 @@ module _ (TP : Table → Type 0) (RF : Table → ℕ → Type 0)
   }
     where
       c : Call
-      c = record { caller = callAt x i .caller; cell = callAt x i .cell; method = callAt x i .method; answered = true }
+      c = flagged (callAt x i) true
 
       long : length (set (x .calls) i c) ≡ length (x .calls)
       long = length-set (x .calls) i c

@@ -12,8 +12,8 @@ use lib.ListN.{length, getD, take}
 use Rattle.model.specs.Basics.{Res, need, _⇒_, all, every, from}
 use Rattle.model.specs.Table.{State, denied, optional, avail, unavail, Rep, ref, w32, w64, Kind, sub, sup, closed, Method, Ty, Table, size, typeAt, isRef, permit, isClass, maxArguments, between, tableFits}
 use Rattle.model.specs.Relations.{Answers, compare}
-use Rattle.model.specs.Crossing.{Place, object, adapter, noPlace, maxPlaces}
-use Rattle.model.specs.Requests.{Cell, Call, System, Request, Result, maxCells, maxCalls, noCell, noCall, serve}
+use Rattle.model.specs.Crossing.{Place, object, adapter, maxPlaces}
+use Rattle.model.specs.Requests.{Cell, Call, System, maxCells, maxCalls, noCell}
 
 -- A state: every number below its count, and what cells, objects and adapters must be besides.
 abbrev pub cellFits : System → Cell → Bool
@@ -62,14 +62,28 @@ pub record RawTable : Type 0 where
   pub links : List RawLinks
   pub records : List RawType
 
+-- A place: code 0 is an object (class, owner), 1 an adapter (the place behind, closed type).
+pub record RawPlace : Type 0 where
+  pub code : ℕ
+  pub first : ℕ
+  pub second : ℕ
+
+-- A call: `answered` is 0 for no, 1 for yes.
+pub record RawCall : Type 0 where
+  pub caller : ℕ
+  pub cell : ℕ
+  pub method : ℕ
+  pub answered : ℕ
+
+-- A cell has no codes: its record is the model's.
 pub record RawSystem : Type 0 where
   pub table : RawTable
   pub cells : ℕ
   pub places : ℕ
   pub calls : ℕ
   pub cellRecords : List Cell
-  pub placeRecords : List Place
-  pub callRecords : List Call
+  pub placeRecords : List RawPlace
+  pub callRecords : List RawCall
 
 -- What codes mean. A code that names nothing is read as one that does; the check refuses it.
 abbrev pub stateOf : ℕ → State
@@ -101,6 +115,12 @@ noRawType = record { rep = 0; cat = 0; own = 0; kind = 0; left = 0; right = 0; m
 abbrev pub noRawLinks : RawLinks
 noRawLinks = record { count = 0; first = 0; second = 0 }
 
+abbrev pub noRawPlace : RawPlace
+noRawPlace = record { code = 0; first = 0; second = 0 }
+
+abbrev pub noRawCall : RawCall
+noRawCall = record { caller = 0; cell = 0; method = 0; answered = 0 }
+
 -- a method that isn't permitted has no signature, whatever its record holds
 abbrev pub methodOf : RawMethod → Method
 methodOf m = record { state = stateOf (m .state); args = cond (permit (stateOf (m .state))) (take (m .count) (m .args)) []; answer = cond (permit (stateOf (m .state))) (answerOf (m .answer)) none }
@@ -121,6 +141,20 @@ linksOf x = cond (eqb (x .count) 2) (x .first ∷ x .second ∷ []) (x .first �
 abbrev pub typesOf : RawTable → List Ty
 typesOf r = from (r .types) 0 (λ i. typeOf (r .methods) (r .sheet) i (getD (r .records) i noRawType))
 
+abbrev pub placeBy : ℕ → ℕ → ℕ → Place
+placeBy zero class owner = object class owner
+placeBy (suc n) behind type = adapter behind type
+
+abbrev pub placeOf : RawPlace → Place
+placeOf p = placeBy (p .code) (p .first) (p .second)
+
+abbrev pub callOf : RawCall → Call
+callOf c = record { caller = c .caller; cell = c .cell; method = c .method; answered = eqb (c .answered) 1 }
+
+-- the first n records of an array, those that are counted
+abbrev pub firstOf : {A : Type 0} → ℕ → A → List A → List A
+firstOf n d xs = from n 0 (λ k. getD xs k d)
+
 -- the counted records; their lists are as long as the counts say
 unfoldable pub tableOf : RawTable → Table
 tableOf r = record { subjects = r .subjects; methods = r .methods; cats = from (r .cats) 1 (λ k. linksOf (getD (r .links) k noRawLinks)); sheet = r .sheet; types = typesOf r }
@@ -130,8 +164,8 @@ unfolding tableOf
 systemOf r = record {
   table = tableOf (r .table);
   cells = from (r .cells) 0 (λ k. getD (r .cellRecords) k noCell);
-  places = from (r .places) 0 (λ k. getD (r .placeRecords) k noPlace);
-  calls = from (r .calls) 0 (λ k. getD (r .callRecords) k noCall);
+  places = from (r .places) 0 (λ k. placeOf (getD (r .placeRecords) k noRawPlace));
+  calls = from (r .calls) 0 (λ k. callOf (getD (r .callRecords) k noRawCall));
 }
 
 -- Every counted code names something: a state, a representation, yes or no, a number of arguments or of broader categories, a kind.
@@ -150,15 +184,15 @@ unfoldable pub tableAccepted : RawTable → Bool
 unfolding codesFit tableFits tableOf
 tableAccepted r = codesFit r && tableFits (tableOf r)
 
-unfoldable pub systemAccepted : RawSystem → Bool
-unfolding codesFit systemFits systemOf
-systemAccepted r = codesFit (r .table) && systemFits (systemOf r)
+-- the same of places and calls: object or adapter, answered or not
+unfoldable pub stateCodesFit : RawSystem → Bool
+stateCodesFit r = all (λ p. ltb (p .code) 2) (firstOf (r .places) noRawPlace (r .placeRecords)) && all (λ c. ltb (c .answered) 2) (firstOf (r .calls) noRawCall (r .callRecords))
 
--- What the entry points answer to what is handed in: 2 before all else. For 2 what is returned is the record handed in; else what `serve` leaves.
+unfoldable pub systemAccepted : RawSystem → Bool
+unfolding codesFit stateCodesFit systemFits systemOf
+systemAccepted r = codesFit (r .table) && (stateCodesFit r && systemFits (systemOf r))
+
+-- What Compare answers to a table that is handed in: 2 before all else. (Requests: Handed.)
 unfoldable pub compareHanded : RawTable → ℤ → ℤ → Res Answers
 unfolding tableAccepted compare
 compareHanded r a b = need (tableAccepted r) 2 λ _. compare (tableOf r) a b
-
-unfoldable pub serveHanded : RawSystem → Request → Res (System × Result)
-unfolding systemAccepted serve
-serveHanded r q = need (systemAccepted r) 2 λ _. serve (systemOf r) q

@@ -5,6 +5,8 @@ pub mod Restriction
 pub mod Crossing
 pub mod Requests
 pub mod Check
+pub mod Records
+pub mod Handed
 pub mod Chains
 pub mod Book
 pub mod Claim

@@ -78,13 +78,13 @@ held s subject k = names k (length (s .cells)) && eqb (named subject) (cellAt s 
 abbrev pub leaving : System → ℕ → Reference
 leaving s k = record { table = s .table; places = s .places; type = cellAt s k .type; place = cellAt s k .place }
 
+-- the state with the reference that arrived as a cell of r
+abbrev pub withCell : System → ℕ → Reference → System
+withCell s r f = record { table = f .table; cells = s .cells ++ (record { holder = r; type = f .type; place = f .place } ∷ []); places = f .places; calls = s .calls }
+
 -- The reference that arrived becomes a cell of r; 13 cells full.
 unfoldable pub addCell : System → ℕ → Reference → Res (System × Result)
-addCell s r f = need (ltb (length (s .cells)) maxCells) 13 λ _.
-    ok (
-      record { table = f .table; cells = s .cells ++ (record { holder = r; type = f .type; place = f .place } ∷ []); places = f .places; calls = s .calls },
-      pair (length (s .cells)) (f .place),
-    )
+addCell s r f = need (ltb (length (s .cells)) maxCells) 13 λ _. ok (withCell s r f, pair (length (s .cells)) (f .place))
 
 -- "New (subject, class, cell type): 5 subject unknown; 7 class number not a sheet class, or cell type not a sheet ref type; 12 places full; the crossing
 -- from class to cell type; 13 cells full."
@@ -180,8 +180,11 @@ sendArguments s r way m i (a ∷ xs) (v ∷ vs) = elim (isRef (typeAt (s .table)
   | false ↦ try (passLayers true (s .table) v (map (argumentAt (s .table) m i) way)) λ _. sendArguments s r way m (suc i) xs vs
 ]
 
+abbrev pub withCalls : System → List Call → System
+withCalls s cs = record { table = s .table; cells = s .cells; places = s .places; calls = cs }
+
 abbrev pub withCall : System → Call → System
-withCall s c = record { table = s .table; cells = s .cells; places = s .places; calls = s .calls ++ (c ∷ []) }
+withCall s c = withCalls s (s .calls ++ (c ∷ []))
 
 -- "Call (subject, cell, method, arguments): 5; 6; 14 method unknown or not avail in the cell's type (optional isn't enough); 15 ..; 18 calls full. ..
 -- The result is the call number and the adapters behind the cell, counted."
@@ -198,15 +201,12 @@ callRequest s subject k m vs =
     try (sendArguments s (baseOwner (s .places) (c .place)) (wayOf s c) (named m) 0 xs vs) λ x.
     ok (withCall x (record { caller = named subject; cell = named k; method = named m; answered = false }), pair (length (s .calls)) (adapterCount (s .places) (c .place)))
 
--- call j, answered
+-- a call with its flag, and the state with call j answered
+abbrev pub flagged : Call → Bool → Call
+flagged c b = record { caller = c .caller; cell = c .cell; method = c .method; answered = b }
+
 abbrev pub withAnswer : System → ℕ → System
-withAnswer s j = record {
-  table = s .table;
-  cells = s .cells;
-  places = s .places;
-  calls = set (s .calls) j
-      (record { caller = callAt s j .caller; cell = callAt s j .cell; method = callAt s j .method; answered = true });
-}
+withAnswer s j = withCalls s (set (s .calls) j (flagged (callAt s j) true))
 
 -- What is due and what is given. "15 a cell not held, or nothing where something is due or the reverse .. The value crosses the answer types from the class's
 -- outward to the cell type's, the caller receiving, refusals as for arguments; a reference becomes the caller's cell, of the cell type's answer type (13)."

@@ -1,12 +1,13 @@
 -- What codes mean, by their numbers.
-use mathlib.Core.Path.{_≡_, refl}
-use mathlib.Core.Bool.{false}
+use mathlib.Core.Path.{_≡_, refl, ap}
+use mathlib.Core.Bool.{true, false, not}
 use Prim.Native.Nat.{ℕ, zero, suc}
 use native.Mathlib.Omega.{arith}
 use lib.Dec.{eqb}
 use borrow.Author.Tests.{ne-eqb}
 use Rattle.model.specs.Table.{isRef, permit, closed}
-use Rattle.model.specs.Check.{stateOf, repOf, kindOf}
+use Rattle.model.specs.Check.{RawType, stateOf, repOf, kindOf}
+use Rattle.table.specs.Store.{mayStandAs}
 
 pub permit-code : (x : ℕ) → (x ≡ 1 → ⊥) → eqb x 2 ≡ permit (stateOf x)
 permit-code zero h = refl
@@ -23,3 +24,14 @@ pub closed-kind : (k : ℕ) → (k ≡ 0 → ⊥) → (k ≡ 1 → ⊥) → kind
 closed-kind zero p q = absurd (p refl)
 closed-kind (suc zero) p q = absurd (q refl)
 closed-kind (suc (suc k)) p q = refl
+
+pub ref-rep : (r : ℕ) → r ≡ 0 → isRef (repOf r) ≡ true
+ref-rep r e = ap (λ (n : ℕ). isRef (repOf n)) e
+
+-- A number type may stand in a signature; a reference type by its own flag.
+module _ (x : RawType) where
+  pub number-stands : (x .rep ≡ 0 → ⊥) → true ≡ mayStandAs x
+  number-stands h = rw (number-rep (x .rep) h)
+
+  pub reference-stands : x .rep ≡ 0 → not (eqb (x .own) 1) ≡ mayStandAs x
+  reference-stands e = rw (ref-rep (x .rep) e)

@@ -13,7 +13,7 @@ use Rattle.model.specs.Check.{RawMethod, RawType, RawLinks, noRawType, noRawMet
 use Rattle.table.specs.declared.Method.{Method}
 use Rattle.table.specs.declared.TypeRec.{TypeRec}
 use Rattle.table.specs.declared.Head.{Head}
-use Rattle.table.specs.Store.{headOf, rawMethodAt, rawMethodsAt, rawTypeAt, rawLinksAt, typesIn, linksIn, rawMethod, rawOf, methodBytes, methodsBytes, headBytes, emptyTypes, emptyLinks}
+use Rattle.table.specs.Store.{headOf, rawMethodAt, rawMethodsAt, rawTypeAt, rawLinksAt, typesIn, linksIn, rawMethod, rawOf, methodBytes, methodsBytes, headBytes, spareBytes, recordBytes, Shaped, Put, emptyTypes, emptyLinks}
 use Rattle.table.proofs.Lists.{lt-or-ge, same-or, length-from, from-first, from-same, is-from, sets-append, getD-sets-below, getD-sets-above, getD-sets-in}
 
 -- Where a type, its methods and the links of a category stand.
@@ -60,32 +60,32 @@ methods-are ms rs e f h =
     (λ k p. let q : k < 16 = subst (λ (n : ℕ). k < n) (length-map ms rawMethod ∙ e) p in List·getD-map rawMethod ms k absent ∙ h k q)
 
 -- a type of the code, put together from a record's head and methods, is the record
-pub read-is : (x : RawType) (h : Head) (ms : List Method) → h ≡ headOf x → map rawMethod ms ≡ x .methods → rawOf (record { rep = h .rep; cat = h .cat; own = h .own; kind = h .kind; left = h .left; right = h .right; methods = ms }) ≡ x
+pub read-is : (x : RawType) (h : Head) (ms : List Method) → h ≡ headOf x → map rawMethod ms ≡ x .methods → rawOf (record { head = h; methods = ms }) ≡ x
 read-is x h ms e f =
     ap (λ (l : List RawMethod). let r : RawType = record { rep = h .rep; cat = h .cat; own = h .own; kind = h .kind; left = h .left; right = h .right; methods = l } in r) f
     ∙ ap (λ (g : Head). let r : RawType = record { rep = g .rep; cat = g .cat; own = g .own; kind = g .kind; left = g .left; right = g .right; methods = x .methods } in r) e
 
 -- The bytes of a run of methods, seven to each.
-pub bytes-snoc : (ms : List Method) (j : ℕ) (d : Method) → j < length ms → methodsBytes (take (suc j) ms) ≡ methodsBytes (take j ms) ++ methodBytes (getD ms j d)
-bytes-snoc [] j d h = absurd (not-suc-le-zero h)
-bytes-snoc (m ∷ ms) zero d h = refl
-bytes-snoc (m ∷ ms) (suc j) d h = ap (λ l. methodBytes m ++ l) (bytes-snoc ms j d (le-of-suc-le-suc h))
+pub bytes-snoc : (ms : List RawMethod) (j : ℕ) → j < length ms → methodsBytes (take (suc j) ms) ≡ methodsBytes (take j ms) ++ methodBytes (getD ms j noRawMethod)
+bytes-snoc [] j h = absurd (not-suc-le-zero h)
+bytes-snoc (m ∷ ms) zero h = refl
+bytes-snoc (m ∷ ms) (suc j) h = ap (λ l. methodBytes m ++ l) (bytes-snoc ms j (le-of-suc-le-suc h))
 
-pub bytes-length : (ms : List Method) → length (methodsBytes ms) ≡ length ms * 7
+pub bytes-length : (ms : List RawMethod) → length (methodsBytes ms) ≡ length ms * 7
 bytes-length [] = refl
 bytes-length (m ∷ ms) = let e : length (methodsBytes ms) ≡ length ms * 7 = bytes-length ms in omega arith
 
 -- one method more is stored behind those before it
-pub run-more : (b : List ℕ) (at : ℕ) (ms : List Method) (j : ℕ) (now next : List ℕ) → j < length ms → now ≡ sets b at (methodsBytes (take j ms))
-    → next ≡ sets now (at + j * 7) (methodBytes (getD ms j absent)) → next ≡ sets b at (methodsBytes (take (j + 1) ms))
+pub run-more : (b : List ℕ) (at : ℕ) (ms : List RawMethod) (j : ℕ) (now next : List ℕ) → j < length ms → now ≡ sets b at (methodsBytes (take j ms))
+    → next ≡ sets now (at + j * 7) (methodBytes (getD ms j noRawMethod)) → next ≡ sets b at (methodsBytes (take (j + 1) ms))
 run-more b at ms j now next h e f =
     let k : length (methodsBytes (take j ms)) ≡ j * 7 = bytes-length (take j ms) ∙ ap (λ (n : ℕ). n * 7) (length-take-le j ms (omega arith)) in
-    f ∙ ap (λ (x : List ℕ). sets x (at + j * 7) (methodBytes (getD ms j absent))) e
-    ∙ ap (λ (n : ℕ). sets (sets b at (methodsBytes (take j ms))) (at + n) (methodBytes (getD ms j absent))) (sym k)
-    ∙ sym (sets-append b at (methodsBytes (take j ms)) (methodBytes (getD ms j absent)))
-    ∙ ap (sets b at) (sym (bytes-snoc ms j absent h)) ∙ ap (λ (n : ℕ). sets b at (methodsBytes (take n ms))) (sym (add-one j))
+    f ∙ ap (λ (x : List ℕ). sets x (at + j * 7) (methodBytes (getD ms j noRawMethod))) e
+    ∙ ap (λ (n : ℕ). sets (sets b at (methodsBytes (take j ms))) (at + n) (methodBytes (getD ms j noRawMethod))) (sym k)
+    ∙ sym (sets-append b at (methodsBytes (take j ms)) (methodBytes (getD ms j noRawMethod)))
+    ∙ ap (sets b at) (sym (bytes-snoc ms j h)) ∙ ap (λ (n : ℕ). sets b at (methodsBytes (take n ms))) (sym (add-one j))
 
-bytes-at : (ms : List Method) (j k : ℕ) → j < length ms → k < 7 → getD (methodsBytes ms) (j * 7 + k) 0 ≡ getD (methodBytes (getD ms j absent)) k 0
+bytes-at : (ms : List RawMethod) (j k : ℕ) → j < length ms → k < 7 → getD (methodsBytes ms) (j * 7 + k) 0 ≡ getD (methodBytes (getD ms j noRawMethod)) k 0
 bytes-at [] j k h l = absurd (not-suc-le-zero h)
 bytes-at (m ∷ ms) zero k h l = let e : 0 * 7 + k ≡ k = omega arith in ap (λ (x : ℕ). getD (methodBytes m ++ methodsBytes ms) x 0) e ∙ List·getD-append (methodBytes m) (methodsBytes ms) 0 k l
 bytes-at (m ∷ ms) (suc j) k h l =
@@ -106,7 +106,7 @@ mkT-eq : {a b c d e f a′ b′ c′ d′ e′ f′ : ℕ} {m m′ : List RawMet
 mkT-eq p₀ p₁ p₂ p₃ p₄ p₅ p₆ = cc
 
 -- n bytes of one list from `at` on are those of another from `at′` on
-Agree : List ℕ → ℕ → List ℕ → ℕ → ℕ → Type 0
+unfoldable pub Agree : List ℕ → ℕ → List ℕ → ℕ → ℕ → Type 0
 Agree b at b′ at′ n = (p : ℕ) → p < n → getD b (at + p) 0 ≡ getD b′ (at′ + p) 0
 
 at-zero : (b : List ℕ) (at : ℕ) → getD b (at + 0) 0 ≡ getD b at 0
@@ -128,7 +128,7 @@ method-agree : (b : List ℕ) (at : ℕ) (b′ : List ℕ) (at′ : ℕ) → Agr
 unfolding Agree mk
 method-agree b at b′ at′ h = mk-eq (agree-first b at b′ at′ 7 h (omega arith)) (h 1 (omega arith)) (h 2 (omega arith)) (h 3 (omega arith)) (h 4 (omega arith)) (h 5 (omega arith)) (h 6 (omega arith))
 
-type-agree : (b : List ℕ) (at : ℕ) (b′ : List ℕ) (at′ : ℕ) → Agree b at b′ at′ 128 → rawTypeAt b at ≡ rawTypeAt b′ at′
+pub type-agree : (b : List ℕ) (at : ℕ) (b′ : List ℕ) (at′ : ℕ) → Agree b at b′ at′ 128 → rawTypeAt b at ≡ rawTypeAt b′ at′
 unfolding Agree mkT rawMethodsAt
 type-agree b at b′ at′ h =
     mkT-eq (agree-first b at b′ at′ 128 h (omega arith)) (h 1 (omega arith)) (h 2 (omega arith)) (h 3 (omega arith)) (h 4 (omega arith)) (h 5 (omega arith))
@@ -138,7 +138,7 @@ type-agree b at b′ at′ h =
     ap (rawMethodAt b) e ∙ method-agree b (at + (16 + j * 7)) b′ (at′ + (16 + j * 7)) (agree-part b at b′ at′ 128 (16 + j * 7) 7 (omega arith) h) ∙ ap (rawMethodAt b′) (sym e′)))
 
 -- A type's own bytes, read back.
-four : (l : List ℕ) → length l ≡ 4 → getD l 0 0 ∷ getD l 1 0 ∷ getD l 2 0 ∷ getD l 3 0 ∷ [] ≡ l
+pub four : (l : List ℕ) → length l ≡ 4 → getD l 0 0 ∷ getD l 1 0 ∷ getD l 2 0 ∷ getD l 3 0 ∷ [] ≡ l
 four l e = ext-getD 0 (getD l 0 0 ∷ getD l 1 0 ∷ getD l 2 0 ∷ getD l 3 0 ∷ []) l (sym e) go
   where
     go : (i : ℕ) → i < 4 → getD (getD l 0 0 ∷ getD l 1 0 ∷ getD l 2 0 ∷ getD l 3 0 ∷ []) i 0 ≡ getD l i 0
@@ -148,76 +148,83 @@ four l e = ext-getD 0 (getD l 0 0 ∷ getD l 1 0 ∷ getD l 2 0 ∷ getD l 3 0 �
     go (suc (suc (suc zero))) p = refl
     go (suc (suc (suc (suc i)))) p = absurd (not-suc-le-zero (le-of-suc-le-suc (le-of-suc-le-suc (le-of-suc-le-suc (le-of-suc-le-suc p)))))
 
-method-own : (m : Method) → length (m .args) ≡ 4 → rawMethodAt (methodBytes m) 0 ≡ rawMethod m
+method-own : (m : RawMethod) → length (m .args) ≡ 4 → rawMethodAt (methodBytes m) 0 ≡ m
 method-own m e = ap (λ (l : List ℕ). let r : RawMethod = record { state = m .state; count = m .count; args = l; answer = m .answer } in r) (four (m .args) e)
 
--- sixteen methods of four argument slots each, as the code's arrays have
-unfoldable pub Shaped : TypeRec → Type 0
-Shaped t = (length (t .methods) ≡ 16) × ((k : ℕ) → k < 16 → length (getD (t .methods) k absent .args) ≡ 4)
+-- head, spare bytes and methods stored one behind the other are the record stored
+pub record-parts : (b : List ℕ) (at : ℕ) (x : RawType) → sets (sets (sets b at (headBytes (headOf x))) (at + 6) spareBytes) (at + 16) (methodsBytes (x .methods)) ≡ sets b at (recordBytes x)
+unfolding recordBytes
+record-parts b at x =
+    let h : List ℕ = headBytes (headOf x) in
+    let m : List ℕ = methodsBytes (x .methods) in
+    let e : at + 6 + 10 ≡ at + 16 = omega arith in
+    ap (λ (k : ℕ). sets (sets (sets b at h) (at + 6) spareBytes) k m) (sym e)
+    ∙ sym (sets-append (sets b at h) (at + 6) spareBytes m) ∙ sym (sets-append b at h (spareBytes ++ m))
 
--- a type's bytes stored: the head, and the methods behind the spare bytes
-abbrev pub storedIn : List ℕ → ℕ → TypeRec → List ℕ
-storedIn b at t = sets (sets b at (headBytes t)) (at + 16) (methodsBytes (t .methods))
+module _ (x : RawType) (s : Shaped x) where
+  pub record-length : length (recordBytes x) ≡ 128
+  unfolding recordBytes
+  record-length = let e : length (methodsBytes (x .methods)) ≡ 112 = bytes-length (x .methods) ∙ ap (λ (n : ℕ). n * 7) (s .methods) in omega arith
 
-pub stored-length : (b : List ℕ) (at : ℕ) (t : TypeRec) → length (storedIn b at t) ≡ length b
-stored-length b at t = length-sets (sets b at (headBytes t)) (at + 16) (methodsBytes (t .methods)) ∙ length-sets b at (headBytes t)
+  own-method : (j : ℕ) → j < 16 → rawMethodAt (recordBytes x) (16 + j * 7) ≡ getD (x .methods) j noRawMethod
+  unfolding recordBytes Agree
+  own-method j h =
+      let f : List ℕ = headBytes (headOf x) ++ spareBytes in
+      let q : j < length (x .methods) = omega (arith, s .methods) in
+      method-agree (recordBytes x) (16 + j * 7) (methodBytes (getD (x .methods) j noRawMethod)) 0
+      (λ p l. let g : 16 + j * 7 + p ≡ 16 + (j * 7 + p) = omega arith in
+      let z : 0 + p ≡ p = omega arith in
+      ap (λ (k : ℕ). getD (recordBytes x) k 0) g ∙ getD-append-add f (methodsBytes (x .methods)) (j * 7 + p) 0 ∙ bytes-at (x .methods) j p q l
+      ∙ ap (λ (k : ℕ). getD (methodBytes (getD (x .methods) j noRawMethod)) k 0) (sym z))
+      ∙ method-own (getD (x .methods) j noRawMethod) (s .slots j h)
 
-module _ (b : List ℕ) (at : ℕ) (t : TypeRec) (s : Shaped t) where
-  run : length (methodsBytes (t .methods)) ≡ 112
-  unfolding Shaped
-  run = bytes-length (t .methods) ∙ ap (λ (n : ℕ). n * 7) (s .0)
+  -- a record's own bytes, read back
+  pub record-own : rawTypeAt (recordBytes x) 0 ≡ x
+  unfolding recordBytes mkT rawMethodsAt
+  record-own =
+      mkT-eq refl refl refl refl refl refl
+      (sym (is-from (λ j. rawMethodAt (recordBytes x) (0 + 16 + j * 7)) 16 noRawMethod (x .methods) (s .methods) (λ j l. sym (own-method j l))))
 
-  stored-below : (k : ℕ) → k < at → getD (storedIn b at t) k 0 ≡ getD b k 0
-  stored-below k h = getD-sets-below (sets b at (headBytes t)) (at + 16) (methodsBytes (t .methods)) k 0 (omega arith) ∙ getD-sets-below b at (headBytes t) k 0 h
+-- A record's bytes stored at `at`: it stands there, and nothing else changes.
+module _ (b : List ℕ) (at : ℕ) (x : RawType) (s : Shaped x) where
+  below : (k : ℕ) → k < at → getD (sets b at (recordBytes x)) k 0 ≡ getD b k 0
+  below k h = getD-sets-below b at (recordBytes x) k 0 h
 
-  stored-above : (k : ℕ) → at + 128 ≤ k → getD (storedIn b at t) k 0 ≡ getD b k 0
-  stored-above k h =
-      let e : length (methodsBytes (t .methods)) ≡ 112 = run in
-      getD-sets-above (sets b at (headBytes t)) (at + 16) (methodsBytes (t .methods)) k 0 (omega arith) ∙ getD-sets-above b at (headBytes t) k 0 (omega arith)
+  above : (k : ℕ) → at + 128 ≤ k → getD (sets b at (recordBytes x)) k 0 ≡ getD b k 0
+  above k h = let e : length (recordBytes x) ≡ 128 = record-length x s in getD-sets-above b at (recordBytes x) k 0 (omega arith)
 
-  module _ (room : at + 128 ≤ length b) where
-    stored-head : (p : ℕ) → p < 6 → getD (storedIn b at t) (at + p) 0 ≡ getD (headBytes t) p 0
-    stored-head p h =
-        getD-sets-below (sets b at (headBytes t)) (at + 16) (methodsBytes (t .methods)) (at + p) 0 (omega arith)
-        ∙ getD-sets-in b at (headBytes t) p 0 h (omega arith)
+  stands : at + 128 ≤ length b → rawTypeAt (sets b at (recordBytes x)) at ≡ x
+  unfolding Agree
+  stands room =
+      let e : length (recordBytes x) ≡ 128 = record-length x s in
+      type-agree (sets b at (recordBytes x)) at (recordBytes x) 0
+      (λ p l. let z : 0 + p ≡ p = omega arith in getD-sets-in b at (recordBytes x) p 0 (omega arith) (omega arith) ∙ ap (λ (k : ℕ). getD (recordBytes x) k 0) (sym z))
+      ∙ record-own x s
 
-    stored-method : (j : ℕ) → j < 16 → rawMethodAt (storedIn b at t) (at + 16 + j * 7) ≡ rawMethod (getD (t .methods) j absent)
-    unfolding Agree Shaped
-    stored-method j h =
-        let e : length (methodsBytes (t .methods)) ≡ 112 = run in
-        let q : j < length (t .methods) = omega (arith, s .0) in
-        let f : at + 16 + length (methodsBytes (t .methods)) ≤ length (sets b at (headBytes t)) = rw (length-sets b at (headBytes t)) (omega arith) in
-        method-agree (storedIn b at t) (at + 16 + j * 7) (methodBytes (getD (t .methods) j absent)) 0
-        (λ p l. let g : at + 16 + j * 7 + p ≡ at + 16 + (j * 7 + p) = omega arith in
-        let z : 0 + p ≡ p = omega arith in
-        ap (λ (x : ℕ). getD (storedIn b at t) x 0) g
-        ∙ getD-sets-in (sets b at (headBytes t)) (at + 16) (methodsBytes (t .methods)) (j * 7 + p) 0 (omega arith) f
-        ∙ bytes-at (t .methods) j p q l ∙ ap (λ (x : ℕ). getD (methodBytes (getD (t .methods) j absent)) x 0) (sym z))
-        ∙ method-own (getD (t .methods) j absent) (s .1 j h)
-
-    stored-type : rawTypeAt (storedIn b at t) at ≡ rawOf t
-    unfolding mkT rawMethodsAt Shaped
-    stored-type =
-        mkT-eq (sym (at-zero (storedIn b at t) at) ∙ stored-head 0 (omega arith)) (stored-head 1 (omega arith)) (stored-head 2 (omega arith)) (stored-head 3 (omega arith)) (stored-head 4 (omega arith)) (stored-head 5 (omega arith))
-        (sym (is-from (λ j. rawMethodAt (storedIn b at t) (at + 16 + j * 7)) 16 noRawMethod (map rawMethod (t .methods)) (length-map (t .methods) rawMethod ∙ s .0)
-        (λ j l. List·getD-map rawMethod (t .methods) j absent ∙ sym (stored-method j l))))
-
--- Storing a type's bytes is storing the type.
-pub stored : (b : List ℕ) (i : ℕ) (t : TypeRec) → length b ≡ 16384 → i < 128 → Shaped t → typesIn (storedIn b (i * 128) t) ≡ set (typesIn b) i (rawOf t)
+-- Storing a record is storing it in the list of records.
+pub stored : (b : List ℕ) (i : ℕ) (x : RawType) → length b ≡ 16384 → i < 128 → Shaped x → typesIn (sets b (i * 128) (recordBytes x)) ≡ set (typesIn b) i x
 unfolding typesIn Agree
-stored b i t eb hi s =
-    let b′ : List ℕ = storedIn b (i * 128) t in
+stored b i x eb hi s =
+    let b′ : List ℕ = sets b (i * 128) (recordBytes x) in
     let f : ℕ → RawType = λ k. rawTypeAt b (k * 128) in
-    let own : rawTypeAt b′ (i * 128) ≡ rawOf t = stored-type b (i * 128) t s (omega arith) in
+    let own : rawTypeAt b′ (i * 128) ≡ x = stands b (i * 128) x s (omega arith) in
     let other : (k : ℕ) → (k ≡ i → ⊥) → rawTypeAt b (k * 128) ≡ rawTypeAt b′ (k * 128) =
     λ k ne. type-agree b (k * 128) b′ (k * 128)
     (λ p l. ⊎-elim
-    (λ (lt : k < i). sym (stored-below b (i * 128) t s (k * 128 + p) (omega arith)))
-    (λ (ge : i ≤ k). let gt : i < k = omega (arith, ne) in sym (stored-above b (i * 128) t s (k * 128 + p) (omega arith)))
+    (λ (lt : k < i). sym (below b (i * 128) x s (k * 128 + p) (omega arith)))
+    (λ (ge : i ≤ k). let gt : i < k = omega (arith, ne) in sym (above b (i * 128) x s (k * 128 + p) (omega arith)))
     (lt-or-ge k i)) in
     sym
-    (is-from (λ k. rawTypeAt b′ (k * 128)) 128 (rawOf t) (set (from 128 0 f) i (rawOf t)) (length-set (from 128 0 f) i (rawOf t) ∙ length-from f 128 0)
+    (is-from (λ k. rawTypeAt b′ (k * 128)) 128 x (set (from 128 0 f) i x) (length-set (from 128 0 f) i x ∙ length-from f 128 0)
     (λ k l. ⊎-elim
-    (λ (e : k ≡ i). ap (λ (n : ℕ). getD (set (from 128 0 f) i (rawOf t)) n (rawOf t)) e ∙ getD-set-same (from 128 0 f) i (rawOf t) (rawOf t) (rw (length-from f 128 0) hi) ∙ sym own ∙ ap (λ (n : ℕ). rawTypeAt b′ (n * 128)) (sym e))
-    (λ (ne : k ≡ i → ⊥). getD-set-other (from 128 0 f) i k (rawOf t) (rawOf t) ne ∙ from-first f 128 k (rawOf t) l ∙ other k ne)
+    (λ (e : k ≡ i). ap (λ (n : ℕ). getD (set (from 128 0 f) i x) n x) e ∙ getD-set-same (from 128 0 f) i x x (rw (length-from f 128 0) hi) ∙ sym own ∙ ap (λ (n : ℕ). rawTypeAt b′ (n * 128)) (sym e))
+    (λ (ne : k ≡ i → ⊥). getD-set-other (from 128 0 f) i k x x ne ∙ from-first f 128 k x l ∙ other k ne)
     (same-or k i)))
+
+-- What `put_type` promises, as its callers use it.
+module _ {b : List ℕ} {i : ℕ} {x : RawType} {b′ : List ℕ} (w : Put b i x b′) where
+  pub put-length : length b′ ≡ length b
+  put-length = ap length (w .bytes) ∙ length-sets b (i * 128) (recordBytes x)
+
+  pub put-types : length b ≡ 16384 → i < 128 → typesIn b′ ≡ set (typesIn b) i x
+  put-types e h = ap typesIn (w .bytes) ∙ stored b i x e h (w .shaped)

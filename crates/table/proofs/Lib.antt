@@ -3,3 +3,5 @@ pub mod Laws
 pub mod Tables
 pub mod Linked
 pub mod Codes
+pub mod Exact
+pub mod Whole

@@ -5,10 +5,10 @@ use mathlib.Core.List.{List}
 use Prim.Native.Nat.{ℕ, _+_, _*_, _≤_, _<_}
 use native.Mathlib.Omega.{arith}
 use lib.ListN.{length, getD, set, length-set}
-use lib.Seq.{getD-set-same, getD-set-other}
+use lib.Seq.{sets, getD-set-same, getD-set-other}
 use Rattle.model.specs.Check.{RawLinks, noRawLinks}
-use Rattle.table.specs.Store.{rawLinksAt, linksIn}
-use Rattle.table.proofs.Lists.{lt-or-ge, same-or, is-from}
+use Rattle.table.specs.Store.{rawLinksAt, linksIn, linksBytes}
+use Rattle.table.proofs.Lists.{lt-or-ge, same-or, is-from, three}
 use Rattle.table.proofs.Laws.{links-length, links-in}
 
 -- Three bytes stored at k * 3 are the links of category k.
@@ -62,9 +62,9 @@ module _ (l : List ℕ) (k x y z : ℕ) (h : k < 32) (e : length l ≡ 96) where
           ∙ ap (λ (v : ℕ). let r : RawLinks = record { count = getD stored (i * 3) 0; first = getD stored (i * 3 + 1) 0; second = v } in r)
           (sym (elsewhere (i * 3 + 2) (a 2 (omega arith)) (b 2 (omega arith)) (c 2 (omega arith))))
 
-  pub links-put : linksIn (set (set (set l (k * 3) x) (k * 3 + 1) y) (k * 3 + 2) z) ≡ set (linksIn l) k (record { count = x; first = y; second = z })
-  unfolding linksIn stored
-  links-put =
+  three-put : linksIn stored ≡ set (linksIn l) k (record { count = x; first = y; second = z })
+  unfolding linksIn
+  three-put =
       let r : RawLinks = record { count = x; first = y; second = z } in
       sym (is-from (λ i. rawLinksAt stored (i * 3)) 32 noRawLinks (set (linksIn l) k r) (length-set (linksIn l) k r ∙ links-length l)
       (λ i p. ⊎-elim
@@ -72,5 +72,7 @@ module _ (l : List ℕ) (k x y z : ℕ) (h : k < 32) (e : length l ≡ 96) where
       (λ (q : i ≡ k → ⊥). getD-set-other (linksIn l) k i r noRawLinks q ∙ links-in l i noRawLinks p ∙ at-other i q)
       (same-or i k)))
 
-  pub links-put-length : length (set (set (set l (k * 3) x) (k * 3 + 1) y) (k * 3 + 2) z) ≡ 96
-  links-put-length = length-set (set (set l (k * 3) x) (k * 3 + 1) y) (k * 3 + 2) z ∙ length-set (set l (k * 3) x) (k * 3 + 1) y ∙ length-set l (k * 3) x ∙ e
+-- What `put_links` stores, as its callers use it.
+pub links-put : (l : List ℕ) (k : ℕ) (x : RawLinks) → k < 32 → length l ≡ 96 → linksIn (sets l (k * 3) (linksBytes x)) ≡ set (linksIn l) k x
+unfolding stored
+links-put l k x h e = ap linksIn (sym (three l (k * 3) (x .count) (x .first) (x .second))) ∙ three-put l k (x .count) (x .first) (x .second) h e

@@ -9,7 +9,7 @@ use native.Mathlib.Numerals.{add-one}
 use native.Mathlib.Omega.{arith}
 use lib.Dec.{ltb}
 use borrow.Author.Tests.{ltb-true, ltb-false}
-use lib.ListN.{length, getD, set, length-set}
+use lib.ListN.{length, getD, set, replicate, length-set, length-replicate, replicate-append-replicate}
 use lib.Seq.{sets, ext-getD, getD-set-same, getD-set-other}
 use Rattle.model.specs.Basics.{from}
 use Rattle.model.proofs.Largest.{getD-from}
@@ -77,7 +77,13 @@ module _ {A : Type 0} where
       let g : suc i + length vs ≤ length (set l i v) = rw length-set (omega arith) in
       ap (λ (m : ℕ). getD (sets (set l i v) (suc i) vs) m d) e ∙ getD-sets-in (set l i v) (suc i) vs k d (le-of-suc-le-suc h) g
 
--- Six and seven stores, as the code has them.
+-- Three, six and seven stores, as the code has them.
+pub three : (b : List ℕ) (at x₀ x₁ x₂ : ℕ) → set (set (set b at x₀) (at + 1) x₁) (at + 2) x₂ ≡ sets b at (x₀ ∷ x₁ ∷ x₂ ∷ [])
+three b at x₀ x₁ x₂ =
+    let e₁ : at + 1 ≡ suc at = omega arith in
+    let e₂ : at + 2 ≡ suc (suc at) = omega arith in
+    rw (e₁, e₂)
+
 pub six : (b : List ℕ) (at x₀ x₁ x₂ x₃ x₄ x₅ : ℕ) → set (set (set (set (set (set b at x₀) (at + 1) x₁) (at + 2) x₂) (at + 3) x₃) (at + 4) x₄) (at + 5) x₅ ≡ sets b at (x₀ ∷ x₁ ∷ x₂ ∷ x₃ ∷ x₄ ∷ x₅ ∷ [])
 six b at x₀ x₁ x₂ x₃ x₄ x₅ =
     let e₁ : at + 1 ≡ suc at = omega arith in
@@ -91,6 +97,13 @@ pub seven : (b : List ℕ) (at x₀ x₁ x₂ x₃ x₄ x₅ x₆ : ℕ) → set
 seven b at x₀ x₁ x₂ x₃ x₄ x₅ x₆ =
     let e : at + 6 ≡ suc (suc (suc (suc (suc (suc at))))) = omega arith in
     ap (λ (l : List ℕ). set l (at + 6) x₆) (six b at x₀ x₁ x₂ x₃ x₄ x₅) ∙ ap (λ (k : ℕ). set (sets b at (x₀ ∷ x₁ ∷ x₂ ∷ x₃ ∷ x₄ ∷ x₅ ∷ [])) k x₆) e
+
+-- A run of equal stores, one longer.
+pub run-next : (b : List ℕ) (at j v : ℕ) → set (sets b at (replicate j v)) (at + j) v ≡ sets b at (replicate (j + 1) v)
+run-next b at j v =
+    let e : at + length (replicate j v) ≡ at + j = ap (λ (k : ℕ). at + k) (length-replicate j v) in
+    ap (λ (k : ℕ). sets (sets b at (replicate j v)) k (v ∷ [])) (sym e)
+    ∙ sym (sets-append b at (replicate j v) (v ∷ [])) ∙ ap (sets b at) (replicate-append-replicate j 1 v)
 
 -- A list that a loop fills from the front: what holds of each element so far, with its number, holds after one store more.
 pub set-next : {A : Type 0} (P : ℕ → A → Type 0) (l : List A) (j : ℕ) (v d : A) → j < length l → ((k : ℕ) → k < j → P k (getD l k d)) → P j v → (k : ℕ) → k < j + 1 → P k (getD (set l j v) k d)

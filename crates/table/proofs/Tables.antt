@@ -12,7 +12,7 @@ use Rattle.model.specs.Table.{Ty, noType, size, typeAt, withTypes}
 use Rattle.model.specs.Check.{RawType, noRawType, noRawLinks, linksOf, typeOf, tableOf}
 use Rattle.model.proofs.Largest.{getD-from-out}
 use Rattle.table.specs.declared.Counts.{Counts}
-use Rattle.table.specs.Store.{typesIn, linksIn, tableIn, typesTo}
+use Rattle.table.specs.Store.{typesIn, linksIn, tableIn, typesTo, withCount}
 use Rattle.table.proofs.Lists.{same-or, length-from, from-first, from-last, from-same}
 use Rattle.table.proofs.Laws.{types-length}
 
@@ -74,10 +74,6 @@ module _ (b l : List ℕ) (c : Counts) where
   pub cats-length : length (tableIn b l c .cats) ≡ c .cats
   unfolding tableIn tableOf
   cats-length = length-from (λ k. linksOf (getD (linksIn l) k noRawLinks)) (c .cats) 1
-
--- counts with another number of types
-abbrev pub withCount : Counts → ℕ → Counts
-withCount c n = record { subjects = c .subjects; methods = c .methods; cats = c .cats; sheet = c .sheet; types = n }
 
 -- What other bytes mean, with the same links.
 module _ (b b′ l : List ℕ) (c : Counts) where

@@ -1,10 +1,12 @@
 -- How a table stands in bytes. Type i has 128 bytes from i * 128 on: six numbers, ten spare bytes, and from 16 on seven bytes for each of 16 methods:
 -- state, count of arguments, four arguments, answer. The broader links of category k are three bytes from k * 3 on. What the records mean is the model's (Check).
-use mathlib.Core.Bool.{Bool, _&&_}
-use Prim.Native.Nat.{ℕ, _+_, _*_}
+use mathlib.Core.Path.{_≡_}
+use mathlib.Core.Bool.{Bool, not, _&&_}
+use Prim.Native.Nat.{ℕ, _+_, _*_, _<_}
 use lib.Dec.{eqb}
 use mathlib.Core.List.{List, [], _∷_, _++_, map}
-use lib.ListN.{getD, replicate}
+use lib.ListN.{length, getD, replicate}
+use lib.Seq.{sets}
 use Rattle.model.specs.Basics.{from}
 use Rattle.model.specs.Table.{Ty, Table, isRef}
 use Rattle.model.specs.Table.{Method as Methodᵐ}
@@ -43,7 +45,7 @@ abbrev pub rawMethod : Method → RawMethod
 rawMethod m = record { state = m .state; count = m .count; args = m .args; answer = m .answer }
 
 abbrev pub rawOf : TypeRec → RawType
-rawOf t = record { rep = t .rep; cat = t .cat; own = t .own; kind = t .kind; left = t .left; right = t .right; methods = map rawMethod (t .methods) }
+rawOf t = record { rep = t .head .rep; cat = t .head .cat; own = t .head .own; kind = t .head .kind; left = t .head .left; right = t .head .right; methods = map rawMethod (t .methods) }
 
 abbrev pub headOf : RawType → Head
 headOf t = record { rep = t .rep; cat = t .cat; own = t .own; kind = t .kind; left = t .left; right = t .right }
@@ -75,21 +77,44 @@ broaderOf l k = linksOf (getD (linksIn l) k noRawLinks)
 abbrev pub ownOf : RawType → Bool
 ownOf x = isRef (repOf (x .rep)) && eqb (x .own) 1
 
+-- what may stand in a signature, as it is stored: `mayStand` of what it means
+abbrev pub mayStandAs : RawType → Bool
+mayStandAs x = not (ownOf x)
+
 -- The counts, with so many types.
 abbrev pub withCount : Counts → ℕ → Counts
 withCount c n = record { subjects = c .subjects; methods = c .methods; cats = c .cats; sheet = c .sheet; types = n }
 
--- The bytes of a record, as they are stored.
-abbrev pub methodBytes : Method → List ℕ
+-- The bytes of records. A type's are 128: six of its head, ten spare ones that are 0, and seven for each of sixteen methods.
+abbrev pub methodBytes : RawMethod → List ℕ
 methodBytes m =
     m .state ∷ m .count ∷ getD (m .args) 0 0 ∷ getD (m .args) 1 0 ∷ getD (m .args) 2 0 ∷ getD (m .args) 3 0 ∷ m .answer ∷ []
 
-abbrev pub methodsBytes : List Method → List ℕ
+abbrev pub headBytes : Head → List ℕ
+headBytes h = h .rep ∷ h .cat ∷ h .own ∷ h .kind ∷ h .left ∷ h .right ∷ []
+
+abbrev pub spareBytes : List ℕ
+spareBytes = replicate 10 0
+
+abbrev pub methodsBytes : List RawMethod → List ℕ
 methodsBytes [] = []
 methodsBytes (m ∷ ms) = methodBytes m ++ methodsBytes ms
 
-abbrev pub headBytes : TypeRec → List ℕ
-headBytes t = t .rep ∷ t .cat ∷ t .own ∷ t .kind ∷ t .left ∷ t .right ∷ []
+unfoldable pub recordBytes : RawType → List ℕ
+recordBytes x = headBytes (headOf x) ++ (spareBytes ++ methodsBytes (x .methods))
+
+abbrev pub linksBytes : RawLinks → List ℕ
+linksBytes x = x .count ∷ x .first ∷ x .second ∷ []
+
+-- sixteen methods of four argument slots each, as the arrays of the code have
+pub record Shaped (x : RawType) : Type 0 where
+  pub methods : length (x .methods) ≡ 16
+  pub slots : (j : ℕ) → j < 16 → length (getD (x .methods) j noRawMethod .args) ≡ 4
+
+-- b′ is b with the record x as type i, every byte of it.
+pub record Put (b : List ℕ) (i : ℕ) (x : RawType) (b′ : List ℕ) : Type 0 where
+  pub bytes : b′ ≡ sets b (i * 128) (recordBytes x)
+  pub shaped : Shaped x
 
 -- An empty table, and a type that denies every method.
 abbrev pub emptyCounts : Counts
@@ -99,7 +124,7 @@ abbrev pub emptyMethod : Method
 emptyMethod = record { state = 0; count = 0; args = 0 ∷ 0 ∷ 0 ∷ 0 ∷ []; answer = 0 }
 
 abbrev pub emptyType : TypeRec
-emptyType = record { rep = 0; cat = 0; own = 0; kind = 0; left = 0; right = 0; methods = replicate 16 emptyMethod }
+emptyType = record { head = record { rep = 0; cat = 0; own = 0; kind = 0; left = 0; right = 0 }; methods = replicate 16 emptyMethod }
 
 unfoldable pub emptyTypes : List ℕ
 emptyTypes = replicate 16384 0

@@ -6,7 +6,7 @@ ghost use lib.ListN.{length, getD, set};
 ghost use lib.Seq.{sets};
 ghost use Rattle.model.specs.Table.{permit};
 ghost use Rattle.model.specs.Check.{noRawType, noRawMethod, noRawLinks, stateOf};
-ghost use Rattle.table.specs.Store.{typesIn, linksIn, rawMethod, rawOf, headOf, rawLinks, methodBytes, headBytes, emptyCounts, emptyMethod, emptyType, emptyTypes, emptyLinks};
+ghost use Rattle.table.specs.Store.{typesIn, linksIn, rawMethod, rawOf, headOf, rawLinks, mayStandAs, methodBytes, headBytes, spareBytes, linksBytes, Put, emptyCounts, emptyMethod, emptyType, emptyTypes, emptyLinks};
 
 // The bytes of the types of a table, and of its broader links.
 pub const TYPE_BYTES: usize = 16384;
@@ -22,8 +22,7 @@ pub struct Counts {
     pub types: usize,
 }
 
-// "1 to 16 subjects (modules), 1 to 16 methods, 0 to 31 categories, 1 to 48 sheet types [..] Derived types bring the table to at most 128", and
-// "0 to 2 argument types".
+// The limits of a table, and of the arguments of a signature.
 impl Counts {
     pub const SUBJECTS: usize = 16;
 
@@ -37,7 +36,7 @@ impl Counts {
 
     pub const ARGUMENTS: usize = 2;
 
-    // "the table is always a new one, here with every count 0"
+    // the counts of a table that holds nothing
     pub fn empty() -> Self
         ensures { λ r. ⌜ r ≡ emptyCounts ⌝ }
     {
@@ -59,13 +58,22 @@ pub struct Method {
     pub answer: u8,
 }
 
+// The codes of the four states.
 impl Method {
+    pub const DENIED: u8 = 0;
+
+    pub const OPTIONAL: u8 = 1;
+
+    pub const AVAIL: u8 = 2;
+
+    pub const UNAVAIL: u8 = 3;
+
     // denied, without a signature
     pub fn empty() -> Self
         ensures { λ r. ⌜ r ≡ emptyMethod ⌝ }
     {
         Self {
-            state: 0,
+            state: Method::DENIED,
             count: 0,
             args: [0u8; 4],
             answer: 0,
@@ -73,14 +81,30 @@ impl Method {
     }
 }
 
-// A type: codes of representation, category and own; of a derived type its kind, left and right; and the methods.
-pub struct TypeRec {
+// A type without its methods: codes of representation, category and own; of a derived type its kind, left and right, else 0.
+pub struct Head {
     pub rep: u8,
     pub cat: u8,
     pub own: u8,
     pub kind: u8,
     pub left: u8,
     pub right: u8,
+}
+
+// The codes of the three representations, and of own=yes.
+impl Head {
+    pub const REF: u8 = 0;
+
+    pub const W32: u8 = 1;
+
+    pub const W64: u8 = 2;
+
+    pub const OWN: u8 = 1;
+}
+
+// A type.
+pub struct TypeRec {
+    pub head: Head,
     pub methods: [Method; 16],
 }
 
@@ -91,26 +115,32 @@ impl TypeRec {
     {
         let m = Method::empty();
         let methods = [m; 16];
-        Self {
-            rep: 0,
+        let head = Head {
+            rep: Head::REF,
             cat: 0,
             own: 0,
             kind: 0,
             left: 0,
             right: 0,
-            methods,
-        }
+        };
+        Self { head, methods }
     }
 }
 
-// A type without its methods.
-pub struct Head {
-    pub rep: u8,
-    pub cat: u8,
-    pub own: u8,
+// By which a derived type is known: its kind and the numbers of the two types that it is derived from.
+pub struct Key {
     pub kind: u8,
-    pub left: u8,
-    pub right: u8,
+    pub left: usize,
+    pub right: usize,
+}
+
+// The codes of the three kinds.
+impl Key {
+    pub const SUB: u8 = 0;
+
+    pub const SUP: u8 = 1;
+
+    pub const CLOSED: u8 = 2;
 }
 
 // The broader categories of a category: how many, and their numbers.
@@ -124,23 +154,23 @@ pub struct Links {
 pub fn permits(state: u8) -> bool
     ensures { λ r. ⌜ r ≡ permit (stateOf state) ⌝ }
 {
-    if state == 1 {
+    if state == Method::OPTIONAL {
         return true;
     }
-    state == 2
+    state == Method::AVAIL
 }
 
 // Bytes for the types of an empty table, and for its links.
 pub fn empty_types() -> [u8; TYPE_BYTES]
     ensures { λ r. ⌜ r ≡ emptyTypes ⌝ }
 {
-    [0u8; 16384]
+    [0u8; TYPE_BYTES]
 }
 
 pub fn empty_links() -> [u8; LINK_BYTES]
     ensures { λ r. ⌜ r ≡ emptyLinks ⌝ }
 {
-    [0u8; 96]
+    [0u8; LINK_BYTES]
 }
 
 // The broader categories of category k.
@@ -159,7 +189,7 @@ pub fn get_links(l: &[u8; LINK_BYTES], k: usize) -> Links
 // Store the broader categories of category k.
 pub fn put_links(l: &mut [u8; LINK_BYTES], k: usize, x: Links)
     requires { ⌜ (k < 32) × (length (now l) ≡ 96) ⌝ }
-    ensures { λ _. ⌜ (linksIn (now (l .exit)) ≡ set (linksIn (now (l .entry))) k (rawLinks x)) × (length (now (l .exit)) ≡ 96) ⌝ }
+    ensures { λ _. ⌜ now (l .exit) ≡ sets (now (l .entry)) (k * 3) (linksBytes (rawLinks x)) ⌝ }
 {
     let at = k * 3;
     l[at] = x.count;
@@ -198,13 +228,25 @@ pub fn get_method(b: &[u8; TYPE_BYTES], i: usize, j: usize) -> Method
     }
 }
 
+// Whether type i may stand in a signature: a type without own, which a number type always is.
+pub fn may_stand(b: &[u8; TYPE_BYTES], i: usize) -> bool
+    requires { ⌜ i < 128 ⌝ }
+    ensures { λ r. ⌜ r ≡ mayStandAs (getD (typesIn (now (b .entry))) i noRawType) ⌝ }
+{
+    let h = get_head(b, i);
+    if h.rep != Head::REF {
+        return true;
+    }
+    h.own != Head::OWN
+}
+
 // Type i.
 pub fn get_type(b: &[u8; TYPE_BYTES], i: usize) -> TypeRec
     requires { ⌜ i < 128 ⌝ }
     ensures is { λ r. ⌜ rawOf r ≡ getD (typesIn (now (b .entry))) i noRawType ⌝ }
     ensures shape { λ r. ⌜ length (r .methods) ≡ 16 ⌝ }
 {
-    let h = get_head(b, i);
+    let head = get_head(b, i);
     let none = Method::empty();
     let mut methods = [none; 16];
     let mut j: usize = 0;
@@ -213,20 +255,12 @@ pub fn get_type(b: &[u8; TYPE_BYTES], i: usize) -> TypeRec
         methods[j] = m;
         j += 1;
     }
-    TypeRec {
-        rep: h.rep,
-        cat: h.cat,
-        own: h.own,
-        kind: h.kind,
-        left: h.left,
-        right: h.right,
-        methods,
-    }
+    TypeRec { head, methods }
 }
 
 fn put_method(b: &mut [u8; TYPE_BYTES], at: usize, m: Method)
     requires { ⌜ at + 7 ≤ 16384 ⌝ }
-    ensures bytes { λ _. ⌜ now (b .exit) ≡ sets (now (b .entry)) at (methodBytes m) ⌝ }
+    ensures bytes { λ _. ⌜ now (b .exit) ≡ sets (now (b .entry)) at (methodBytes (rawMethod m)) ⌝ }
     ensures shape { λ _. ⌜ length (m .args) ≡ 4 ⌝ }
 {
     b[at] = m.state;
@@ -238,26 +272,38 @@ fn put_method(b: &mut [u8; TYPE_BYTES], at: usize, m: Method)
     b[at + 6] = m.answer;
 }
 
-fn put_head(b: &mut [u8; TYPE_BYTES], at: usize, t: TypeRec)
+fn put_head(b: &mut [u8; TYPE_BYTES], at: usize, h: Head)
     requires { ⌜ at + 6 ≤ 16384 ⌝ }
-    ensures bytes { λ _. ⌜ now (b .exit) ≡ sets (now (b .entry)) at (headBytes t) ⌝ }
-    ensures shape { λ _. ⌜ length (t .methods) ≡ 16 ⌝ }
+    ensures { λ _. ⌜ now (b .exit) ≡ sets (now (b .entry)) at (headBytes h) ⌝ }
 {
-    b[at] = t.rep;
-    b[at + 1] = t.cat;
-    b[at + 2] = t.own;
-    b[at + 3] = t.kind;
-    b[at + 4] = t.left;
-    b[at + 5] = t.right;
+    b[at] = h.rep;
+    b[at + 1] = h.cat;
+    b[at + 2] = h.own;
+    b[at + 3] = h.kind;
+    b[at + 4] = h.left;
+    b[at + 5] = h.right;
 }
 
-// Store t as type i. The spare bytes of the type stay.
+// The spare bytes of a record are 0.
+fn put_spare(b: &mut [u8; TYPE_BYTES], at: usize)
+    requires { ⌜ at + 10 ≤ 16384 ⌝ }
+    ensures { λ _. ⌜ now (b .exit) ≡ sets (now (b .entry)) at spareBytes ⌝ }
+{
+    let mut j: usize = 0;
+    while j < 10 {
+        b[at + j] = 0;
+        j += 1;
+    }
+}
+
+// Store t as type i: its whole record, the spare bytes too.
 pub fn put_type(b: &mut [u8; TYPE_BYTES], i: usize, t: TypeRec)
     requires { ⌜ (i < 128) × (length (now b) ≡ 16384) ⌝ }
-    ensures { λ _. ⌜ (typesIn (now (b .exit)) ≡ set (typesIn (now (b .entry))) i (rawOf t)) × (length (now (b .exit)) ≡ 16384) ⌝ }
+    ensures { λ _. ⌜ Put (now (b .entry)) i (rawOf t) (now (b .exit)) ⌝ }
 {
     let at = i * 128;
-    put_head(b, at, t);
+    put_head(b, at, t.head);
+    put_spare(b, at + 6);
     let mut j: usize = 0;
     while j < 16 {
         let m = t.methods[j];

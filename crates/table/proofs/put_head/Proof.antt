@@ -1,5 +1,4 @@
 -- Rests on `six`: six stores in a row.
-use lib.ListN.{length-map}
 use borrow.Author.Needs.{needs}
 use Rattle.table.proofs.Lists.{six}
 use Rattle.table.proofs.put_head.Statement.{statement}
@@ -39,8 +38,7 @@ element-write-b-6 : tie.Need-element-write-b-6
 element-write-b-6 c = search needs
 
 returns : tie.Need-returns
-returns c = let a = c .args in
-    (six (a .b .now) (a .at) (a .t .rep) (a .t .cat) (a .t .own) (a .t .kind) (a .t .left) (a .t .right), simp length-map at (c .good .1 .1 .0 .1 .1 .1 .1 .1 .1 .1 .1 .0 .1 .0 .1))
+returns c = let a = c .args in six (a .b .now) (a .at) (a .h .rep) (a .h .cat) (a .h .own) (a .h .kind) (a .h .left) (a .h .right)
 
 pub put-head-spec : {M : Type 1} → statement M
 put-head-spec =

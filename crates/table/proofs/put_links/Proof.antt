@@ -1,6 +1,7 @@
--- Rests on `links-put`.
+-- Rests on `three`: three stores in a row.
+use Prim.Native.Nat.{_*_}
 use borrow.Author.Needs.{needs}
-use Rattle.table.proofs.Linked.{links-put, links-put-length}
+use Rattle.table.proofs.Lists.{three}
 use Rattle.table.proofs.put_links.Statement.{statement}
 use Rattle.table.proofs.put_links.Tie as tie
 
@@ -23,7 +24,7 @@ element-write-l-3 : tie.Need-element-write-l-3
 element-write-l-3 c = search needs
 
 returns : tie.Need-returns
-returns c = let a = c .args in (links-put (a .l .now) (a .k) (a .x .count) (a .x .first) (a .x .second) (c .pre .0) (c .pre .1), links-put-length (a .l .now) (a .k) (a .x .count) (a .x .first) (a .x .second) (c .pre .0) (c .pre .1))
+returns c = let a = c .args in three (a .l .now) (a .k * 3) (a .x .count) (a .x .first) (a .x .second)
 
 pub put-links-spec : {M : Type 1} → statement M
 put-links-spec =

@@ -1,22 +1,22 @@
--- The invariant: behind the head stand the bytes of the methods so far. Rests on `run-more` and `stored`.
-use mathlib.Core.List.{List}
-use mathlib.Core.Path.{_≡_, refl, ap, _∙_}
+-- The invariant: behind head and spare bytes stand the bytes of the methods so far. Rests on `run-more` and `record-parts`.
+use mathlib.Core.List.{List, map}
+use mathlib.Core.Path.{_≡_, refl, sym, ap, _∙_}
 use Prim.Native.Nat.{ℕ, _≤_, _<_, _-_, _*_, _+_}
 use native.Mathlib.Nat.{not-suc-le-zero}
 use native.Mathlib.Omega.{arith}
 use lib.Seq.{sets, take-all}
-use lib.ListN.{length, getD, take}
+use lib.ListN.{length, getD, take, length-map, List·getD-map}
 use borrow.Author.Count.{below-more}
 use borrow.Author.Needs.{needs}
-use Rattle.table.specs.Store.{typesIn, methodsBytes}
-use Rattle.table.specs.declared.Method.{Method}
-use Rattle.table.proofs.Laws.{absent, Shaped, storedIn, stored-length, stored, run-more}
+use Rattle.model.specs.Check.{RawMethod, noRawMethod}
+use Rattle.table.specs.Store.{rawMethod, rawOf, spareBytes, methodBytes, methodsBytes}
+use Rattle.table.proofs.Laws.{absent, run-more, record-parts}
 use Rattle.table.proofs.put_type.Statement.{statement}
 use Rattle.table.proofs.put_type.Tie as tie
 
 abbrev Inv-loop : tie.InvT-loop
 Inv-loop b₀ i t at j₀ b j = (j ≤ 16) × (at ≡ i * 128) × (length (t .methods) ≡ 16)
-    × (b ≡ sets b₀ (at + 16) (methodsBytes (take j (t .methods))))
+    × (b ≡ sets b₀ (at + 16) (methodsBytes (take j (map rawMethod (t .methods)))))
     × ((k : ℕ) → k < j → length (getD (t .methods) k absent .args) ≡ 4)
 
 abbrev μ-loop : tie.MeasureT-loop
@@ -28,8 +28,14 @@ mul-at c = search needs
 put-head-requires : tie.Need-put-head-requires Inv-loop μ-loop
 put-head-requires c κs = search needs
 
+add-put-spare : tie.Need-add-put-spare Inv-loop μ-loop
+add-put-spare c = search needs
+
+put-spare-requires : tie.Need-put-spare-requires Inv-loop μ-loop
+put-spare-requires c κs = search needs
+
 loop-holds : tie.Need-loop-holds Inv-loop μ-loop
-loop-holds c = (search needs, refl, c .put-head .ensures .1, refl, λ k h. absurd (not-suc-le-zero h))
+loop-holds c = (search needs, refl, simp length-map at (c .before .before .before .before .before .good .1 .1 .0 .1 .1 .1 .0 .1 .0 .1), refl, λ k h. absurd (not-suc-le-zero h))
 
 mul-m : tie.Need-mul-m Inv-loop μ-loop
 mul-m c = search needs
@@ -57,28 +63,31 @@ loop-less c = search needs
 
 loop-again : tie.Need-loop-again Inv-loop μ-loop
 loop-again c = let l = c .before .before .before .before .loop in
-    let a = c .before .before .before .before .before .before .before .args in
-    let h : l .j < length (a .t3 .methods) = omega arith in (
+    let ms = c .before .before .before .before .before .before .before .before .before .before .args .t3 .methods in
+    let at = c .before .before .before .before .before .before .before .before .before .before .args .i * 128 in
+    let h : l .j < length (map rawMethod ms) = rw (length-map ms rawMethod) (omega arith) in (
       omega arith,
       refl,
       l .inv .2,
-      run-more (c .before .before .before .before .before .put-head .last .0) (a .i * 128 + 16) (a .t3 .methods) (l .j) (l .b) (c .put-method .last .0) h (l .inv .3) (c .put-method .ensures .0),
-      below-more (λ k. length (getD (a .t3 .methods) k absent .args) ≡ 4) (l .j) (l .inv .4) (c .put-method .ensures .1),
+      run-more (c .before .before .before .before .before .put-spare .last .0) (at + 16) (map rawMethod ms) (l .j) (l .b) (c .put-method .last .0) h (l .inv .3)
+          (c .put-method .ensures .0 ∙ ap (λ (m : RawMethod). sets (l .b) (at + 16 + l .j * 7) (methodBytes m)) (sym (List·getD-map rawMethod ms (l .j) absent))),
+      below-more (λ k. length (getD ms k absent .args) ≡ 4) (l .j) (l .inv .4) (c .put-method .ensures .1),
     )
 
 returns : tie.Need-returns Inv-loop μ-loop
-unfolding Shaped
 returns c = let l = c .before .loop in
     let s = c .before .before in
-    let a = c .before .before .before .before .args in
-    let e : l .j ≡ 16 = omega arith in
-    let whole : take (l .j) (a .t3 .methods) ≡ a .t3 .methods = take-all (l .j) (a .t3 .methods) (omega arith) in
-    let eq : l .b ≡ storedIn (a .b .now) (a .i * 128) (a .t3) = l .inv .3
-    ∙ ap (λ (ms : List Method). sets (s .put-head .last .0) (a .i * 128 + 16) (methodsBytes ms)) whole
-    ∙ ap (λ (x : List ℕ). sets x (a .i * 128 + 16) (methodsBytes (a .t3 .methods))) (s .put-head .ensures .0) in (
-      ap typesIn eq ∙ stored (a .b .now) (a .i) (a .t3) (c .before .before .before .before .pre .1) (c .before .before .before .before .pre .0) (s .put-head .ensures .1, λ k h. l .inv .4 k (omega arith)),
-      ap length eq ∙ stored-length (a .b .now) (a .i * 128) (a .t3) ∙ c .before .before .before .before .pre .1,
-    )
+    let a = c .before .before .before .before .before .before .before .args in
+    let t = a .t3 in
+    let n : length (map rawMethod (t .methods)) ≡ 16 = length-map (t .methods) rawMethod ∙ l .inv .2 in
+    let whole : take (l .j) (map rawMethod (t .methods)) ≡ map rawMethod (t .methods) = take-all (l .j) (map rawMethod (t .methods)) (omega arith) in
+    record {
+      bytes = l .inv .3
+          ∙ ap (λ (ms : List RawMethod). sets (s .put-spare .last .0) (a .i * 128 + 16) (methodsBytes ms)) whole
+          ∙ ap (λ (x : List ℕ). sets x (a .i * 128 + 16) (methodsBytes (map rawMethod (t .methods)))) (s .put-spare .ensures ∙ ap (λ (x : List ℕ). sets x (a .i * 128 + 6) spareBytes) (s .before .before .put-head .ensures))
+          ∙ record-parts (a .b .now) (a .i * 128) (rawOf t);
+      shaped = record { methods = n; slots = λ k h. ap (λ (m : RawMethod). length (m .args)) (List·getD-map rawMethod (t .methods) k absent) ∙ l .inv .4 k (omega arith) };
+    }
 
 pub put-type-spec : {M : Type 1} → statement M
 put-type-spec =
@@ -88,6 +97,8 @@ put-type-spec =
     μ-loop
     mul-at
     put-head-requires
+    add-put-spare
+    put-spare-requires
     loop-holds
     mul-m
     element-copy-out-m

@@ -11,7 +11,7 @@ empty-requires : tie.Need-empty-requires
 empty-requires c κs = search needs
 
 returns : tie.Need-returns
-returns c = ap (λ (m : Method). let r : TypeRec = record { rep = 0; cat = 0; own = 0; kind = 0; left = 0; right = 0; methods = replicate 16 m } in r) (c .empty .ensures)
+returns c = ap (λ (m : Method). let r : TypeRec = record { head = record { rep = 0; cat = 0; own = 0; kind = 0; left = 0; right = 0 }; methods = replicate 16 m } in r) (c .empty .ensures)
 
 pub empty-spec : {M : Type 1} → statement M
 empty-spec = tie.close (tie.spec empty-requires returns)
