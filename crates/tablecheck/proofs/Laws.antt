@@ -10,15 +10,35 @@ use lib.Dec.{eqb, ltb, leb}
 use lib.ListN.{length, getD, take, length-take}
 use borrow.Author.Tests.{ltb-true, ltb-false, leb-true, le-leb, eq-eqb}
 use Rattle.model.specs.Basics.{_⇒_, all, every, from, unlessMissing}
-use Rattle.model.specs.Table.{Rep, ref, w32, w64, Key, Method, Ty, Table, size, isRef, permit, between, countsFit, linksFit, standsIn, isNil, isNone, signatureFits, methodCount, keyFits, typeFits, tableFits}
+use Rattle.model.specs.Table.{maxSubjects, maxMethods, maxCategories, maxSheetTypes, maxTypes, Rep, ref, w32, w64, Key, Method, Ty, Table, size, isRef, permit, between, countsFit, linksFit, standsIn, isNil, isNone, signatureFits, methodCount, keyFits, typeFits, tableFits}
 use Rattle.model.specs.Check.{RawMethod, RawType, RawLinks, noRawType, noRawMethod, noRawLinks, stateOf, answerOf, kindOf, methodOf, typeOf, linksOf, tableOf, rawMethodFits, rawTypeFits, codesFit, tableAccepted}
 use Rattle.model.proofs.Rules.{first, second}
 use Rattle.table.specs.declared.Counts.{Counts}
 use Rattle.table.specs.Store.{typesIn, linksIn, rawTable, tableIn, headOf}
+use Rattle.table.specs.Limits.{Limits}
 use Rattle.table.proofs.Lists.{length-from}
 use Rattle.table.proofs.Tables.{size-is, type-is, cats-length}
 use Rattle.tablecheck.specs.Parts.{eachFrom, countsAccepted, mayStand, methodAccepted, keyAccepted, boundOf, methodsAccepted, typeAccepted, linksAccepted, typesAccepted}
 use Rattle.tablecheck.proofs.Each.{left-comm, interchange, under-and, all-each, every-each, each-and, each-same, all-same}
+
+-- Counts that pass are within the limits.
+pub counts-limits : (c : Counts) → countsAccepted c ≡ true → Limits c
+counts-limits c e =
+    let e₁ = second (between 1 maxSubjects (c .subjects)) _ e in
+    let e₂ = second (between 1 maxMethods (c .methods)) _ e₁ in
+    let e₃ = second (leb (c .cats) maxCategories) _ e₂ in
+    let e₄ = second (between 1 maxSheetTypes (c .sheet)) _ e₃ in
+    record {
+      subjects = upper maxSubjects (c .subjects) (first (between 1 maxSubjects (c .subjects)) _ e);
+      methods = upper maxMethods (c .methods) (first (between 1 maxMethods (c .methods)) _ e₁);
+      cats = leb-true (c .cats) maxCategories (first (leb (c .cats) maxCategories) _ e₂);
+      sheet = upper maxSheetTypes (c .sheet) (first (between 1 maxSheetTypes (c .sheet)) _ e₃);
+      counted = leb-true (c .sheet) (c .types) (first (leb (c .sheet) (c .types)) _ e₄);
+      types = leb-true (c .types) maxTypes (second (leb (c .sheet) (c .types)) _ e₄);
+    }
+  where
+    upper : (m n : ℕ) → between 1 m n ≡ true → n ≤ m
+    upper m n h = leb-true n m (second (leb 1 n) _ h)
 
 -- A method: the test of its codes and that of its signature. A test F of the table, and what the records say of it.
 module _ (F G : ℕ → Bool) (same : (a : ℕ) → F a ≡ G a) where
@@ -77,7 +97,7 @@ module _ (b l : List ℕ) (c : Counts) where
   abbrev rs : List RawType
   rs = typesIn b
 
-  counts-are : countsFit (tableIn b l c) ≡ countsAccepted c
+  pub counts-are : countsFit (tableIn b l c) ≡ countsAccepted c
   unfolding tableIn tableOf
   counts-are = rw (cats-length b l c, size-is b l c)
 
@@ -157,11 +177,6 @@ module _ (b l : List ℕ) (c : Counts) where
         ∙ each-and (λ i. p i (g i)) (λ i. q i (h i)) (c .types) 0
         ∙ each-same (λ i. p i (g i) && q i (h i)) (λ i. typeAccepted rs c i (g i)) (λ i. type-accepted i (g i)) (c .types) 0
 
-  sheet-below : countsAccepted c ≡ true → c .sheet ≤ c .types
-  sheet-below e =
-      leb-true (c .sheet) (c .types)
-      (first (leb (c .sheet) (c .types)) _ (second (between 1 48 (c .sheet)) _ (second (leb (c .cats) 31) _ (second (between 1 16 (c .methods)) _ (second (between 1 16 (c .subjects)) _ e)))))
-
   pub accepted-is : tableAccepted (rawTable b l c) ≡ (countsAccepted c && (linksAccepted (c .cats) (linksIn l) && typesAccepted rs c))
   unfolding tableAccepted codesFit tableFits tableIn
   accepted-is =
@@ -172,4 +187,4 @@ module _ (b l : List ℕ) (c : Counts) where
       let tt′ : Bool = every (typeFits t) 0 (t .types) in
       left-comm (cl && ct) (countsFit t) (tl && tt′)
       ∙ ap (λ (z : Bool). z && ((cl && ct) && (tl && tt′))) counts-are
-      ∙ under-and (countsAccepted c) _ _ (λ e. interchange cl ct tl tt′ ∙ ap (λ (z : Bool). z && (ct && tt′)) links-are ∙ ap (λ (z : Bool). linksAccepted (c .cats) (linksIn l) && z) (types-are (sheet-below e)))
+      ∙ under-and (countsAccepted c) _ _ (λ e. interchange cl ct tl tt′ ∙ ap (λ (z : Bool). z && (ct && tt′)) links-are ∙ ap (λ (z : Bool). linksAccepted (c .cats) (linksIn l) && z) (types-are (counts-limits c e .counted)))

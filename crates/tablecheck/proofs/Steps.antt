@@ -13,7 +13,7 @@ use Rattle.model.specs.Check.{RawLinks, stateOf, repOf, answerOf, linksOf}
 use Rattle.model.proofs.Rules.{first, second}
 use Rattle.table.specs.declared.Counts.{Counts}
 use Rattle.table.specs.declared.Head.{Head}
-use Rattle.tablecheck.specs.Parts.{eachFrom, Limited, countsAccepted, linkAccepted, headAccepted, boundOf}
+use Rattle.tablecheck.specs.Parts.{eachFrom, countsAccepted, linkAccepted, headAccepted, boundOf}
 use Rattle.tablecheck.proofs.Each.{all-take}
 use Rattle.table.proofs.Codes.{number-rep}
 
@@ -38,19 +38,6 @@ pub leaves : (a b r : Bool) → a ≡ false → r ≡ b → r ≡ (a || b)
 leaves a b r e f = rw e f
 
 -- Counts.
-pub counts-limited : (c : Counts) → countsAccepted c ≡ true → Limited c
-counts-limited c e =
-    let e₁ = second (between 1 16 (c .subjects)) _ e in
-    let e₂ = second (between 1 16 (c .methods)) _ e₁ in
-    let e₃ = second (leb (c .cats) 31) _ e₂ in
-    let e₄ = second (between 1 48 (c .sheet)) _ e₃ in
-    record {
-      methods = leb-true (c .methods) 16 (second (leb 1 (c .methods)) _ (first (between 1 16 (c .methods)) _ e₁));
-      cats = leb-true (c .cats) 31 (first (leb (c .cats) 31) _ e₂);
-      sheet = leb-true (c .sheet) (c .types) (first (leb (c .sheet) (c .types)) _ e₄);
-      types = leb-true (c .types) 128 (second (leb (c .sheet) (c .types)) _ e₄);
-    }
-
 pub bound-sheet : (c : Counts) (i : ℕ) → i < c .sheet → c .sheet ≡ boundOf c i
 bound-sheet c i h = rw (lt-ltb i (c .sheet) h)
 

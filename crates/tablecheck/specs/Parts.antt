@@ -2,7 +2,7 @@
 -- `tableAccepted` is proved (proofs/Laws), so nothing here has to be believed.
 use mathlib.Core.Bool.{Bool, true, not, _&&_, _||_, cond}
 use mathlib.Core.List.{List}
-use Prim.Native.Nat.{ℕ, zero, suc, _≤_}
+use Prim.Native.Nat.{ℕ, zero, suc}
 use lib.Dec.{eqb, ltb, leb}
 use lib.ListN.{getD, take}
 use Rattle.model.specs.Basics.{_⇒_, all, unlessMissing}
@@ -21,13 +21,6 @@ eachFrom (suc c) i f = f i && eachFrom c (suc i) f
 abbrev pub countsAccepted : Counts → Bool
 countsAccepted c = between 1 maxSubjects (c .subjects) && (between 1 maxMethods (c .methods) && (leb (c .cats) maxCategories
     && (between 1 maxSheetTypes (c .sheet) && (leb (c .sheet) (c .types) && leb (c .types) maxTypes))))
-
--- counts within their limits, as far as the bytes of the records need it
-pub record Limited (c : Counts) : Type 0 where
-  pub methods : c .methods ≤ 16
-  pub cats : c .cats ≤ 31
-  pub sheet : c .sheet ≤ c .types
-  pub types : c .types ≤ 128
 
 -- "Category k, from 1, names one or two broader categories below k, 0 allowed."
 abbrev pub linkAccepted : ℕ → RawLinks → Bool

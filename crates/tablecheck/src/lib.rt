@@ -8,7 +8,8 @@ ghost use lib.ListN.{getD};
 ghost use Rattle.model.specs.Table.{between};
 ghost use Rattle.model.specs.Check.{noRawType, noRawLinks, tableAccepted};
 ghost use Rattle.table.specs.Store.{typesIn, linksIn, rawTable, rawMethod};
-ghost use Rattle.tablecheck.specs.Parts.{Limited, countsAccepted, linkAccepted, linksAccepted, mayStand, signatureAccepted, methodAccepted, methodsAccepted, keyAccepted, headAccepted, boundOf, typeAccepted, typesAccepted, argsAccepted};
+ghost use Rattle.table.specs.Limits.{Limits};
+ghost use Rattle.tablecheck.specs.Parts.{countsAccepted, linkAccepted, linksAccepted, mayStand, signatureAccepted, methodAccepted, methodsAccepted, keyAccepted, headAccepted, boundOf, typeAccepted, typesAccepted, argsAccepted};
 use table::Counts;
 use table::Head;
 use table::LINK_BYTES;
@@ -195,7 +196,7 @@ fn head_fits(h: Head, c: Counts, i: usize) -> bool
 
 // "a derived type [stands] in none of a sheet type": the types that may stand in the signatures of type i are the first so many.
 fn bound(c: Counts, i: usize) -> usize
-    requires { ⌜ Limited c ⌝ }
+    requires { ⌜ Limits c ⌝ }
     ensures { λ r. ⌜ (r ≡ boundOf c i) × (r ≤ 128) ⌝ }
 {
     if i < c.sheet {
@@ -206,7 +207,7 @@ fn bound(c: Counts, i: usize) -> usize
 
 // Type i: a number type has neither own flag nor methods.
 fn type_fits(b: &[u8; TYPE_BYTES], c: Counts, i: usize) -> bool
-    requires { ⌜ Limited c × (i < c .types) ⌝ }
+    requires { ⌜ Limits c × (i < c .types) ⌝ }
     ensures { λ r. ⌜ r ≡ typeAccepted (typesIn (now (b .entry))) c i (getD (typesIn (now (b .entry))) i noRawType) ⌝ }
 {
     let h = table::get_head(b, i);
@@ -223,7 +224,7 @@ fn type_fits(b: &[u8; TYPE_BYTES], c: Counts, i: usize) -> bool
 }
 
 fn types_fit(b: &[u8; TYPE_BYTES], c: Counts) -> bool
-    requires { ⌜ Limited c ⌝ }
+    requires { ⌜ Limits c ⌝ }
     ensures { λ r. ⌜ r ≡ typesAccepted (typesIn (now (b .entry))) c ⌝ }
 {
     let n = c.types;

@@ -2,7 +2,7 @@
 use mathlib.Core.Path.{sym, _∙_}
 use mir.Facts.{toZ-ofZ}
 use borrow.Author.Needs.{needs}
-use Rattle.search.proofs.Accepted.{accepted-checked}
+use Rattle.tablecheck.proofs.Accepted.{accepted-checked}
 use Rattle.compare.proofs.Laws.{compare-fit, compare-unfit}
 use Rattle.compare.proofs.compare_types.Statement.{statement}
 use Rattle.compare.proofs.compare_types.Tie as tie

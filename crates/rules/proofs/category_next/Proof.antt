@@ -1,7 +1,7 @@
 -- One law for each way in which it returns; the links fall, so both numbers are below 32.
 use borrow.Author.Needs.{needs}
 use Rattle.table.specs.Store.{rawLinks}
-use Rattle.search.proofs.Categories.{next-none, next-self, next-zero, next-out, next-first, next-second, next-one, first-below, second-below}
+use Rattle.rules.proofs.Categories.{next-none, next-self, next-zero, next-out, next-first, next-second, next-one, first-below, second-below}
 use Rattle.rules.proofs.category_next.Statement.{statement}
 use Rattle.rules.proofs.category_next.Tie as tie
 

@@ -3,7 +3,7 @@ use mathlib.Core.Path.{_∙_, sym}
 use borrow.Author.Tests.{not-true, not-false}
 use borrow.Author.Needs.{needs}
 use Rattle.table.specs.Store.{tableIn}
-use Rattle.search.proofs.Outside.{heads-rep, heads-cat, heads-own}
+use Rattle.rules.proofs.Outside.{heads-rep, heads-cat, heads-own}
 use Rattle.rules.specs.Asked.{relationOf}
 use Rattle.rules.proofs.outer_rule.Statement.{statement}
 use Rattle.rules.proofs.outer_rule.Tie as tie

@@ -2,7 +2,7 @@
 use mathlib.Core.Bool.{true}
 use borrow.Author.Needs.{needs}
 use Rattle.model.specs.Basics.{_⇒_}
-use Rattle.search.specs.Parts.{ownOf}
+use Rattle.rules.specs.Parts.{ownOf}
 use Rattle.rules.proofs.Laws.{asked, unasked}
 use Rattle.rules.proofs.own_rule.Statement.{statement}
 use Rattle.rules.proofs.own_rule.Tie as tie

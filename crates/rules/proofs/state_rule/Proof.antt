@@ -1,7 +1,7 @@
 -- Rests on `says-at`: what a square says at two codes.
 use mathlib.Core.Path.{_∙_}
 use borrow.Author.Needs.{needs}
-use Rattle.search.proofs.Squares.{says-at}
+use Rattle.rules.proofs.Squares.{says-at}
 use Rattle.rules.specs.Asked.{relationOf}
 use Rattle.rules.proofs.state_rule.Statement.{statement}
 use Rattle.rules.proofs.state_rule.Tie as tie

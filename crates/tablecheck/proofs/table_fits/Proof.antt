@@ -1,10 +1,10 @@
--- Counts within limits give the callees what they require (`counts-limited`); the parts are the model's check (`accepted-is`).
+-- Counts within limits give the callees what they require (`counts-limits`); the parts are the model's check (`accepted-is`).
 use mathlib.Core.Path.{sym, _∙_}
 use borrow.Author.Needs.{needs}
 use Rattle.table.specs.Store.{linksIn}
 use Rattle.tablecheck.specs.Parts.{countsAccepted, linksAccepted}
-use Rattle.tablecheck.proofs.Steps.{refused, passed, ends, goes, counts-limited}
-use Rattle.tablecheck.proofs.Laws.{accepted-is}
+use Rattle.tablecheck.proofs.Steps.{refused, passed, ends, goes}
+use Rattle.tablecheck.proofs.Laws.{counts-limits, accepted-is}
 use Rattle.tablecheck.proofs.table_fits.Statement.{statement}
 use Rattle.tablecheck.proofs.table_fits.Tie as tie
 
@@ -15,7 +15,7 @@ returns : tie.Need-returns
 returns c = ends (countsAccepted (c .before .before .args .c)) _ (refused (c .before .counts-fit .result) _ (c .before .counts-fit .ensures) (c .if1 .taken)) ∙ sym (accepted-is (c .before .before .args .b .now) (c .before .before .args .l .now) (c .before .before .args .c))
 
 links-fit-requires : tie.Need-links-fit-requires
-links-fit-requires c κs = counts-limited (c .before .before .args .c) (passed (c .before .counts-fit .result) _ (c .before .counts-fit .ensures) (c .if1 .left)) .cats
+links-fit-requires c κs = counts-limits (c .before .before .args .c) (passed (c .before .counts-fit .result) _ (c .before .counts-fit .ensures) (c .if1 .left)) .cats
 
 returns-2 : tie.Need-returns-2
 returns-2 c = let a = c .before .before .before .before .args in
@@ -24,7 +24,7 @@ returns-2 c = let a = c .before .before .before .before .args in
     ∙ sym (accepted-is (a .b .now) (a .l .now) (a .c))
 
 types-fit-requires : tie.Need-types-fit-requires
-types-fit-requires c κs = counts-limited (c .before .before .before .before .args .c) (passed (c .before .before .before .counts-fit .result) _ (c .before .before .before .counts-fit .ensures) (c .before .before .if1 .left))
+types-fit-requires c κs = counts-limits (c .before .before .before .before .args .c) (passed (c .before .before .before .counts-fit .result) _ (c .before .before .before .counts-fit .ensures) (c .before .before .if1 .left))
 
 returns-3 : tie.Need-returns-3
 returns-3 c = let a = c .before .before .before .before .before .args in

@@ -2,12 +2,12 @@
 use mathlib.Core.Path.{_≡_, refl}
 use mathlib.Core.Bool.{Bool, true, false}
 use mathlib.Core.List.{List, [], _∷_}
-use Prim.Native.Nat.{ℕ, zero, suc, _<_}
+use Prim.Native.Nat.{ℕ, zero, suc, _≤_, _<_}
 use native.Mathlib.Omega.{arith}
 use lib.ListN.{getD}
 use Rattle.model.specs.Relations.{Relation, subtype, conforms, strict, loose, free, stateRule}
 use Rattle.model.specs.Check.{stateOf}
-use Rattle.search.specs.Parts.{Says}
+use Rattle.rules.specs.Parts.{Says}
 
 four : (P : ℕ → Type 0) → P 0 → P 1 → P 2 → P 3 → (a : ℕ) → a < 4 → P a
 four P p q r s zero l = p
@@ -57,3 +57,10 @@ says-free = let o = availRow true true true true in says free o (row free o 0 re
 pub says-at : (k : Relation) (o : List (List Bool)) (i j a b : ℕ) → Says k o → i < 4 → j < 4 → stateOf i ≡ stateOf a → stateOf j ≡ stateOf b → getD (getD o i []) j false ≡ stateRule k (stateOf a) (stateOf b)
 unfolding Says
 says-at k o i j a b s p q e f = rw (← e, ← f) (s i j p q)
+
+-- a code that names no state is read as unavail
+pub state-high : (x : ℕ) → 4 ≤ x → stateOf 3 ≡ stateOf x
+state-high zero l = let z : ⊥ = omega arith in absurd z
+state-high (suc zero) l = let z : ⊥ = omega arith in absurd z
+state-high (suc (suc zero)) l = let z : ⊥ = omega arith in absurd z
+state-high (suc (suc (suc n))) l = refl

@@ -16,8 +16,8 @@ use Rattle.model.proofs.Largest.{getD-from, getD-from-out}
 use Rattle.table.specs.declared.Counts.{Counts}
 use Rattle.table.specs.Store.{linksIn, tableIn, broaderOf}
 use Rattle.table.proofs.Lists.{lt-or-ge}
-use Rattle.search.specs.Checked.{broaderIn, Checked}
-use Rattle.search.specs.Parts.{catNext}
+use Rattle.table.specs.Limits.{Checked}
+use Rattle.rules.specs.Parts.{broaderIn, catNext}
 
 -- the order of the table is that of these links, whatever its types
 pub order-is : (b l : List ℕ) (c : Counts) (x y : ℕ) → reaches 32 (broaderIn l c) x y ≡ catLe (tableIn b l c) x y
@@ -124,11 +124,11 @@ module _ (l : List ℕ) (c : Counts) (x u : ℕ) (h : Checked l c) (z : x ≡ 0 
   falls = rw e (h .falls x (omega arith) i)
 
   pub first-below : u ≡ r .first → u < 32
-  first-below f = let g : r .first < x = go (eqb (r .count) 2) falls in omega (arith, h .cats)
+  first-below f = let g : r .first < x = go (eqb (r .count) 2) falls in omega (arith, h .limits .cats)
     where
       go : (b : Bool) → AllBelow x (cond b (r .first ∷ r .second ∷ []) (r .first ∷ [])) → r .first < x
       go true w = w .0
       go false w = w .0
 
   pub second-below : u ≡ r .second → r .count ≡ 2 → u < 32
-  second-below f n = let w : AllBelow x (r .first ∷ r .second ∷ []) = rw (eq-eqb (r .count) 2 n) at falls in let g = w .1 .0 in omega (arith, h .cats)
+  second-below f n = let w : AllBelow x (r .first ∷ r .second ∷ []) = rw (eq-eqb (r .count) 2 n) at falls in let g = w .1 .0 in omega (arith, h .limits .cats)

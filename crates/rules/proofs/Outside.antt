@@ -1,6 +1,6 @@
 -- Representation, category and own of a pair: the rule by its parts (specs/Parts), and what the code's tests of codes mean.
 use mathlib.Core.Path.{_≡_, refl, ap, sym, _∙_}
-use mathlib.Core.Bool.{Bool, true, false, not, _&&_, Bool·beq, So}
+use mathlib.Core.Bool.{Bool, true, false, not, _&&_, and-true, Bool·beq, So}
 use Prim.Native.Nat.{ℕ, zero, suc}
 use native.Mathlib.Omega.{arith}
 use lib.Dec.{eqb, leb}
@@ -13,20 +13,16 @@ use Rattle.model.proofs.Rules.{first, never}
 use Rattle.table.specs.declared.Head.{Head}
 use Rattle.table.specs.Store.{headOf}
 use Rattle.table.proofs.Codes.{number-rep}
-use Rattle.search.specs.Parts.{repRule, ordered, owned, ownOf, outerHeads}
-
-and-one : (b : Bool) → b ≡ (b && true)
-and-one true = refl
-and-one false = refl
+use Rattle.rules.specs.Parts.{repRule, ordered, owned, ownOf, outerHeads}
 
 -- the rule of the two types is that of their heads
 pub heads-rule : (k : Relation) (t : Table) (ms sh i j : ℕ) (x y : RawType) → outerRule k t (typeOf ms sh i x) (typeOf ms sh j y) ≡ outerHeads k t (headOf x) (headOf y)
 unfolding outerRule outerHeads
 heads-rule subtype t ms sh i j x y = refl
-heads-rule conforms t ms sh i j x y = ap (λ (b : Bool). sameRep (repOf (x .rep)) (repOf (y .rep)) && b) (and-one (catLe t (x .cat) (y .cat)))
-heads-rule strict t ms sh i j x y = ap (λ (b : Bool). sameSort (repOf (x .rep)) (repOf (y .rep)) && b) (and-one (catLe t (x .cat) (y .cat)))
-heads-rule loose t ms sh i j x y = and-one (sameSort (repOf (x .rep)) (repOf (y .rep)))
-heads-rule free t ms sh i j x y = and-one (sameSort (repOf (x .rep)) (repOf (y .rep)))
+heads-rule conforms t ms sh i j x y = ap (λ (b : Bool). sameRep (repOf (x .rep)) (repOf (y .rep)) && b) (sym (and-true (catLe t (x .cat) (y .cat))))
+heads-rule strict t ms sh i j x y = ap (λ (b : Bool). sameSort (repOf (x .rep)) (repOf (y .rep)) && b) (sym (and-true (catLe t (x .cat) (y .cat))))
+heads-rule loose t ms sh i j x y = sym (and-true (sameSort (repOf (x .rep)) (repOf (y .rep))))
+heads-rule free t ms sh i j x y = sym (and-true (sameSort (repOf (x .rep)) (repOf (y .rep))))
 
 -- The parts in turn.
 module _ (k : Relation) (t : Table) (x y : Head) where
