@@ -2,6 +2,7 @@
 // the buffer, from the end of what is written, is lent on to the next writer. Every code has a line, so that nothing is asked of the bytes.
 use numbers::least;
 use numbers::wide;
+use table::Head;
 use table::Links;
 use table::Method;
 use textwrite::put_byte;
@@ -98,13 +99,13 @@ pub fn write_method(buf: &mut [u8], m: Method) -> usize
     ensures few { λ r. ⌜ r ≤ 182 ⌝ }
 {
     let state = m.state;
-    if state == 0 {
+    if state == Method::DENIED {
         return write_word(buf, b"m=denied");
     }
-    if state == 1 {
+    if state == Method::OPTIONAL {
         return write_signed(buf, b"m=optional(", m);
     }
-    if state == 2 {
+    if state == Method::AVAIL {
         return write_signed(buf, b"m=avail(", m);
     }
     write_word(buf, b"m=unavail")
@@ -115,10 +116,10 @@ pub fn write_rep(buf: &mut [u8], rep: u8) -> usize
     ensures is { λ r. ⌜ Lined (now (buf .entry)) (now (buf .exit)) (repText (repOf rep) ∷ []) r ⌝ }
     ensures few { λ r. ⌜ r ≤ 17 ⌝ }
 {
-    if rep == 0 {
+    if rep == Head::REF {
         return write_word(buf, b"rep=ref");
     }
-    if rep == 1 {
+    if rep == Head::W32 {
         return write_word(buf, b"rep=w32");
     }
     write_word(buf, b"rep=w64")
@@ -129,7 +130,7 @@ pub fn write_own(buf: &mut [u8], own: u8) -> usize
     ensures is { λ r. ⌜ Lined (now (buf .entry)) (now (buf .exit)) (ownText (eqb own 1) ∷ []) r ⌝ }
     ensures few { λ r. ⌜ r ≤ 17 ⌝ }
 {
-    if own == 1 {
+    if own == Head::OWN {
         return write_word(buf, b"own=yes");
     }
     write_word(buf, b"own=no")

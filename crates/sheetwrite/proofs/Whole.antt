@@ -1,17 +1,15 @@
--- The parts together are the text of the table's sheet; what the check of 2 says of the counts; and the writer's two answers.
-use mathlib.Core.Path.{_≡_, refl, sym, ap, _∙_, subst}
-use mathlib.Core.Bool.{true, false, So}
+-- The parts together are the text of the table's sheet; and the writer's answers.
+use mathlib.Core.Path.{_≡_, refl, sym, ap, _∙_}
+use mathlib.Core.Bool.{true, false}
 use mathlib.Core.List.{List, [], _∷_, _++_, append-assoc}
 use Prim.Native.Nat.{ℕ, zero, suc, _≤_, _<_}
 use native.Mathlib.Nat.{le-of-suc-le-suc}
 use native.Mathlib.Omega.{arith}
-use lib.Dec.{leb}
 use lib.ListN.{length, take}
-use borrow.Author.Tests.{leb-true, le-leb, lt-leb}
+use borrow.Author.Tests.{le-leb, lt-leb}
 use Rattle.model.specs.Basics.{from}
-use Rattle.model.specs.Table.{Ty, Table, size, between, countsFit, tableFits, maxSubjects, maxMethods, maxCategories, maxSheetTypes, maxTypes}
-use Rattle.model.specs.Check.{RawTable, codesFit, tableOf, tableAccepted}
-use Rattle.model.proofs.Rules.{first, second}
+use Rattle.model.specs.Table.{Ty}
+use Rattle.model.specs.Check.{RawTable, tableOf, tableAccepted}
 use Rattle.table.specs.declared.Counts.{Counts}
 use Rattle.table.specs.Limits.{Limits}
 use Rattle.table.specs.Store.{rawTable, broaderOf}
@@ -48,26 +46,6 @@ module _ (b l : List ℕ) (c : Counts) where
 
   pub sheet-is : {old new : List ℕ} {r : ℕ} → Limits c → Lined old new (frontLines l c ++ backLines b c) r → Filled old new (text (tableOf (rawTable b l c))) r
   sheet-is g f = fill-is (parts-are (g .counted)) (f .filled)
-
-  -- what passed the check has counts within their limits
-  pub accepted-limits : tableAccepted (rawTable b l c) ≡ true → Limits c
-  unfolding tableAccepted tableFits tableOf
-  accepted-limits h =
-      let t : Table = tableOf (rawTable b l c) in
-      let k : So (countsFit t) = first (countsFit t) _ (second (codesFit (rawTable b l c)) _ h) in
-      let k₁ = second (between 1 maxSubjects (t .subjects)) _ k in
-      let k₂ = second (between 1 maxMethods (t .methods)) _ k₁ in
-      let k₃ = second (leb (length (t .cats)) maxCategories) _ k₂ in
-      let k₄ = second (between 1 maxSheetTypes (t .sheet)) _ k₃ in
-      let high : (n m : ℕ) → So (between 1 n m) → m ≤ n = λ n m q. leb-true m n (second (leb 1 m) _ q) in
-      record {
-        subjects = high maxSubjects (t .subjects) (first (between 1 maxSubjects (t .subjects)) _ k);
-        methods = high maxMethods (t .methods) (first (between 1 maxMethods (t .methods)) _ k₁);
-        cats = subst (λ z. z ≤ maxCategories) (length-from (broaderOf l) (c .cats) 1) (leb-true (length (t .cats)) maxCategories (first (leb (length (t .cats)) maxCategories) _ k₂));
-        sheet = high maxSheetTypes (t .sheet) (first (between 1 maxSheetTypes (t .sheet)) _ k₃);
-        counted = subst (λ z. c .sheet ≤ z) (length-from (typeIn b c) (c .types) 0) (leb-true (t .sheet) (size t) (first (leb (t .sheet) (size t)) _ k₄));
-        types = subst (λ z. z ≤ maxTypes) (length-from (typeIn b c) (c .types) 0) (leb-true (size t) maxTypes (second (leb (t .sheet) (size t)) _ k₄));
-      }
 
 -- "4 if the buffer is short, buffer unchanged": the sheet was counted on an empty part of the buffer
 pub short-is : {tl : List ℕ} {n : ℕ} (r : RawTable) (buf : List ℕ) → tableAccepted r ≡ true → Filled [] tl (text (tableOf r)) n → length (tl ++ buf) < n → writtenOf ShortBuffer (tl ++ buf) ≡ write r buf

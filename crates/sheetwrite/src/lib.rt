@@ -87,7 +87,7 @@ fn write_type(buf: &mut [u8], b: &[u8; TYPE_BYTES], c: Counts, i: usize) -> usiz
 {
     let h = table::get_head(b, i);
     let a = write_head(buf, i, h);
-    if h.rep != 0 {
+    if h.rep != Head::REF {
         return a;
     }
     let k = least(a, buf.len());
