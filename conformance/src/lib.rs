@@ -7,6 +7,7 @@ pub mod chains;
 pub mod inputs;
 pub mod layout;
 pub mod process;
+pub mod requests;
 
 use reference::raw::{RawTable, BROADER_LENGTH, TYPES_LENGTH};
 use reference::table::MAX_SHEET_TYPES;

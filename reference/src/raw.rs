@@ -367,11 +367,17 @@ pub fn derive(raw: &mut RawTable, kind: usize, t: i64, s: i64) -> Result<TypeNo,
 /// whole record as it was; an acceptance adds records and changes no other
 /// byte but the answered one of a call.
 pub fn request(raw: &mut RawState, request: &Request) -> Result<Got, Refusal> {
+    request_with(raw, request, Fault::None)
+}
+
+/// The same with a deliberate fault.
+pub fn request_with(raw: &mut RawState, request: &Request, fault: Fault) -> Result<Got, Refusal> {
     let state = check::state(raw).map_err(|_| RANGE)?;
-    let mut model = Model::new(state.clone());
-    let got = model.request(request)?;
+    let mut model = Model::with_fault(state.clone(), fault);
+    let result = model.request(request);
+    // what a refusal leaves is the state as it was, without a fault
     raw.update(&state, &model.state);
-    Ok(got)
+    result
 }
 
 impl std::fmt::Debug for RawTable {
