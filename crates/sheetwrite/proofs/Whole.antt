@@ -48,7 +48,8 @@ module _ (b l : List ℕ) (c : Counts) where
   sheet-is g f = fill-is (parts-are (g .counted)) (f .filled)
 
 -- "4 if the buffer is short, buffer unchanged": the sheet was counted on an empty part of the buffer
-pub short-is : {tl : List ℕ} {n : ℕ} (r : RawTable) (buf : List ℕ) → tableAccepted r ≡ true → Filled [] tl (text (tableOf r)) n → length (tl ++ buf) < n → writtenOf ShortBuffer (tl ++ buf) ≡ write r buf
+pub short-is : {tl : List ℕ} {n : ℕ} (r : RawTable) (buf : List ℕ) → tableAccepted r ≡ true → Filled [] tl (text (tableOf r)) n → length (tl ++ buf) < n
+    → writtenOf ShortBuffer (tl ++ buf) ≡ write r buf
 unfolding write writeText
 short-is {tl} {n} r buf h f s =
     let e : tl ++ buf ≡ buf = counted f in
@@ -57,7 +58,8 @@ short-is {tl} {n} r buf h f s =
     rw (e, h, lt-leb (length (text (tableOf r))) (length buf) (omega arith))
 
 -- "else the length, with the bytes behind it unchanged"
-pub length-is : {tl new : List ℕ} {n m : ℕ} (r : RawTable) (buf : List ℕ) → tableAccepted r ≡ true → Filled [] tl (text (tableOf r)) n → n ≤ length (tl ++ buf) → Filled (tl ++ buf) new (text (tableOf r)) m → writtenOf (Length m) new ≡ write r buf
+pub length-is : {tl new : List ℕ} {n m : ℕ} (r : RawTable) (buf : List ℕ) → tableAccepted r ≡ true → Filled [] tl (text (tableOf r)) n → n ≤ length (tl ++ buf)
+    → Filled (tl ++ buf) new (text (tableOf r)) m → writtenOf (Length m) new ≡ write r buf
 unfolding write writeText
 length-is {tl} {new} {n} {m} r buf h f s g =
     let e : tl ++ buf ≡ buf = counted f in

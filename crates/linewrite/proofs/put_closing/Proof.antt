@@ -49,7 +49,15 @@ same-length : tie.Need-same-length
 same-length c = search needs
 
 returns : tie.Need-returns
-returns c = (fill-is (closing-is (c .before .before .before .before .before .before .before .before .before .before .before .before .before .before .before .args .answer)) (fill-rest (fill-rest (c .before .before .before .before .before .before .before .before .before .before .before .before .put-byte .ensures) (c .before .before .before .before .before .before .before .before .before .least .ensures .0) (c .before .before .before .before .before .before .before .put-answer .ensures .0)) (c .before .before .before .before .least2 .ensures .0) (c .before .before .put-byte2 .ensures)), omega (arith, c .before .before .before .before .before .before .before .before .before .before .before .before .put-byte .ensures .said, c .before .before .before .before .before .before .before .put-answer .ensures .1, c .before .before .put-byte2 .ensures .said))
+returns c =
+    let a = c .before .before .before .before .before .before .before .before .before .before .before .before .before .before .before .args in
+    let put-byte = c .before .before .before .before .before .before .before .before .before .before .before .before .put-byte in
+    let least = c .before .before .before .before .before .before .before .before .before .least in
+    let put-answer = c .before .before .before .before .before .before .before .put-answer in
+    let least2 = c .before .before .before .before .least2 in
+    let put-byte2 = c .before .before .put-byte2 in
+    let all = fill-rest (fill-rest (put-byte .ensures) (least .ensures .0) (put-answer .ensures .0)) (least2 .ensures .0) (put-byte2 .ensures) in
+    (fill-is (closing-is (a .answer)) all, omega (arith, put-byte .ensures .said, put-answer .ensures .1, put-byte2 .ensures .said))
 
 pub put-closing-spec : {M : Type 1} → statement M
 put-closing-spec =

@@ -16,7 +16,11 @@ same-length : tie.Need-same-length
 same-length c = search needs
 
 returns : tie.Need-returns
-returns c = (lines-are (denied-is (c .before .before .before .before .before .before .before .args .m) (c .before .before .before .before .before .if1 .taken)) (c .before .before .write-word .ensures .0), omega (arith, c .before .before .write-word .ensures .1))
+returns c =
+    let a = c .before .before .before .before .before .before .before .args in
+    let if1 = c .before .before .before .before .before .if1 in
+    let write-word = c .before .before .write-word in
+    (lines-are (denied-is (a .m) (if1 .taken)) (write-word .ensures .0), omega (arith, write-word .ensures .1))
 
 slice-aggregate-write-signed : tie.Need-slice-aggregate-write-signed
 slice-aggregate-write-signed c = search needs
@@ -28,7 +32,11 @@ same-length-2 : tie.Need-same-length-2
 same-length-2 c = search needs
 
 returns-2 : tie.Need-returns-2
-returns-2 c = (lines-are (optional-is (c .before .before .before .before .before .before .before .before .args .m) (c .before .before .before .before .before .if2 .taken)) (c .before .before .write-signed .ensures .0), c .before .before .write-signed .ensures .1)
+returns-2 c =
+    let a = c .before .before .before .before .before .before .before .before .args in
+    let if2 = c .before .before .before .before .before .if2 in
+    let write-signed = c .before .before .write-signed in
+    (lines-are (optional-is (a .m) (if2 .taken)) (write-signed .ensures .0), write-signed .ensures .1)
 
 slice-aggregate-write-signed-2 : tie.Need-slice-aggregate-write-signed-2
 slice-aggregate-write-signed-2 c = search needs
@@ -40,7 +48,11 @@ same-length-3 : tie.Need-same-length-3
 same-length-3 c = search needs
 
 returns-3 : tie.Need-returns-3
-returns-3 c = (lines-are (avail-is (c .before .before .before .before .before .before .before .before .before .args .m) (c .before .before .before .before .before .if3 .taken)) (c .before .before .write-signed2 .ensures .0), c .before .before .write-signed2 .ensures .1)
+returns-3 c =
+    let a = c .before .before .before .before .before .before .before .before .before .args in
+    let if3 = c .before .before .before .before .before .if3 in
+    let write-signed2 = c .before .before .write-signed2 in
+    (lines-are (avail-is (a .m) (if3 .taken)) (write-signed2 .ensures .0), write-signed2 .ensures .1)
 
 slice-aggregate-write-word-2 : tie.Need-slice-aggregate-write-word-2
 slice-aggregate-write-word-2 c = search needs
@@ -52,7 +64,13 @@ same-length-4 : tie.Need-same-length-4
 same-length-4 c = search needs
 
 returns-4 : tie.Need-returns-4
-returns-4 c = (lines-are (unavail-is (c .before .before .before .before .before .before .before .before .before .args .m) (c .before .before .before .before .before .before .before .if1 .left) (c .before .before .before .before .before .before .if2 .left) (c .before .before .before .before .before .if3 .left)) (c .before .before .write-word2 .ensures .0), omega (arith, c .before .before .write-word2 .ensures .1))
+returns-4 c =
+    let a = c .before .before .before .before .before .before .before .before .before .args in
+    let if1 = c .before .before .before .before .before .before .before .if1 in
+    let if2 = c .before .before .before .before .before .before .if2 in
+    let if3 = c .before .before .before .before .before .if3 in
+    let write-word2 = c .before .before .write-word2 in
+    (lines-are (unavail-is (a .m) (if1 .left) (if2 .left) (if3 .left)) (write-word2 .ensures .0), omega (arith, write-word2 .ensures .1))
 
 pub write-method-spec : {M : Type 1} → statement M
 write-method-spec =

@@ -15,7 +15,11 @@ same-length : tie.Need-same-length
 same-length c = search needs
 
 returns : tie.Need-returns
-returns c = (lines-are (own-yes (c .before .before .before .before .before .before .before .args .own) (c .before .before .before .before .before .if1 .taken)) (c .before .before .write-word .ensures .0), c .before .before .write-word .ensures .1)
+returns c =
+    let a = c .before .before .before .before .before .before .before .args in
+    let if1 = c .before .before .before .before .before .if1 in
+    let write-word = c .before .before .write-word in
+    (lines-are (own-yes (a .own) (if1 .taken)) (write-word .ensures .0), write-word .ensures .1)
 
 slice-aggregate-write-word-2 : tie.Need-slice-aggregate-write-word-2
 slice-aggregate-write-word-2 c = search needs
@@ -27,7 +31,11 @@ same-length-2 : tie.Need-same-length-2
 same-length-2 c = search needs
 
 returns-2 : tie.Need-returns-2
-returns-2 c = (lines-are (own-no (c .before .before .before .before .before .before .before .args .own) (c .before .before .before .before .before .if1 .left)) (c .before .before .write-word2 .ensures .0), c .before .before .write-word2 .ensures .1)
+returns-2 c =
+    let a = c .before .before .before .before .before .before .before .args in
+    let if1 = c .before .before .before .before .before .if1 in
+    let write-word2 = c .before .before .write-word2 in
+    (lines-are (own-no (a .own) (if1 .left)) (write-word2 .ensures .0), write-word2 .ensures .1)
 
 pub write-own-spec : {M : Type 1} → statement M
 write-own-spec =

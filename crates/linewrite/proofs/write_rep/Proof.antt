@@ -15,7 +15,11 @@ same-length : tie.Need-same-length
 same-length c = search needs
 
 returns : tie.Need-returns
-returns c = (lines-are (rep-is (c .before .before .before .before .before .before .before .args .rep) 0 (c .before .before .before .before .before .if1 .taken)) (c .before .before .write-word .ensures .0), c .before .before .write-word .ensures .1)
+returns c =
+    let a = c .before .before .before .before .before .before .before .args in
+    let if1 = c .before .before .before .before .before .if1 in
+    let write-word = c .before .before .write-word in
+    (lines-are (rep-is (a .rep) 0 (if1 .taken)) (write-word .ensures .0), write-word .ensures .1)
 
 slice-aggregate-write-word-2 : tie.Need-slice-aggregate-write-word-2
 slice-aggregate-write-word-2 c = search needs
@@ -27,7 +31,11 @@ same-length-2 : tie.Need-same-length-2
 same-length-2 c = search needs
 
 returns-2 : tie.Need-returns-2
-returns-2 c = (lines-are (rep-is (c .before .before .before .before .before .before .before .before .args .rep) 1 (c .before .before .before .before .before .if2 .taken)) (c .before .before .write-word2 .ensures .0), c .before .before .write-word2 .ensures .1)
+returns-2 c =
+    let a = c .before .before .before .before .before .before .before .before .args in
+    let if2 = c .before .before .before .before .before .if2 in
+    let write-word2 = c .before .before .write-word2 in
+    (lines-are (rep-is (a .rep) 1 (if2 .taken)) (write-word2 .ensures .0), write-word2 .ensures .1)
 
 slice-aggregate-write-word-3 : tie.Need-slice-aggregate-write-word-3
 slice-aggregate-write-word-3 c = search needs
@@ -39,7 +47,12 @@ same-length-3 : tie.Need-same-length-3
 same-length-3 c = search needs
 
 returns-3 : tie.Need-returns-3
-returns-3 c = (lines-are (rep-else (c .before .before .before .before .before .before .before .before .args .rep) (c .before .before .before .before .before .before .if1 .left) (c .before .before .before .before .before .if2 .left)) (c .before .before .write-word3 .ensures .0), c .before .before .write-word3 .ensures .1)
+returns-3 c =
+    let a = c .before .before .before .before .before .before .before .before .args in
+    let if1 = c .before .before .before .before .before .before .if1 in
+    let if2 = c .before .before .before .before .before .if2 in
+    let write-word3 = c .before .before .write-word3 in
+    (lines-are (rep-else (a .rep) (if1 .left) (if2 .left)) (write-word3 .ensures .0), write-word3 .ensures .1)
 
 pub write-rep-spec : {M : Type 1} → statement M
 write-rep-spec =

@@ -52,11 +52,20 @@ same-length : tie.Need-same-length
 same-length c = search needs
 
 returns : tie.Need-returns
-returns c = let a = c .before .before .before .before .before .before .before .before .before .before .before .before .before .before .before .before .before .before .args in (
-  ended (fill-is (signed-is (a .key .now) (a .m .args) (c .before .before .before .before .before .before .before .before .wide .result) (a .m .count) (a .m .answer) (c .before .before .before .before .before .before .before .before .wide .ensures .0))
-      (fill-rest (fill-rest (c .before .before .before .before .before .before .before .before .before .before .before .before .before .put-bytes .ensures) (c .before .before .before .before .before .before .before .before .before .before .least .ensures .0) (c .before .before .before .before .before .before .before .put-arguments .ensures .0)) (c .before .before .before .before .least2 .ensures .0) (c .before .before .put-closing .ensures .0))),
-  omega (arith, c .before .before .before .before .before .before .before .before .before .before .before .before .before .put-bytes .ensures .said, c .before .before .before .before .before .before .before .put-arguments .ensures .1, c .before .before .put-closing .ensures .1, c .before .before .before .before .before .before .before .before .before .before .before .before .before .before .before .before .before .before .pre),
-)
+returns c =
+    let a′ = c .before .before .before .before .before .before .before .before .before .before .before .before .before .before .before .before .before .before .args in
+    let pre = c .before .before .before .before .before .before .before .before .before .before .before .before .before .before .before .before .before .before .pre in
+    let put-bytes = c .before .before .before .before .before .before .before .before .before .before .before .before .before .put-bytes in
+    let least = c .before .before .before .before .before .before .before .before .before .before .least in
+    let wide = c .before .before .before .before .before .before .before .before .wide in
+    let put-arguments = c .before .before .before .before .before .before .before .put-arguments in
+    let least2 = c .before .before .before .before .least2 in
+    let put-closing = c .before .before .put-closing in
+    let a = a′ in (
+      ended (fill-is (signed-is (a .key .now) (a .m .args) (wide .result) (a .m .count) (a .m .answer) (wide .ensures .0))
+          (fill-rest (fill-rest (put-bytes .ensures) (least .ensures .0) (put-arguments .ensures .0)) (least2 .ensures .0) (put-closing .ensures .0))),
+      omega (arith, put-bytes .ensures .said, put-arguments .ensures .1, put-closing .ensures .1, pre),
+    )
 
 pub write-signed-spec : {M : Type 1} → statement M
 write-signed-spec =

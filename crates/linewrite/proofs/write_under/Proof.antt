@@ -37,7 +37,14 @@ same-length : tie.Need-same-length
 same-length c = search needs
 
 returns : tie.Need-returns
-returns c = (ended (fill-is (under-is (c .before .before .before .before .before .before .before .before .before .before .before .before .args .x) (c .before .before .before .before .before .before .before .before .wide .result) (c .before .before .before .before .before .before .before .before .wide .ensures .0)) (fill-rest (c .before .before .before .before .before .before .before .put-number .ensures .0) (c .before .before .before .before .least .ensures .0) (c .before .before .put-second .ensures .0))), omega (arith, c .before .before .before .before .before .before .before .put-number .ensures .1, c .before .before .put-second .ensures .1))
+returns c =
+    let a = c .before .before .before .before .before .before .before .before .before .before .before .before .args in
+    let wide = c .before .before .before .before .before .before .before .before .wide in
+    let put-number = c .before .before .before .before .before .before .before .put-number in
+    let least = c .before .before .before .before .least in
+    let put-second = c .before .before .put-second in
+    let both = fill-rest (put-number .ensures .0) (least .ensures .0) (put-second .ensures .0) in
+    (ended (fill-is (under-is (a .x) (wide .result) (wide .ensures .0)) both), omega (arith, put-number .ensures .1, put-second .ensures .1))
 
 pub write-under-spec : {M : Type 1} → statement M
 write-under-spec =

@@ -30,8 +30,14 @@ same-length : tie.Need-same-length
 same-length c = search needs
 
 returns : tie.Need-returns
-returns c = let a = c .before .before .before .before .before .before .before .before .before .before .args in
-    sheet-is (a .b .now) (a .l .now) (a .c) (c .before .before .before .before .before .before .before .before .before .before .pre) (lines-rest (c .before .before .before .before .before .before .before .write-front .ensures .0) (c .before .before .before .before .least .ensures .0) (c .before .before .write-back .ensures .0))
+returns c =
+    let a′ = c .before .before .before .before .before .before .before .before .before .before .args in
+    let pre = c .before .before .before .before .before .before .before .before .before .before .pre in
+    let write-front = c .before .before .before .before .before .before .before .write-front in
+    let least = c .before .before .before .before .least in
+    let write-back = c .before .before .write-back in
+    let a = a′ in
+    sheet-is (a .b .now) (a .l .now) (a .c) (pre) (lines-rest (write-front .ensures .0) (least .ensures .0) (write-back .ensures .0))
 
 pub put-sheet-spec : {M : Type 1} → statement M
 put-sheet-spec =

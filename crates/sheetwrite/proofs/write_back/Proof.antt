@@ -35,7 +35,11 @@ same-length c = search needs
 
 returns : tie.Need-returns
 unfolding backLines
-returns c = (lines-rest (c .before .before .before .before .before .before .before .before .write-types .ensures .0) (c .before .before .before .before .before .least .ensures .0) (c .before .before .write-word .ensures .0), omega (arith, c .before .before .before .before .before .before .before .before .write-types .ensures .1, c .before .before .write-word .ensures .1))
+returns c =
+    let write-types = c .before .before .before .before .before .before .before .before .write-types in
+    let least = c .before .before .before .before .before .least in
+    let write-word = c .before .before .write-word in
+    (lines-rest (write-types .ensures .0) (least .ensures .0) (write-word .ensures .0), omega (arith, write-types .ensures .1, write-word .ensures .1))
 
 pub write-back-spec : {M : Type 1} → statement M
 write-back-spec =

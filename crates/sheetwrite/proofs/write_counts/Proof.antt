@@ -78,10 +78,19 @@ same-length : tie.Need-same-length
 same-length c = search needs
 
 returns : tie.Need-returns
-returns c = (
-  lines-rest (lines-rest (lines-rest (c .before .before .before .before .before .before .before .before .before .before .before .before .before .before .before .before .before .before .before .before .write-number .ensures .0) (c .before .before .before .before .before .before .before .before .before .before .before .before .before .before .before .before .before .least .ensures .0) (c .before .before .before .before .before .before .before .before .before .before .before .before .before .before .write-number2 .ensures .0)) (c .before .before .before .before .before .before .before .before .before .before .before .least2 .ensures .0) (c .before .before .before .before .before .before .before .before .write-number3 .ensures .0)) (c .before .before .before .before .before .least3 .ensures .0) (c .before .before .write-number4 .ensures .0),
-  omega (arith, c .before .before .before .before .before .before .before .before .before .before .before .before .before .before .before .before .before .before .before .before .write-number .ensures .1, c .before .before .before .before .before .before .before .before .before .before .before .before .before .before .write-number2 .ensures .1, c .before .before .before .before .before .before .before .before .write-number3 .ensures .1, c .before .before .write-number4 .ensures .1),
-)
+returns c =
+    let second = c .before .before .before .before .before .before .before .before .before .before .before .before .before .before in
+    let write-number = second .before .before .before .before .before .before .write-number in
+    let least = second .before .before .before .least in
+    let write-number2 = second .write-number2 in
+    let least2 = c .before .before .before .before .before .before .before .before .before .before .before .least2 in
+    let write-number3 = c .before .before .before .before .before .before .before .before .write-number3 in
+    let least3 = c .before .before .before .before .before .least3 in
+    let write-number4 = c .before .before .write-number4 in
+    let three = lines-rest (lines-rest (write-number .ensures .0) (least .ensures .0) (write-number2 .ensures .0)) (least2 .ensures .0) (write-number3 .ensures .0) in (
+      lines-rest three (least3 .ensures .0) (write-number4 .ensures .0),
+      omega (arith, write-number .ensures .1, write-number2 .ensures .1, write-number3 .ensures .1, write-number4 .ensures .1),
+    )
 
 pub write-counts-spec : {M : Type 1} → statement M
 write-counts-spec =

@@ -56,11 +56,18 @@ same-length c = search needs
 
 returns : tie.Need-returns
 unfolding frontLines
-returns c = let a = c .before .before .before .before .before .before .before .before .before .before .before .before .before .before .before .before .args in (
-  lines-are (append-assoc (countLines (a .c)) (underLines (a .l .now) (a .c .cats)) (numberText (bytes "types=") (a .c .sheet) ∷ []))
-      (lines-rest (lines-rest (c .before .before .before .before .before .before .before .before .before .before .before .before .before .write-counts .ensures .0) (c .before .before .before .before .before .before .before .before .before .before .least .ensures .0) (c .before .before .before .before .before .before .before .before .write-unders .ensures .0)) (c .before .before .before .before .before .least2 .ensures .0) (c .before .before .write-number .ensures .0)),
-  omega (arith, c .before .before .before .before .before .before .before .before .before .before .before .before .before .write-counts .ensures .1, c .before .before .before .before .before .before .before .before .write-unders .ensures .1, c .before .before .write-number .ensures .1),
-)
+returns c =
+    let a′ = c .before .before .before .before .before .before .before .before .before .before .before .before .before .before .before .before .args in
+    let write-counts = c .before .before .before .before .before .before .before .before .before .before .before .before .before .write-counts in
+    let least = c .before .before .before .before .before .before .before .before .before .before .least in
+    let write-unders = c .before .before .before .before .before .before .before .before .write-unders in
+    let least2 = c .before .before .before .before .before .least2 in
+    let write-number = c .before .before .write-number in
+    let a = a′ in (
+      lines-are (append-assoc (countLines (a .c)) (underLines (a .l .now) (a .c .cats)) (numberText (bytes "types=") (a .c .sheet) ∷ []))
+          (lines-rest (lines-rest (write-counts .ensures .0) (least .ensures .0) (write-unders .ensures .0)) (least2 .ensures .0) (write-number .ensures .0)),
+      omega (arith, write-counts .ensures .1, write-unders .ensures .1, write-number .ensures .1),
+    )
 
 pub write-front-spec : {M : Type 1} → statement M
 write-front-spec =

@@ -62,11 +62,19 @@ same-length : tie.Need-same-length
 same-length c = search needs
 
 returns : tie.Need-returns
-returns c = let h = c .before .before .before .before .before .before .before .before .before .before .before .before .before .before .before .before .before .before .args .h in (
-  lines-are (ap (λ z. numberText (bytes "type=") (c .before .before .before .before .before .before .before .before .before .before .before .before .before .before .before .before .before .before .args .i) ∷ repText (repOf (h .rep)) ∷ numberText (bytes "cat=") z ∷ []) (c .before .before .before .wide .ensures .0))
-      (lines-rest (lines-rest (c .before .before .before .before .before .before .before .before .before .before .before .before .before .before .write-number .ensures .0) (c .before .before .before .before .before .before .before .before .before .before .before .least .ensures .0) (c .before .before .before .before .before .before .before .before .before .write-rep .ensures .0)) (c .before .before .before .before .before .before .least2 .ensures .0) (c .before .before .write-number2 .ensures .0)),
-  omega (arith, c .before .before .before .before .before .before .before .before .before .before .before .before .before .before .write-number .ensures .1, c .before .before .before .before .before .before .before .before .before .write-rep .ensures .1, c .before .before .write-number2 .ensures .1),
-)
+returns c =
+    let a = c .before .before .before .before .before .before .before .before .before .before .before .before .before .before .before .before .before .before .args in
+    let write-number = c .before .before .before .before .before .before .before .before .before .before .before .before .before .before .write-number in
+    let least = c .before .before .before .before .before .before .before .before .before .before .before .least in
+    let write-rep = c .before .before .before .before .before .before .before .before .before .write-rep in
+    let least2 = c .before .before .before .before .before .before .least2 in
+    let wide = c .before .before .before .wide in
+    let write-number2 = c .before .before .write-number2 in
+    let h = a .h in (
+      lines-are (ap (λ z. numberText (bytes "type=") (a .i) ∷ repText (repOf (h .rep)) ∷ numberText (bytes "cat=") z ∷ []) (wide .ensures .0))
+          (lines-rest (lines-rest (write-number .ensures .0) (least .ensures .0) (write-rep .ensures .0)) (least2 .ensures .0) (write-number2 .ensures .0)),
+      omega (arith, write-number .ensures .1, write-rep .ensures .1, write-number2 .ensures .1),
+    )
 
 pub write-head-spec : {M : Type 1} → statement M
 write-head-spec =

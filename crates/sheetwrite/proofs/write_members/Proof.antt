@@ -30,7 +30,11 @@ same-length : tie.Need-same-length
 same-length c = search needs
 
 returns : tie.Need-returns
-returns c = (lines-rest (c .before .before .before .before .before .before .before .write-own .ensures .0) (c .before .before .before .before .least .ensures .0) (c .before .before .write-methods .ensures .0), omega (arith, c .before .before .before .before .before .before .before .write-own .ensures .1, c .before .before .write-methods .ensures .1))
+returns c =
+    let write-own = c .before .before .before .before .before .before .before .write-own in
+    let least = c .before .before .before .before .least in
+    let write-methods = c .before .before .write-methods in
+    (lines-rest (write-own .ensures .0) (least .ensures .0) (write-methods .ensures .0), omega (arith, write-own .ensures .1, write-methods .ensures .1))
 
 pub write-members-spec : {M : Type 1} → statement M
 write-members-spec =

@@ -37,7 +37,11 @@ write-method-requires : tie.Need-write-method-requires Inv-loop μ-loop
 write-method-requires c κs = search needs
 
 add-at : tie.Need-add-at Inv-loop μ-loop
-add-at c = omega (arith, c .before .before .before .before .before .before .before .before .before .pre .1, c .before .before .before .before .before .before .before .loop .inv .0, c .before .before .before .before .before .before .before .loop .inv .1, c .before .before .write-method .ensures .1)
+add-at c =
+    let pre = c .before .before .before .before .before .before .before .before .before .pre in
+    let loop = c .before .before .before .before .before .before .before .loop in
+    let write-method = c .before .before .write-method in
+    omega (arith, pre .1, loop .inv .0, loop .inv .1, write-method .ensures .1)
 
 add-j : tie.Need-add-j Inv-loop μ-loop
 add-j c = search needs
@@ -46,17 +50,26 @@ loop-less : tie.Need-loop-less Inv-loop μ-loop
 loop-less c = search needs
 
 loop-again : tie.Need-loop-again Inv-loop μ-loop
-loop-again c = (
-  omega arith,
-  omega (arith, c .before .before .before .before .before .before .before .loop .inv .1, c .before .before .write-method .ensures .1),
-  lines-are (method-next (c .before .before .before .before .before .before .before .before .before .args .b .now) (c .before .before .before .before .before .before .before .before .before .args .i) (c .before .before .before .before .before .before .before .loop .j) (c .before .before .before .before .before .get-method .result) (c .before .before .before .before .before .get-method .ensures)) (lines-rest (c .before .before .before .before .before .before .before .loop .inv .2) (c .before .before .before .before .least .ensures .0) (c .before .before .write-method .ensures .0)),
-)
+loop-again c =
+    let a = c .before .before .before .before .before .before .before .before .before .args in
+    let loop = c .before .before .before .before .before .before .before .loop in
+    let get-method = c .before .before .before .before .before .get-method in
+    let least = c .before .before .before .before .least in
+    let write-method = c .before .before .write-method in (
+      omega arith,
+      omega (arith, loop .inv .1, write-method .ensures .1),
+      lines-are (method-next (a .b .now) (a .i) (loop .j) (get-method .result) (get-method .ensures)) (lines-rest (loop .inv .2) (least .ensures .0) (write-method .ensures .0)),
+    )
 
 same-length : tie.Need-same-length Inv-loop μ-loop
 same-length c = c .before .loop .inv .2 .filled .size
 
 returns : tie.Need-returns Inv-loop μ-loop
-returns c = (lines-are (methods-all (c .before .before .before .args .b .now) (c .before .before .before .args .i) (c .before .loop .j) (c .before .before .before .args .methods) (c .before .loop .inv .0) (c .loop-test .left)) (c .before .loop .inv .2), omega (arith, c .before .before .before .pre .1, c .before .loop .inv .0, c .before .loop .inv .1))
+returns c =
+    let a = c .before .before .before .args in
+    let pre = c .before .before .before .pre in
+    let loop = c .before .loop in
+    (lines-are (methods-all (a .b .now) (a .i) (loop .j) (a .methods) (loop .inv .0) (c .loop-test .left)) (loop .inv .2), omega (arith, pre .1, loop .inv .0, loop .inv .1))
 
 pub write-methods-spec : {M : Type 1} → statement M
 write-methods-spec =

@@ -16,8 +16,12 @@ same-length : tie.Need-same-length
 same-length c = search needs
 
 returns : tie.Need-returns
-returns c = let a = c .before .before .before .before .before .before .before .before .args in
-    (lines-are (number-type (a .b .now) (a .c) (a .i) (c .before .before .before .before .before .before .get-head .result) (c .before .before .before .before .before .before .get-head .ensures) (c .if1 .taken)) (c .before .before .before .before .write-head .ensures .0), omega (arith, c .before .before .before .before .write-head .ensures .1))
+returns c =
+    let a′ = c .before .before .before .before .before .before .before .before .args in
+    let get-head = c .before .before .before .before .before .before .get-head in
+    let write-head = c .before .before .before .before .write-head in
+    let a = a′ in
+    (lines-are (number-type (a .b .now) (a .c) (a .i) (get-head .result) (get-head .ensures) (c .if1 .taken)) (write-head .ensures .0), omega (arith, write-head .ensures .1))
 
 least-requires : tie.Need-least-requires
 least-requires c κs = search needs
@@ -41,10 +45,17 @@ same-length-2 : tie.Need-same-length-2
 same-length-2 c = search needs
 
 returns-2 : tie.Need-returns-2
-returns-2 c = let a = c .before .before .before .before .before .before .before .before .before .before .before .before .before .args in (
-  lines-are (ref-type (a .b .now) (a .c) (a .i) (c .before .before .before .before .before .before .before .before .before .before .before .get-head .result) (c .before .before .before .before .before .before .before .before .before .before .before .get-head .ensures) (c .before .before .before .before .before .if1 .left)) (lines-rest (c .before .before .before .before .before .before .before .before .before .write-head .ensures .0) (c .before .before .before .before .least .ensures .0) (c .before .before .write-members .ensures .0)),
-  omega (arith, c .before .before .before .before .before .before .before .before .before .write-head .ensures .1, c .before .before .write-members .ensures .1),
-)
+returns-2 c =
+    let a′ = c .before .before .before .before .before .before .before .before .before .before .before .before .before .args in
+    let get-head = c .before .before .before .before .before .before .before .before .before .before .before .get-head in
+    let write-head = c .before .before .before .before .before .before .before .before .before .write-head in
+    let if1 = c .before .before .before .before .before .if1 in
+    let least = c .before .before .before .before .least in
+    let write-members = c .before .before .write-members in
+    let a = a′ in (
+      lines-are (ref-type (a .b .now) (a .c) (a .i) (get-head .result) (get-head .ensures) (if1 .left)) (lines-rest (write-head .ensures .0) (least .ensures .0) (write-members .ensures .0)),
+      omega (arith, write-head .ensures .1, write-members .ensures .1),
+    )
 
 pub write-type-spec : {M : Type 1} → statement M
 write-type-spec =

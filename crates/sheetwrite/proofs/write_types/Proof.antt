@@ -34,7 +34,11 @@ write-type-requires : tie.Need-write-type-requires Inv-loop μ-loop
 write-type-requires c κs = search needs
 
 add-at : tie.Need-add-at Inv-loop μ-loop
-add-at c = omega (arith, c .before .before .before .before .before .before .before .before .pre .sheet, c .before .before .before .before .before .before .loop .inv .0, c .before .before .before .before .before .before .loop .inv .1, c .before .before .write-type .ensures .1)
+add-at c =
+    let pre = c .before .before .before .before .before .before .before .before .pre in
+    let loop = c .before .before .before .before .before .before .loop in
+    let write-type = c .before .before .write-type in
+    omega (arith, pre .sheet, loop .inv .0, loop .inv .1, write-type .ensures .1)
 
 add-i : tie.Need-add-i Inv-loop μ-loop
 add-i c = search needs
@@ -43,17 +47,25 @@ loop-less : tie.Need-loop-less Inv-loop μ-loop
 loop-less c = search needs
 
 loop-again : tie.Need-loop-again Inv-loop μ-loop
-loop-again c = (
-  omega arith,
-  omega (arith, c .before .before .before .before .before .before .loop .inv .1, c .before .before .write-type .ensures .1),
-  lines-are (type-next (c .before .before .before .before .before .before .before .before .args .b .now) (c .before .before .before .before .before .before .before .before .args .c) (c .before .before .before .before .before .before .loop .i)) (lines-rest (c .before .before .before .before .before .before .loop .inv .2) (c .before .before .before .before .least .ensures .0) (c .before .before .write-type .ensures .0)),
-)
+loop-again c =
+    let a = c .before .before .before .before .before .before .before .before .args in
+    let loop = c .before .before .before .before .before .before .loop in
+    let least = c .before .before .before .before .least in
+    let write-type = c .before .before .write-type in (
+      omega arith,
+      omega (arith, loop .inv .1, write-type .ensures .1),
+      lines-are (type-next (a .b .now) (a .c) (loop .i)) (lines-rest (loop .inv .2) (least .ensures .0) (write-type .ensures .0)),
+    )
 
 same-length : tie.Need-same-length Inv-loop μ-loop
 same-length c = c .before .loop .inv .2 .filled .size
 
 returns : tie.Need-returns Inv-loop μ-loop
-returns c = (lines-are (types-all (c .before .before .before .args .b .now) (c .before .before .before .args .c) (c .before .loop .i) (c .before .before .before .args .c .sheet) (c .before .loop .inv .0) (c .loop-test .left)) (c .before .loop .inv .2), omega (arith, c .before .before .before .pre .sheet, c .before .loop .inv .0, c .before .loop .inv .1))
+returns c =
+    let a = c .before .before .before .args in
+    let pre = c .before .before .before .pre in
+    let loop = c .before .loop in
+    (lines-are (types-all (a .b .now) (a .c) (loop .i) (a .c .sheet) (loop .inv .0) (c .loop-test .left)) (loop .inv .2), omega (arith, pre .sheet, loop .inv .0, loop .inv .1))
 
 pub write-types-spec : {M : Type 1} → statement M
 write-types-spec =

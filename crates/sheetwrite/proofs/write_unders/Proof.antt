@@ -40,7 +40,11 @@ write-under-requires : tie.Need-write-under-requires Inv-loop μ-loop
 write-under-requires c κs = search needs
 
 add-at : tie.Need-add-at Inv-loop μ-loop
-add-at c = omega (arith, c .before .before .before .before .before .before .before .before .before .pre, c .before .before .before .before .before .before .before .loop .inv .0, c .before .before .before .before .before .before .before .loop .inv .1, c .before .before .write-under .ensures .1)
+add-at c =
+    let pre = c .before .before .before .before .before .before .before .before .before .pre in
+    let loop = c .before .before .before .before .before .before .before .loop in
+    let write-under = c .before .before .write-under in
+    omega (arith, pre, loop .inv .0, loop .inv .1, write-under .ensures .1)
 
 add-i : tie.Need-add-i Inv-loop μ-loop
 add-i c = search needs
@@ -49,17 +53,26 @@ loop-less : tie.Need-loop-less Inv-loop μ-loop
 loop-less c = search needs
 
 loop-again : tie.Need-loop-again Inv-loop μ-loop
-loop-again c = (
-  omega arith,
-  omega (arith, c .before .before .before .before .before .before .before .loop .inv .1, c .before .before .write-under .ensures .1),
-  lines-are (under-next (c .before .before .before .before .before .before .before .before .before .args .l .now) (c .before .before .before .before .before .before .before .loop .i) (c .before .before .before .before .before .get-links .result) (c .before .before .before .before .before .get-links .ensures)) (lines-rest (c .before .before .before .before .before .before .before .loop .inv .2) (c .before .before .before .before .least .ensures .0) (c .before .before .write-under .ensures .0)),
-)
+loop-again c =
+    let a = c .before .before .before .before .before .before .before .before .before .args in
+    let loop = c .before .before .before .before .before .before .before .loop in
+    let get-links = c .before .before .before .before .before .get-links in
+    let least = c .before .before .before .before .least in
+    let write-under = c .before .before .write-under in (
+      omega arith,
+      omega (arith, loop .inv .1, write-under .ensures .1),
+      lines-are (under-next (a .l .now) (loop .i) (get-links .result) (get-links .ensures)) (lines-rest (loop .inv .2) (least .ensures .0) (write-under .ensures .0)),
+    )
 
 same-length : tie.Need-same-length Inv-loop μ-loop
 same-length c = c .before .loop .inv .2 .filled .size
 
 returns : tie.Need-returns Inv-loop μ-loop
-returns c = (lines-are (unders-all (c .before .before .before .args .l .now) (c .before .loop .i) (c .before .before .before .args .cats) (c .before .loop .inv .0) (c .loop-test .left)) (c .before .loop .inv .2), omega (arith, c .before .before .before .pre, c .before .loop .inv .0, c .before .loop .inv .1))
+returns c =
+    let a = c .before .before .before .args in
+    let pre = c .before .before .before .pre in
+    let loop = c .before .loop in
+    (lines-are (unders-all (a .l .now) (loop .i) (a .cats) (loop .inv .0) (c .loop-test .left)) (loop .inv .2), omega (arith, pre, loop .inv .0, loop .inv .1))
 
 pub write-unders-spec : {M : Type 1} → statement M
 write-unders-spec =

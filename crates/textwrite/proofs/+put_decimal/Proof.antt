@@ -52,8 +52,12 @@ put-decimal-same-length t c = search needs
 
 put-decimal-returns : (t : ℕ) → put-decimal-lts.Need-returns (calls t) (put-decimal-at t) put-decimal.Post
 put-decimal-returns t c =
-    let n = c .before .before .before .before .before .before .before .args .n in
-    let f = fill-is (ap (λ z. z ∷ []) (c .before .before .before .digit .ensures) ∙ sym (decimal-one n (c .before .before .before .before .before .if1 .taken))) (c .before .before .put-byte .ensures) in
+    let a = c .before .before .before .before .before .before .before .args in
+    let if1 = c .before .before .before .before .before .if1 in
+    let digit = c .before .before .before .digit in
+    let put-byte = c .before .before .put-byte in
+    let n = a .n in
+    let f = fill-is (ap (λ z. z ∷ []) (digit .ensures) ∙ sym (decimal-one n (if1 .taken))) (put-byte .ensures) in
     (f, omega (arith, f .said, decimal-few n))
 
 put-decimal-put-decimal-requires : (t : ℕ) → put-decimal-lts.Need-put-decimal-requires (calls t) (put-decimal-at t) put-decimal.Post
@@ -85,11 +89,17 @@ put-decimal-same-length-2 t c = search needs
 
 put-decimal-returns-2 : (t : ℕ) → put-decimal-lts.Need-returns-2 (calls t) (put-decimal-at t) put-decimal.Post
 put-decimal-returns-2 t c =
-    let n = c .before .before .before .before .before .before .before .before .before .before .before .before .args .n in
+    let a = c .before .before .before .before .before .before .before .before .before .before .before .before .args in
+    let if1 = c .before .before .before .before .before .before .before .before .before .before .if1 in
+    let put-decimal = c .before .before .before .before .before .before .before .before .put-decimal in
+    let least = c .before .before .before .before .before .least in
+    let digit2 = c .before .before .before .digit2 in
+    let put-byte2 = c .before .before .put-byte2 in
+    let n = a .n in
     let d : n / 10 * 10 + n % 10 ≡ n = div-add-mod' n 10 in
     let k : n < 18446744073709551616 = search needs in
-    let f = fill-rest (c .before .before .before .before .before .before .before .before .put-decimal .ensures .0) (c .before .before .before .before .before .least .ensures .0) (c .before .before .put-byte2 .ensures) in
-    let g = fill-is (ap (λ z. decimal (n / 10) ++ z ∷ []) (c .before .before .before .digit2 .ensures) ∙ sym (decimal-more n (c .before .before .before .before .before .before .before .before .before .before .if1 .left) (omega (arith, k)))) f in
+    let f = fill-rest (put-decimal .ensures .0) (least .ensures .0) (put-byte2 .ensures) in
+    let g = fill-is (ap (λ z. decimal (n / 10) ++ z ∷ []) (digit2 .ensures) ∙ sym (decimal-more n (if1 .left) (omega (arith, k)))) f in
     (g, omega (arith, g .said, decimal-few n))
 
 pub +put-decimal-spec : {M : Type 1} → statement M

@@ -32,7 +32,12 @@ same-length c = search needs
 
 returns : tie.Need-returns
 unfolding numberText
-returns c = (fill-rest (c .before .before .before .before .before .before .before .put-bytes .ensures) (c .before .before .before .before .least .ensures .0) (c .before .before .put-decimal .ensures .0), omega (arith, c .before .before .before .before .before .before .before .put-bytes .ensures .said, c .before .before .put-decimal .ensures .1, c .before .before .before .before .before .before .before .before .before .before .before .pre))
+returns c =
+    let pre = c .before .before .before .before .before .before .before .before .before .before .before .pre in
+    let put-bytes = c .before .before .before .before .before .before .before .put-bytes in
+    let least = c .before .before .before .before .least in
+    let put-decimal = c .before .before .put-decimal in
+    (fill-rest (put-bytes .ensures) (least .ensures .0) (put-decimal .ensures .0), omega (arith, put-bytes .ensures .said, put-decimal .ensures .1, pre))
 
 pub put-number-spec : {M : Type 1} → statement M
 put-number-spec =

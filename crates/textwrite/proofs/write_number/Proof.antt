@@ -30,7 +30,11 @@ same-length : tie.Need-same-length
 same-length c = search needs
 
 returns : tie.Need-returns
-returns c = (ended (fill-rest (c .before .before .before .before .before .before .before .put-number .ensures .0) (c .before .before .before .before .least .ensures .0) (c .before .before .put-byte .ensures)), omega (arith, c .before .before .before .before .before .before .before .put-number .ensures .1, c .before .before .put-byte .ensures .said))
+returns c =
+    let put-number = c .before .before .before .before .before .before .before .put-number in
+    let least = c .before .before .before .before .least in
+    let put-byte = c .before .before .put-byte in
+    (ended (fill-rest (put-number .ensures .0) (least .ensures .0) (put-byte .ensures)), omega (arith, put-number .ensures .1, put-byte .ensures .said))
 
 pub write-number-spec : {M : Type 1} → statement M
 write-number-spec =

@@ -30,7 +30,12 @@ same-length : tie.Need-same-length
 same-length c = search needs
 
 returns : tie.Need-returns
-returns c = (ended (fill-rest (c .before .before .before .before .before .before .before .put-bytes .ensures) (c .before .before .before .before .least .ensures .0) (c .before .before .put-byte .ensures)), omega (arith, c .before .before .before .before .before .before .before .put-bytes .ensures .said, c .before .before .put-byte .ensures .said, c .before .before .before .before .before .before .before .before .before .before .before .pre))
+returns c =
+    let pre = c .before .before .before .before .before .before .before .before .before .before .before .pre in
+    let put-bytes = c .before .before .before .before .before .before .before .put-bytes in
+    let least = c .before .before .before .before .least in
+    let put-byte = c .before .before .put-byte in
+    (ended (fill-rest (put-bytes .ensures) (least .ensures .0) (put-byte .ensures)), omega (arith, put-bytes .ensures .said, put-byte .ensures .said, pre))
 
 pub write-word-spec : {M : Type 1} → statement M
 write-word-spec =
