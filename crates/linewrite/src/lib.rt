@@ -1,4 +1,4 @@
-// Document 01, "Sheet text": each kind of line of a sheet that is more than a key and a number, written in front of a lent buffer. Inside a line too the rest of
+// Each kind of line of a sheet (S24 to S26) that is more than a key and a number, written in front of a lent buffer. Inside a line too the rest of
 // the buffer, from the end of what is written, is lent on to the next writer. Every code has a line, so that nothing is asked of the bytes.
 use numbers::least;
 use numbers::wide;
@@ -51,7 +51,7 @@ fn put_arguments(buf: &mut [u8], count: usize, args: [u8; 4]) -> usize
     at
 }
 
-// "a missing answer `-`"
+// The answer of a signature, `-` for none (S26).
 fn put_answer(buf: &mut [u8], answer: u8) -> usize
     ensures is { λ r. ⌜ Filled (now (buf .entry)) (now (buf .exit)) (answerText (answerOf answer)) r ⌝ }
     ensures few { λ r. ⌜ r ≤ 20 ⌝ }
@@ -77,7 +77,7 @@ fn put_closing(buf: &mut [u8], answer: u8) -> usize
     d + c
 }
 
-// "A state with signature is written `avail(0,3)2`": the line of a permitted method, whose key ends in the bracket.
+// The line of a permitted method, whose key ends in the bracket (S26).
 fn write_signed(buf: &mut [u8], key: &[u8], m: Method) -> usize
     requires { ⌜ length (now key) ≤ 16 ⌝ }
     ensures is { λ r. ⌜ Lined (now (buf .entry)) (now (buf .exit)) (signedText (now (key .entry)) (m .count) (m .args) (m .answer) ∷ []) r ⌝ }
@@ -93,7 +93,7 @@ fn write_signed(buf: &mut [u8], key: &[u8], m: Method) -> usize
     d + c
 }
 
-// "an `m=` line for each method"
+// The line of a method (S26).
 pub fn write_method(buf: &mut [u8], m: Method) -> usize
     ensures is { λ r. ⌜ Lined (now (buf .entry)) (now (buf .exit)) (methodText (methodOf (rawMethod m)) ∷ []) r ⌝ }
     ensures few { λ r. ⌜ r ≤ 182 ⌝ }
@@ -111,7 +111,7 @@ pub fn write_method(buf: &mut [u8], m: Method) -> usize
     write_word(buf, b"m=unavail")
 }
 
-// "`rep=`": "ref, w32 or w64"
+// The line of a representation (S25).
 pub fn write_rep(buf: &mut [u8], rep: u8) -> usize
     ensures is { λ r. ⌜ Lined (now (buf .entry)) (now (buf .exit)) (repText (repOf rep) ∷ []) r ⌝ }
     ensures few { λ r. ⌜ r ≤ 17 ⌝ }
@@ -125,7 +125,7 @@ pub fn write_rep(buf: &mut [u8], rep: u8) -> usize
     write_word(buf, b"rep=w64")
 }
 
-// "`own=`(yes or no)"
+// The line of the own flag (S25).
 pub fn write_own(buf: &mut [u8], own: u8) -> usize
     ensures is { λ r. ⌜ Lined (now (buf .entry)) (now (buf .exit)) (ownText (eqb own 1) ∷ []) r ⌝ }
     ensures few { λ r. ⌜ r ≤ 17 ⌝ }
@@ -147,7 +147,7 @@ fn put_second(buf: &mut [u8], x: Links) -> usize
     put_byte(buf, 10)
 }
 
-// "one `under=` line (one or two numbers, comma) for each category"
+// The line of a category's broader ones (S24, W7).
 pub fn write_under(buf: &mut [u8], x: Links) -> usize
     ensures is { λ r. ⌜ Lined (now (buf .entry)) (now (buf .exit)) (underText (linksOf (rawLinks x)) ∷ []) r ⌝ }
     ensures few { λ r. ⌜ r ≤ 73 ⌝ }

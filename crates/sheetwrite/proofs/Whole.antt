@@ -47,7 +47,7 @@ module _ (b l : List ℕ) (c : Counts) where
   pub sheet-is : {old new : List ℕ} {r : ℕ} → Limits c → Lined old new (frontLines l c ++ backLines b c) r → Filled old new (text (tableOf (rawTable b l c))) r
   sheet-is g f = fill-is (parts-are (g .counted)) (f .filled)
 
--- "4 if the buffer is short, buffer unchanged": the sheet was counted on an empty part of the buffer
+-- a short buffer (W2, W3): the sheet was counted on an empty part of it
 pub short-is : {tl : List ℕ} {n : ℕ} (r : RawTable) (buf : List ℕ) → tableAccepted r ≡ true → Filled [] tl (text (tableOf r)) n → length (tl ++ buf) < n
     → writtenOf ShortBuffer (tl ++ buf) ≡ write r buf
 unfolding write writeText
@@ -57,7 +57,7 @@ short-is {tl} {n} r buf h f s =
     let w = f .said in
     rw (e, h, lt-leb (length (text (tableOf r))) (length buf) (omega arith))
 
--- "else the length, with the bytes behind it unchanged"
+-- the length (W4)
 pub length-is : {tl new : List ℕ} {n m : ℕ} (r : RawTable) (buf : List ℕ) → tableAccepted r ≡ true → Filled [] tl (text (tableOf r)) n → n ≤ length (tl ++ buf)
     → Filled (tl ++ buf) new (text (tableOf r)) m → writtenOf (Length m) new ≡ write r buf
 unfolding write writeText
@@ -68,7 +68,7 @@ length-is {tl} {new} {n} {m} r buf h f s g =
     let k : length (text (tableOf r)) ≤ length buf = omega arith in
     rw (g .said, g .text (omega arith), e, h, le-leb (length (text (tableOf r))) (length buf) k)
 
--- "A .. table handed in gets 2 before all else", and the buffer is unchanged
+-- an unfit table (W1, W3)
 pub unfit-is : (r : RawTable) (buf : List ℕ) → tableAccepted r ≡ false → writtenOf UnfitTable buf ≡ write r buf
 unfolding write
 unfit-is r buf h = rw h

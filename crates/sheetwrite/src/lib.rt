@@ -1,6 +1,5 @@
-// Document 01, "Sheet write": the sheet of a table. "The writer adds each line in the rest of the same lent buffer": every function lends the buffer's tail,
-// from the end of the last line, on to the next line writer. Writers are total (crate `textwrite`), so that the same functions count first, on an empty part of
-// the buffer, and a short buffer stays as it is.
+// Sheet write (W): the sheet of a table. Every function lends the buffer's tail, from the end of the last line, on to the next line's writer (F2). Writers are
+// total (crate `textwrite`), so that the same functions count first, on an empty part of the buffer, and a short buffer stays as it is.
 use linewrite::write_method;
 use linewrite::write_own;
 use linewrite::write_rep;
@@ -27,7 +26,7 @@ ghost use Rattle.textwrite.specs.Fill.{Filled, Lined};
 ghost use Rattle.sheetwrite.specs.Parts.{typeIn, methodLines, typeLinesTo, underLines, countLines, frontLines, backLines};
 ghost use Rattle.sheetwrite.specs.Answer.{writtenOf};
 
-// The writer's answer. specs/Answer.antt gives the paper's number for each case.
+// The writer's answer. specs/Answer.antt gives the number for each case.
 pub enum Wrote {
     UnfitTable,
     ShortBuffer,
@@ -52,7 +51,7 @@ fn write_methods(buf: &mut [u8], b: &[u8; TYPE_BYTES], i: usize, methods: usize)
     at
 }
 
-// "for each type `type=`, `rep=`, `cat=`"
+// The first three lines of a type (S25).
 fn write_head(buf: &mut [u8], i: usize, h: Head) -> usize
     requires { ⌜ i < 128 ⌝ }
     ensures is { λ r. ⌜ Lined (now (buf .entry)) (now (buf .exit)) (numberText (bytes "type=") i ∷ repText (repOf (h .rep)) ∷ numberText (bytes "cat=") (h .cat) ∷ []) r ⌝ }
@@ -67,7 +66,7 @@ fn write_head(buf: &mut [u8], i: usize, h: Head) -> usize
     d + c
 }
 
-// "and for ref `own=`(yes or no) and an `m=` line for each method"
+// The other lines of a reference type (S25).
 fn write_members(buf: &mut [u8], b: &[u8; TYPE_BYTES], i: usize, own: u8, methods: usize) -> usize
     requires { ⌜ (i < 128) × (methods ≤ 16) ⌝ }
     ensures is { λ r. ⌜ Lined (now (buf .entry)) (now (buf .exit)) (ownText (eqb own 1) ∷ methodLines (now (b .entry)) i methods) r ⌝ }
@@ -95,7 +94,7 @@ fn write_type(buf: &mut [u8], b: &[u8; TYPE_BYTES], c: Counts, i: usize) -> usiz
     a + d
 }
 
-// The sheet types. "Derived types aren't written."
+// The sheet types, and no derived ones (W5).
 fn write_types(buf: &mut [u8], b: &[u8; TYPE_BYTES], c: Counts) -> usize
     requires { ⌜ Limits c ⌝ }
     ensures is { λ r. ⌜ Lined (now (buf .entry)) (now (buf .exit)) (typeLinesTo (now (b .entry)) c (c .sheet)) r ⌝ }
@@ -131,7 +130,7 @@ fn write_unders(buf: &mut [u8], l: &[u8; LINK_BYTES], cats: usize) -> usize
     at
 }
 
-// "`guide=1`, `subjects=`, `methods=`, `cats=`"
+// The first four lines (S22).
 fn write_counts(buf: &mut [u8], c: Counts) -> usize
     requires { ⌜ Limits c ⌝ }
     ensures is { λ r. ⌜ Lined (now (buf .entry)) (now (buf .exit)) (countLines c) r ⌝ }
@@ -161,7 +160,7 @@ fn write_front(buf: &mut [u8], l: &[u8; LINK_BYTES], c: Counts) -> usize
     d + e
 }
 
-// The types, and "`end=sheet`, nothing after".
+// The types, and the last line.
 fn write_back(buf: &mut [u8], b: &[u8; TYPE_BYTES], c: Counts) -> usize
     requires { ⌜ Limits c ⌝ }
     ensures is { λ r. ⌜ Lined (now (buf .entry)) (now (buf .exit)) (backLines (now (b .entry)) c) r ⌝ }
@@ -184,7 +183,7 @@ fn put_sheet(buf: &mut [u8], b: &[u8; TYPE_BYTES], l: &[u8; LINK_BYTES], c: Coun
     a + d
 }
 
-// "Sheet write: 4 if the buffer is short, buffer unchanged; else the length, with the bytes behind it unchanged", for a table that passed the check of 2.
+// Sheet write of a table that passed the check of 2: 4 (W2), or the text and its length (W4).
 fn write_checked(buf: &mut [u8], b: &[u8; TYPE_BYTES], l: &[u8; LINK_BYTES], c: Counts) -> Wrote
     requires { ⌜ tableAccepted (rawTable (now b) (now l) c) ≡ true ⌝ }
     ensures { λ r. ⌜ writtenOf r (now (buf .exit)) ≡ write (rawTable (now (b .entry)) (now (l .entry)) c) (now (buf .entry)) ⌝ }
@@ -196,7 +195,7 @@ fn write_checked(buf: &mut [u8], b: &[u8; TYPE_BYTES], l: &[u8; LINK_BYTES], c: 
     Wrote::Length(put_sheet(buf, b, l, c))
 }
 
-// Sheet write of any table handed in: "A .. table handed in gets 2 before all else".
+// Sheet write of any table handed in: 2 before all else (W1).
 pub fn write_sheet(buf: &mut [u8], b: &[u8; TYPE_BYTES], l: &[u8; LINK_BYTES], c: Counts) -> Wrote
     ensures { λ r. ⌜ writtenOf r (now (buf .exit)) ≡ write (rawTable (now (b .entry)) (now (l .entry)) c) (now (buf .entry)) ⌝ }
 {

@@ -43,7 +43,7 @@ fn digit(d: usize) -> u8
     48 + (d as u8)
 }
 
-// "decimal without leading zeros": the digits in front of the last, and the last in the rest of the buffer.
+// A decimal (S21): the digits in front of the last, and the last in the rest of the buffer.
 pub fn put_decimal(buf: &mut [u8], n: usize) -> usize
     ensures is { λ r. ⌜ Filled (now (buf .entry)) (now (buf .exit)) (decimal n) r ⌝ }
     ensures few { λ r. ⌜ r ≤ 20 ⌝ }
@@ -69,7 +69,7 @@ pub fn put_number(buf: &mut [u8], key: &[u8], n: usize) -> usize
     a + b
 }
 
-// "ASCII lines ended by LF": a line of a key and a number.
+// A line of a key and a number (W6).
 pub fn write_number(buf: &mut [u8], key: &[u8], n: usize) -> usize
     requires { ⌜ length (now key) ≤ 16 ⌝ }
     ensures is { λ r. ⌜ Lined (now (buf .entry)) (now (buf .exit)) (numberText (now (key .entry)) n ∷ []) r ⌝ }
