@@ -22,8 +22,8 @@ pub trait Core {
     /// The answer; the state becomes what is left.
     fn request(&self, state: &mut RawState, request: &Request) -> Result<Got, Refusal>;
 
-    /// Whether a cell offers a chain of methods.
-    fn offers(&self, state: &RawState, cell: i64, chain: &[i64]) -> bool;
+    /// Whether a cell offers a chain of methods, or 2.
+    fn offers(&self, state: &RawState, cell: i64, chain: &[i64]) -> Result<bool, Refusal>;
 }
 
 /// The bytes that count: those of each list below its count, which is within its limit.
@@ -96,6 +96,39 @@ pub fn on_handed_in(core: &impl Core, seed: u64, seen: &mut Seen) -> Option<Stri
     difference(core, &small, &mut Seen::default())
 }
 
+/// Any number around those below a count, and far outside.
+fn any_number(random: &mut Random, count: u32) -> i64 {
+    let count = i64::from(count.min(300));
+    let odd = [i64::MIN, -1, count, count + 1, 256, 1 << 32, i64::MAX];
+    if random.chance(15) {
+        return *random.pick(&odd);
+    }
+    random.below(count.max(1) as usize) as i64
+}
+
+/// A cell and a chain on which what is offered in a state handed in differs; `offered` counts the chains that are.
+pub fn on_offers(core: &impl Core, seed: u64, offered: &mut [u32; 3]) -> Option<String> {
+    let state = hostile::generate(seed).state;
+    let mut random = Random::new(seed);
+    for _ in 0..20 {
+        let cell = any_number(&mut random, state.cells);
+        let length = random.below(4);
+        let chain: Vec<i64> = (0..length)
+            .map(|_| any_number(&mut random, state.table.methods))
+            .collect();
+        let wanted = raw::offers(&state, cell, &chain);
+        let kind = wanted.map_or(2, usize::from);
+        offered[kind] += 1;
+        let answer = core.offers(&state, cell, &chain);
+        if answer != wanted {
+            return Some(format!(
+                "cell {cell}, chain {chain:?}: {answer:?} for {wanted:?} in\n{state:?}"
+            ));
+        }
+    }
+    None
+}
+
 /// The state of a generated sheet, and the requests of its script.
 fn loaded(seed: u64, profile: Profile) -> Option<(Table, Hostile)> {
     let input = generate(seed, profile);
@@ -134,7 +167,7 @@ pub fn watch(core: &impl Core, seed: u64, profile: Profile) -> Option<String> {
             .into_iter()
             .find(|chain| {
                 let signed: Vec<i64> = chain.iter().map(|method| *method as i64).collect();
-                core.offers(&list.state, cell as i64, &signed) != page.permit(chain)
+                core.offers(&list.state, cell as i64, &signed) != Ok(page.permit(chain))
             })
             .map(|chain| format!("cell {cell}, chain {chain:?}"))
     })

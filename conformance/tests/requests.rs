@@ -1,10 +1,7 @@
 //! The driver of requests tried on stand-ins: the reference itself, in which it finds nothing, and the reference with each of its
 //! deliberate faults. The proved core takes their place once it serves requests.
 
-use conformance::requests::{on_handed_in, on_loaded, watch, Core};
-use reference::book::offered;
-use reference::chains::All;
-use reference::check;
+use conformance::requests::{on_handed_in, on_loaded, on_offers, watch, Core};
 use reference::coverage::{Seen, OF_REQUESTS};
 use reference::faults::{Fault, ALL};
 use reference::gen::Profile;
@@ -20,15 +17,8 @@ impl Core for StandIn {
         raw::request_with(state, request, self.0)
     }
 
-    fn offers(&self, state: &RawState, cell: i64, chain: &[i64]) -> bool {
-        let state = check::state(state).expect("a state of a loaded sheet is right");
-        let types = offered(&state, cell as usize);
-        let chain: Vec<usize> = chain.iter().map(|method| *method as usize).collect();
-        let all = All {
-            table: &state.table,
-            types: &types,
-        };
-        all.permit(&chain)
+    fn offers(&self, state: &RawState, cell: i64, chain: &[i64]) -> Result<bool, Refusal> {
+        raw::offers(state, cell, chain)
     }
 }
 
@@ -60,6 +50,18 @@ fn the_states_handed_in_meet_every_number() {
             assert!(count >= Some(&3), "{name} {number}: {count:?}");
         }
     }
+}
+
+/// Chains offered, not offered and 2.
+#[test]
+fn chains_of_states_handed_in() {
+    let mut offered = [0; 3];
+    for seed in 0..1500 {
+        let found = on_offers(&StandIn(Fault::None), seed, &mut offered);
+        assert_eq!(found, None, "{seed}");
+    }
+    println!("not offered, offered, refused: {offered:?}");
+    assert!(offered.iter().all(|count| *count > 2000), "{offered:?}");
 }
 
 #[test]
