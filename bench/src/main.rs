@@ -2,16 +2,20 @@
 //! Prints ratios (proved time over Rust time): below 1 the proved core is faster. Buffers are cleared by both sides in each search, as the algorithm asks.
 
 mod fits;
+mod requests;
 mod restriction;
 mod search;
 mod sheets;
 
 use conformance::inputs::{damaged, with_48_types, worst};
 use conformance::{chains, compare, counts, Asked, Loaded, PAIRS_LENGTH};
+use reference::check;
 use reference::hostile;
-use reference::raw::{RawTable, BROADER_LENGTH, TYPES_LENGTH};
+use reference::raw::{self, RawState, RawTable, BROADER_LENGTH, TYPES_LENGTH};
 use reference::relations::RELATIONS;
+use reference::script;
 use reference::sheet;
+use reference::state::State;
 use reference::table::MAX_CATEGORIES;
 use std::hint::black_box;
 use std::time::{Duration, Instant};
@@ -250,8 +254,47 @@ fn derivations() {
     derivation("48 generated types", &random, most.expect("a pair"));
 }
 
+/// Requests one after the other, each measured on the state that it meets: safe Rust alone, until the core serves requests.
+fn alone(name: &str, mut state: RawState, list: &[&str]) {
+    for line in list {
+        let request = script::parse(line.as_bytes()).expect("a request");
+        let mut after = state.clone();
+        let result = requests::request(&mut after, &request);
+        assert_eq!(result, raw::request(&mut state.clone(), &request));
+        let time = time(|| {
+            let _ = black_box(requests::request(&mut state.clone(), black_box(&request)));
+        });
+        println!("{line}, {name}: {result:?}, safe Rust alone {time:?} a call");
+        state = after;
+    }
+}
+
+/// The state of a table's sheet.
+fn first_state(table: &RawTable) -> RawState {
+    let table = check::table(table).expect("a right table");
+    RawState::of(&State::of_sheet(table))
+}
+
+fn requests_alone() {
+    let example = sheet::read(include_bytes!("../../examples/case-p.sheet")).expect("a sheet");
+    let list = ["do=new 0 1 4", "do=move 0 0 1 2", "do=move 1 1 2 3"];
+    alone("Case P", first_state(&RawTable::of(&example)), &list);
+    let worst = worst(48, 31);
+    alone(
+        "48 types, every pair reached",
+        first_state(&worst),
+        &["do=new 0 0 1", "do=move 0 0 0 2"],
+    );
+    let state = first_state(&worst);
+    assert_eq!(
+        requests::offers(&state, 0, &[]),
+        raw::offers(&state, 0, &[])
+    );
+}
+
 fn main() {
     same_refusals();
+    requests_alone();
     comparisons();
     let random = with_48_types();
     let generated = sheet::text(&random);
