@@ -39,5 +39,5 @@ module _ (t : RawTable) (old : List ℕ) (r : Pairs) (e : r ≡ pairsGiven (pair
   pairs-old = out-old old (pairTable (tableOf t)) r (tableAccepted t) e
 
 -- A refusal is its number alone, whatever stands beside it.
-pub refusal-alone : (l : List ℕ) (c : Counts) (r : Derivation) (a : Res (Table × ℕ)) (number total : ℕ) (types : List ℕ) → (r .no ≡ 0 → ⊥) → derivationOf l c r ≡ a → derivationOf l c (derivationLeft (r .no) number total types) ≡ a
-refusal-alone l c r a number total types h e = let z = ne-eqb (r .no) 0 h in rw z (rw z at e)
+pub refusal-alone : (l : List ℕ) (c : Counts) (r : Derivation) (a : Res (Table × ℕ)) (number : ℕ) (counts types : List ℕ) → (r .no ≡ 0 → ⊥) → derivationOf l c r ≡ a → derivationOf l c (derivationLeft (r .no) number counts types) ≡ a
+refusal-alone l c r a number counts types h e = let z = ne-eqb (r .no) 0 h in rw z (rw z at e)

@@ -12,9 +12,9 @@ use Rattle.restrict_entry.specs.declared.Derivation.{Derivation}
 use Rattle.sheet.specs.Text.{Written}
 use Rattle.sheetread.specs.declared.Sheet.{Sheet}
 
--- the counts of a table, each passed by itself
-abbrev pub countsOf : ℕ → ℕ → ℕ → ℕ → ℕ → Counts
-countsOf subjects methods cats sheet types = record { subjects = subjects; methods = methods; cats = cats; sheet = sheet; types = types }
+-- the counts of a table: five numbers in a row, in this order
+abbrev pub countsIn : List ℕ → Counts
+countsIn n = record { subjects = getD n 0 0; methods = getD n 1 0; cats = getD n 2 0; sheet = getD n 3 0; types = getD n 4 0 }
 
 -- 16 and the four answers, as in the pair table
 abbrev pub answersCode : Bool → Bool → Bool → Bool → ℕ
@@ -24,10 +24,6 @@ answersCode w x y z = 16 + pairCode w x y z
 abbrev pub comparedCode : Res Answers → ℕ
 comparedCode (refuse n) = n
 comparedCode (ok a) = answersCode (a .subtype) (a .strict) (a .loose) (a .free)
-
--- the counts of a table as five numbers in a row
-abbrev pub countsIn : List ℕ → Counts
-countsIn cs = countsOf (getD cs 0 0) (getD cs 1 0) (getD cs 2 0) (getD cs 3 0) (getD cs 4 0)
 
 -- the reader's answer, each part of it handed out by itself: number, offset, bytes and counts
 abbrev pub sheetOf : ℕ → ℕ → List ℕ → List ℕ → List ℕ → Sheet
@@ -52,6 +48,10 @@ pub record WrittenIs (w : Written) (n old new : ℕ) (buffer : List ℕ) : Type 
 abbrev pub handedOut : {A : Type 0} → A → Res A → ℕ × A
 handedOut old a = (numberOf a, valueOf old a)
 
--- a derivation's answer, each part by itself: number, the type's number, how many types there are now, and their bytes
-abbrev pub derivationLeft : ℕ → ℕ → ℕ → List ℕ → Derivation
-derivationLeft n number total types = record { no = n; number = number; count = total; types = types }
+-- a derivation's answer, each part by itself: number, the type's number, the counts as they are now, and the types' bytes
+abbrev pub derivationLeft : ℕ → ℕ → List ℕ → List ℕ → Derivation
+derivationLeft n number counts types = record { no = n; number = number; count = countsIn counts .types; types = types }
+
+-- what a caller lends to a derivation, all of it: the types' bytes, the counts, and where the type's number goes
+abbrev pub lent : List ℕ → List ℕ → ℕ → List ℕ × List ℕ × ℕ
+lent types counts number = (types, counts, number)

@@ -3,7 +3,7 @@
 ghost use mathlib.Core.Path.{_≡_};
 ghost use Prim.Native.Nat.{_+_};
 ghost use Rattle.model.specs.Check.{compareHanded};
-ghost use Rattle.table.specs.Store.{rawTable};
+ghost use Rattle.table.specs.Store.{rawTable, withCount};
 ghost use Rattle.compare.specs.Answered.{comparedOf};
 ghost use Rattle.compare.specs.Pairs.{pairsHanded};
 ghost use Rattle.restrict_entry.specs.Handed.{deriveHanded};
@@ -12,13 +12,26 @@ ghost use Rattle.sheet.specs.Sheet.{read as readSheet};
 ghost use Rattle.sheet.specs.Text.{write};
 ghost use Rattle.sheetread.specs.View.{SheetIs};
 ghost use Rattle.sheetwrite.specs.Answer.{wroteAnswer};
-ghost use Rattle.exports.specs.Codes.{countsOf, answersCode, comparedCode, sheetOf, numberOf, valueOf, WrittenIs, handedOut, derivationLeft};
+ghost use Rattle.exports.specs.Codes.{countsIn, answersCode, comparedCode, sheetOf, numberOf, valueOf, WrittenIs, handedOut, derivationLeft, lent};
 use compare::Compared;
 use numbers::wide;
 use sheetwrite::Wrote;
 use table::Counts;
 use table::LINK_BYTES;
 use table::TYPE_BYTES;
+
+// A table's counts from five numbers in a row.
+fn counts_of(n: [usize; 5]) -> Counts
+    ensures { λ c. ⌜ c ≡ countsIn n ⌝ }
+{
+    Counts {
+        subjects: n[0],
+        methods: n[1],
+        cats: n[2],
+        sheet: n[3],
+        types: n[4],
+    }
+}
 
 // Four answers as one number.
 fn answers_code(subtype: bool, strict: bool, loose: bool, free: bool) -> usize
@@ -49,23 +62,13 @@ fn compared_code(r: Compared) -> usize
 pub extern "C" fn pilgonca_compare(
     types: &[u8; TYPE_BYTES],
     links: &[u8; LINK_BYTES],
-    subjects: usize,
-    methods: usize,
-    cats: usize,
-    sheet: usize,
-    count: usize,
+    counts: &[usize; 5],
     t: i64,
     s: i64,
 ) -> usize
-    ensures { λ n. ⌜ n ≡ comparedCode (compareHanded (rawTable (now (types .entry)) (now (links .entry)) (countsOf subjects methods cats sheet count)) t s) ⌝ }
+    ensures { λ n. ⌜ n ≡ comparedCode (compareHanded (rawTable (now (types .entry)) (now (links .entry)) (countsIn (now (counts .entry)))) t s) ⌝ }
 {
-    let c = Counts {
-        subjects,
-        methods,
-        cats,
-        sheet,
-        types: count,
-    };
+    let c = counts_of(*counts);
     let r = compare::compare_types(types, links, c, t, s);
     compared_code(r)
 }
@@ -112,22 +115,12 @@ pub extern "C" fn pilgonca_write(
     buffer: &mut [u8],
     types: &[u8; TYPE_BYTES],
     links: &[u8; LINK_BYTES],
-    subjects: usize,
-    methods: usize,
-    cats: usize,
-    sheet: usize,
-    count: usize,
+    counts: &[usize; 5],
     length: &mut usize,
 ) -> usize
-    ensures { λ n. ⌜ WrittenIs (write (rawTable (now (types .entry)) (now (links .entry)) (countsOf subjects methods cats sheet count)) (now (buffer .entry))) n (now (length .entry)) (now (length .exit)) (now (buffer .exit)) ⌝ }
+    ensures { λ n. ⌜ WrittenIs (write (rawTable (now (types .entry)) (now (links .entry)) (countsIn (now (counts .entry)))) (now (buffer .entry))) n (now (length .entry)) (now (length .exit)) (now (buffer .exit)) ⌝ }
 {
-    let c = Counts {
-        subjects,
-        methods,
-        cats,
-        sheet,
-        types: count,
-    };
+    let c = counts_of(*counts);
     let w = sheetwrite::write_sheet(buffer, types, links, c);
     wrote_code(w, length)
 }
@@ -137,22 +130,12 @@ pub extern "C" fn pilgonca_write(
 pub extern "C" fn pilgonca_pairs(
     types: &[u8; TYPE_BYTES],
     links: &[u8; LINK_BYTES],
-    subjects: usize,
-    methods: usize,
-    cats: usize,
-    sheet: usize,
-    count: usize,
+    counts: &[usize; 5],
     out: &mut [u8; 2304],
 ) -> usize
-    ensures { λ n. ⌜ (n, now (out .exit)) ≡ handedOut (now (out .entry)) (pairsHanded (rawTable (now (types .entry)) (now (links .entry)) (countsOf subjects methods cats sheet count))) ⌝ }
+    ensures { λ n. ⌜ (n, now (out .exit)) ≡ handedOut (now (out .entry)) (pairsHanded (rawTable (now (types .entry)) (now (links .entry)) (countsIn (now (counts .entry))))) ⌝ }
 {
-    let c = Counts {
-        subjects,
-        methods,
-        cats,
-        sheet,
-        types: count,
-    };
+    let c = counts_of(*counts);
     let r = compare::pairs_of(types, links, c);
     if r.fits {
         let entries = r.entries;
@@ -168,35 +151,25 @@ pub extern "C" fn pilgonca_pairs(
 pub extern "C" fn pilgonca_derive(
     types: &mut [u8; TYPE_BYTES],
     links: &[u8; LINK_BYTES],
-    subjects: usize,
-    methods: usize,
-    cats: usize,
-    sheet: usize,
-    count: usize,
+    counts: &mut [usize; 5],
     kind: usize,
     t: i64,
     s: i64,
     number: &mut usize,
-    total: &mut usize,
 ) -> usize
-    ensures is { λ n. ⌜ derivationOf (now (links .entry)) (countsOf subjects methods cats sheet count) (derivationLeft n (now (number .exit)) (now (total .exit)) (now (types .exit))) ≡ deriveHanded (rawTable (now (types .entry)) (now (links .entry)) (countsOf subjects methods cats sheet count)) kind t s ⌝ }
-    ensures refused { λ n. ⌜ ((n ≡ 0 → ⊥) → derivationLeft n (now (number .exit)) (now (total .exit)) (now (types .exit)) ≡ derivationLeft n (now (number .entry)) (now (total .entry)) (now (types .entry))) ⌝ }
-    ensures stays { λ n. ⌜ Stays (now (types .entry)) (countsOf subjects methods cats sheet count) (derivationLeft n (now (number .exit)) (now (total .exit)) (now (types .exit))) ⌝ }
+    ensures is { λ n. ⌜ derivationOf (now (links .entry)) (countsIn (now (counts .entry))) (derivationLeft n (now (number .exit)) (now (counts .exit)) (now (types .exit))) ≡ deriveHanded (rawTable (now (types .entry)) (now (links .entry)) (countsIn (now (counts .entry)))) kind t s ⌝ }
+    ensures refused { λ n. ⌜ ((n ≡ 0 → ⊥) → lent (now (types .exit)) (now (counts .exit)) (now (number .exit)) ≡ lent (now (types .entry)) (now (counts .entry)) (now (number .entry))) ⌝ }
+    ensures stays { λ n. ⌜ Stays (now (types .entry)) (countsIn (now (counts .entry))) (derivationLeft n (now (number .exit)) (now (counts .exit)) (now (types .exit))) ⌝ }
+    ensures counted { λ n. ⌜ countsIn (now (counts .exit)) ≡ withCount (countsIn (now (counts .entry))) (countsIn (now (counts .exit)) .types) ⌝ }
 {
-    let c = Counts {
-        subjects,
-        methods,
-        cats,
-        sheet,
-        types: count,
-    };
+    let c = counts_of(*counts);
     let old = *types;
     let r = restrict_entry::derive(old, links, c, kind, t, s);
     if r.no == 0 {
         let new = r.types;
         *types = new;
+        *counts = [c.subjects, c.methods, c.cats, c.sheet, r.count];
         *number = r.number;
-        *total = r.count;
     }
     r.no
 }
