@@ -14,8 +14,8 @@ use Rattle.model.specs.Basics.{Res, refuse, ok, try, need, _⇒_, all, unlessMi
 use Rattle.model.specs.Table.{State, denied, optional, avail, unavail, Rep, ref, w32, w64, Method, permit, maxArguments, between}
 use Rattle.model.specs.Check.{stateOf, answerOf, methodOf, rawMethodFits}
 use Rattle.model.proofs.Rules.{never, both, imply}
-use Rattle.sheet.specs.Lines.{bytes, starts, same, keyed, oneOf}
-use Rattle.sheet.specs.Numbers.{Scan, fail, took, andThen, whole, number, numbers}
+use Rattle.sheet.specs.Lines.{bytes, starts, same, keyed, choice}
+use Rattle.sheet.specs.Numbers.{Scan, fail, took, bindScan, whole, number, numbers}
 use Rattle.sheet.specs.Text.{repText, ownText, stateText}
 use Rattle.sheet.specs.Sheet.{repLine, ownLine, underLine, closing, arguments, answer, below, signature, unsigned, methodLine}
 use Rattle.sheet.proofs.Steps.{refuse-ok}
@@ -39,12 +39,12 @@ module _ (l : List ℕ) where
   rep-second = cond (same (repText w32) l) (ok w32) rep-third
 
   pub rep-ref : same (repText ref) l ≡ true → ok ref ≡ repLine l
-  unfolding repLine oneOf rep-second rep-third
+  unfolding repLine choice rep-second rep-third
   rep-ref e = ap (λ z. cond z (ok ref) rep-second) (sym e)
 
   module _ (a : same (repText ref) l ≡ false) where
     to-second : rep-second ≡ repLine l
-    unfolding repLine oneOf rep-second rep-third
+    unfolding repLine choice rep-second rep-third
     to-second = ap (λ z. cond z (ok ref) rep-second) (sym a)
 
     pub rep-w32 : same (repText w32) l ≡ true → ok w32 ≡ repLine l
@@ -68,12 +68,12 @@ module _ (l : List ℕ) where
   own-second = cond (same (ownText false) l) (ok false) (refuse 1)
 
   pub own-yes : same (ownText true) l ≡ true → ok true ≡ ownLine l
-  unfolding ownLine oneOf own-second
+  unfolding ownLine choice own-second
   own-yes e = ap (λ z. cond z (ok true) own-second) (sym e)
 
   module _ (a : same (ownText true) l ≡ false) where
     to-own : own-second ≡ ownLine l
-    unfolding ownLine oneOf own-second
+    unfolding ownLine choice own-second
     to-own = ap (λ z. cond z (ok true) own-second) (sym a)
 
     pub own-no : same (ownText false) l ≡ true → ok false ≡ ownLine l
@@ -193,23 +193,23 @@ unfolding arguments
 args-none l at h = sym (ap arguments (at-end l at (omega arith)))
 
 module _ (l : List ℕ) (at : ℕ) (h : at < length l) where
-  args-here : arguments (drop at l) ≡ cond (eqb (getD l at 0) 41) (took [] (drop (at + 1) l)) (andThen (numbers 2 [] (drop at l)) closing)
+  args-here : arguments (drop at l) ≡ cond (eqb (getD l at 0) 41) (took [] (drop (at + 1) l)) (bindScan (numbers 2 [] (drop at l)) closing)
   unfolding arguments
-  args-here = ap arguments (from-here l at h) ∙ ap (λ z. cond (eqb (getD l at 0) 41) (took [] (drop (at + 1) l)) (andThen (numbers 2 [] z) closing)) (sym (from-here l at h))
+  args-here = ap arguments (from-here l at h) ∙ ap (λ z. cond (eqb (getD l at 0) 41) (took [] (drop (at + 1) l)) (bindScan (numbers 2 [] z) closing)) (sym (from-here l at h))
 
   pub args-empty : getD l at 0 ≡ 41 → took [] (drop (at + 1) l) ≡ arguments (drop at l)
-  args-empty q = sym (args-here ∙ ap (λ z. cond z (took [] (drop (at + 1) l)) (andThen (numbers 2 [] (drop at l)) closing)) (eq-eqb (getD l at 0) 41 q))
+  args-empty q = sym (args-here ∙ ap (λ z. cond z (took [] (drop (at + 1) l)) (bindScan (numbers 2 [] (drop at l)) closing)) (eq-eqb (getD l at 0) 41 q))
 
   module _ (ne : getD l at 0 ≡ 41 → ⊥) where
-    args-list : arguments (drop at l) ≡ andThen (numbers 2 [] (drop at l)) closing
-    args-list = args-here ∙ ap (λ z. cond z (took [] (drop (at + 1) l)) (andThen (numbers 2 [] (drop at l)) closing)) (ne-eqb (getD l at 0) 41 ne)
+    args-list : arguments (drop at l) ≡ bindScan (numbers 2 [] (drop at l)) closing
+    args-list = args-here ∙ ap (λ z. cond z (took [] (drop (at + 1) l)) (bindScan (numbers 2 [] (drop at l)) closing)) (ne-eqb (getD l at 0) 41 ne)
 
     pub args-wrong : fail ≡ numbers 2 [] (drop at l) → fail ≡ arguments (drop at l)
-    args-wrong q = sym (args-list ∙ ap (λ z. andThen z closing) (sym q))
+    args-wrong q = sym (args-list ∙ ap (λ z. bindScan z closing) (sym q))
 
     module _ (xs : List ℕ) (e : ℕ) (q : took xs (drop e l) ≡ numbers 2 [] (drop at l)) where
       listed : arguments (drop at l) ≡ closing xs (drop e l)
-      listed = args-list ∙ ap (λ z. andThen z closing) (sym q)
+      listed = args-list ∙ ap (λ z. bindScan z closing) (sym q)
 
       pub args-open : e ≡ length l → fail ≡ arguments (drop at l)
       args-open b = sym (listed ∙ ap (closing xs) (at-end l e (omega arith)))
@@ -221,22 +221,22 @@ module _ (l : List ℕ) (at : ℕ) (h : at < length l) where
       args-closed b w = sym (listed ∙ ap (closing xs) (from-here l e b) ∙ ap (λ z. cond z (took xs (drop (e + 1) l)) fail) (eq-eqb (getD l e 0) 41 w))
 
   -- its answer
-  answer-here : answer (drop at l) ≡ cond (eqb (getD l at 0) 45) (took none (drop (at + 1) l)) (andThen (number (drop at l)) (λ n r. took (some n) r))
+  answer-here : answer (drop at l) ≡ cond (eqb (getD l at 0) 45) (took none (drop (at + 1) l)) (bindScan (number (drop at l)) (λ n r. took (some n) r))
   unfolding answer
-  answer-here = ap answer (from-here l at h) ∙ ap (λ z. cond (eqb (getD l at 0) 45) (took none (drop (at + 1) l)) (andThen (number z) (λ n r. took (some n) r))) (sym (from-here l at h))
+  answer-here = ap answer (from-here l at h) ∙ ap (λ z. cond (eqb (getD l at 0) 45) (took none (drop (at + 1) l)) (bindScan (number z) (λ n r. took (some n) r))) (sym (from-here l at h))
 
   pub answer-dash : getD l at 0 ≡ 45 → took none (drop (at + 1) l) ≡ answer (drop at l)
-  answer-dash q = sym (answer-here ∙ ap (λ z. cond z (took none (drop (at + 1) l)) (andThen (number (drop at l)) (λ n r. took (some n) r))) (eq-eqb (getD l at 0) 45 q))
+  answer-dash q = sym (answer-here ∙ ap (λ z. cond z (took none (drop (at + 1) l)) (bindScan (number (drop at l)) (λ n r. took (some n) r))) (eq-eqb (getD l at 0) 45 q))
 
   module _ (ne : getD l at 0 ≡ 45 → ⊥) where
-    answer-number : answer (drop at l) ≡ andThen (number (drop at l)) (λ n r. took (some n) r)
-    answer-number = answer-here ∙ ap (λ z. cond z (took none (drop (at + 1) l)) (andThen (number (drop at l)) (λ n r. took (some n) r))) (ne-eqb (getD l at 0) 45 ne)
+    answer-number : answer (drop at l) ≡ bindScan (number (drop at l)) (λ n r. took (some n) r)
+    answer-number = answer-here ∙ ap (λ z. cond z (took none (drop (at + 1) l)) (bindScan (number (drop at l)) (λ n r. took (some n) r))) (ne-eqb (getD l at 0) 45 ne)
 
     pub answer-wrong : fail ≡ number (drop at l) → fail ≡ answer (drop at l)
-    answer-wrong q = sym (answer-number ∙ ap (λ z. andThen z (λ n r. took (some n) r)) (sym q))
+    answer-wrong q = sym (answer-number ∙ ap (λ z. bindScan z (λ n r. took (some n) r)) (sym q))
 
     pub answer-took : (n e : ℕ) → took n (drop e l) ≡ number (drop at l) → took (answerOf (n + 1)) (drop e l) ≡ answer (drop at l)
-    answer-took n e q = ap (λ z. took (answerOf z) (drop e l)) (add-one n) ∙ sym (answer-number ∙ ap (λ z. andThen z (λ n r. took (some n) r)) (sym q))
+    answer-took n e q = ap (λ z. took (answerOf z) (drop e l)) (add-one n) ∙ sym (answer-number ∙ ap (λ z. bindScan z (λ n r. took (some n) r)) (sym q))
 
 pub answer-none : (l : List ℕ) (at : ℕ) → at ≡ length l → fail ≡ answer (drop at l)
 unfolding answer
@@ -260,10 +260,10 @@ module _ (n : ℕ) (s : State) (l : List ℕ) where
   checked m = need (all (below n) (m .args) && unlessMissing (m .answer) (below n)) 2 λ _. ok m
 
   after-args : Scan (List ℕ) → Res Method
-  after-args r = try (whole (andThen r λ xs q. andThen (answer q) λ o p. took (method xs o) p)) checked
+  after-args r = try (whole (bindScan r λ xs q. bindScan (answer q) λ o p. took (method xs o) p)) checked
 
   after-answer : List ℕ → Scan (Option ℕ) → Res Method
-  after-answer xs r = try (whole (andThen r λ o p. took (method xs o) p)) checked
+  after-answer xs r = try (whole (bindScan r λ o p. took (method xs o) p)) checked
 
   signature-of : after-args (arguments l) ≡ signature n s l
   unfolding signature method checked after-args

@@ -16,7 +16,7 @@ use Rattle.model.specs.Basics.{refuse, ok}
 use Rattle.model.specs.Table.{Table, tableFits, validSheet}
 use Rattle.model.specs.Check.{RawTable, tableOf, codesFit, tableAccepted}
 use Rattle.model.proofs.Rules.{second}
-use Rattle.sheet.specs.Lines.{Row, row, split, join, Reading, refused, got, Reader, line, follow, then, nothing}
+use Rattle.sheet.specs.Lines.{Row, row, split, join, Reading, refused, got, Reader, line, follow, bind, endOfInput}
 use Rattle.sheet.specs.Text.{endText, sheetLines, withoutDerived, text, Written, writeText, write}
 use Rattle.sheet.specs.Sheet.{endLine, body, ownInSignature, ending, sheet, malformed, loaded, sheetAnswer, read, emptyTable, tableRead}
 use Rattle.sheet.proofs.Steps.{cond-cases, refuse-ok, ok-value}
@@ -32,19 +32,19 @@ malformed-loaded p = let z : _≡_ {A = ℕ} 0 1 = cc in absurd (omega arith)
 loaded-table : {t u : Table} → loaded t ≡ loaded u → t ≡ u
 loaded-table p = cc
 
-nothing-got : (at : ℕ) (rs : List Row) (u : Unit {0}) (at′ : ℕ) (rs′ : List Row) → nothing at rs ≡ got u at′ rs′ → rs ≡ []
-nothing-got at [] u at′ rs′ h = refl
-nothing-got at (r ∷ rs) u at′ rs′ h = refused-got h
+endOfInput-got : (at : ℕ) (rs : List Row) (u : Unit {0}) (at′ : ℕ) (rs′ : List Row) → endOfInput at rs ≡ got u at′ rs′ → rs ≡ []
+endOfInput-got at [] u at′ rs′ h = refl
+endOfInput-got at (r ∷ rs) u at′ rs′ h = refused-got h
 
 -- what stands behind the line `end=sheet` of table t
 abbrev behindEnd : Table → ℕ → Reader Table
-behindEnd t last = then nothing λ u at rs. cond (ownInSignature t) (refused 3 last) (got t at rs)
+behindEnd t last = bind endOfInput λ u at rs. cond (ownInSignature t) (refused 3 last) (got t at rs)
 
 ending-sound : (t : Table) (at : ℕ) (rs : List Row) (u : Table) (at′ : ℕ) (rs′ : List Row) → ending t at rs ≡ got u at′ rs′ → (t ≡ u) × (ownInSignature t ≡ false) × (rs ≡ row endText ∷ [])
 unfolding ending
-ending-sound t at rs u at′ rs′ h = follow-got (line endLine at rs) (λ v. behindEnd t at) h λ v a q e₁ e₂. follow-got (nothing a q) (λ v b r. cond (ownInSignature t) (refused 3 at) (got t b r)) e₂ λ w b r e₃ e₄.
+ending-sound t at rs u at′ rs′ h = follow-got (line endLine at rs) (λ v. behindEnd t at) h λ v a q e₁ e₂. follow-got (endOfInput a q) (λ v b r. cond (ownInSignature t) (refused 3 at) (got t b r)) e₂ λ w b r e₃ e₄.
     cond-cases (ownInSignature t) e₄ (λ o e. refused-got e)
-    (λ o e. (got-value e, o, line-exact end-exact .sound at rs v a q e₁ .1 ∙ ap (λ z. row endText ∷ z) (nothing-got a q w b r e₃)))
+    (λ o e. (got-value e, o, line-exact end-exact .sound at rs v a q e₁ .1 ∙ ap (λ z. row endText ∷ z) (endOfInput-got a q w b r e₃)))
 
 ending-full : (t : Table) (at : ℕ) → ownInSignature t ≡ false → (at′ : ℕ) × (ending t at (row endText ∷ []) ≡ got t at′ [])
 unfolding ending

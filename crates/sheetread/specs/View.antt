@@ -10,7 +10,7 @@ use Rattle.model.specs.Table.{ref, Method as Methodᵐ, Ty, Table, isRef, betwe
 use Rattle.model.specs.Check.{RawType, RawLinks, noRawType, noRawMethod, noRawLinks, repOf, methodOf, linksOf, rawMethodFits, rawTypeFits, codesFit}
 use Rattle.table.specs.declared.Method.{Method}
 use Rattle.table.specs.Store.{rawMethod, rawTable, tableIn}
-use Rattle.sheet.specs.Lines.{bytes, Reader, give, line, then, many}
+use Rattle.sheet.specs.Lines.{bytes, Reader, pure, line, bind, times}
 use Rattle.sheet.specs.Text.{newestForm}
 use Rattle.sheet.specs.Sheet.{numberLine, underLine, ownLine, methodLine, sheetType, oneType, ownIn, SheetAnswer, malformed, loaded, tableRead}
 use Rattle.sheetread.specs.declared.First.{First}
@@ -47,8 +47,8 @@ methodsOf m x = cond (isRef (repOf (x .rep))) (from m 0 (λ j. methodOf (getD (x
 
 -- the lines of a reference type behind its `cat=` line
 unfoldable pub membersRead : ℕ → ℕ → ℕ → Reader Ty
-unfolding many ownLine methodLine
-membersRead m n c = then (line ownLine) λ o. then (many (eachMethod n) m 0 []) λ ms. give (sheetType ref c o ms)
+unfolding times ownLine methodLine
+membersRead m n c = bind (line ownLine) λ o. bind (times (eachMethod n) m 0 []) λ ms. pure (sheetType ref c o ms)
 
 -- Own among the first n records.
 abbrev pub ownAt : List RawType → ℕ → ℕ → Bool
@@ -73,20 +73,20 @@ countedIn h = record { subjects = h .subjects; methods = h .methods; cats = h .c
 
 -- The lines of `body` in three groups: the first four, the `under=` lines, and the rest.
 abbrev pub first₁ : ℕ → Reader Counted
-first₁ g = then (line (numberLine (bytes "subjects=") 1 maxSubjects)) λ s. then (line (numberLine (bytes "methods=") 1 maxMethods)) λ m. then (line (numberLine (bytes "cats=") 0 maxCategories)) λ c. give (record { subjects = s; methods = m; cats = c })
+first₁ g = bind (line (numberLine (bytes "subjects=") 1 maxSubjects)) λ s. bind (line (numberLine (bytes "methods=") 1 maxMethods)) λ m. bind (line (numberLine (bytes "cats=") 0 maxCategories)) λ c. pure (record { subjects = s; methods = m; cats = c })
 
 unfoldable pub first : Reader Counted
 unfolding numberLine
-first = then (line (numberLine (bytes "guide=") 1 newestForm)) first₁
+first = bind (line (numberLine (bytes "guide=") 1 newestForm)) first₁
 
 unfoldable pub afterCats : Counted → List (List ℕ) → Reader Table
-unfolding numberLine many oneType
-afterCats h links = then (line (numberLine (bytes "types=") 1 maxSheetTypes)) λ n. then (many (oneType (h .methods) (h .cats) n) n 0 []) λ ts.
-    give (record { subjects = h .subjects; methods = h .methods; cats = links; sheet = n; types = ts })
+unfolding numberLine times oneType
+afterCats h links = bind (line (numberLine (bytes "types=") 1 maxSheetTypes)) λ n. bind (times (oneType (h .methods) (h .cats) n) n 0 []) λ ts.
+    pure (record { subjects = h .subjects; methods = h .methods; cats = links; sheet = n; types = ts })
 
 unfoldable pub afterFirst : Counted → Reader Table
-unfolding many underLine afterCats
-afterFirst h = then (many (eachUnder (h .cats)) (h .cats) 1 []) (afterCats h)
+unfolding times underLine afterCats
+afterFirst h = bind (times (eachUnder (h .cats)) (h .cats) 1 []) (afterCats h)
 
 -- The reader's answer as the definition's: number and offset, or the table in the bytes. The table that is returned is the one that the definition gives: with every count 0 where it refuses.
 -- Every counted code names something, so that no counted record is open: `tableIn` alone reads a code that names nothing as one that does. With `answer` it follows that

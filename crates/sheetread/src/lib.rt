@@ -9,7 +9,7 @@ ghost use Rattle.model.specs.Basics.{any};
 ghost use Rattle.model.specs.Table.{Table};
 ghost use Rattle.model.specs.Check.{noRawType, repOf, typeOf, rawTypeFits};
 ghost use Rattle.table.specs.Store.{typesIn, linksIn, rawOf, typesTo};
-ghost use Rattle.sheet.specs.Lines.{split, line, then, many};
+ghost use Rattle.sheet.specs.Lines.{split, line, bind, times};
 ghost use Rattle.sheet.specs.Sheet.{malformed, sheetAnswer, endLine, sheetType, oneType, ownIn, ending, read as readSheet};
 ghost use Rattle.textread.specs.View.{reading};
 ghost use Rattle.sheetread.specs.View.{linksTo, methodIs, methodsNamed, linksNamed, typesNamed, eachUnder, eachMethod, methodsOf, membersRead, ownAt, ownInMethods, ownInType, countedIn, first, afterFirst, SheetIs};
@@ -66,7 +66,7 @@ pub struct Sheet {
 // "one `under=` line (one or two numbers, comma) for each category"
 fn links_into(s: &[u8], c: Cursor, cats: usize, l: &mut [u8; LINK_BYTES]) -> Done
     requires { ⌜ (c .at ≤ length (now s)) × (cats ≤ 31) × (length (now l) ≡ 96) ⌝ }
-    ensures is { λ r. ⌜ reading (now (s .entry)) (r .no) (linksTo cats (linksIn (now (l .exit)))) (r .next .at) ≡ many (eachUnder cats) cats 1 [] (c .at) (split (drop (c .at) (now (s .entry)))) ⌝ }
+    ensures is { λ r. ⌜ reading (now (s .entry)) (r .no) (linksTo cats (linksIn (now (l .exit)))) (r .next .at) ≡ times (eachUnder cats) cats 1 [] (c .at) (split (drop (c .at) (now (s .entry)))) ⌝ }
     ensures within { λ r. ⌜ (r .next .at ≤ length (now (s .entry))) × (length (now (l .exit)) ≡ 96) × (r .no ≡ 0 → linksNamed cats (linksIn (now (l .exit))) ≡ true) ⌝ }
 {
     let mut j: usize = 0;
@@ -91,7 +91,7 @@ fn links_into(s: &[u8], c: Cursor, cats: usize, l: &mut [u8; LINK_BYTES]) -> Don
 // "an `m=` line for each method": m of them, of a sheet with n types.
 fn methods_at(s: &[u8], c: Cursor, m: usize, n: usize) -> MethodsGot
     requires { ⌜ (c .at ≤ length (now s)) × (m ≤ 16) × (n ≤ 48) ⌝ }
-    ensures is { λ r. ⌜ reading (now (s .entry)) (r .no) (map methodIs (take m (r .list))) (r .next .at) ≡ many (eachMethod n) m 0 [] (c .at) (split (drop (c .at) (now (s .entry)))) ⌝ }
+    ensures is { λ r. ⌜ reading (now (s .entry)) (r .no) (map methodIs (take m (r .list))) (r .next .at) ≡ times (eachMethod n) m 0 [] (c .at) (split (drop (c .at) (now (s .entry)))) ⌝ }
     ensures within { λ r. ⌜ (r .next .at ≤ length (now (s .entry))) × (length (r .list) ≡ 16) × (methodsNamed (r .list) ≡ true) ⌝ }
 {
     let none = Method::empty();
@@ -207,7 +207,7 @@ fn types_into(
     b: &mut [u8; TYPE_BYTES],
 ) -> Done
     requires { ⌜ (c .at ≤ length (now s)) × (m ≤ 16) × (cats ≤ 31) × (n ≤ 48) × (length (now b) ≡ 16384) ⌝ }
-    ensures is { λ r. ⌜ reading (now (s .entry)) (r .no) (typesTo m n n (typesIn (now (b .exit)))) (r .next .at) ≡ many (oneType m cats n) n 0 [] (c .at) (split (drop (c .at) (now (s .entry)))) ⌝ }
+    ensures is { λ r. ⌜ reading (now (s .entry)) (r .no) (typesTo m n n (typesIn (now (b .exit)))) (r .next .at) ≡ times (oneType m cats n) n 0 [] (c .at) (split (drop (c .at) (now (s .entry)))) ⌝ }
     ensures within { λ r. ⌜ (r .next .at ≤ length (now (s .entry))) × (length (now (b .exit)) ≡ 16384) × (r .no ≡ 0 → typesNamed m n n (typesIn (now (b .exit))) ≡ true) ⌝ }
 {
     let mut i: usize = 0;
@@ -426,7 +426,7 @@ fn refused(no: usize, at: usize) -> Sheet
 // The lines behind the first four, and the table.
 fn after_first(s: &[u8], h: First) -> Sheet
     requires { ⌜ (h .next .at ≤ length (now s)) × (h .methods ≤ 16) × (h .cats ≤ 31) ⌝ }
-    ensures { λ r. ⌜ SheetIs r (sheetAnswer (then (afterFirst (countedIn h)) ending (h .next .at) (split (drop (h .next .at) (now (s .entry)))))) ⌝ }
+    ensures { λ r. ⌜ SheetIs r (sheetAnswer (bind (afterFirst (countedIn h)) ending (h .next .at) (split (drop (h .next .at) (now (s .entry)))))) ⌝ }
 {
     let c = h.next;
     let mut links = table::empty_links();

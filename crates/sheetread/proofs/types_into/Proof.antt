@@ -10,9 +10,9 @@ use borrow.Author.Needs.{needs}
 use Rattle.model.specs.Check.{typeOf}
 use Rattle.table.proofs.Laws.{types-length}
 use Rattle.table.specs.Store.{typesIn, typesTo, rawOf}
-use Rattle.sheet.specs.Lines.{split, many, got}
+use Rattle.sheet.specs.Lines.{split, times, got}
 use Rattle.sheet.specs.Sheet.{oneType}
-use Rattle.sheetread.proofs.Readings.{read-no, read-ok, refused-is, many-done, many-stop, many-next}
+use Rattle.sheetread.proofs.Readings.{read-no, read-ok, refused-is, times-done, times-stop, times-next}
 use Rattle.sheetread.proofs.Stored.{types-none, types-next}
 use Rattle.sheetread.proofs.Named.{types-named-none, types-named-add}
 use Rattle.sheetread.specs.View.{typesNamed}
@@ -20,13 +20,13 @@ use Rattle.sheetread.proofs.types_into.Statement.{statement}
 use Rattle.sheetread.proofs.types_into.Tie as tie
 
 abbrev Inv-loop : tie.InvT-loop
-Inv-loop s m cats n b₀ i₀ at₀ b i at = (i ≤ n) × (at ≤ length s) × (length b ≡ 16384) × (many (oneType m cats n) (n - i) i (typesTo m n i (typesIn b)) at (split (drop at s)) ≡ many (oneType m cats n) n 0 [] at₀ (split (drop at₀ s))) × (typesNamed m n i (typesIn b) ≡ true)
+Inv-loop s m cats n b₀ i₀ at₀ b i at = (i ≤ n) × (at ≤ length s) × (length b ≡ 16384) × (times (oneType m cats n) (n - i) i (typesTo m n i (typesIn b)) at (split (drop at s)) ≡ times (oneType m cats n) n 0 [] at₀ (split (drop at₀ s))) × (typesNamed m n i (typesIn b) ≡ true)
 
 abbrev μ-loop : tie.MeasureT-loop
 μ-loop s m cats n b₀ i₀ at₀ b i at = n - i
 
 loop-holds : tie.Need-loop-holds Inv-loop μ-loop
-loop-holds c = let a = c .before .args in let e : a .n - 0 ≡ a .n = omega arith in (omega arith, c .before .pre .0, c .before .pre .4, ap (λ z. many (oneType (a .m) (a .cats) (a .n)) (a .n - 0) 0 z (a .c .at) (split (drop (a .c .at) (a .s .now)))) (types-none (a .m) (a .n) (typesIn (a .b .now))) ∙ ap (λ (z : ℕ). many (oneType (a .m) (a .cats) (a .n)) z 0 [] (a .c .at) (split (drop (a .c .at) (a .s .now)))) e, types-named-none (a .m) (a .n) (typesIn (a .b .now)))
+loop-holds c = let a = c .before .args in let e : a .n - 0 ≡ a .n = omega arith in (omega arith, c .before .pre .0, c .before .pre .4, ap (λ z. times (oneType (a .m) (a .cats) (a .n)) (a .n - 0) 0 z (a .c .at) (split (drop (a .c .at) (a .s .now)))) (types-none (a .m) (a .n) (typesIn (a .b .now))) ∙ ap (λ (z : ℕ). times (oneType (a .m) (a .cats) (a .n)) z 0 [] (a .c .at) (split (drop (a .c .at) (a .s .now)))) e, types-named-none (a .m) (a .n) (typesIn (a .b .now)))
 
 one-type-requires : tie.Need-one-type-requires Inv-loop μ-loop
 one-type-requires c κs = search needs
@@ -34,7 +34,7 @@ one-type-requires c κs = search needs
 returns : tie.Need-returns Inv-loop μ-loop
 returns c = let a = c .before .before .before .before .before .before .before .args in let p = c .before .before .before .before .before .loop in let g = c .before .before .before .one-type in (
   refused-is (a .s .now) (g .result .no) (g .result .no) (g .result .next .at) (g .result .next .at) _ _ (c .if1 .taken) refl refl
-      (many-stop (oneType (a .m) (a .cats) (a .n)) (a .n) (p .i) (p .i) (typesTo (a .m) (a .n) (p .i) (typesIn (p .b))) (p .at) (split (drop (p .at) (a .s .now))) _ (p .inv .3) (c .before .before .before .before .loop-test .taken) (g .result .no) (g .result .next .at)
+      (times-stop (oneType (a .m) (a .cats) (a .n)) (a .n) (p .i) (p .i) (typesTo (a .m) (a .n) (p .i) (typesIn (p .b))) (p .at) (split (drop (p .at) (a .s .now))) _ (p .inv .3) (c .before .before .before .before .loop-test .taken) (g .result .no) (g .result .next .at)
       (read-no (a .s .now) (g .result .no) (typeOf (a .m) (a .n) (p .i) (rawOf (g .result .t))) (g .result .next .at) _ (g .ensures .0) (c .if1 .taken))),
   (g .ensures .1 .0, p .inv .2, λ z. absurd (c .if1 .taken z)),
 )
@@ -53,7 +53,7 @@ loop-again c = let a = c .before .before .before .before .before .before .before
   omega arith,
   g .ensures .1 .0,
   c .put-type .ensures .1,
-  many-next (oneType (a .m) (a .cats) (a .n)) (a .n) (p .i) (p .i) (typesTo (a .m) (a .n) (p .i) (typesIn (p .b))) (p .at) (split (drop (p .at) (a .s .now))) _ (p .inv .3) (c .before .before .before .before .before .before .before .loop-test .taken)
+  times-next (oneType (a .m) (a .cats) (a .n)) (a .n) (p .i) (p .i) (typesTo (a .m) (a .n) (p .i) (typesIn (p .b))) (p .at) (split (drop (p .at) (a .s .now))) _ (p .inv .3) (c .before .before .before .before .before .before .before .loop-test .taken)
       (typeOf (a .m) (a .n) (p .i) (rawOf (g .result .t))) (g .result .next .at) (split (drop (g .result .next .at) (a .s .now))) (p .i + 1) _
       (read-ok (a .s .now) (g .result .no) (typeOf (a .m) (a .n) (p .i) (rawOf (g .result .t))) (g .result .next .at) _ (g .ensures .0) (c .before .before .before .if1 .left)) (add-one (p .i))
       (ap (typesTo (a .m) (a .n) (p .i + 1)) (c .put-type .ensures .0) ∙ types-next (a .m) (a .n) (p .i) (typesIn (p .b)) (rawOf (g .result .t)) k),
@@ -63,7 +63,7 @@ loop-again c = let a = c .before .before .before .before .before .before .before
 returns-2 : tie.Need-returns-2 Inv-loop μ-loop
 returns-2 c = let a = c .before .before .before .args in let p = c .before .loop in let e : p .i ≡ a .n = omega arith in (
   ap (λ (z : ℕ). got (typesTo (a .m) (a .n) z (typesIn (p .b))) (p .at) (split (drop (p .at) (a .s .now)))) (sym e)
-      ∙ many-done (oneType (a .m) (a .cats) (a .n)) (a .n) (p .i) (p .i) (typesTo (a .m) (a .n) (p .i) (typesIn (p .b))) (p .at) (split (drop (p .at) (a .s .now))) _ (p .inv .3) (c .loop-test .left),
+      ∙ times-done (oneType (a .m) (a .cats) (a .n)) (a .n) (p .i) (p .i) (typesTo (a .m) (a .n) (p .i) (typesIn (p .b))) (p .at) (split (drop (p .at) (a .s .now))) _ (p .inv .3) (c .loop-test .left),
   (p .inv .1, p .inv .2, λ z. ap (λ (z : ℕ). typesNamed (a .m) (a .n) z (typesIn (p .b))) (sym e) ∙ p .inv .4),
 )
 
