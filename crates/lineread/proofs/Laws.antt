@@ -8,27 +8,54 @@ use native.Mathlib.Omega.{arith}
 use native.Mathlib.Numerals.{add-one}
 use lib.Dec.{eqb, ltb, leb}
 use lib.ListN.{length, getD, set, take, drop}
-use lib.Seq.{length-take-le, take-suc-set, take-suc, getD-take}
+use lib.Seq.{length-take-le, take-suc-set, take-suc, getD-take, getD-set-other}
 use borrow.Author.Tests.{leb-true, leb-false, lt-ltb, le-ltb, le-leb, eq-eqb, ne-eqb}
-use Rattle.model.specs.Basics.{Res, refuse, ok, try, need, _⇒_, all, unlessMissing}
-use Rattle.model.specs.Table.{State, denied, optional, avail, unavail, Rep, ref, w32, w64, Method, permit, maxArguments, between}
-use Rattle.model.specs.Check.{stateOf, answerOf, methodOf, rawMethodFits}
-use Rattle.model.proofs.Rules.{never, both, imply}
+use Rattle.model.specs.Basics.{Res, refuse, ok, try, need, all, unlessMissing}
+use Rattle.model.specs.Table.{State, denied, optional, avail, unavail, Rep, ref, w32, w64, Method, permit}
+use Rattle.model.specs.Check.{RawLinks, stateOf, answerOf, methodOf, linksOf}
+use Rattle.model.specs.Records.{linksRecord}
+use Rattle.model.proofs.Rules.{never}
 use Rattle.sheet.specs.Lines.{bytes, starts, same, keyed, choice}
 use Rattle.sheet.specs.Numbers.{Scan, fail, took, bindScan, whole, number, numbers}
-use Rattle.sheet.specs.Text.{repText, ownText, stateText}
-use Rattle.sheet.specs.Sheet.{repLine, ownLine, underLine, closing, arguments, answer, below, signature, unsigned, methodLine}
-use Rattle.sheet.proofs.Steps.{refuse-ok}
+use Rattle.sheet.specs.Text.{repText, ownText, stateText, endText}
+use Rattle.sheet.specs.Sheet.{repLine, ownLine, endLine, underLine, closing, arguments, answer, below, signature, unsigned, methodLine}
 use Rattle.textread.specs.View.{result}
 use Rattle.textread.proofs.Laws.{from-here, at-end}
+use Rattle.lineread.specs.View.{LinksExact}
 
 -- a refusal's number isn't 0
 pub result-refused : {A : Type 0} (nr : ℕ) (x : A) → 0 < nr → result nr x ≡ refuse nr
 result-refused nr x h = ap (λ z. cond z (ok x) (refuse nr)) (ne-eqb nr 0 (λ e. omega arith))
 
--- what is refused is not accepted
-pub not-accepted : {A : Type 0} {C : Type 0} (nr k : ℕ) (x : A) → result nr x ≡ refuse k → nr ≡ 0 → C
-not-accepted nr k x e z = refuse-ok (sym e ∙ ap (λ b. cond b (ok x) (refuse nr)) (eq-eqb nr 0 z))
+-- every line kind refuses an empty line
+pub rep-empty : repLine [] ≡ refuse 1
+unfolding repLine choice starts
+rep-empty = refl
+
+pub own-empty : ownLine [] ≡ refuse 1
+unfolding ownLine choice starts
+own-empty = refl
+
+pub end-empty : endLine [] ≡ refuse 1
+unfolding endLine choice starts
+end-empty = refl
+
+pub under-empty : (cats k : ℕ) → underLine cats k [] ≡ refuse 1
+unfolding underLine keyed starts
+under-empty cats k = refl
+
+pub method-empty : (n : ℕ) → methodLine n [] ≡ refuse 1
+unfolding methodLine starts
+method-empty n = refl
+
+-- The last line.
+pub end-yes : (l : List ℕ) → same endText l ≡ true → ok tt ≡ endLine l
+unfolding endLine choice
+end-yes l e = ap (λ z. cond z (ok tt) (refuse 1)) (sym e)
+
+pub end-no : (l : List ℕ) → same endText l ≡ false → refuse 1 ≡ endLine l
+unfolding endLine choice
+end-no l e = ap (λ z. cond z (ok tt) (refuse 1)) (sym e)
 
 -- Words.
 module _ (l : List ℕ) where
@@ -108,6 +135,17 @@ kept-next items bytes i x h k e q =
     ap (λ z. take z (set bytes i x)) (add-one i) ∙ take-suc-set bytes i x k ∙ ap (λ z. z ++ x ∷ []) q ∙ ap (λ z. take i items ++ z ∷ []) e
     ∙ sym (take-suc items i 0 h) ∙ ap (λ z. take z items) (sym (add-one i))
 
+-- the bytes behind those kept are 0
+pub rest-none : (k : ℕ) → let z : List ℕ = 0 ∷ 0 ∷ 0 ∷ 0 ∷ [] in getD z k 0 ≡ 0
+rest-none zero = refl
+rest-none (suc zero) = refl
+rest-none (suc (suc zero)) = refl
+rest-none (suc (suc (suc zero))) = refl
+rest-none (suc (suc (suc (suc k)))) = refl
+
+pub rest-next : (bytes : List ℕ) (i x : ℕ) → ((k : ℕ) → i ≤ k → getD bytes k 0 ≡ 0) → (k : ℕ) → i + 1 ≤ k → getD (set bytes i x) k 0 ≡ 0
+rest-next bytes i x h k e = getD-set-other bytes i k x 0 (λ q. let s : k ≡ i = q in omega arith) ∙ h k (omega arith)
+
 -- a bound that is allowed
 pub all-leb : (c : ℕ) (xs : List ℕ) → all (λ n. leb n c) xs ≡ all (below (c + 1)) xs
 all-leb c [] = refl
@@ -184,8 +222,18 @@ one-or-two (a ∷ b ∷ p) (suc zero) e h k = refl
 one-or-two (a ∷ b ∷ p) (suc (suc zero)) e h k = refl
 one-or-two (a ∷ b ∷ p) (suc (suc (suc n))) e h k = absurd (omega arith)
 
-pub one-or-two-fits : (n count : ℕ) → n ≡ count → 1 ≤ count → count ≤ 2 → between 1 2 n ≡ true
-one-or-two-fits n count e h k = both (le-leb 1 n (omega arith)) (le-leb n 2 (omega arith))
+-- they are the record of what they say: a missing second one is 0
+pub one-or-two-exact : (p : List ℕ) (n count : ℕ) → n ≡ count → 1 ≤ count → count ≤ 2 → ((k : ℕ) → count ≤ k → getD p k 0 ≡ 0)
+    → LinksExact (record { count = n; first = getD p 0 0; second = getD p 1 0 })
+one-or-two-exact p n zero e h k z = absurd (omega arith)
+one-or-two-exact p n (suc zero) e h k z =
+    ap (λ (m : ℕ). linksRecord (linksOf (record { count = m; first = getD p 0 0; second = getD p 1 0 }))) e
+    ∙ ap (λ (s : ℕ). let x : RawLinks = record { count = 1; first = getD p 0 0; second = s } in x) (sym (z 1 (omega arith)))
+    ∙ ap (λ (m : ℕ). let x : RawLinks = record { count = m; first = getD p 0 0; second = getD p 1 0 } in x) (sym e)
+one-or-two-exact p n (suc (suc zero)) e h k z =
+    ap (λ (m : ℕ). linksRecord (linksOf (record { count = m; first = getD p 0 0; second = getD p 1 0 }))) e
+    ∙ ap (λ (m : ℕ). let x : RawLinks = record { count = m; first = getD p 0 0; second = getD p 1 0 } in x) (sym e)
+one-or-two-exact p n (suc (suc (suc m))) e h k z = absurd (omega arith)
 
 -- The arguments of a signature.
 pub args-none : (l : List ℕ) (at : ℕ) → at ≡ length l → fail ≡ arguments (drop at l)
@@ -326,18 +374,12 @@ pub unsigned-means : (s count answer : ℕ) (args : List ℕ) → permit (stateO
 unfolding means
 unsigned-means s count answer args p = ap (λ z. means (stateOf s) z count args answer) p
 
--- its codes name a state, and a number of arguments where it permits
-permits-below : (s : ℕ) → permit (stateOf s) ≡ true → s < 4
+-- a state that permits has a code
+pub permits-below : (s : ℕ) → permit (stateOf s) ≡ true → s < 4
 permits-below zero p = never p
 permits-below (suc zero) p = omega arith
 permits-below (suc (suc zero)) p = omega arith
 permits-below (suc (suc (suc s))) p = never p
-
-pub signed-fits : (s count answer k : ℕ) (args : List ℕ) → permit (stateOf s) ≡ true → count ≡ k → k ≤ 2 → rawMethodFits (record { state = s; count = count; args = args; answer = answer }) ≡ true
-signed-fits s count answer k args p e h = both (lt-ltb s 4 (permits-below s p)) (imply (permit (stateOf s)) _ (λ _. le-leb count 2 (omega arith)))
-
-pub unsigned-fits : (s count answer : ℕ) (args : List ℕ) → permit (stateOf s) ≡ false → s < 4 → rawMethodFits (record { state = s; count = count; args = args; answer = answer }) ≡ true
-unsigned-fits s count answer args p h = both (lt-ltb s 4 h) (ap (λ z. z ⇒ leb count maxArguments) p)
 
 -- An `m=` line.
 module _ (n : ℕ) (l : List ℕ) where

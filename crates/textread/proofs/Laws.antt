@@ -18,7 +18,7 @@ use Rattle.sheet.specs.Sheet.{numberLine}
 use Rattle.sheet.proofs.Steps.{clash, cond-cases, refuse-ok}
 use Rattle.sheet.proofs.Numbers.{isDigit-of}
 use Rattle.sheet.proofs.Lines.{all-append, starts-sound}
-use Rattle.textread.specs.View.{scanned, scanBy, ScanWithin, valueBy, AtMost, readBy, GotAtMost, LineAt, Passable, passedBy}
+use Rattle.textread.specs.View.{scanned, scanBy, ScanWithin, valueBy, AtMost, readBy, GotAtMost, result, reading, LineAt, Passable, passedBy}
 use Rattle.textread.specs.declared.Value.{Value}
 use Rattle.textread.specs.declared.Value.the-variants.{Refused, Is}
 use Rattle.textread.specs.declared.Got.{Got}
@@ -328,6 +328,14 @@ behind-first l (b ∷ xs) rs e = cond-cases (eqb b 10) e (λ t q. lf (row-value 
         sym (rows-rest q) ∙ rec m qs p ∙ ap (λ (z : ℕ). split (drop z (b ∷ xs))) (sym f)
         ∙ ap (λ (z : List ℕ). split (drop (length z + 1) (b ∷ xs))) (row-value q)
 
+-- What the number of an answer says.
+module _ {A : Type 0} (nr : ℕ) (x : A) (R : Res A) (is : result nr x ≡ R) where
+  pub result-no : (nr ≡ 0 → ⊥) → refuse nr ≡ R
+  result-no h = ap (λ z. cond z (ok x) (refuse nr)) (sym (ne-eqb nr 0 h)) ∙ is
+
+  pub result-ok : nr ≡ 0 → ok x ≡ R
+  result-ok h = ap (λ z. cond z (ok x) (refuse nr)) (sym (eq-eqb nr 0 h)) ∙ is
+
 -- The one law of reading a line: what f gives of the line at `at` is the reading there, for every f that refuses an empty line with 1.
 module _ {A : Type 0} (f : List ℕ → Res A) (empty : f [] ≡ refuse 1) (s : List ℕ) (at : ℕ) (l : List ℕ) (h : LineAt s at l) where
   by-first : (rs : List Row) → l ≡ firstLine rs → (k : ℕ) → refuse k ≡ f l → refused k at ≡ line f at rs
@@ -364,7 +372,14 @@ module _ {A : Type 0} (f : List ℕ → Res A) (empty : f [] ≡ refuse 1) (s : 
           ap split (sym (drop-drop (length l + 1) at s)) ∙ ap (λ (z : List ℕ). split (drop (length z + 1) (drop at s))) w ∙ sym (behind-first m (drop at s) rs e) in
           ap (λ (z : List Row). got x (at + (length l + 1)) z) r ∙ ap (λ (z : List ℕ). got x (at + (length z + 1)) rs) w ∙ ap (λ z. lineAt z at m rs) (q ∙ ap f w)
 
-  -- the same for an answer whose number g reads
+  -- the same for an answer with a refusal's number
+  pub line-result-no : (nr : ℕ) (x : A) → result nr x ≡ f l → (nr ≡ 0 → ⊥) → reading s nr x at ≡ line f at (split (drop at s))
+  line-result-no nr x q n = ap (λ z. cond z (got x at (split (drop at s))) (refused nr at)) (ne-eqb nr 0 n) ∙ line-refused nr (result-no nr x (f l) q n)
+
+  pub line-result-ok : (nr : ℕ) (x : A) (next : ℕ) → result nr x ≡ f l → nr ≡ 0 → next ≡ at + (length l + 1) → reading s 0 x next ≡ line f at (split (drop at s))
+  line-result-ok nr x next q n e = ap (λ (z : ℕ). got x z (split (drop z s))) e ∙ line-accepted x (result-ok nr x (f l) q n)
+
+  -- and for one whose number g reads
   module _ (g : ℕ → A) where
     pub line-passable : (v : Value) → valueBy g v ≡ f l → length s < 18446744073709551616 → Passable v at (length l)
     line-passable (Refused k) q k′ = tt
