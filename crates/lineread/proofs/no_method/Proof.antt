@@ -1,5 +1,6 @@
 use Rattle.lineread.proofs.Laws.{result-refused}
 use Rattle.table.specs.Records.{MethodExact}
+use Rattle.table.proofs.Exact.{unsigned-exact}
 use Rattle.table.specs.Store.{rawMethod}
 use Rattle.table.specs.declared.Method.{Method}
 use mathlib.Core.Path.{refl, ap, subst, sym}
@@ -17,7 +18,7 @@ empty-requires c κs = search needs
 
 -- src/lib.rt:251:1
 returns : tie.Need-returns
-returns c = (result-refused (c .before .args .refusal) _ (c .before .pre), subst (λ (m : Method). MethodExact (rawMethod m)) (sym (c .empty .ensures)) refl)
+returns c = (result-refused (c .before .args .refusal) _ (c .before .pre), subst (λ (m : Method). MethodExact (rawMethod m)) (sym (c .empty .ensures)) (unsigned-exact 0 (omega arith) refl))
 
 pub no-method-spec : {M : Type 1} → statement M
 no-method-spec = tie.close (tie.spec empty-requires returns)
