@@ -30,7 +30,7 @@ between-high low high n h = leb-true n high (second (leb low n) (leb n high) h)
 pub in-between : (low high n : ℕ) → low ≤ n → n ≤ high → So (between low high n)
 in-between low high n l h = both (le-leb low n l) (le-leb n high h)
 
-pub all-weaken : (f g : ℕ → Bool) (xs : List ℕ) → ((n : ℕ) → So (f n) → So (g n)) → So (all f xs) → So (all g xs)
+pub all-weaken : {A : Type 0} (f g : A → Bool) (xs : List A) → ((n : A) → So (f n) → So (g n)) → So (all f xs) → So (all g xs)
 all-weaken f g [] k h = refl
 all-weaken f g (x ∷ xs) k h = both (k x (first (f x) (all f xs) h)) (all-weaken f g xs k (second (f x) (all f xs) h))
 

@@ -8,7 +8,7 @@ use lib.ListN.{length, length-append}
 use Rattle.model.specs.Basics.{Res, refuse, ok}
 use Rattle.model.specs.Table.{Rep, ref, w32, w64, Table}
 use Rattle.sheet.specs.Lines.{Row, row, cut, split, join, Reading, refused, got, Reader, lineAt, line, follow, bind, times, endOfInput}
-use Rattle.sheet.specs.Sheet.{underLine, ownLine, endLine, methodLine, members, oneType, body, ownInSignature, ending, sheet, malformed, loaded, sheetAnswer, read}
+use Rattle.sheet.specs.Sheet.{underLine, ownLine, endLine, methodLine, members, oneType, body, signaturesStand, ending, sheet, malformed, loaded, sheetAnswer, read}
 use Rattle.sheet.proofs.Lines.{unsplit, unsplit-split, rows, rows-append}
 
 -- from offset at with rows rs, whole lines lead to offset at′ with rows rs′
@@ -97,15 +97,15 @@ ending-places : (t : Table) → Places (ending t)
 unfolding ending
 ending-places t last rs = go (line endLine last rs) (line-places endLine last rs)
   where
-    own : (b : Bool) (a : ℕ) (q : List Row) → Ahead last rs a q → Placed last rs (cond b (refused 3 last) (got t a q))
-    own true a q h = (rs, ahead-none last rs)
-    own false a q h = h
+    own : (b : Bool) (a : ℕ) (q : List Row) → Ahead last rs a q → Placed last rs (cond b (got t a q) (refused 3 last))
+    own true a q h = h
+    own false a q h = (rs, ahead-none last rs)
 
-    behind : (a : ℕ) (q : List Row) → Ahead last rs a q → Placed last rs (follow (endOfInput a q) λ u at rs. cond (ownInSignature t) (refused 3 last) (got t at rs))
-    behind a [] h = own (ownInSignature t) a [] h
+    behind : (a : ℕ) (q : List Row) → Ahead last rs a q → Placed last rs (follow (endOfInput a q) λ u at rs. cond (signaturesStand t) (got t at rs) (refused 3 last))
+    behind a [] h = own (signaturesStand t) a [] h
     behind a (r ∷ q) h = (r ∷ q, h)
 
-    go : (r : Reading (Unit {0})) → Placed last rs r → Placed last rs (follow r λ u. bind endOfInput λ u at rs. cond (ownInSignature t) (refused 3 last) (got t at rs))
+    go : (r : Reading (Unit {0})) → Placed last rs r → Placed last rs (follow r λ u. bind endOfInput λ u at rs. cond (signaturesStand t) (got t at rs) (refused 3 last))
     go (refused n k) h = h
     go (got u a q) h = behind a q h
 

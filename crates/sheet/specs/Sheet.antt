@@ -1,14 +1,14 @@
 -- Document 01, "Sheet read" and "Sheet text": the reader's answer for every string of bytes.
 -- "Sheet read: each line by 1 (form), 2 (number outside its range), 3 (broader category not below)": in each line kind the tests stand in this order, over the whole line (docs/DECISIONS.md S5).
-use mathlib.Core.Bool.{Bool, true, false, _&&_, _||_, cond}
+use mathlib.Core.Bool.{Bool, true, false, _&&_, cond}
 use mathlib.Core.List.{List, [], _∷_}
 use mathlib.Core.Option.{Option, none, some}
 use Prim.Native.Nat.{ℕ}
 use Prim.Native.Char.{code}
 use lib.Dec.{eqb, ltb, leb}
 use lib.ListN.{length, drop}
-use Rattle.model.specs.Basics.{Res, refuse, ok, try, need, any, all, over, unlessMissing}
-use Rattle.model.specs.Table.{State, denied, optional, avail, unavail, Rep, ref, w32, w64, Method, Ty, Table, typeAt, between, maxSubjects, maxMethods, maxCategories, maxSheetTypes, maxArguments}
+use Rattle.model.specs.Basics.{Res, refuse, ok, try, need, all, unlessMissing}
+use Rattle.model.specs.Table.{State, denied, optional, avail, unavail, Rep, ref, w32, w64, Method, Ty, Table, typeAt, between, mayStand, maxSubjects, maxMethods, maxCategories, maxSheetTypes, maxArguments}
 use Rattle.sheet.specs.Lines.{bytes, split, Reading, refused, got, Reader, pure, line, bind, times, endOfInput, starts, same, keyed, choice}
 use Rattle.sheet.specs.Numbers.{Scan, fail, took, bindScan, whole, number, numbers}
 use Rattle.sheet.specs.Text.{newestForm, repText, ownText, stateText, endText}
@@ -104,17 +104,18 @@ body = bind (line (numberLine (bytes "guide=") 1 newestForm)) λ g.
     bind (times (oneType m cats n) n 0 []) λ ts.
     pure (record { subjects = s; methods = m; cats = links; sheet = n; types = ts })
 
--- own in a signature of the table
-abbrev pub ownIn : (ℕ → Bool) → Method → Bool
-ownIn own m = any own (m .args) || over (m .answer) own
+-- the types of a method's signature are among those that may stand in one
+abbrev pub stands : (ℕ → Bool) → Method → Bool
+stands may m = all may (m .args) && unlessMissing (m .answer) may
 
-unfoldable pub ownInSignature : Table → Bool
-ownInSignature t = any (λ (x : Ty). any (ownIn (λ a. typeAt t a .own)) (x .methods)) (t .types)
+-- every type in a signature of the table may stand in one (the model's `mayStand`)
+unfoldable pub signaturesStand : Table → Bool
+signaturesStand t = all (λ (x : Ty). all (stands (λ a. mayStand (typeAt t a))) (x .methods)) (t .types)
 
 -- "`end=sheet`, nothing after"; "then, every line being right, 3 for own in a signature, at the last line" (S6, S13)
 unfoldable pub ending : Table → Reader Table
-unfolding endLine ownInSignature
-ending t last = bind (line endLine) (λ u. bind endOfInput λ u at rs. cond (ownInSignature t) (refused 3 last) (got t at rs)) last
+unfolding endLine signaturesStand
+ending t last = bind (line endLine) (λ u. bind endOfInput λ u at rs. cond (signaturesStand t) (got t at rs) (refused 3 last)) last
 
 -- the whole sheet
 unfoldable pub sheet : Reader Table
