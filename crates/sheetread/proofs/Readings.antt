@@ -1,5 +1,5 @@
 -- Laws of readings: one reader behind another, several in a row, the groups of a sheet's lines, and what the code's answers say of them.
-use mathlib.Core.Path.{_≡_, refl, sym, ap, _∙_}
+use mathlib.Core.Path.{_≡_, refl, sym, ap, _∙_, subst}
 use mathlib.Core.Bool.{Bool, true, false, cond}
 use mathlib.Core.List.{List, [], _∷_, _++_}
 use Prim.Native.Nat.{ℕ, zero, suc, _+_, _-_, _≤_, _<_}
@@ -9,13 +9,24 @@ use lib.ListN.{length, getD, drop}
 use borrow.Author.Tests.{eq-eqb, ne-eqb}
 use Rattle.model.specs.Basics.{refuse, ok}
 use Rattle.model.specs.Table.{Rep, ref, Method, Ty, Table, maxSubjects, maxMethods, maxCategories, maxSheetTypes}
-use Rattle.model.specs.Check.{repOf}
+use Rattle.model.specs.Check.{repOf, linksOf}
 use Rattle.sheet.specs.Lines.{bytes, Row, row, cut, push, split, Reading, refused, got, Reader, pure, line, follow, bind, times, endOfInput, same, choice}
 use Rattle.sheet.specs.Text.{newestForm, endText}
-use Rattle.sheet.specs.Sheet.{numberLine, repLine, ownLine, methodLine, endLine, sheetType, members, oneType, body, ownInSignature, ending, sheet, sheetAnswer, read}
-use Rattle.textread.specs.View.{result, reading}
+use Rattle.sheet.specs.Sheet.{numberLine, repLine, ownLine, methodLine, endLine, sheetType, members, oneType, body, signaturesStand, ending, sheet, sheetAnswer, read}
+use Rattle.textread.specs.View.{reading, readBy, GotAtMost}
 use Rattle.textread.proofs.Laws.{from-here, at-end}
-use Rattle.sheetread.specs.View.{eachUnder, eachMethod, membersRead, Counted, first₁, first, afterCats, afterFirst}
+use Rattle.textread.specs.declared.Cursor.{Cursor}
+use Rattle.textread.specs.declared.Got.{Got}
+use Rattle.textread.specs.declared.Got.the-variants.{Refused, At}
+use Rattle.lineread.specs.declared.UnderGot.{UnderGot}
+use Rattle.lineread.specs.declared.UnderGot.the-variants.{Refused as Refusedᵘ, At as Atᵘ}
+use Rattle.lineread.specs.View.{underRead}
+use Rattle.table.specs.declared.Links.{Links}
+use Rattle.table.specs.Store.{rawLinks}
+use Rattle.sheetread.specs.declared.Front.{Front}
+use Rattle.sheetread.specs.declared.Done.{Done}
+use Rattle.sheetread.specs.declared.Done.the-variants.{Refused as Refusedᵈ, At as Atᵈ}
+use Rattle.sheetread.specs.View.{OnDone, eachUnder, eachMethod, membersRead, first₁, first, afterCount, afterCats, afterFirst, doneBy}
 
 -- What a reading's number says.
 module _ {A : Type 0} (s : List ℕ) (nr : ℕ) (x : A) (at : ℕ) (R : Reading A) (is : reading s nr x at ≡ R) where
@@ -28,6 +39,34 @@ module _ {A : Type 0} (s : List ℕ) (nr : ℕ) (x : A) (at : ℕ) (R : Reading 
 pub refused-is : {A : Type 0} (s : List ℕ) (nr k at a : ℕ) (x : A) (R : Reading A) → (k ≡ 0 → ⊥) → nr ≡ k → at ≡ a → refused k a ≡ R → reading s nr x at ≡ R
 refused-is s nr k at a x R h e f q =
     ap (λ (z : ℕ). reading s z x at) e ∙ ap (λ (z : ℕ). reading s k x z) f ∙ ap (λ z. cond z (got x a (split (drop a s))) (refused k a)) (ne-eqb k 0 h) ∙ q
+
+-- What the cases of an answer say.
+module _ {A : Type 0} (f : ℕ → A) (s : List ℕ) (at : ℕ) (g : Got) (R : Reading A) (is : readBy f s at g ≡ R) where
+  pub got-no : (k : ℕ) → g ≡ Refused k → refused k at ≡ R
+  got-no k e = ap (readBy f s at) (sym e) ∙ is
+
+  pub got-ok : (n : ℕ) (c : Cursor) → g ≡ At n c → got (f n) (c .at) (split (drop (c .at) s)) ≡ R
+  got-ok n c e = ap (readBy f s at) (sym e) ∙ is
+
+pub got-at-most : (high : ℕ) (g : Got) (n : ℕ) (c : Cursor) → g ≡ At n c → GotAtMost high g → n ≤ high
+got-at-most high g n c e h = subst (GotAtMost high) e h
+
+module _ (s : List ℕ) (at : ℕ) (g : UnderGot) (R : Reading (List ℕ)) (is : underRead s at g ≡ R) where
+  pub under-no : (k : ℕ) → g ≡ Refusedᵘ k → refused k at ≡ R
+  under-no k e = ap (underRead s at) (sym e) ∙ is
+
+  pub under-ok : (x : Links) (c : Cursor) → g ≡ Atᵘ x c → got (linksOf (rawLinks x)) (c .at) (split (drop (c .at) s)) ≡ R
+  under-ok x c e = ap (underRead s at) (sym e) ∙ is
+
+module _ {A : Type 0} (s : List ℕ) (x : A) (r : Done) (R : Reading A) (is : doneBy s x r ≡ R) where
+  pub done-no : (k : ℕ) (c : Cursor) → r ≡ Refusedᵈ k c → refused k (c .at) ≡ R
+  done-no k c e = ap (doneBy s x) (sym e) ∙ is
+
+  pub done-ok : (c : Cursor) → r ≡ Atᵈ c → got x (c .at) (split (drop (c .at) s)) ≡ R
+  done-ok c e = ap (doneBy s x) (sym e) ∙ is
+
+pub on-done : (r : Done) (c : Cursor) (P : Type 0) → r ≡ Atᵈ c → OnDone r P → P
+on-done r c P e h = subst (λ (z : Done). OnDone z P) e h
 
 -- One reader behind another.
 module _ {A B : Type 0} (R : Reading A) (k : A → Reader B) where
@@ -136,14 +175,14 @@ members-number m n (suc zero) c at rs h = refl
 members-number m n (suc (suc r)) c at rs h = refl
 
 -- The first four lines, and the whole sheet behind them.
-counted : ℕ → ℕ → ℕ → Reader Counted
+counted : ℕ → ℕ → ℕ → Reader Front
 counted s m c = pure (record { subjects = s; methods = m; cats = c })
 
-cats-next : ℕ → ℕ → Reader Counted
+cats-next : ℕ → ℕ → Reader Front
 unfolding numberLine counted
 cats-next s m = bind (line (numberLine (bytes "cats=") 0 maxCategories)) (counted s m)
 
-methods-next : ℕ → Reader Counted
+methods-next : ℕ → Reader Front
 unfolding numberLine cats-next
 methods-next s = bind (line (numberLine (bytes "methods=") 1 maxMethods)) (cats-next s)
 
@@ -184,7 +223,7 @@ module _ (at : ℕ) (rs : List Row) where
         first-ok c at₄ rs₄ e = follow-ok (line (numberLine (bytes "cats=") 0 maxCategories) at₃ rs₃) (counted s m) c at₄ rs₄ e ∙ to-cats
 
 pub first-body : (at : ℕ) (rs : List Row) → body at rs ≡ follow (first at rs) afterFirst
-unfolding body first afterFirst afterCats
+unfolding body first afterFirst afterCats afterCount
 first-body at rs =
     regroup (line (numberLine (bytes "guide=") 1 newestForm) at rs) first₁ afterFirst _
     (λ g at rs. regroup (line (numberLine (bytes "subjects=") 1 maxSubjects) at rs) _ afterFirst _
@@ -196,14 +235,7 @@ unfolding read sheet
 sheet-of s = ap (λ z. sheetAnswer (follow z ending)) (sym (first-body 0 (split s)))
 
 -- The groups of lines behind the first four.
-module _ (h : Counted) (at : ℕ) (rs : List Row) where
-  tabled : List (List ℕ) → ℕ → List Ty → Reader Table
-  tabled links n ts = pure (record { subjects = h .subjects; methods = h .methods; cats = links; sheet = n; types = ts })
-
-  listed : List (List ℕ) → ℕ → Reader Table
-  unfolding times oneType tabled
-  listed links n = bind (times (oneType (h .methods) (h .cats) n) n 0 []) (tabled links n)
-
+module _ (h : Front) (at : ℕ) (rs : List Row) where
   all-of : follow (follow (times (eachUnder (h .cats)) (h .cats) 1 [] at rs) (afterCats h)) ending ≡ bind (afterFirst h) ending at rs
   unfolding afterFirst
   all-of = refl
@@ -212,35 +244,36 @@ module _ (h : Counted) (at : ℕ) (rs : List Row) where
   links-no k a e = ap (λ z. follow (follow z (afterCats h)) ending) e ∙ all-of
 
   module _ (links : List (List ℕ)) (at₁ : ℕ) (rs₁ : List Row) (e₁ : got links at₁ rs₁ ≡ times (eachUnder (h .cats)) (h .cats) 1 [] at rs) where
-    to-count : follow (follow (line (numberLine (bytes "types=") 1 maxSheetTypes) at₁ rs₁) (listed links)) ending ≡ bind (afterFirst h) ending at rs
-    unfolding afterCats listed tabled
+    to-count : follow (follow (line (numberLine (bytes "types=") 1 maxSheetTypes) at₁ rs₁) (afterCount h links)) ending ≡ bind (afterFirst h) ending at rs
+    unfolding afterCats
     to-count = ap (λ z. follow (follow z (afterCats h)) ending) e₁ ∙ all-of
 
     pub count-no : (k a : ℕ) → refused k a ≡ line (numberLine (bytes "types=") 1 maxSheetTypes) at₁ rs₁ → refused k a ≡ bind (afterFirst h) ending at rs
-    count-no k a e = ap (λ z. follow (follow z (listed links)) ending) e ∙ to-count
+    count-no k a e = ap (λ z. follow (follow z (afterCount h links)) ending) e ∙ to-count
 
-    module _ (n at₂ : ℕ) (rs₂ : List Row) (e₂ : got n at₂ rs₂ ≡ line (numberLine (bytes "types=") 1 maxSheetTypes) at₁ rs₁) where
-      to-types : follow (follow (times (oneType (h .methods) (h .cats) n) n 0 [] at₂ rs₂) (tabled links n)) ending ≡ bind (afterFirst h) ending at rs
-      unfolding listed
-      to-types = ap (λ z. follow (follow z (listed links)) ending) e₂ ∙ to-count
+    pub count-ok : (n at₂ : ℕ) (rs₂ : List Row) → got n at₂ rs₂ ≡ line (numberLine (bytes "types=") 1 maxSheetTypes) at₁ rs₁ → bind (afterCount h links n) ending at₂ rs₂ ≡ bind (afterFirst h) ending at rs
+    count-ok n at₂ rs₂ e = ap (λ z. follow (follow z (afterCount h links)) ending) e ∙ to-count
 
-      pub types-no : (k a : ℕ) → refused k a ≡ times (oneType (h .methods) (h .cats) n) n 0 [] at₂ rs₂ → refused k a ≡ bind (afterFirst h) ending at rs
-      types-no k a e = ap (λ z. follow (follow z (tabled links n)) ending) e ∙ to-types
+-- the types and the last line
+module _ (h : Front) (links : List (List ℕ)) (n at : ℕ) (rs : List Row) where
+  abbrev tableWith : List Ty → Table
+  tableWith ts = record { subjects = h .subjects; methods = h .methods; cats = links; sheet = n; types = ts }
 
-      pub to-ending : (ts : List Ty) (at₃ : ℕ) (rs₃ : List Row) → got ts at₃ rs₃ ≡ times (oneType (h .methods) (h .cats) n) n 0 [] at₂ rs₂ → ending (record { subjects = h .subjects; methods = h .methods; cats = links; sheet = n; types = ts }) at₃ rs₃ ≡ bind (afterFirst h) ending at rs
-      unfolding tabled
-      to-ending ts at₃ rs₃ e = ap (λ z. follow (follow z (tabled links n)) ending) e ∙ to-types
+  tabled : List Ty → Reader Table
+  tabled ts = pure (tableWith ts)
 
--- The `end=sheet` line.
-pub end-yes : (l : List ℕ) → same endText l ≡ true → result 0 tt ≡ endLine l
-unfolding endLine choice
-end-yes l e = ap (λ z. cond z (ok tt) (refuse 1)) (sym e)
+  count-of : follow (follow (times (oneType (h .methods) (h .cats) n) n 0 [] at rs) tabled) ending ≡ bind (afterCount h links n) ending at rs
+  unfolding afterCount tabled
+  count-of = refl
 
-pub end-no : (l : List ℕ) → same endText l ≡ false → result 1 tt ≡ endLine l
-unfolding endLine choice
-end-no l e = ap (λ z. cond z (ok tt) (refuse 1)) (sym e)
+  pub types-no : (k a : ℕ) → refused k a ≡ times (oneType (h .methods) (h .cats) n) n 0 [] at rs → refused k a ≡ bind (afterCount h links n) ending at rs
+  types-no k a e = ap (λ z. follow (follow z tabled) ending) e ∙ count-of
 
--- bytes that are left make a row
+  pub to-ending : (ts : List Ty) (at₁ : ℕ) (rs₁ : List Row) → got ts at₁ rs₁ ≡ times (oneType (h .methods) (h .cats) n) n 0 [] at rs → ending (tableWith ts) at₁ rs₁ ≡ bind (afterCount h links n) ending at rs
+  unfolding tabled
+  to-ending ts at₁ rs₁ e = ap (λ z. follow (follow z tabled) ending) e ∙ count-of
+
+-- The last line: bytes that are left make a row
 push-some : (at b : ℕ) (rs : List Row) → endOfInput at (push b rs) ≡ refused 1 at
 push-some at b [] = refl
 push-some at b (row l ∷ rs) = refl
@@ -256,8 +289,8 @@ more-left at b l = go (eqb b 10)
 
 module _ (t : Table) (s : List ℕ) (last : ℕ) where
   after-endOfInput : Unit {0} → Reader Table
-  unfolding ownInSignature
-  after-endOfInput u at rs = cond (ownInSignature t) (refused 3 last) (got t at rs)
+  unfolding signaturesStand
+  after-endOfInput u at rs = cond (signaturesStand t) (got t at rs) (refused 3 last)
 
   after-end : Unit {0} → Reader Table
   unfolding after-endOfInput
@@ -279,14 +312,14 @@ module _ (t : Table) (s : List ℕ) (last : ℕ) where
     ending-more h = follow-no (endOfInput a (split (drop a s))) after-endOfInput 1 a (sym (ap (λ z. endOfInput a (split z)) (from-here s a h) ∙ more-left a (getD s a 0) (drop (a + 1) s))) ∙ to-endOfInput
 
     module _ (h : length s ≤ a) where
-      alone : cond (ownInSignature t) (refused 3 last) (got t a (split (drop a s))) ≡ ending t last (split (drop last s))
+      alone : cond (signaturesStand t) (got t a (split (drop a s))) (refused 3 last) ≡ ending t last (split (drop last s))
       unfolding after-endOfInput split
       alone =
-          ap (λ z. cond (ownInSignature t) (refused 3 last) (got t a (split z))) (at-end s a h)
+          ap (λ z. cond (signaturesStand t) (got t a (split z)) (refused 3 last)) (at-end s a h)
           ∙ ap (λ z. follow (endOfInput a (split z)) after-endOfInput) (sym (at-end s a h)) ∙ to-endOfInput
 
-      pub ending-own : ownInSignature t ≡ true → refused 3 last ≡ ending t last (split (drop last s))
-      ending-own q = ap (λ z. cond z (refused 3 last) (got t a (split (drop a s)))) (sym q) ∙ alone
+      pub ending-own : signaturesStand t ≡ false → refused 3 last ≡ ending t last (split (drop last s))
+      ending-own q = ap (λ z. cond z (got t a (split (drop a s))) (refused 3 last)) (sym q) ∙ alone
 
-      pub ending-good : ownInSignature t ≡ false → got t a (split (drop a s)) ≡ ending t last (split (drop last s))
-      ending-good q = ap (λ z. cond z (refused 3 last) (got t a (split (drop a s)))) (sym q) ∙ alone
+      pub ending-good : signaturesStand t ≡ true → got t a (split (drop a s)) ≡ ending t last (split (drop last s))
+      ending-good q = ap (λ z. cond z (got t a (split (drop a s))) (refused 3 last)) (sym q) ∙ alone

@@ -1,27 +1,29 @@
--- Every count is 0. Rests on `table-empty` and `codes-empty`.
-use mathlib.Core.Bool.{cond}
-use mathlib.Core.Path.{ap}
+use Rattle.sheetread.proofs.Stored.{sheet-malformed}
+use native.Mathlib.Omega.{arith}
 use borrow.Author.Needs.{needs}
-use borrow.Author.Tests.{ne-eqb}
-use Rattle.table.specs.Store.{tableIn}
-use Rattle.sheet.specs.Sheet.{malformed, loaded}
-use Rattle.sheetread.proofs.Stored.{table-empty}
-use Rattle.sheetread.proofs.Named.{codes-empty}
 use Rattle.sheetread.proofs.refused.Statement.{statement}
 use Rattle.sheetread.proofs.refused.Tie as tie
+use Rattle.sheetread.proofs.refused.Reads as reads
+use Rattle.sheetread.proofs.refused.Lts as lts
+use Rattle.table.proofs.Counts.empty.Reads as empty-reads
+use Rattle.table.proofs.empty_links.Reads as empty-links-reads
+use Rattle.table.proofs.empty_types.Reads as empty-types-reads
 
+-- src/lib.rt:402:9
 empty-types-requires : tie.Need-empty-types-requires
 empty-types-requires c κs = search needs
 
+-- src/lib.rt:403:9
 empty-links-requires : tie.Need-empty-links-requires
 empty-links-requires c κs = search needs
 
+-- src/lib.rt:404:9
 empty-requires : tie.Need-empty-requires
 empty-requires c κs = search needs
 
+-- src/lib.rt:399:1
 returns : tie.Need-returns
-returns c = let a = c .before .before .before .args in let t = c .before .before .empty-types .result in let l = c .before .empty-links .result in let k = c .empty .result in
-    record { answer = ap (λ z. cond z (loaded (tableIn t l k)) (malformed (a .no) (a .at))) (ne-eqb (a .no) 0 (c .before .before .before .pre)); table = table-empty t l k (c .empty .ensures); codes = codes-empty t l k (c .empty .ensures) }
+returns c = sheet-malformed (c .before .before .before .args .refusal) (c .before .before .before .args .at) _ _ _ (c .before .before .empty-types .ensures) (c .before .empty-links .ensures) (c .empty .ensures)
 
 pub refused-spec : {M : Type 1} → statement M
 refused-spec =
