@@ -48,6 +48,9 @@ module _ {A : Type 0} (f : ℕ → A) (s : List ℕ) (at : ℕ) (g : Got) (R : R
   pub got-ok : (n : ℕ) (c : Cursor) → g ≡ At n c → got (f n) (c .at) (split (drop (c .at) s)) ≡ R
   got-ok n c e = ap (readBy f s at) (sym e) ∙ is
 
+pub got-refusal : (high : ℕ) (g : Got) (k : ℕ) → g ≡ Refused k → GotAtMost high g → k ≡ 0 → ⊥
+got-refusal high g k e h z = let p : 0 < k = subst (GotAtMost high) e h in omega arith
+
 pub got-at-most : (high : ℕ) (g : Got) (n : ℕ) (c : Cursor) → g ≡ At n c → GotAtMost high g → n ≤ high
 got-at-most high g n c e h = subst (GotAtMost high) e h
 

@@ -19,7 +19,7 @@ use Rattle.table.specs.declared.Method.{Method}
 use Rattle.table.specs.declared.Counts.{Counts}
 use Rattle.table.specs.declared.Head.{Head}
 use Rattle.table.specs.Store.{rawMethod, typesTo, recordBytes, linksBytes, emptyTypes, emptyLinks, emptyCounts, emptyMethod}
-use Rattle.table.specs.Records.{padded, bytesOf, linkBytesOf, typeBytes, linkBytes, MethodExact}
+use Rattle.table.specs.Records.{padded, bytesOf, linkBytesOf, typeBytes, linkBytes, MethodExact, TypeExact}
 use Rattle.table.proofs.Exact.{padded-next, padded-length}
 use Rattle.table.proofs.Whole.{flat-length, bytes-long}
 use Rattle.table.proofs.Lists.{from-last, from-same, is-from, length-from, same-or}
@@ -121,6 +121,10 @@ types-stored ts t i x b b′ n h e r w =
     let m : length (bytesOf t) ≡ 128 = bytes-long t in
     w ∙ ap (λ (z : List ℕ). sets z (i * 128) (recordBytes x)) e ∙ ap (λ (z : RawType). sets (padded 16384 all) (i * 128) (recordBytes z)) (sym r)
     ∙ ap (λ (z : ℕ). sets (padded 16384 all) z (bytesOf t)) k ∙ padded-next 16384 all (bytesOf t) (omega arith) ∙ ap (padded 16384) (sym (flat-next bytesOf ts t))
+
+pub type-record : (m n i : ℕ) (x : RawType) → TypeExact m n i x → typeRecord (typeOf m n i x) ≡ x
+unfolding TypeExact
+type-record m n i x e = e
 
 -- and the links of a category behind those of j others
 pub links-stored : (cs : List (List ℕ)) (c : List ℕ) (j : ℕ) (x : RawLinks) (l l′ : List ℕ) → length cs ≡ j → j < 31 → l ≡ linkBytes cs → linksRecord c ≡ x → l′ ≡ sets l ((j + 1) * 3) (linksBytes x) → l′ ≡ linkBytes (cs ++ c ∷ [])

@@ -402,7 +402,7 @@ module _ (v : Value) (at size : ℕ) where
     pass-is c q = ap (λ (z : ℕ). At n (record { at = z })) q ∙ sym (ap (λ (z : Value). passedBy z at size) e)
 
 pub passed-at-most : (high at size : ℕ) (v : Value) (r : Got) → AtMost high v → r ≡ passedBy v at size → GotAtMost high r
-passed-at-most high at size (Refused k) r h e = subst (GotAtMost high) (sym e) tt
+passed-at-most high at size (Refused k) r h e = subst (GotAtMost high) (sym e) h
 passed-at-most high at size (Is n) r h e = subst (GotAtMost high) (sym e) h
 
 pub number-empty : (key : List ℕ) (low high : ℕ) → numberLine key low high [] ≡ refuse 1

@@ -34,8 +34,9 @@ abbrev pub valueBy : {A : Type 0} → (ℕ → A) → Value → Res A
 valueBy f (Refusedᵛ k) = refuse k
 valueBy f (Is n) = ok (f n)
 
+-- a refusal's number isn't 0, and a value is at most so large
 abbrev pub AtMost : ℕ → Value → Type 0
-AtMost high (Refusedᵛ k) = Unit {0}
+AtMost high (Refusedᵛ k) = 0 < k
 AtMost high (Is n) = n ≤ high
 
 -- A reading of s from `at` on: a line that is refused begins there.
@@ -44,7 +45,7 @@ readBy f s at (Refusedᵍ k) = refused k at
 readBy f s at (At n c) = got (f n) (c .at) (split (drop (c .at) s))
 
 abbrev pub GotAtMost : ℕ → Got → Type 0
-GotAtMost high (Refusedᵍ k) = Unit {0}
+GotAtMost high (Refusedᵍ k) = 0 < k
 GotAtMost high (At n c) = n ≤ high
 
 -- The same for answers that hold an array: the number of a refusal, or 0 and the value.

@@ -38,7 +38,7 @@ returns-2 c = (own-no (c .before .before .before .before .before .before .before
 
 -- src/lib.rt:86:1
 returns-3 : tie.Need-returns-3
-returns-3 c = (own-none (c .before .before .before .before .before .before .before .args .l .now) (sym (c .before .before .before .before .is-word .ensures) ∙ c .before .before .before .if1 .left) (sym (c .before .is-word2 .ensures) ∙ c .if2 .left), tt)
+returns-3 c = (own-none (c .before .before .before .before .before .before .before .args .l .now) (sym (c .before .before .before .before .is-word .ensures) ∙ c .before .before .before .if1 .left) (sym (c .before .is-word2 .ensures) ∙ c .if2 .left), omega arith)
 
 pub read-own-spec : {M : Type 1} → statement M
 read-own-spec =

@@ -58,7 +58,7 @@ returns-3 c = (rep-w64 (c .before .before .before .before .before .before .befor
 
 -- src/lib.rt:60:1
 returns-4 : tie.Need-returns-4
-returns-4 c = (rep-none (c .before .before .before .before .before .before .before .before .before .before .args .l .now) (sym (c .before .before .before .before .before .before .before .is-word .ensures) ∙ c .before .before .before .before .before .before .if1 .left) (sym (c .before .before .before .before .is-word2 .ensures) ∙ c .before .before .before .if2 .left) (sym (c .before .is-word3 .ensures) ∙ c .if3 .left), tt)
+returns-4 c = (rep-none (c .before .before .before .before .before .before .before .before .before .before .args .l .now) (sym (c .before .before .before .before .before .before .before .is-word .ensures) ∙ c .before .before .before .before .before .before .if1 .left) (sym (c .before .before .before .before .is-word2 .ensures) ∙ c .before .before .before .if2 .left) (sym (c .before .is-word3 .ensures) ∙ c .if3 .left), omega arith)
 
 pub read-rep-spec : {M : Type 1} → statement M
 read-rep-spec =
