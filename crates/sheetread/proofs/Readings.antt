@@ -257,13 +257,14 @@ module _ (h : Front) (at : ℕ) (rs : List Row) where
     pub count-ok : (n at₂ : ℕ) (rs₂ : List Row) → got n at₂ rs₂ ≡ line (numberLine (bytes "types=") 1 maxSheetTypes) at₁ rs₁ → bind (afterCount h links n) ending at₂ rs₂ ≡ bind (afterFirst h) ending at rs
     count-ok n at₂ rs₂ e = ap (λ z. follow (follow z (afterCount h links)) ending) e ∙ to-count
 
+-- the table that is read
+abbrev pub tableWith : Front → List (List ℕ) → ℕ → List Ty → Table
+tableWith h links n ts = record { subjects = h .subjects; methods = h .methods; cats = links; sheet = n; types = ts }
+
 -- the types and the last line
 module _ (h : Front) (links : List (List ℕ)) (n at : ℕ) (rs : List Row) where
-  abbrev tableWith : List Ty → Table
-  tableWith ts = record { subjects = h .subjects; methods = h .methods; cats = links; sheet = n; types = ts }
-
   tabled : List Ty → Reader Table
-  tabled ts = pure (tableWith ts)
+  tabled ts = pure (tableWith h links n ts)
 
   count-of : follow (follow (times (oneType (h .methods) (h .cats) n) n 0 [] at rs) tabled) ending ≡ bind (afterCount h links n) ending at rs
   unfolding afterCount tabled
@@ -272,7 +273,7 @@ module _ (h : Front) (links : List (List ℕ)) (n at : ℕ) (rs : List Row) wher
   pub types-no : (k a : ℕ) → refused k a ≡ times (oneType (h .methods) (h .cats) n) n 0 [] at rs → refused k a ≡ bind (afterCount h links n) ending at rs
   types-no k a e = ap (λ z. follow (follow z tabled) ending) e ∙ count-of
 
-  pub to-ending : (ts : List Ty) (at₁ : ℕ) (rs₁ : List Row) → got ts at₁ rs₁ ≡ times (oneType (h .methods) (h .cats) n) n 0 [] at rs → ending (tableWith ts) at₁ rs₁ ≡ bind (afterCount h links n) ending at rs
+  pub to-ending : (ts : List Ty) (at₁ : ℕ) (rs₁ : List Row) → got ts at₁ rs₁ ≡ times (oneType (h .methods) (h .cats) n) n 0 [] at rs → ending (tableWith h links n ts) at₁ rs₁ ≡ bind (afterCount h links n) ending at rs
   unfolding tabled
   to-ending ts at₁ rs₁ e = ap (λ z. follow (follow z tabled) ending) e ∙ count-of
 

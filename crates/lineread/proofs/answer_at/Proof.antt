@@ -1,52 +1,40 @@
-use Rattle.lineread.proofs.Laws.{answer-none, answer-dash, answer-wrong, answer-took}
-use Rattle.textread.proofs.Laws.{number-scan-wrong, number-scan-right, right-within}
-use lib.ListN.{length}
+-- Rests on `number-scan-wrong`, `number-scan-right`, `right-within`, `answer-none`, `answer-dash` and `answer-wrong` and what stands beside them.
 use Prim.Native.Nat.{_<_}
 use native.Mathlib.Omega.{arith}
+use lib.ListN.{length}
 use borrow.Author.Needs.{needs}
+use Rattle.textread.proofs.Laws.{number-scan-wrong, number-scan-right, right-within}
+use Rattle.lineread.proofs.Laws.{answer-none, answer-dash, answer-wrong, answer-took}
 use Rattle.lineread.proofs.answer_at.Statement.{statement}
 use Rattle.lineread.proofs.answer_at.Tie as tie
-use Rattle.lineread.proofs.answer_at.Reads as reads
-use Rattle.lineread.proofs.answer_at.Lts as lts
-use Rattle.textread.proofs.number_at.Reads as number-at-reads
 
--- src/lib.rt:239:9
 returns : tie.Need-returns
 returns c = answer-none _ _ (c .if1 .taken)
 
--- src/lib.rt:241:8
 shared-slice-read-if2 : tie.Need-shared-slice-read-if2
 shared-slice-read-if2 c = search needs
 
--- src/lib.rt:242:33
 add-t10 : tie.Need-add-t10
 add-t10 c = search needs
 
--- src/lib.rt:242:9
 returns-2 : tie.Need-returns-2
 returns-2 c = let h : c .before .before .before .before .args .at < length (c .before .before .before .before .args .l .now) = omega arith in answer-dash _ _ h (c .if2 .taken)
 
--- src/lib.rt:244:9
 number-at-requires : tie.Need-number-at-requires
 number-at-requires c κs = search needs
 
--- src/lib.rt:246:26
 enum-told : tie.Need-enum-told
 enum-told c = search needs
 
--- src/lib.rt:247:23
 enum-known-t : tie.Need-enum-known-t
 enum-known-t c = search needs
 
--- src/lib.rt:247:49
 add-t12 : tie.Need-add-t12
 add-t12 c = omega (arith, right-within _ (c .before .before .before .number-at .result) _ _ (c .before .t .given .1) (c .before .before .before .number-at .ensures .1))
 
--- src/lib.rt:234:1
 returns-3 : tie.Need-returns-3
 returns-3 c = let a = c .before .before .before .before .before .before .before .args in let h : a .at < length (a .l .now) = omega arith in answer-wrong _ _ h (c .before .before .before .if2 .left) (number-scan-wrong (λ n. n) (a .l .now) (c .before .before .number-at .result) _ (c .before .before .number-at .ensures .0) (c .enum-told .given .1))
 
--- src/lib.rt:234:1
 returns-4 : tie.Need-returns-4
 returns-4 c = let a = c .before .before .before .before .before .before .before .before .args in let h : a .at < length (a .l .now) = omega arith in let n = c .before .t .given .0 .0 in let e = c .before .t .given .0 .1 .0 in answer-took _ _ h (c .before .before .before .before .if2 .left) n e (number-scan-right (λ n. n) (a .l .now) (c .before .before .before .number-at .result) _ (c .before .before .before .number-at .ensures .0) n e (c .before .t .given .1))
 

@@ -1,17 +1,15 @@
-use Rattle.lineread.proofs.Laws.{below-not, below-next, below-all, kept-next, rest-none, rest-next}
-use Rattle.sheet.specs.Sheet.{below}
-use Rattle.sheet.proofs.Steps.{clash}
-use Rattle.model.specs.Basics.{all}
-use lib.ListN.{length, getD, take, drop, length-set}
-use Prim.Native.Nat.{ℕ, _≤_, _<_, _-_}
+-- Rests on `clash`, `below-not`, `below-next`, `below-all`, `kept-next` and `rest-none` and what stands beside them.
 use mathlib.Core.Path.{_≡_, refl, sym, ap, _∙_}
+use Prim.Native.Nat.{ℕ, _≤_, _<_, _-_}
 use native.Mathlib.Omega.{arith}
+use lib.ListN.{length, getD, take, drop, length-set}
 use borrow.Author.Needs.{needs}
+use Rattle.model.specs.Basics.{all}
+use Rattle.sheet.proofs.Steps.{clash}
+use Rattle.sheet.specs.Sheet.{below}
+use Rattle.lineread.proofs.Laws.{below-not, below-next, below-all, kept-next, rest-none, rest-next}
 use Rattle.lineread.proofs.pack.Statement.{statement}
 use Rattle.lineread.proofs.pack.Tie as tie
-use Rattle.lineread.proofs.pack.Reads as reads
-use Rattle.lineread.proofs.pack.Lts as lts
-use Rattle.numbers.proofs.narrow.Reads as narrow-reads
 
 abbrev Inv-loop : tie.InvT-loop
 Inv-loop count n items bytes₀ i₀ bytes i = (i ≤ count) × (length bytes ≡ 4) × (take i bytes ≡ take i items) × ((k : ℕ) → i ≤ k → getD bytes k 0 ≡ 0) × (all (below n) (take count items) ≡ all (below n) (drop i (take count items)))
@@ -19,42 +17,33 @@ Inv-loop count n items bytes₀ i₀ bytes i = (i ≤ count) × (length bytes �
 abbrev μ-loop : tie.MeasureT-loop
 μ-loop count n items bytes₀ i₀ bytes i = count - i
 
--- src/lib.rt:134:5
 loop-holds : tie.Need-loop-holds Inv-loop μ-loop
 loop-holds c = (omega arith, refl, refl, λ k h. rest-none k, refl)
 
--- src/lib.rt:135:17
 mul-x : tie.Need-mul-x Inv-loop μ-loop
 mul-x c = search needs
 
--- src/lib.rt:135:17
 array-read-x : tie.Need-array-read-x Inv-loop μ-loop
 array-read-x c = search needs
 
--- src/lib.rt:137:13
 returns : tie.Need-returns Inv-loop μ-loop
 returns c = let a = c .before .before .before .args in let p = c .before .before .loop in (
   below-not (a .t1) (a .count) (p .i) (a .n) (c .before .before .before .pre .1) (c .before .before .before .pre .0) (p .inv .4) (c .before .loop-test .taken) (c .if1 .taken),
   (λ h. clash (sym h), p .inv .1, λ k h. p .inv .3 k (omega arith)),
 )
 
--- src/lib.rt:142:20
 narrow-requires : tie.Need-narrow-requires Inv-loop μ-loop
 narrow-requires c κs = search needs
 
--- src/lib.rt:142:9
 array-write-bytes : tie.Need-array-write-bytes Inv-loop μ-loop
 array-write-bytes c = search needs
 
--- src/lib.rt:143:9
 add-i : tie.Need-add-i Inv-loop μ-loop
 add-i c = search needs
 
--- src/lib.rt:134:5
 loop-less : tie.Need-loop-less Inv-loop μ-loop
 loop-less c = search needs
 
--- src/lib.rt:134:5
 loop-again : tie.Need-loop-again Inv-loop μ-loop
 loop-again c = let a = c .before .before .before .before .args in let p = c .before .before .before .loop in let h : p .i < length (a .t1) = omega (arith, c .before .before .before .before .pre .1) in let k : p .i < length (p .bytes) = omega arith in (
   omega arith,
@@ -64,7 +53,6 @@ loop-again c = let a = c .before .before .before .before .args in let p = c .bef
   below-next (a .t1) (a .count) (p .i) (a .n) (c .before .before .before .before .pre .1) (c .before .before .before .before .pre .0) (p .inv .4) (c .before .before .loop-test .taken) (c .before .if1 .left),
 )
 
--- src/lib.rt:127:1
 returns-2 : tie.Need-returns-2 Inv-loop μ-loop
 returns-2 c = let a = c .before .before .args in let p = c .before .loop in let e : p .i ≡ a .count = omega arith in (
   below-all (a .t1) (a .count) (p .i) (a .n) (c .before .before .pre .1) (c .before .before .pre .0) (p .inv .4) (c .loop-test .left),

@@ -1,84 +1,62 @@
-use Rattle.lineread.proofs.Laws.{method-avail, method-optional, method-denied, method-unavail, method-none}
-use Rattle.textread.proofs.Laws.{starts-length}
+-- Rests on `starts-length`, `method-avail`, `method-optional`, `method-denied`, `method-unavail` and `method-none`.
 use mathlib.Core.Path.{refl, sym, _∙_}
 use native.Mathlib.Omega.{arith}
 use borrow.Author.Needs.{needs}
+use Rattle.textread.proofs.Laws.{starts-length}
+use Rattle.lineread.proofs.Laws.{method-avail, method-optional, method-denied, method-unavail, method-none}
 use Rattle.lineread.proofs.read_method.Statement.{statement}
 use Rattle.lineread.proofs.read_method.Tie as tie
-use Rattle.lineread.proofs.read_method.Reads as reads
-use Rattle.lineread.proofs.read_method.Lts as lts
-use Rattle.lineread.proofs.no_method.Reads as no-method-reads
-use Rattle.lineread.proofs.read_signature.Reads as read-signature-reads
-use Rattle.lineread.proofs.read_unsigned.Reads as read-unsigned-reads
-use Rattle.textread.proofs.begins.Reads as begins-reads
-use Rattle.textread.proofs.is_word.Reads as is-word-reads
 
--- src/lib.rt:316:28
 slice-aggregate-begins : tie.Need-slice-aggregate-begins
 slice-aggregate-begins c = search needs
 
--- src/lib.rt:316:8
 begins-requires : tie.Need-begins-requires
 begins-requires c κs = search needs
 
--- src/lib.rt:317:9
 read-signature-requires : tie.Need-read-signature-requires
 read-signature-requires c κs = (starts-length _ _ (sym (c .before .begins .ensures) ∙ c .if1 .taken), c .before .before .before .before .pre, refl)
 
--- src/lib.rt:317:9
 returns : tie.Need-returns
 returns c = (c .read-signature .ensures .0 ∙ method-avail (c .before .before .before .before .before .args .n) (c .before .before .before .before .before .args .l .now) (sym (c .before .before .begins .ensures) ∙ c .before .if1 .taken), c .read-signature .ensures .1)
 
--- src/lib.rt:319:28
 slice-aggregate-begins-2 : tie.Need-slice-aggregate-begins-2
 slice-aggregate-begins-2 c = search needs
 
--- src/lib.rt:319:8
 begins-requires-2 : tie.Need-begins-requires-2
 begins-requires-2 c κs = search needs
 
--- src/lib.rt:320:9
 read-signature-requires-2 : tie.Need-read-signature-requires-2
 read-signature-requires-2 c κs = (starts-length _ _ (sym (c .before .begins2 .ensures) ∙ c .if2 .taken), c .before .before .before .before .before .before .before .pre, refl)
 
--- src/lib.rt:320:9
 returns-2 : tie.Need-returns-2
 returns-2 c =
     let avail = sym (c .before .before .before .before .before .begins .ensures) ∙ c .before .before .before .before .if1 .left in
     (c .read-signature2 .ensures .0 ∙ method-optional (c .before .before .before .before .before .before .before .before .args .n) (c .before .before .before .before .before .before .before .before .args .l .now) avail (sym (c .before .before .begins2 .ensures) ∙ c .before .if2 .taken), c .read-signature2 .ensures .1)
 
--- src/lib.rt:322:29
 slice-aggregate-is-word : tie.Need-slice-aggregate-is-word
 slice-aggregate-is-word c = search needs
 
--- src/lib.rt:322:8
 is-word-requires : tie.Need-is-word-requires
 is-word-requires c κs = search needs
 
--- src/lib.rt:323:9
 read-unsigned-requires : tie.Need-read-unsigned-requires
 read-unsigned-requires c κs = (refl, omega arith)
 
--- src/lib.rt:323:9
 returns-3 : tie.Need-returns-3
 returns-3 c =
     let avail = sym (c .before .before .before .before .before .before .before .before .begins .ensures) ∙ c .before .before .before .before .before .before .before .if1 .left in
     let optional = sym (c .before .before .before .before .before .begins2 .ensures) ∙ c .before .before .before .before .if2 .left in
     (c .read-unsigned .ensures .0 ∙ method-denied (c .before .before .before .before .before .before .before .before .before .before .before .args .n) (c .before .before .before .before .before .before .before .before .before .before .before .args .l .now) avail optional (sym (c .before .before .is-word .ensures) ∙ c .before .if3 .taken), c .read-unsigned .ensures .1)
 
--- src/lib.rt:325:29
 slice-aggregate-is-word-2 : tie.Need-slice-aggregate-is-word-2
 slice-aggregate-is-word-2 c = search needs
 
--- src/lib.rt:325:8
 is-word-requires-2 : tie.Need-is-word-requires-2
 is-word-requires-2 c κs = search needs
 
--- src/lib.rt:326:9
 read-unsigned-requires-2 : tie.Need-read-unsigned-requires-2
 read-unsigned-requires-2 c κs = (refl, omega arith)
 
--- src/lib.rt:326:9
 returns-4 : tie.Need-returns-4
 returns-4 c =
     let avail = sym (c .before .before .before .before .before .before .before .before .before .before .before .begins .ensures) ∙ c .before .before .before .before .before .before .before .before .before .before .if1 .left in
@@ -86,11 +64,9 @@ returns-4 c =
     let denied = sym (c .before .before .before .before .before .is-word .ensures) ∙ c .before .before .before .before .if3 .left in
     (c .read-unsigned2 .ensures .0 ∙ method-unavail (c .before .before .before .before .before .before .before .before .before .before .before .before .before .before .args .n) (c .before .before .before .before .before .before .before .before .before .before .before .before .before .before .args .l .now) avail optional denied (sym (c .before .before .is-word2 .ensures) ∙ c .before .if4 .taken), c .read-unsigned2 .ensures .1)
 
--- src/lib.rt:328:5
 no-method-requires : tie.Need-no-method-requires
 no-method-requires c κs = search needs
 
--- src/lib.rt:311:1
 returns-5 : tie.Need-returns-5
 returns-5 c =
     let avail = sym (c .before .before .before .before .before .before .before .before .before .before .before .begins .ensures) ∙ c .before .before .before .before .before .before .before .before .before .before .if1 .left in

@@ -1,42 +1,32 @@
-use Rattle.lineread.proofs.Laws.{own-yes, own-no, own-none}
+-- Rests on `own-yes`, `own-no` and `own-none`.
 use mathlib.Core.Path.{sym, _∙_}
 use native.Mathlib.Omega.{arith}
 use borrow.Author.Needs.{needs}
+use Rattle.lineread.proofs.Laws.{own-yes, own-no, own-none}
 use Rattle.lineread.proofs.read_own.Statement.{statement}
 use Rattle.lineread.proofs.read_own.Tie as tie
-use Rattle.lineread.proofs.read_own.Reads as reads
-use Rattle.lineread.proofs.read_own.Lts as lts
-use Rattle.textread.proofs.is_word.Reads as is-word-reads
 
--- src/lib.rt:90:29
 slice-aggregate-is-word : tie.Need-slice-aggregate-is-word
 slice-aggregate-is-word c = search needs
 
--- src/lib.rt:90:8
 is-word-requires : tie.Need-is-word-requires
 is-word-requires c κs = search needs
 
--- src/lib.rt:91:26
 cast-t7 : tie.Need-cast-t7
 cast-t7 c = search needs
 
--- src/lib.rt:91:9
 returns : tie.Need-returns
 returns c = (own-yes (c .before .before .before .before .args .l .now) (sym (c .before .is-word .ensures) ∙ c .if1 .taken), omega arith)
 
--- src/lib.rt:93:29
 slice-aggregate-is-word-2 : tie.Need-slice-aggregate-is-word-2
 slice-aggregate-is-word-2 c = search needs
 
--- src/lib.rt:93:8
 is-word-requires-2 : tie.Need-is-word-requires-2
 is-word-requires-2 c κs = search needs
 
--- src/lib.rt:94:9
 returns-2 : tie.Need-returns-2
 returns-2 c = (own-no (c .before .before .before .before .before .before .before .args .l .now) (sym (c .before .before .before .before .is-word .ensures) ∙ c .before .before .before .if1 .left) (sym (c .before .is-word2 .ensures) ∙ c .if2 .taken), omega arith)
 
--- src/lib.rt:86:1
 returns-3 : tie.Need-returns-3
 returns-3 c = (own-none (c .before .before .before .before .before .before .before .args .l .now) (sym (c .before .before .before .before .is-word .ensures) ∙ c .before .before .before .if1 .left) (sym (c .before .is-word2 .ensures) ∙ c .if2 .left), omega arith)
 

@@ -1,33 +1,24 @@
-use Rattle.lineread.proofs.Laws.{signature-args, signature-answer, signature-behind, signature-high, signature-answer-high, signature-good, signed-means, permits-below}
-use Rattle.textread.proofs.Laws.{scan-right, scan-wrong, number-scan-wrong, number-scan-right}
-use Rattle.table.proofs.Exact.{signed-exact}
-use Rattle.model.specs.Check.{stateOf, answerOf}
-use Rattle.model.specs.Basics.{ok}
-use borrow.Author.Tests.{not-true, not-false}
-use lib.ListN.{take, drop}
-use Prim.Native.Nat.{ℕ}
+-- Rests on `signed-exact`, `scan-right`, `scan-wrong`, `number-scan-wrong`, `number-scan-right` and `signature-args` and what stands beside them.
 use mathlib.Core.Path.{ap, sym, _∙_}
+use Prim.Native.Nat.{ℕ}
 use native.Mathlib.Omega.{arith}
+use lib.ListN.{take, drop}
 use borrow.Author.Needs.{needs}
+use borrow.Author.Tests.{not-true, not-false}
+use Rattle.model.specs.Basics.{ok}
+use Rattle.model.specs.Check.{stateOf, answerOf}
+use Rattle.table.proofs.Exact.{signed-exact}
+use Rattle.textread.proofs.Laws.{scan-right, scan-wrong, number-scan-wrong, number-scan-right}
+use Rattle.lineread.proofs.Laws.{signature-args, signature-answer, signature-behind, signature-high, signature-answer-high, signature-good, signed-means, permits-below}
 use Rattle.lineread.proofs.read_signature.Statement.{statement}
 use Rattle.lineread.proofs.read_signature.Tie as tie
-use Rattle.lineread.proofs.read_signature.Reads as reads
-use Rattle.lineread.proofs.read_signature.Lts as lts
-use Rattle.lineread.proofs.answer_at.Reads as answer-at-reads
-use Rattle.lineread.proofs.args_at.Reads as args-at-reads
-use Rattle.lineread.proofs.no_method.Reads as no-method-reads
-use Rattle.lineread.proofs.pack.Reads as pack-reads
-use Rattle.numbers.proofs.narrow.Reads as narrow-reads
 
--- src/lib.rt:281:9
 args-at-requires : tie.Need-args-at-requires
 args-at-requires c κs = search needs
 
--- src/lib.rt:283:9
 no-method-requires : tie.Need-no-method-requires
 no-method-requires c κs = search needs
 
--- src/lib.rt:283:9
 returns : tie.Need-returns
 returns c =
     let a = c .before .before .before .before .before .args in
@@ -38,23 +29,18 @@ returns c =
       c .no-method .ensures .1,
     )
 
--- src/lib.rt:285:9
 answer-at-requires : tie.Need-answer-at-requires
 answer-at-requires c κs = search needs
 
--- src/lib.rt:286:23
 enum-known-o : tie.Need-enum-known-o
 enum-known-o c = search needs
 
--- src/lib.rt:287:9
 enum-told : tie.Need-enum-told
 enum-told c = search needs
 
--- src/lib.rt:287:9
 no-method-requires-2 : tie.Need-no-method-requires-2
 no-method-requires-2 c κs = search needs
 
--- src/lib.rt:287:9
 returns-2 : tie.Need-returns-2
 returns-2 c =
     let a = c .before .before .before .before .before .before .before .before .args in
@@ -66,11 +52,9 @@ returns-2 c =
       c .no-method2 .ensures .1,
     )
 
--- src/lib.rt:290:9
 no-method-requires-3 : tie.Need-no-method-requires-3
 no-method-requires-3 c κs = search needs
 
--- src/lib.rt:290:9
 returns-3 : tie.Need-returns-3
 returns-3 c =
     let a = c .before .before .before .before .before .before .before .before .before .before .args in
@@ -83,15 +67,12 @@ returns-3 c =
     let q = number-scan-right answerOf (a .l .now) (c .before .before .before .before .before .answer-at .result) _ (c .before .before .before .before .before .answer-at .ensures) m next (c .before .before .before .o .given .1) in
     (c .no-method3 .ensures .0 ∙ signature-behind (a .n) (stateOf (a .state)) l xs (drop (t .result .next) (a .l .now)) e m (a .l .now) next q (c .before .if2 .taken), c .no-method3 .ensures .1)
 
--- src/lib.rt:293:9
 pack-requires : tie.Need-pack-requires
 pack-requires c κs = search needs
 
--- src/lib.rt:295:9
 no-method-requires-4 : tie.Need-no-method-requires-4
 no-method-requires-4 c κs = search needs
 
--- src/lib.rt:295:9
 returns-4 : tie.Need-returns-4
 returns-4 c =
     let a = c .before .before .before .before .before .before .before .before .before .before .before .before .before .before .args in
@@ -105,11 +86,9 @@ returns-4 c =
     let p = c .before .before .before .pack in
     (c .no-method4 .ensures .0 ∙ signature-high (a .n) (stateOf (a .state)) l xs (drop (t .result .next) (a .l .now)) e m (a .l .now) next q (c .before .before .before .before .before .if2 .left) (sym (p .ensures .0) ∙ not-true (p .result .right) (c .before .if3 .taken)), c .no-method4 .ensures .1)
 
--- src/lib.rt:298:9
 no-method-requires-5 : tie.Need-no-method-requires-5
 no-method-requires-5 c κs = search needs
 
--- src/lib.rt:298:9
 returns-5 : tie.Need-returns-5
 returns-5 c =
     let a = c .before .before .before .before .before .before .before .before .before .before .before .before .before .before .before .args in
@@ -124,15 +103,12 @@ returns-5 c =
     let low = sym (p .ensures .0) ∙ not-false (p .result .right) (c .before .before .if3 .left) in
     (c .no-method5 .ensures .0 ∙ signature-answer-high (a .n) (stateOf (a .state)) l xs (drop (t .result .next) (a .l .now)) e m (a .l .now) next q (c .before .before .before .before .before .before .if2 .left) low (c .before .if4 .taken), c .no-method5 .ensures .1)
 
--- src/lib.rt:303:16
 narrow-requires : tie.Need-narrow-requires
 narrow-requires c κs = search needs
 
--- src/lib.rt:305:17
 narrow-requires-2 : tie.Need-narrow-requires-2
 narrow-requires-2 c κs = search needs
 
--- src/lib.rt:276:1
 returns-6 : tie.Need-returns-6
 returns-6 c =
     let a = c .before .before .before .before .before .before .before .before .before .before .before .before .before .before .before .before .before .args in

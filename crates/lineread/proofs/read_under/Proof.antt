@@ -1,41 +1,31 @@
-use Rattle.lineread.proofs.Laws.{under-key, under-wrong, under-behind, under-above, under-high, under-good, one-or-two, one-or-two-exact}
-use Rattle.textread.proofs.Laws.{starts-length, scan-right, scan-wrong}
-use Rattle.model.specs.Basics.{ok}
-use borrow.Author.Tests.{not-true, not-false}
-use lib.ListN.{take, getD}
-use lib.Dec.{eqb}
-use Prim.Native.Nat.{_≤_, ℕ}
-use mathlib.Core.Path.{ap, sym, _∙_}
-use mathlib.Core.List.{[], _∷_}
+-- Rests on `starts-length`, `scan-right`, `scan-wrong`, `under-key`, `under-wrong` and `under-behind` and what stands beside them.
 use mathlib.Core.Bool.{cond}
+use mathlib.Core.List.{[], _∷_}
+use mathlib.Core.Path.{ap, sym, _∙_}
+use Prim.Native.Nat.{_≤_, ℕ}
 use native.Mathlib.Omega.{arith}
+use lib.Dec.{eqb}
+use lib.ListN.{take, getD}
 use borrow.Author.Needs.{needs}
+use borrow.Author.Tests.{not-true, not-false}
+use Rattle.model.specs.Basics.{ok}
+use Rattle.textread.proofs.Laws.{starts-length, scan-right, scan-wrong}
+use Rattle.lineread.proofs.Laws.{under-key, under-wrong, under-behind, under-above, under-high, under-good, one-or-two, one-or-two-exact}
 use Rattle.lineread.proofs.read_under.Statement.{statement}
 use Rattle.lineread.proofs.read_under.Tie as tie
-use Rattle.lineread.proofs.read_under.Reads as reads
-use Rattle.lineread.proofs.read_under.Lts as lts
-use Rattle.lineread.proofs.pack.Reads as pack-reads
-use Rattle.numbers.proofs.narrow.Reads as narrow-reads
-use Rattle.textread.proofs.begins.Reads as begins-reads
-use Rattle.textread.proofs.numbers_at.Reads as numbers-at-reads
 
--- src/lib.rt:157:29
 slice-aggregate-begins : tie.Need-slice-aggregate-begins
 slice-aggregate-begins c = search needs
 
--- src/lib.rt:157:9
 begins-requires : tie.Need-begins-requires
 begins-requires c κs = search needs
 
--- src/lib.rt:158:9
 returns : tie.Need-returns
 returns c = (under-key (c .before .before .before .before .args .cats) (c .before .before .before .before .args .k) (c .before .before .before .before .args .l .now) (sym (c .before .begins .ensures) ∙ not-true (c .before .begins .result) (c .if1 .taken)), tt)
 
--- src/lib.rt:160:9
 numbers-at-requires : tie.Need-numbers-at-requires
 numbers-at-requires c κs = (starts-length _ _ (sym (c .before .begins .ensures) ∙ not-false (c .before .begins .result) (c .if1 .left)), omega arith)
 
--- src/lib.rt:162:9
 returns-2 : tie.Need-returns-2
 returns-2 c =
     let a = c .before .before .before .before .before .before .before .args in
@@ -44,7 +34,6 @@ returns-2 c =
     let xs = take (t .result .count) (t .result .items) in
     (under-wrong (a .cats) (a .k) (a .l .now) key (scan-wrong (a .l .now) (t .result .right) xs (t .result .next) _ (t .ensures .0) (not-true (t .result .right) (c .if2 .taken))), tt)
 
--- src/lib.rt:165:9
 returns-3 : tie.Need-returns-3
 returns-3 c =
     let a = c .before .before .before .before .before .before .before .before .before .args in
@@ -55,15 +44,12 @@ returns-3 c =
     let s = scan-right (a .l .now) (t .result .right) xs (t .result .next) _ (t .ensures .0) right in
     (under-behind (a .cats) (a .k) (a .l .now) key xs (t .result .next) s (c .if3 .taken), tt)
 
--- src/lib.rt:168:38
 add-pack : tie.Need-add-pack
 add-pack c = search needs
 
--- src/lib.rt:168:9
 pack-requires : tie.Need-pack-requires
 pack-requires c κs = search needs
 
--- src/lib.rt:170:9
 returns-4 : tie.Need-returns-4
 returns-4 c =
     let a = c .before .before .before .before .before .before .before .before .before .before .before .before .before .args in
@@ -74,11 +60,9 @@ returns-4 c =
     let s = scan-right (a .l .now) (t .result .right) xs (t .result .next) _ (t .ensures .0) right in
     (under-above (a .cats) (a .k) (a .l .now) key xs (t .result .next) s (c .before .before .before .before .if3 .left) (sym (c .before .before .pack .ensures .0) ∙ not-true (c .before .before .pack .result .right) (c .if4 .taken)), tt)
 
--- src/lib.rt:172:17
 pack-requires-2 : tie.Need-pack-requires-2
 pack-requires-2 c κs = search needs
 
--- src/lib.rt:174:9
 returns-5 : tie.Need-returns-5
 returns-5 c =
     let a = c .before .before .before .before .before .before .before .before .before .before .before .before .before .before .before .args in
@@ -90,19 +74,15 @@ returns-5 c =
     let known = sym (c .before .before .before .before .pack .ensures .0) ∙ not-false (c .before .before .before .before .pack .result .right) (c .before .before .if4 .left) in
     (under-high (a .cats) (a .k) (a .l .now) key xs (t .result .next) s (c .before .before .before .before .before .before .if3 .left) known (sym (c .before .pack2 .ensures .0) ∙ not-true (c .before .pack2 .result .right) (c .if5 .taken)), tt)
 
--- src/lib.rt:177:16
 narrow-requires : tie.Need-narrow-requires
 narrow-requires c κs = search needs
 
--- src/lib.rt:178:16
 element-copy-out-t18 : tie.Need-element-copy-out-t18
 element-copy-out-t18 c = search needs
 
--- src/lib.rt:179:17
 element-copy-out-t21 : tie.Need-element-copy-out-t21
 element-copy-out-t21 c = search needs
 
--- src/lib.rt:152:1
 returns-6 : tie.Need-returns-6
 returns-6 c =
     let a = c .before .before .before .before .before .before .before .before .before .before .before .before .before .before .before .before .before .before .args in

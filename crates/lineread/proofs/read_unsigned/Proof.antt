@@ -1,16 +1,12 @@
+-- Rests on `unsigned-exact` and `unsigned-means`.
 use mathlib.Core.List.{[], _∷_}
-use Rattle.model.specs.Basics.{ok}
 use mathlib.Core.Path.{ap}
-use Rattle.lineread.proofs.Laws.{unsigned-means}
+use Rattle.model.specs.Basics.{ok}
 use Rattle.table.proofs.Exact.{unsigned-exact}
-use native.Mathlib.Omega.{arith}
-use borrow.Author.Needs.{needs}
+use Rattle.lineread.proofs.Laws.{unsigned-means}
 use Rattle.lineread.proofs.read_unsigned.Statement.{statement}
 use Rattle.lineread.proofs.read_unsigned.Tie as tie
-use Rattle.lineread.proofs.read_unsigned.Reads as reads
-use Rattle.lineread.proofs.read_unsigned.Lts as lts
 
--- src/lib.rt:261:1
 returns : tie.Need-returns
 returns c = (ap ok (unsigned-means (c .args .state) 0 0 (0 ∷ 0 ∷ 0 ∷ 0 ∷ []) (c .pre .0)), unsigned-exact (c .args .state) (c .pre .1) (c .pre .0))
 

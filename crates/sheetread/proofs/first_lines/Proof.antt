@@ -1,167 +1,142 @@
-use Rattle.sheetread.proofs.Readings.{got-no, got-ok, got-at-most, guide-no, subjects-no, methods-no, cats-no, first-ok}
-use Rattle.sheet.specs.Sheet.{numberLine}
-use Rattle.sheet.specs.Lines.{bytes, split, line}
-use lib.ListN.{drop}
-use Prim.Native.Nat.{ℕ}
+-- Rests on `got-no`, `got-ok`, `got-at-most`, `guide-no`, `subjects-no` and `methods-no` and what stands beside them.
 use mathlib.Core.Path.{ap, _∙_}
-use native.Mathlib.Omega.{arith}
+use Prim.Native.Nat.{ℕ}
+use lib.ListN.{drop}
 use borrow.Author.Needs.{needs}
+use Rattle.sheet.specs.Lines.{bytes, split, line}
+use Rattle.sheet.specs.Sheet.{numberLine}
+use Rattle.sheetread.proofs.Readings.{got-no, got-ok, got-at-most, guide-no, subjects-no, methods-no, cats-no, first-ok}
 use Rattle.sheetread.proofs.first_lines.Statement.{statement}
 use Rattle.sheetread.proofs.first_lines.Tie as tie
-use Rattle.sheetread.proofs.first_lines.Reads as reads
-use Rattle.sheetread.proofs.first_lines.Lts as lts
-use Rattle.textread.proofs.Cursor.start.Reads as start-reads
-use Rattle.textread.proofs.next_number.Reads as next-number-reads
 
--- src/lib.rt:364:9
 start-requires : tie.Need-start-requires
 start-requires c κs = search needs
 
--- src/lib.rt:365:41
 slice-aggregate-next-number : tie.Need-slice-aggregate-next-number
 slice-aggregate-next-number c = search needs
 
--- src/lib.rt:365:9
 next-number-requires : tie.Need-next-number-requires
 next-number-requires c κs = search needs
 
--- src/lib.rt:367:22
 enum-known-g : tie.Need-enum-known-g
 enum-known-g c = search needs
 
--- src/lib.rt:368:13
 returns : tie.Need-returns
-returns c = 
-      let s = c .before .before .before .before .before .before .before .args .s .now in
-      let g = c .before .before .before .next-number in
-      (guide-no 0 (split s) _ _ (got-no (λ n. n) s (c .before .before .before .before .before .start .result .at) (g .result) _ (g .ensures .0) _ (c .before .g .given .1) ∙ ap (λ (z : ℕ). line (numberLine (bytes "guide=") 1 1) z (split (drop z s))) (c .before .before .before .before .before .start .ensures)), tt)
+returns c =
+    let s = c .before .before .before .before .before .before .before .args .s .now in
+    let g = c .before .before .before .next-number in
+    (guide-no 0 (split s) _ _ (got-no (λ n. n) s (c .before .before .before .before .before .start .result .at) (g .result) _ (g .ensures .0) _ (c .before .g .given .1) ∙ ap (λ (z : ℕ). line (numberLine (bytes "guide=") 1 1) z (split (drop z s))) (c .before .before .before .before .before .start .ensures)), tt)
 
--- src/lib.rt:370:20
 enum-known-g-2 : tie.Need-enum-known-g-2
 enum-known-g-2 c = search needs
 
--- src/lib.rt:372:41
 slice-aggregate-next-number-2 : tie.Need-slice-aggregate-next-number-2
 slice-aggregate-next-number-2 c = search needs
 
--- src/lib.rt:372:9
 next-number-requires-2 : tie.Need-next-number-requires-2
 next-number-requires-2 c κs = search needs
 
--- src/lib.rt:374:22
 enum-known-u : tie.Need-enum-known-u
 enum-known-u c = search needs
 
--- src/lib.rt:375:17
 enum-known-u-2 : tie.Need-enum-known-u-2
 enum-known-u-2 c = search needs
 
--- src/lib.rt:376:49
 slice-aggregate-next-number-3 : tie.Need-slice-aggregate-next-number-3
 slice-aggregate-next-number-3 c = search needs
 
--- src/lib.rt:376:17
 next-number-requires-3 : tie.Need-next-number-requires-3
 next-number-requires-3 c κs = search needs
 
--- src/lib.rt:378:30
 enum-known-m : tie.Need-enum-known-m
 enum-known-m c = search needs
 
--- src/lib.rt:379:25
 enum-known-m-2 : tie.Need-enum-known-m-2
 enum-known-m-2 c = search needs
 
--- src/lib.rt:380:57
 slice-aggregate-next-number-4 : tie.Need-slice-aggregate-next-number-4
 slice-aggregate-next-number-4 c = search needs
 
--- src/lib.rt:380:25
 next-number-requires-4 : tie.Need-next-number-requires-4
 next-number-requires-4 c κs = search needs
 
--- src/lib.rt:382:38
 enum-known-y : tie.Need-enum-known-y
 enum-known-y c = search needs
 
--- src/lib.rt:383:33
 enum-known-y-2 : tie.Need-enum-known-y-2
 enum-known-y-2 c = search needs
 
--- src/lib.rt:360:1
 returns-2 : tie.Need-returns-2
-returns-2 c = 
-      let s = c .before .before .before .before .before .before .before .before .before .before .before .before .args .s .now in
-      let g = c .before .before .before .before .before .before .before .before .next-number in
-      let gn = c .before .before .before .before .before .before .g2 .given .0 .0 in
-      let gc = c .before .before .before .before .before .before .g2 .given .0 .1 .0 in
-      let gr = split (drop (gc .at) s) in
-      let ge = got-ok (λ n. n) s (c .before .before .before .before .before .before .before .before .before .before .start .result .at) (g .result) _ (g .ensures .0) gn gc (c .before .before .before .before .before .before .g2 .given .1) ∙ ap (λ (z : ℕ). line (numberLine (bytes "guide=") 1 1) z (split (drop z s))) (c .before .before .before .before .before .before .before .before .before .before .start .ensures) in
-      (subjects-no 0 (split s) gn (gc .at) gr ge _ _ (got-no (λ n. n) s (gc .at) (c .before .before .before .next-number2 .result) _ (c .before .before .before .next-number2 .ensures .0) _ (c .before .u .given .1)), tt)
+returns-2 c =
+    let s = c .before .before .before .before .before .before .before .before .before .before .before .before .args .s .now in
+    let g = c .before .before .before .before .before .before .before .before .next-number in
+    let gn = c .before .before .before .before .before .before .g2 .given .0 .0 in
+    let gc = c .before .before .before .before .before .before .g2 .given .0 .1 .0 in
+    let gr = split (drop (gc .at) s) in
+    let ge = got-ok (λ n. n) s (c .before .before .before .before .before .before .before .before .before .before .start .result .at) (g .result) _ (g .ensures .0) gn gc (c .before .before .before .before .before .before .g2 .given .1) ∙ ap (λ (z : ℕ). line (numberLine (bytes "guide=") 1 1) z (split (drop z s))) (c .before .before .before .before .before .before .before .before .before .before .start .ensures) in
+    (subjects-no 0 (split s) gn (gc .at) gr ge _ _ (got-no (λ n. n) s (gc .at) (c .before .before .before .next-number2 .result) _ (c .before .before .before .next-number2 .ensures .0) _ (c .before .u .given .1)), tt)
 
--- src/lib.rt:360:1
 returns-3 : tie.Need-returns-3
-returns-3 c = 
-      let s = c .before .before .before .before .before .before .before .before .before .before .before .before .before .before .before .before .before .args .s .now in
-      let g = c .before .before .before .before .before .before .before .before .before .before .before .before .before .next-number in
-      let gn = c .before .before .before .before .before .before .before .before .before .before .before .g2 .given .0 .0 in
-      let gc = c .before .before .before .before .before .before .before .before .before .before .before .g2 .given .0 .1 .0 in
-      let gr = split (drop (gc .at) s) in
-      let ge = got-ok (λ n. n) s (c .before .before .before .before .before .before .before .before .before .before .before .before .before .before .before .start .result .at) (g .result) _ (g .ensures .0) gn gc (c .before .before .before .before .before .before .before .before .before .before .before .g2 .given .1) ∙ ap (λ (z : ℕ). line (numberLine (bytes "guide=") 1 1) z (split (drop z s))) (c .before .before .before .before .before .before .before .before .before .before .before .before .before .before .before .start .ensures) in
-      let u = c .before .before .before .before .before .before .before .before .next-number2 in
-      let un = c .before .before .before .before .before .before .u2 .given .0 .0 in
-      let uc = c .before .before .before .before .before .before .u2 .given .0 .1 .0 in
-      let ur = split (drop (uc .at) s) in
-      let ue = got-ok (λ n. n) s (gc .at) (u .result) _ (u .ensures .0) un uc (c .before .before .before .before .before .before .u2 .given .1) in
-      (methods-no 0 (split s) gn (gc .at) gr ge un (uc .at) ur ue _ _ (got-no (λ n. n) s (uc .at) (c .before .before .before .next-number3 .result) _ (c .before .before .before .next-number3 .ensures .0) _ (c .before .m .given .1)), tt)
+returns-3 c =
+    let s = c .before .before .before .before .before .before .before .before .before .before .before .before .before .before .before .before .before .args .s .now in
+    let g = c .before .before .before .before .before .before .before .before .before .before .before .before .before .next-number in
+    let gn = c .before .before .before .before .before .before .before .before .before .before .before .g2 .given .0 .0 in
+    let gc = c .before .before .before .before .before .before .before .before .before .before .before .g2 .given .0 .1 .0 in
+    let gr = split (drop (gc .at) s) in
+    let ge = got-ok (λ n. n) s (c .before .before .before .before .before .before .before .before .before .before .before .before .before .before .before .start .result .at) (g .result) _ (g .ensures .0) gn gc (c .before .before .before .before .before .before .before .before .before .before .before .g2 .given .1) ∙ ap (λ (z : ℕ). line (numberLine (bytes "guide=") 1 1) z (split (drop z s))) (c .before .before .before .before .before .before .before .before .before .before .before .before .before .before .before .start .ensures) in
+    let u = c .before .before .before .before .before .before .before .before .next-number2 in
+    let un = c .before .before .before .before .before .before .u2 .given .0 .0 in
+    let uc = c .before .before .before .before .before .before .u2 .given .0 .1 .0 in
+    let ur = split (drop (uc .at) s) in
+    let ue = got-ok (λ n. n) s (gc .at) (u .result) _ (u .ensures .0) un uc (c .before .before .before .before .before .before .u2 .given .1) in
+    (methods-no 0 (split s) gn (gc .at) gr ge un (uc .at) ur ue _ _ (got-no (λ n. n) s (uc .at) (c .before .before .before .next-number3 .result) _ (c .before .before .before .next-number3 .ensures .0) _ (c .before .m .given .1)), tt)
 
--- src/lib.rt:360:1
 returns-4 : tie.Need-returns-4
-returns-4 c = 
-      let s = c .before .before .before .before .before .before .before .before .before .before .before .before .before .before .before .before .before .before .before .before .before .before .args .s .now in
-      let g = c .before .before .before .before .before .before .before .before .before .before .before .before .before .before .before .before .before .before .next-number in
-      let gn = c .before .before .before .before .before .before .before .before .before .before .before .before .before .before .before .before .g2 .given .0 .0 in
-      let gc = c .before .before .before .before .before .before .before .before .before .before .before .before .before .before .before .before .g2 .given .0 .1 .0 in
-      let gr = split (drop (gc .at) s) in
-      let ge = got-ok (λ n. n) s (c .before .before .before .before .before .before .before .before .before .before .before .before .before .before .before .before .before .before .before .before .start .result .at) (g .result) _ (g .ensures .0) gn gc (c .before .before .before .before .before .before .before .before .before .before .before .before .before .before .before .before .g2 .given .1) ∙ ap (λ (z : ℕ). line (numberLine (bytes "guide=") 1 1) z (split (drop z s))) (c .before .before .before .before .before .before .before .before .before .before .before .before .before .before .before .before .before .before .before .before .start .ensures) in
-      let u = c .before .before .before .before .before .before .before .before .before .before .before .before .before .next-number2 in
-      let un = c .before .before .before .before .before .before .before .before .before .before .before .u2 .given .0 .0 in
-      let uc = c .before .before .before .before .before .before .before .before .before .before .before .u2 .given .0 .1 .0 in
-      let ur = split (drop (uc .at) s) in
-      let ue = got-ok (λ n. n) s (gc .at) (u .result) _ (u .ensures .0) un uc (c .before .before .before .before .before .before .before .before .before .before .before .u2 .given .1) in
-      let m = c .before .before .before .before .before .before .before .before .next-number3 in
-      let mn = c .before .before .before .before .before .before .m2 .given .0 .0 in
-      let mc = c .before .before .before .before .before .before .m2 .given .0 .1 .0 in
-      let mr = split (drop (mc .at) s) in
-      let me = got-ok (λ n. n) s (uc .at) (m .result) _ (m .ensures .0) mn mc (c .before .before .before .before .before .before .m2 .given .1) in
-      (cats-no 0 (split s) gn (gc .at) gr ge un (uc .at) ur ue mn (mc .at) mr me _ _ (got-no (λ n. n) s (mc .at) (c .before .before .before .next-number4 .result) _ (c .before .before .before .next-number4 .ensures .0) _ (c .before .y .given .1)), tt)
+returns-4 c =
+    let s = c .before .before .before .before .before .before .before .before .before .before .before .before .before .before .before .before .before .before .before .before .before .before .args .s .now in
+    let g = c .before .before .before .before .before .before .before .before .before .before .before .before .before .before .before .before .before .before .next-number in
+    let gn = c .before .before .before .before .before .before .before .before .before .before .before .before .before .before .before .before .g2 .given .0 .0 in
+    let gc = c .before .before .before .before .before .before .before .before .before .before .before .before .before .before .before .before .g2 .given .0 .1 .0 in
+    let gr = split (drop (gc .at) s) in
+    let ge = got-ok (λ n. n) s (c .before .before .before .before .before .before .before .before .before .before .before .before .before .before .before .before .before .before .before .before .start .result .at) (g .result) _ (g .ensures .0) gn gc (c .before .before .before .before .before .before .before .before .before .before .before .before .before .before .before .before .g2 .given .1) ∙ ap (λ (z : ℕ). line (numberLine (bytes "guide=") 1 1) z (split (drop z s))) (c .before .before .before .before .before .before .before .before .before .before .before .before .before .before .before .before .before .before .before .before .start .ensures) in
+    let u = c .before .before .before .before .before .before .before .before .before .before .before .before .before .next-number2 in
+    let un = c .before .before .before .before .before .before .before .before .before .before .before .u2 .given .0 .0 in
+    let uc = c .before .before .before .before .before .before .before .before .before .before .before .u2 .given .0 .1 .0 in
+    let ur = split (drop (uc .at) s) in
+    let ue = got-ok (λ n. n) s (gc .at) (u .result) _ (u .ensures .0) un uc (c .before .before .before .before .before .before .before .before .before .before .before .u2 .given .1) in
+    let m = c .before .before .before .before .before .before .before .before .next-number3 in
+    let mn = c .before .before .before .before .before .before .m2 .given .0 .0 in
+    let mc = c .before .before .before .before .before .before .m2 .given .0 .1 .0 in
+    let mr = split (drop (mc .at) s) in
+    let me = got-ok (λ n. n) s (uc .at) (m .result) _ (m .ensures .0) mn mc (c .before .before .before .before .before .before .m2 .given .1) in
+    (cats-no 0 (split s) gn (gc .at) gr ge un (uc .at) ur ue mn (mc .at) mr me _ _ (got-no (λ n. n) s (mc .at) (c .before .before .before .next-number4 .result) _ (c .before .before .before .next-number4 .ensures .0) _ (c .before .y .given .1)), tt)
 
--- src/lib.rt:360:1
 returns-5 : tie.Need-returns-5
-returns-5 c = 
-      let s = c .before .before .before .before .before .before .before .before .before .before .before .before .before .before .before .before .before .before .before .before .before .before .args .s .now in
-      let g = c .before .before .before .before .before .before .before .before .before .before .before .before .before .before .before .before .before .before .next-number in
-      let gn = c .before .before .before .before .before .before .before .before .before .before .before .before .before .before .before .before .g2 .given .0 .0 in
-      let gc = c .before .before .before .before .before .before .before .before .before .before .before .before .before .before .before .before .g2 .given .0 .1 .0 in
-      let gr = split (drop (gc .at) s) in
-      let ge = got-ok (λ n. n) s (c .before .before .before .before .before .before .before .before .before .before .before .before .before .before .before .before .before .before .before .before .start .result .at) (g .result) _ (g .ensures .0) gn gc (c .before .before .before .before .before .before .before .before .before .before .before .before .before .before .before .before .g2 .given .1) ∙ ap (λ (z : ℕ). line (numberLine (bytes "guide=") 1 1) z (split (drop z s))) (c .before .before .before .before .before .before .before .before .before .before .before .before .before .before .before .before .before .before .before .before .start .ensures) in
-      let u = c .before .before .before .before .before .before .before .before .before .before .before .before .before .next-number2 in
-      let un = c .before .before .before .before .before .before .before .before .before .before .before .u2 .given .0 .0 in
-      let uc = c .before .before .before .before .before .before .before .before .before .before .before .u2 .given .0 .1 .0 in
-      let ur = split (drop (uc .at) s) in
-      let ue = got-ok (λ n. n) s (gc .at) (u .result) _ (u .ensures .0) un uc (c .before .before .before .before .before .before .before .before .before .before .before .u2 .given .1) in
-      let m = c .before .before .before .before .before .before .before .before .next-number3 in
-      let mn = c .before .before .before .before .before .before .m2 .given .0 .0 in
-      let mc = c .before .before .before .before .before .before .m2 .given .0 .1 .0 in
-      let mr = split (drop (mc .at) s) in
-      let me = got-ok (λ n. n) s (uc .at) (m .result) _ (m .ensures .0) mn mc (c .before .before .before .before .before .before .m2 .given .1) in
-      let y = c .before .before .before .next-number4 in
-      let yn = c .before .y2 .given .0 .0 in
-      let yc = c .before .y2 .given .0 .1 .0 in
-      let yr = split (drop (yc .at) s) in
-      let ye = got-ok (λ n. n) s (mc .at) (y .result) _ (y .ensures .0) yn yc (c .before .y2 .given .1) in
-      (first-ok 0 (split s) gn (gc .at) gr ge un (uc .at) ur ue mn (mc .at) mr me yn (yc .at) yr ye,
-          (got-at-most 16 (m .result) mn mc (c .before .before .before .before .before .before .m2 .given .1) (m .ensures .1), got-at-most 31 (y .result) yn yc (c .before .y2 .given .1) (y .ensures .1)))
+returns-5 c =
+    let s = c .before .before .before .before .before .before .before .before .before .before .before .before .before .before .before .before .before .before .before .before .before .before .args .s .now in
+    let g = c .before .before .before .before .before .before .before .before .before .before .before .before .before .before .before .before .before .before .next-number in
+    let gn = c .before .before .before .before .before .before .before .before .before .before .before .before .before .before .before .before .g2 .given .0 .0 in
+    let gc = c .before .before .before .before .before .before .before .before .before .before .before .before .before .before .before .before .g2 .given .0 .1 .0 in
+    let gr = split (drop (gc .at) s) in
+    let ge = got-ok (λ n. n) s (c .before .before .before .before .before .before .before .before .before .before .before .before .before .before .before .before .before .before .before .before .start .result .at) (g .result) _ (g .ensures .0) gn gc (c .before .before .before .before .before .before .before .before .before .before .before .before .before .before .before .before .g2 .given .1) ∙ ap (λ (z : ℕ). line (numberLine (bytes "guide=") 1 1) z (split (drop z s))) (c .before .before .before .before .before .before .before .before .before .before .before .before .before .before .before .before .before .before .before .before .start .ensures) in
+    let u = c .before .before .before .before .before .before .before .before .before .before .before .before .before .next-number2 in
+    let un = c .before .before .before .before .before .before .before .before .before .before .before .u2 .given .0 .0 in
+    let uc = c .before .before .before .before .before .before .before .before .before .before .before .u2 .given .0 .1 .0 in
+    let ur = split (drop (uc .at) s) in
+    let ue = got-ok (λ n. n) s (gc .at) (u .result) _ (u .ensures .0) un uc (c .before .before .before .before .before .before .before .before .before .before .before .u2 .given .1) in
+    let m = c .before .before .before .before .before .before .before .before .next-number3 in
+    let mn = c .before .before .before .before .before .before .m2 .given .0 .0 in
+    let mc = c .before .before .before .before .before .before .m2 .given .0 .1 .0 in
+    let mr = split (drop (mc .at) s) in
+    let me = got-ok (λ n. n) s (uc .at) (m .result) _ (m .ensures .0) mn mc (c .before .before .before .before .before .before .m2 .given .1) in
+    let y = c .before .before .before .next-number4 in
+    let yn = c .before .y2 .given .0 .0 in
+    let yc = c .before .y2 .given .0 .1 .0 in
+    let yr = split (drop (yc .at) s) in
+    let ye = got-ok (λ n. n) s (mc .at) (y .result) _ (y .ensures .0) yn yc (c .before .y2 .given .1) in (
+      first-ok 0 (split s) gn (gc .at) gr ge un (uc .at) ur ue mn (mc .at) mr me yn (yc .at) yr ye,
+      (got-at-most 16 (m .result) mn mc (c .before .before .before .before .before .before .m2 .given .1) (m .ensures .1), got-at-most 31 (y .result) yn yc (c .before .y2 .given .1) (y .ensures .1)),
+    )
 
 pub first-lines-spec : {M : Type 1} → statement M
 first-lines-spec =

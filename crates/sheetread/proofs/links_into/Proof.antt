@@ -1,26 +1,23 @@
-use Rattle.sheetread.specs.View.{linksTo, eachUnder}
-use Rattle.sheetread.proofs.Stored.{links-none, links-add, empty-links, links-count, links-room, links-stored}
-use Rattle.sheetread.proofs.Readings.{under-no, under-ok, times-done, times-stop, times-next}
-use Rattle.lineread.specs.View.{UnderGotExact}
-use Rattle.sheet.specs.Lines.{split, times, got}
-use Rattle.table.proofs.Linked.{links-put}
+-- Rests on `links-length`, `links-put`, `under-no`, `under-ok`, `times-done` and `times-stop` and what stands beside them.
+use mathlib.Core.List.{[]}
+use mathlib.Core.Path.{_≡_, ap, sym, subst, _∙_}
+use Prim.Native.Nat.{ℕ, _≤_, _<_, _+_, _-_}
+use native.Mathlib.Numerals.{add-one}
+use native.Mathlib.Omega.{arith}
+use lib.ListN.{length, drop}
+use borrow.Author.Needs.{needs}
+use Rattle.model.specs.Check.{linksOf}
 use Rattle.table.proofs.Laws.{links-length}
+use Rattle.table.proofs.Linked.{links-put}
 use Rattle.table.specs.Records.{linkBytes}
 use Rattle.table.specs.Store.{linksIn, rawLinks}
-use Rattle.model.specs.Check.{linksOf}
-use lib.ListN.{length, drop}
-use native.Mathlib.Numerals.{add-one}
-use Prim.Native.Nat.{ℕ, _≤_, _<_, _+_, _-_}
-use mathlib.Core.Path.{_≡_, ap, sym, subst, _∙_}
-use mathlib.Core.List.{[]}
-use native.Mathlib.Omega.{arith}
-use borrow.Author.Needs.{needs}
+use Rattle.sheet.specs.Lines.{split, times, got}
+use Rattle.lineread.specs.View.{UnderGotExact}
+use Rattle.sheetread.proofs.Readings.{under-no, under-ok, times-done, times-stop, times-next}
+use Rattle.sheetread.proofs.Stored.{links-none, links-add, empty-links, links-count, links-room, links-stored}
+use Rattle.sheetread.specs.View.{linksTo, eachUnder}
 use Rattle.sheetread.proofs.links_into.Statement.{statement}
 use Rattle.sheetread.proofs.links_into.Tie as tie
-use Rattle.sheetread.proofs.links_into.Reads as reads
-use Rattle.sheetread.proofs.links_into.Lts as lts
-use Rattle.lineread.proofs.next_under.Reads as next-under-reads
-use Rattle.table.proofs.put_links.Reads as put-links-reads
 
 abbrev Inv-loop : tie.InvT-loop
 Inv-loop s cats l₀ j₀ at₀ l j at = (j ≤ cats) × (l ≡ linkBytes (linksTo j (linksIn l))) × (times (eachUnder cats) (cats - j) (j + 1) (linksTo j (linksIn l)) at (split (drop at s)) ≡ times (eachUnder cats) cats 1 [] at₀ (split (drop at₀ s)))
@@ -28,95 +25,83 @@ Inv-loop s cats l₀ j₀ at₀ l j at = (j ≤ cats) × (l ≡ linkBytes (links
 abbrev μ-loop : tie.MeasureT-loop
 μ-loop s cats l₀ j₀ at₀ l j at = cats - j
 
--- src/lib.rt:80:5
 loop-holds : tie.Need-loop-holds Inv-loop μ-loop
-loop-holds c = 
-      let a = c .before .args in
-      let e : a .cats - 0 ≡ a .cats = omega arith in
-      let rs = split (drop (a .c .at) (a .s .now)) in
-      let none = links-none (linksIn (a .l .now)) in (
-        omega arith,
-        c .before .pre .1 ∙ empty-links ∙ ap linkBytes (sym none),
-        ap (λ z. times (eachUnder (a .cats)) (a .cats - 0) 1 z (a .c .at) rs) none ∙ ap (λ (z : ℕ). times (eachUnder (a .cats)) z 1 [] (a .c .at) rs) e,
-      )
+loop-holds c =
+    let a = c .before .args in
+    let e : a .cats - 0 ≡ a .cats = omega arith in
+    let rs = split (drop (a .c .at) (a .s .now)) in
+    let none = links-none (linksIn (a .l .now)) in (
+      omega arith,
+      c .before .pre .1 ∙ empty-links ∙ ap linkBytes (sym none),
+      ap (λ z. times (eachUnder (a .cats)) (a .cats - 0) 1 z (a .c .at) rs) none ∙ ap (λ (z : ℕ). times (eachUnder (a .cats)) z 1 [] (a .c .at) rs) e,
+    )
 
--- src/lib.rt:81:62
 add-next-under : tie.Need-add-next-under Inv-loop μ-loop
 add-next-under c = search needs
 
--- src/lib.rt:81:13
 next-under-requires : tie.Need-next-under-requires Inv-loop μ-loop
 next-under-requires c κs = search needs
 
--- src/lib.rt:83:31
 enum-known-g : tie.Need-enum-known-g Inv-loop μ-loop
 enum-known-g c = search needs
 
--- src/lib.rt:84:17
 returns : tie.Need-returns Inv-loop μ-loop
-returns c = 
-      let a = c .before .before .before .before .before .before .before .args in
-      let p = c .before .before .before .before .before .loop in
-      let g = c .before .before .before .next-under in (
-        times-stop (eachUnder (a .cats)) (a .cats) (p .j) (p .j + 1) (linksTo (p .j) (linksIn (p .l))) (p .at) (split (drop (p .at) (a .s .now))) _ (p .inv .2) (c .before .before .before .before .loop-test .taken) _ (p .at)
-            (under-no (a .s .now) (p .at) (g .result) _ (g .ensures .0) _ (c .before .g .given .1)),
-        tt,
-      )
+returns c =
+    let a = c .before .before .before .before .before .before .before .args in
+    let p = c .before .before .before .before .before .loop in
+    let g = c .before .before .before .next-under in (
+      times-stop (eachUnder (a .cats)) (a .cats) (p .j) (p .j + 1) (linksTo (p .j) (linksIn (p .l))) (p .at) (split (drop (p .at) (a .s .now))) _ (p .inv .2) (c .before .before .before .before .loop-test .taken) _ (p .at)
+          (under-no (a .s .now) (p .at) (g .result) _ (g .ensures .0) _ (c .before .g .given .1)),
+      tt,
+    )
 
--- src/lib.rt:86:26
 enum-known-g-2 : tie.Need-enum-known-g-2 Inv-loop μ-loop
 enum-known-g-2 c = search needs
 
--- src/lib.rt:87:30
 add-put-links : tie.Need-add-put-links Inv-loop μ-loop
 add-put-links c = search needs
 
--- src/lib.rt:87:17
 put-links-requires : tie.Need-put-links-requires Inv-loop μ-loop
-put-links-requires c κs = 
-      let p = c .before .before .before .before .before .before .loop in
-      let n : length (linksTo (p .j) (linksIn (p .l))) ≡ p .j = links-count (p .j) (linksIn (p .l)) in
-      (omega (arith, c .before .before .before .before .before .before .before .before .pre .0, c .before .before .before .before .before .loop-test .taken), ap length (p .inv .1) ∙ links-room (linksTo (p .j) (linksIn (p .l))) (omega (arith, c .before .before .before .before .before .before .before .before .pre .0, c .before .before .before .before .before .loop-test .taken)))
+put-links-requires c κs =
+    let p = c .before .before .before .before .before .before .loop in
+    let n : length (linksTo (p .j) (linksIn (p .l))) ≡ p .j = links-count (p .j) (linksIn (p .l)) in
+    (omega (arith, c .before .before .before .before .before .before .before .before .pre .0, c .before .before .before .before .before .loop-test .taken), ap length (p .inv .1) ∙ links-room (linksTo (p .j) (linksIn (p .l))) (omega (arith, c .before .before .before .before .before .before .before .before .pre .0, c .before .before .before .before .before .loop-test .taken)))
 
--- src/lib.rt:89:17
 add-j : tie.Need-add-j Inv-loop μ-loop
 add-j c = search needs
 
--- src/lib.rt:80:5
 loop-less : tie.Need-loop-less Inv-loop μ-loop
 loop-less c = search needs
 
--- src/lib.rt:80:5
 loop-again : tie.Need-loop-again Inv-loop μ-loop
-loop-again c = 
-      let a = c .before .before .before .before .before .before .before .before .before .args in
-      let p = c .before .before .before .before .before .before .before .loop in
-      let g = c .before .before .before .before .before .next-under in
-      let x = c .before .before .before .g2 .given .0 .0 in
-      let next = c .before .before .before .g2 .given .0 .1 .0 in
-      let ls = linksIn (p .l) in
-      let small : p .j < 31 = omega (arith, c .before .before .before .before .before .before .before .before .before .pre .0, c .before .before .before .before .before .before .loop-test .taken) in
-      let n : length (linksTo (p .j) ls) ≡ p .j = links-count (p .j) ls in
-      let k : p .j + 1 < length ls = omega (arith, links-length (p .l)) in
-      let put = ap linksIn (c .put-links .ensures) ∙ links-put (p .l) (p .j + 1) (rawLinks x) (omega arith) (ap length (p .inv .1) ∙ links-room (linksTo (p .j) ls) (omega arith)) in
-      let one = ap (linksTo (p .j + 1)) put ∙ links-add ls (p .j) (rawLinks x) k in (
-        omega arith,
-        links-stored (linksTo (p .j) ls) (linksOf (rawLinks x)) (p .j) (rawLinks x) (p .l) _ n small (p .inv .1) (subst UnderGotExact (c .before .before .before .g2 .given .1) (g .ensures .1)) (c .put-links .ensures) ∙ ap linkBytes (sym one),
-        times-next (eachUnder (a .cats)) (a .cats) (p .j) (p .j + 1) (linksTo (p .j) ls) (p .at) (split (drop (p .at) (a .s .now))) _ (p .inv .2) (c .before .before .before .before .before .before .loop-test .taken)
-            (linksOf (rawLinks x)) (next .at) (split (drop (next .at) (a .s .now))) (p .j + 1 + 1) _
-            (under-ok (a .s .now) (p .at) (g .result) _ (g .ensures .0) x next (c .before .before .before .g2 .given .1)) (add-one (p .j + 1)) one,
-      )
+loop-again c =
+    let a = c .before .before .before .before .before .before .before .before .before .args in
+    let p = c .before .before .before .before .before .before .before .loop in
+    let g = c .before .before .before .before .before .next-under in
+    let x = c .before .before .before .g2 .given .0 .0 in
+    let next = c .before .before .before .g2 .given .0 .1 .0 in
+    let ls = linksIn (p .l) in
+    let small : p .j < 31 = omega (arith, c .before .before .before .before .before .before .before .before .before .pre .0, c .before .before .before .before .before .before .loop-test .taken) in
+    let n : length (linksTo (p .j) ls) ≡ p .j = links-count (p .j) ls in
+    let k : p .j + 1 < length ls = omega (arith, links-length (p .l)) in
+    let put = ap linksIn (c .put-links .ensures) ∙ links-put (p .l) (p .j + 1) (rawLinks x) (omega arith) (ap length (p .inv .1) ∙ links-room (linksTo (p .j) ls) (omega arith)) in
+    let one = ap (linksTo (p .j + 1)) put ∙ links-add ls (p .j) (rawLinks x) k in (
+      omega arith,
+      links-stored (linksTo (p .j) ls) (linksOf (rawLinks x)) (p .j) (rawLinks x) (p .l) _ n small (p .inv .1) (subst UnderGotExact (c .before .before .before .g2 .given .1) (g .ensures .1)) (c .put-links .ensures) ∙ ap linkBytes (sym one),
+      times-next (eachUnder (a .cats)) (a .cats) (p .j) (p .j + 1) (linksTo (p .j) ls) (p .at) (split (drop (p .at) (a .s .now))) _ (p .inv .2) (c .before .before .before .before .before .before .loop-test .taken)
+          (linksOf (rawLinks x)) (next .at) (split (drop (next .at) (a .s .now))) (p .j + 1 + 1) _
+          (under-ok (a .s .now) (p .at) (g .result) _ (g .ensures .0) x next (c .before .before .before .g2 .given .1)) (add-one (p .j + 1)) one,
+    )
 
--- src/lib.rt:73:1
 returns-2 : tie.Need-returns-2 Inv-loop μ-loop
-returns-2 c = 
-      let a = c .before .before .before .args in
-      let p = c .before .loop in
-      let e : p .j ≡ a .cats = omega arith in (
-        ap (λ (z : ℕ). got (linksTo z (linksIn (p .l))) (p .at) (split (drop (p .at) (a .s .now)))) (sym e)
-            ∙ times-done (eachUnder (a .cats)) (a .cats) (p .j) (p .j + 1) (linksTo (p .j) (linksIn (p .l))) (p .at) (split (drop (p .at) (a .s .now))) _ (p .inv .2) (c .loop-test .left),
-        p .inv .1 ∙ ap (λ (z : ℕ). linkBytes (linksTo z (linksIn (p .l)))) e,
-      )
+returns-2 c =
+    let a = c .before .before .before .args in
+    let p = c .before .loop in
+    let e : p .j ≡ a .cats = omega arith in (
+      ap (λ (z : ℕ). got (linksTo z (linksIn (p .l))) (p .at) (split (drop (p .at) (a .s .now)))) (sym e)
+          ∙ times-done (eachUnder (a .cats)) (a .cats) (p .j) (p .j + 1) (linksTo (p .j) (linksIn (p .l))) (p .at) (split (drop (p .at) (a .s .now))) _ (p .inv .2) (c .loop-test .left),
+      p .inv .1 ∙ ap (λ (z : ℕ). linkBytes (linksTo z (linksIn (p .l)))) e,
+    )
 
 pub links-into-spec : {M : Type 1} → statement M
 links-into-spec =

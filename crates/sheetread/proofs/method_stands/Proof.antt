@@ -1,65 +1,50 @@
-use Rattle.sheetread.specs.View.{standsAt}
-use Rattle.sheetread.proofs.Standing.{method-unsigned, method-args, method-silent, method-answer}
-use Rattle.table.specs.Store.{typesIn, rawMethod}
-use borrow.Author.Tests.{not-true, not-false}
+-- Rests on `method-unsigned`, `method-args`, `method-silent` and `method-answer`.
 use mathlib.Core.Path.{sym, _∙_}
-use native.Mathlib.Omega.{arith}
 use borrow.Author.Needs.{needs}
+use borrow.Author.Tests.{not-true, not-false}
+use Rattle.table.specs.Store.{typesIn, rawMethod}
+use Rattle.sheetread.proofs.Standing.{method-unsigned, method-args, method-silent, method-answer}
+use Rattle.sheetread.specs.View.{standsAt}
 use Rattle.sheetread.proofs.method_stands.Statement.{statement}
 use Rattle.sheetread.proofs.method_stands.Tie as tie
-use Rattle.sheetread.proofs.method_stands.Reads as reads
-use Rattle.sheetread.proofs.method_stands.Lts as lts
-use Rattle.numbers.proofs.wide.Reads as wide-reads
-use Rattle.sheetread.proofs.args_stand.Reads as args-stand-reads
-use Rattle.sheetread.proofs.stands_at.Reads as stands-at-reads
-use Rattle.table.proofs.permits.Reads as permits-reads
 
--- src/lib.rt:291:9
 permits-requires : tie.Need-permits-requires
 permits-requires c κs = search needs
 
--- src/lib.rt:292:9
 returns : tie.Need-returns
 returns c = let a = c .before .before .args in method-unsigned (standsAt (typesIn (a .b .now)) (a .n)) (rawMethod (a .m)) (sym (c .before .permits .ensures) ∙ not-true (c .before .permits .result) (c .if1 .taken))
 
--- src/lib.rt:294:9
 args-stand-requires : tie.Need-args-stand-requires
 args-stand-requires c κs = search needs
 
--- src/lib.rt:295:9
 returns-2 : tie.Need-returns-2
-returns-2 c = 
-      let a = c .before .before .before .before .args in
-      let p = sym (c .before .before .before .permits .ensures) ∙ not-false (c .before .before .before .permits .result) (c .before .before .if1 .left) in
-      method-args (standsAt (typesIn (a .b .now)) (a .n)) (rawMethod (a .m)) p (sym (c .before .args-stand .ensures) ∙ not-true (c .before .args-stand .result) (c .if2 .taken))
+returns-2 c =
+    let a = c .before .before .before .before .args in
+    let p = sym (c .before .before .before .permits .ensures) ∙ not-false (c .before .before .before .permits .result) (c .before .before .if1 .left) in
+    method-args (standsAt (typesIn (a .b .now)) (a .n)) (rawMethod (a .m)) p (sym (c .before .args-stand .ensures) ∙ not-true (c .before .args-stand .result) (c .if2 .taken))
 
--- src/lib.rt:297:9
 wide-requires : tie.Need-wide-requires
 wide-requires c κs = search needs
 
--- src/lib.rt:299:9
 returns-3 : tie.Need-returns-3
-returns-3 c = 
-      let a = c .before .before .before .before .before .before .args in
-      let p = sym (c .before .before .before .before .before .permits .ensures) ∙ not-false (c .before .before .before .before .before .permits .result) (c .before .before .before .before .if1 .left) in
-      let e = sym (c .before .before .before .args-stand .ensures) ∙ not-false (c .before .before .before .args-stand .result) (c .before .before .if2 .left) in
-      method-silent (standsAt (typesIn (a .b .now)) (a .n)) (rawMethod (a .m)) p e (sym (c .before .wide .ensures .0) ∙ c .if3 .taken)
+returns-3 c =
+    let a = c .before .before .before .before .before .before .args in
+    let p = sym (c .before .before .before .before .before .permits .ensures) ∙ not-false (c .before .before .before .before .before .permits .result) (c .before .before .before .before .if1 .left) in
+    let e = sym (c .before .before .before .args-stand .ensures) ∙ not-false (c .before .before .before .args-stand .result) (c .before .before .if2 .left) in
+    method-silent (standsAt (typesIn (a .b .now)) (a .n)) (rawMethod (a .m)) p e (sym (c .before .wide .ensures .0) ∙ c .if3 .taken)
 
--- src/lib.rt:301:21
 sub-stands-at : tie.Need-sub-stands-at
 sub-stands-at c = search needs
 
--- src/lib.rt:301:5
 stands-at-requires : tie.Need-stands-at-requires
 stands-at-requires c κs = search needs
 
--- src/lib.rt:287:1
 returns-4 : tie.Need-returns-4
-returns-4 c = 
-      let a = c .before .before .before .before .before .before .before .args in
-      let p = sym (c .before .before .before .before .before .before .permits .ensures) ∙ not-false (c .before .before .before .before .before .before .permits .result) (c .before .before .before .before .before .if1 .left) in
-      let e = sym (c .before .before .before .before .args-stand .ensures) ∙ not-false (c .before .before .before .before .args-stand .result) (c .before .before .before .if2 .left) in
-      c .stands-at .ensures ∙ method-answer (standsAt (typesIn (a .b .now)) (a .n)) (rawMethod (a .m)) p e (c .before .before .wide .result) (c .before .before .wide .ensures .0) (c .before .if3 .left)
+returns-4 c =
+    let a = c .before .before .before .before .before .before .before .args in
+    let p = sym (c .before .before .before .before .before .before .permits .ensures) ∙ not-false (c .before .before .before .before .before .before .permits .result) (c .before .before .before .before .before .if1 .left) in
+    let e = sym (c .before .before .before .before .args-stand .ensures) ∙ not-false (c .before .before .before .before .args-stand .result) (c .before .before .before .if2 .left) in
+    c .stands-at .ensures ∙ method-answer (standsAt (typesIn (a .b .now)) (a .n)) (rawMethod (a .m)) p e (c .before .before .wide .result) (c .before .before .wide .ensures .0) (c .before .if3 .left)
 
 pub method-stands-spec : {M : Type 1} → statement M
 method-stands-spec =

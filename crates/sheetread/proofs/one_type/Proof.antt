@@ -1,197 +1,170 @@
-use Rattle.sheetread.proofs.Readings.{refused-is, got-no, got-ok, got-refusal, got-at-most, type-number-no, type-rep-no, type-cat-no, type-members, members-ref, members-number}
-use Rattle.sheet.specs.Lines.{split, got}
-use Rattle.model.specs.Table.{Ty}
-use Rattle.model.specs.Check.{repOf}
-use lib.ListN.{drop}
+-- Rests on `refused-is`, `got-no`, `got-ok`, `got-refusal`, `got-at-most` and `type-number-no` and what stands beside them.
 use mathlib.Core.Path.{ap, sym, _∙_}
 use native.Mathlib.Omega.{arith}
+use lib.ListN.{drop}
 use borrow.Author.Needs.{needs}
+use Rattle.model.specs.Check.{repOf}
+use Rattle.model.specs.Table.{Ty}
+use Rattle.sheet.specs.Lines.{split, got}
+use Rattle.sheetread.proofs.Readings.{refused-is, got-no, got-ok, got-refusal, got-at-most, type-number-no, type-rep-no, type-cat-no, type-members, members-ref, members-number}
 use Rattle.sheetread.proofs.one_type.Statement.{statement}
 use Rattle.sheetread.proofs.one_type.Tie as tie
-use Rattle.sheetread.proofs.one_type.Reads as reads
-use Rattle.sheetread.proofs.one_type.Lts as lts
-use Rattle.lineread.proofs.next_rep.Reads as next-rep-reads
-use Rattle.sheetread.proofs.no_type.Reads as no-type-reads
-use Rattle.sheetread.proofs.number_type.Reads as number-type-reads
-use Rattle.sheetread.proofs.ref_type.Reads as ref-type-reads
-use Rattle.textread.proofs.next_number.Reads as next-number-reads
 
--- src/lib.rt:196:41
 slice-aggregate-next-number : tie.Need-slice-aggregate-next-number
 slice-aggregate-next-number c = search needs
 
--- src/lib.rt:196:9
 next-number-requires : tie.Need-next-number-requires
 next-number-requires c κs = search needs
 
--- src/lib.rt:198:22
 enum-known-x : tie.Need-enum-known-x
 enum-known-x c = search needs
 
--- src/lib.rt:199:13
 no-type-requires : tie.Need-no-type-requires
 no-type-requires c κs = search needs
 
--- src/lib.rt:199:13
 returns : tie.Need-returns
-returns c = 
-      let a = c .before .before .before .before .before .before .before .args in
-      let s = a .s .now in
-      let rs = split (drop (a .c .at) s) in
-      let x = c .before .before .before .before .next-number in
-      let k = c .before .before .x .given .0 .0 in
-      let nz = got-refusal (a .i) (x .result) k (c .before .before .x .given .1) (x .ensures .1) in
-      let r = c .no-type in (
-        refused-is s (r .result .refusal) k (r .result .next .at) (a .c .at) _ _ nz (r .ensures .0) (r .ensures .1)
-            (type-number-no (a .m) (a .cats) (a .n) (a .i) (a .c .at) rs k (a .c .at) (got-no (λ n. n) s (a .c .at) (x .result) _ (x .ensures .0) k (c .before .before .x .given .1))),
-        λ z. absurd (nz (sym (r .ensures .0) ∙ z)),
-      )
+returns c =
+    let a = c .before .before .before .before .before .before .before .args in
+    let s = a .s .now in
+    let rs = split (drop (a .c .at) s) in
+    let x = c .before .before .before .before .next-number in
+    let k = c .before .before .x .given .0 .0 in
+    let nz = got-refusal (a .i) (x .result) k (c .before .before .x .given .1) (x .ensures .1) in
+    let r = c .no-type in (
+      refused-is s (r .result .refusal) k (r .result .next .at) (a .c .at) _ _ nz (r .ensures .0) (r .ensures .1)
+          (type-number-no (a .m) (a .cats) (a .n) (a .i) (a .c .at) rs k (a .c .at) (got-no (λ n. n) s (a .c .at) (x .result) _ (x .ensures .0) k (c .before .before .x .given .1))),
+      λ z. absurd (nz (sym (r .ensures .0) ∙ z)),
+    )
 
--- src/lib.rt:201:20
 enum-known-x-2 : tie.Need-enum-known-x-2
 enum-known-x-2 c = search needs
 
--- src/lib.rt:203:9
 next-rep-requires : tie.Need-next-rep-requires
 next-rep-requires c κs = search needs
 
--- src/lib.rt:205:22
 enum-known-r : tie.Need-enum-known-r
 enum-known-r c = search needs
 
--- src/lib.rt:205:28
 no-type-requires-2 : tie.Need-no-type-requires-2
 no-type-requires-2 c κs = search needs
 
--- src/lib.rt:206:17
 enum-known-r-2 : tie.Need-enum-known-r-2
 enum-known-r-2 c = search needs
 
--- src/lib.rt:207:49
 slice-aggregate-next-number-2 : tie.Need-slice-aggregate-next-number-2
 slice-aggregate-next-number-2 c = search needs
 
--- src/lib.rt:207:17
 next-number-requires-2 : tie.Need-next-number-requires-2
 next-number-requires-2 c κs = search needs
 
--- src/lib.rt:209:30
 enum-known-y : tie.Need-enum-known-y
 enum-known-y c = search needs
 
--- src/lib.rt:209:36
 no-type-requires-3 : tie.Need-no-type-requires-3
 no-type-requires-3 c κs = search needs
 
--- src/lib.rt:210:25
 enum-known-y-2 : tie.Need-enum-known-y-2
 enum-known-y-2 c = search needs
 
--- src/lib.rt:212:25
 ref-type-requires : tie.Need-ref-type-requires
 ref-type-requires c κs = (omega (arith, got-at-most (c .before .before .before .before .before .before .before .before .before .before .before .before .before .before .before .before .args .cats) (c .before .before .before .before .next-number2 .result) (c .before .before .y2 .given .0 .0) (c .before .before .y2 .given .0 .1 .0) (c .before .before .y2 .given .1) (c .before .before .before .before .next-number2 .ensures .1), c .before .before .before .before .before .before .before .before .before .before .before .before .before .before .before .before .pre .3), c .before .before .before .before .before .before .before .before .before .before .before .before .before .before .before .before .pre .2, c .before .before .before .before .before .before .before .before .before .before .before .before .before .before .before .before .pre .1)
 
--- src/lib.rt:212:25
 returns-2 : tie.Need-returns-2
-returns-2 c = 
-      let a = c .before .before .before .before .before .before .before .before .before .before .before .before .before .before .before .before .before .args in
-      let s = a .s .now in
-      let rs = split (drop (a .c .at) s) in
-      let x = c .before .before .before .before .before .before .before .before .before .before .before .before .before .before .next-number in
-      let xn = c .before .before .before .before .before .before .before .before .before .before .before .before .x2 .given .0 .0 in
-      let xc = c .before .before .before .before .before .before .before .before .before .before .before .before .x2 .given .0 .1 .0 in
-      let xr = split (drop (xc .at) s) in
-      let xe = got-ok (λ n. n) s (a .c .at) (x .result) _ (x .ensures .0) xn xc (c .before .before .before .before .before .before .before .before .before .before .before .before .x2 .given .1) in
-      let y = c .before .before .before .before .before .before .before .before .before .before .next-rep in
-      let yn = c .before .before .before .before .before .before .before .before .r2 .given .0 .0 in
-      let yc = c .before .before .before .before .before .before .before .before .r2 .given .0 .1 .0 in
-      let yr = split (drop (yc .at) s) in
-      let ye = got-ok repOf s (xc .at) (y .result) _ (y .ensures .0) yn yc (c .before .before .before .before .before .before .before .before .r2 .given .1) in
-      let z = c .before .before .before .before .before .next-number2 in
-      let zn = c .before .before .before .y2 .given .0 .0 in
-      let zc = c .before .before .before .y2 .given .0 .1 .0 in
-      let zr = split (drop (zc .at) s) in
-      let ze = got-ok (λ n. n) s (yc .at) (z .result) _ (z .ensures .0) zn zc (c .before .before .before .y2 .given .1) in
-      let g = c .ref-type in (
-        g .ensures .0 (a .i) (c .before .before .before .before .before .before .before .before .before .before .before .before .before .before .before .before .before .pre .0) ∙ members-ref (a .m) (a .n) yn zn (zc .at) zr (c .before .if1 .taken) ∙ type-members (a .m) (a .cats) (a .n) (a .i) (a .c .at) rs xn (xc .at) xr xe (repOf yn) (yc .at) yr ye zn (zc .at) zr ze,
-        g .ensures .1 (a .i) (c .before .before .before .before .before .before .before .before .before .before .before .before .before .before .before .before .before .pre .0),
-      )
+returns-2 c =
+    let a = c .before .before .before .before .before .before .before .before .before .before .before .before .before .before .before .before .before .args in
+    let s = a .s .now in
+    let rs = split (drop (a .c .at) s) in
+    let x = c .before .before .before .before .before .before .before .before .before .before .before .before .before .before .next-number in
+    let xn = c .before .before .before .before .before .before .before .before .before .before .before .before .x2 .given .0 .0 in
+    let xc = c .before .before .before .before .before .before .before .before .before .before .before .before .x2 .given .0 .1 .0 in
+    let xr = split (drop (xc .at) s) in
+    let xe = got-ok (λ n. n) s (a .c .at) (x .result) _ (x .ensures .0) xn xc (c .before .before .before .before .before .before .before .before .before .before .before .before .x2 .given .1) in
+    let y = c .before .before .before .before .before .before .before .before .before .before .next-rep in
+    let yn = c .before .before .before .before .before .before .before .before .r2 .given .0 .0 in
+    let yc = c .before .before .before .before .before .before .before .before .r2 .given .0 .1 .0 in
+    let yr = split (drop (yc .at) s) in
+    let ye = got-ok repOf s (xc .at) (y .result) _ (y .ensures .0) yn yc (c .before .before .before .before .before .before .before .before .r2 .given .1) in
+    let z = c .before .before .before .before .before .next-number2 in
+    let zn = c .before .before .before .y2 .given .0 .0 in
+    let zc = c .before .before .before .y2 .given .0 .1 .0 in
+    let zr = split (drop (zc .at) s) in
+    let ze = got-ok (λ n. n) s (yc .at) (z .result) _ (z .ensures .0) zn zc (c .before .before .before .y2 .given .1) in
+    let g = c .ref-type in (
+      g .ensures .0 (a .i) (c .before .before .before .before .before .before .before .before .before .before .before .before .before .before .before .before .before .pre .0) ∙ members-ref (a .m) (a .n) yn zn (zc .at) zr (c .before .if1 .taken) ∙ type-members (a .m) (a .cats) (a .n) (a .i) (a .c .at) rs xn (xc .at) xr xe (repOf yn) (yc .at) yr ye zn (zc .at) zr ze,
+      g .ensures .1 (a .i) (c .before .before .before .before .before .before .before .before .before .before .before .before .before .before .before .before .before .pre .0),
+    )
 
--- src/lib.rt:214:25
 number-type-requires : tie.Need-number-type-requires
 number-type-requires c κs = (omega (arith, c .if1 .left), got-at-most 2 (c .before .before .before .before .before .before .before .before .before .next-rep .result) (c .before .before .before .before .before .before .before .r2 .given .0 .0) (c .before .before .before .before .before .before .before .r2 .given .0 .1 .0) (c .before .before .before .before .before .before .before .r2 .given .1) (c .before .before .before .before .before .before .before .before .before .next-rep .ensures .1), omega (arith, got-at-most (c .before .before .before .before .before .before .before .before .before .before .before .before .before .before .before .before .args .cats) (c .before .before .before .before .next-number2 .result) (c .before .before .y2 .given .0 .0) (c .before .before .y2 .given .0 .1 .0) (c .before .before .y2 .given .1) (c .before .before .before .before .next-number2 .ensures .1), c .before .before .before .before .before .before .before .before .before .before .before .before .before .before .before .before .pre .3))
 
--- src/lib.rt:191:1
 returns-3 : tie.Need-returns-3
-returns-3 c = 
-      let a = c .before .before .before .before .before .before .before .before .before .before .before .args in
-      let s = a .s .now in
-      let rs = split (drop (a .c .at) s) in
-      let x = c .before .before .before .before .before .before .before .before .next-number in
-      let xn = c .before .before .before .before .before .before .x2 .given .0 .0 in
-      let xc = c .before .before .before .before .before .before .x2 .given .0 .1 .0 in
-      let xr = split (drop (xc .at) s) in
-      let xe = got-ok (λ n. n) s (a .c .at) (x .result) _ (x .ensures .0) xn xc (c .before .before .before .before .before .before .x2 .given .1) in
-      let y = c .before .before .before .before .next-rep in
-      let k = c .before .before .r .given .0 .0 in
-      let nz = got-refusal 2 (y .result) k (c .before .before .r .given .1) (y .ensures .1) in
-      let r = c .no-type2 in (
-        refused-is s (r .result .refusal) k (r .result .next .at) (xc .at) _ _ nz (r .ensures .0) (r .ensures .1)
-            (type-rep-no (a .m) (a .cats) (a .n) (a .i) (a .c .at) rs xn (xc .at) xr xe k (xc .at) (got-no repOf s (xc .at) (y .result) _ (y .ensures .0) k (c .before .before .r .given .1))),
-        λ z. absurd (nz (sym (r .ensures .0) ∙ z)),
-      )
+returns-3 c =
+    let a = c .before .before .before .before .before .before .before .before .before .before .before .args in
+    let s = a .s .now in
+    let rs = split (drop (a .c .at) s) in
+    let x = c .before .before .before .before .before .before .before .before .next-number in
+    let xn = c .before .before .before .before .before .before .x2 .given .0 .0 in
+    let xc = c .before .before .before .before .before .before .x2 .given .0 .1 .0 in
+    let xr = split (drop (xc .at) s) in
+    let xe = got-ok (λ n. n) s (a .c .at) (x .result) _ (x .ensures .0) xn xc (c .before .before .before .before .before .before .x2 .given .1) in
+    let y = c .before .before .before .before .next-rep in
+    let k = c .before .before .r .given .0 .0 in
+    let nz = got-refusal 2 (y .result) k (c .before .before .r .given .1) (y .ensures .1) in
+    let r = c .no-type2 in (
+      refused-is s (r .result .refusal) k (r .result .next .at) (xc .at) _ _ nz (r .ensures .0) (r .ensures .1)
+          (type-rep-no (a .m) (a .cats) (a .n) (a .i) (a .c .at) rs xn (xc .at) xr xe k (xc .at) (got-no repOf s (xc .at) (y .result) _ (y .ensures .0) k (c .before .before .r .given .1))),
+      λ z. absurd (nz (sym (r .ensures .0) ∙ z)),
+    )
 
--- src/lib.rt:191:1
 returns-4 : tie.Need-returns-4
-returns-4 c = 
-      let a = c .before .before .before .before .before .before .before .before .before .before .before .before .before .before .before .before .args in
-      let s = a .s .now in
-      let rs = split (drop (a .c .at) s) in
-      let x = c .before .before .before .before .before .before .before .before .before .before .before .before .before .next-number in
-      let xn = c .before .before .before .before .before .before .before .before .before .before .before .x2 .given .0 .0 in
-      let xc = c .before .before .before .before .before .before .before .before .before .before .before .x2 .given .0 .1 .0 in
-      let xr = split (drop (xc .at) s) in
-      let xe = got-ok (λ n. n) s (a .c .at) (x .result) _ (x .ensures .0) xn xc (c .before .before .before .before .before .before .before .before .before .before .before .x2 .given .1) in
-      let y = c .before .before .before .before .before .before .before .before .before .next-rep in
-      let yn = c .before .before .before .before .before .before .before .r2 .given .0 .0 in
-      let yc = c .before .before .before .before .before .before .before .r2 .given .0 .1 .0 in
-      let yr = split (drop (yc .at) s) in
-      let ye = got-ok repOf s (xc .at) (y .result) _ (y .ensures .0) yn yc (c .before .before .before .before .before .before .before .r2 .given .1) in
-      let z = c .before .before .before .before .next-number2 in
-      let k = c .before .before .y .given .0 .0 in
-      let nz = got-refusal (a .cats) (z .result) k (c .before .before .y .given .1) (z .ensures .1) in
-      let r = c .no-type3 in (
-        refused-is s (r .result .refusal) k (r .result .next .at) (yc .at) _ _ nz (r .ensures .0) (r .ensures .1)
-            (type-cat-no (a .m) (a .cats) (a .n) (a .i) (a .c .at) rs xn (xc .at) xr xe (repOf yn) (yc .at) yr ye k (yc .at) (got-no (λ n. n) s (yc .at) (z .result) _ (z .ensures .0) k (c .before .before .y .given .1))),
-        λ z. absurd (nz (sym (r .ensures .0) ∙ z)),
-      )
+returns-4 c =
+    let a = c .before .before .before .before .before .before .before .before .before .before .before .before .before .before .before .before .args in
+    let s = a .s .now in
+    let rs = split (drop (a .c .at) s) in
+    let x = c .before .before .before .before .before .before .before .before .before .before .before .before .before .next-number in
+    let xn = c .before .before .before .before .before .before .before .before .before .before .before .x2 .given .0 .0 in
+    let xc = c .before .before .before .before .before .before .before .before .before .before .before .x2 .given .0 .1 .0 in
+    let xr = split (drop (xc .at) s) in
+    let xe = got-ok (λ n. n) s (a .c .at) (x .result) _ (x .ensures .0) xn xc (c .before .before .before .before .before .before .before .before .before .before .before .x2 .given .1) in
+    let y = c .before .before .before .before .before .before .before .before .before .next-rep in
+    let yn = c .before .before .before .before .before .before .before .r2 .given .0 .0 in
+    let yc = c .before .before .before .before .before .before .before .r2 .given .0 .1 .0 in
+    let yr = split (drop (yc .at) s) in
+    let ye = got-ok repOf s (xc .at) (y .result) _ (y .ensures .0) yn yc (c .before .before .before .before .before .before .before .r2 .given .1) in
+    let z = c .before .before .before .before .next-number2 in
+    let k = c .before .before .y .given .0 .0 in
+    let nz = got-refusal (a .cats) (z .result) k (c .before .before .y .given .1) (z .ensures .1) in
+    let r = c .no-type3 in (
+      refused-is s (r .result .refusal) k (r .result .next .at) (yc .at) _ _ nz (r .ensures .0) (r .ensures .1)
+          (type-cat-no (a .m) (a .cats) (a .n) (a .i) (a .c .at) rs xn (xc .at) xr xe (repOf yn) (yc .at) yr ye k (yc .at) (got-no (λ n. n) s (yc .at) (z .result) _ (z .ensures .0) k (c .before .before .y .given .1))),
+      λ z. absurd (nz (sym (r .ensures .0) ∙ z)),
+    )
 
--- src/lib.rt:191:1
 returns-5 : tie.Need-returns-5
-returns-5 c = 
-      let a = c .before .before .before .before .before .before .before .before .before .before .before .before .before .before .before .before .before .args in
-      let s = a .s .now in
-      let rs = split (drop (a .c .at) s) in
-      let x = c .before .before .before .before .before .before .before .before .before .before .before .before .before .before .next-number in
-      let xn = c .before .before .before .before .before .before .before .before .before .before .before .before .x2 .given .0 .0 in
-      let xc = c .before .before .before .before .before .before .before .before .before .before .before .before .x2 .given .0 .1 .0 in
-      let xr = split (drop (xc .at) s) in
-      let xe = got-ok (λ n. n) s (a .c .at) (x .result) _ (x .ensures .0) xn xc (c .before .before .before .before .before .before .before .before .before .before .before .before .x2 .given .1) in
-      let y = c .before .before .before .before .before .before .before .before .before .before .next-rep in
-      let yn = c .before .before .before .before .before .before .before .before .r2 .given .0 .0 in
-      let yc = c .before .before .before .before .before .before .before .before .r2 .given .0 .1 .0 in
-      let yr = split (drop (yc .at) s) in
-      let ye = got-ok repOf s (xc .at) (y .result) _ (y .ensures .0) yn yc (c .before .before .before .before .before .before .before .before .r2 .given .1) in
-      let z = c .before .before .before .before .before .next-number2 in
-      let zn = c .before .before .before .y2 .given .0 .0 in
-      let zc = c .before .before .before .y2 .given .0 .1 .0 in
-      let zr = split (drop (zc .at) s) in
-      let ze = got-ok (λ n. n) s (yc .at) (z .result) _ (z .ensures .0) zn zc (c .before .before .before .y2 .given .1) in
-      let g = c .number-type in (
-        ap (λ (t : Ty). got t (zc .at) zr) (g .ensures .0 (a .m) (a .n) (a .i) (c .before .before .before .before .before .before .before .before .before .before .before .before .before .before .before .before .before .pre .0))
-            ∙ members-number (a .m) (a .n) yn zn (zc .at) zr (c .before .if1 .left) ∙ type-members (a .m) (a .cats) (a .n) (a .i) (a .c .at) rs xn (xc .at) xr xe (repOf yn) (yc .at) yr ye zn (zc .at) zr ze,
-        λ z. g .ensures .1 (a .m) (a .n) (a .i) (c .before .before .before .before .before .before .before .before .before .before .before .before .before .before .before .before .before .pre .0),
-      )
+returns-5 c =
+    let a = c .before .before .before .before .before .before .before .before .before .before .before .before .before .before .before .before .before .args in
+    let s = a .s .now in
+    let rs = split (drop (a .c .at) s) in
+    let x = c .before .before .before .before .before .before .before .before .before .before .before .before .before .before .next-number in
+    let xn = c .before .before .before .before .before .before .before .before .before .before .before .before .x2 .given .0 .0 in
+    let xc = c .before .before .before .before .before .before .before .before .before .before .before .before .x2 .given .0 .1 .0 in
+    let xr = split (drop (xc .at) s) in
+    let xe = got-ok (λ n. n) s (a .c .at) (x .result) _ (x .ensures .0) xn xc (c .before .before .before .before .before .before .before .before .before .before .before .before .x2 .given .1) in
+    let y = c .before .before .before .before .before .before .before .before .before .before .next-rep in
+    let yn = c .before .before .before .before .before .before .before .before .r2 .given .0 .0 in
+    let yc = c .before .before .before .before .before .before .before .before .r2 .given .0 .1 .0 in
+    let yr = split (drop (yc .at) s) in
+    let ye = got-ok repOf s (xc .at) (y .result) _ (y .ensures .0) yn yc (c .before .before .before .before .before .before .before .before .r2 .given .1) in
+    let z = c .before .before .before .before .before .next-number2 in
+    let zn = c .before .before .before .y2 .given .0 .0 in
+    let zc = c .before .before .before .y2 .given .0 .1 .0 in
+    let zr = split (drop (zc .at) s) in
+    let ze = got-ok (λ n. n) s (yc .at) (z .result) _ (z .ensures .0) zn zc (c .before .before .before .y2 .given .1) in
+    let g = c .number-type in (
+      ap (λ (t : Ty). got t (zc .at) zr) (g .ensures .0 (a .m) (a .n) (a .i) (c .before .before .before .before .before .before .before .before .before .before .before .before .before .before .before .before .before .pre .0))
+          ∙ members-number (a .m) (a .n) yn zn (zc .at) zr (c .before .if1 .left) ∙ type-members (a .m) (a .cats) (a .n) (a .i) (a .c .at) rs xn (xc .at) xr xe (repOf yn) (yc .at) yr ye zn (zc .at) zr ze,
+      λ z. g .ensures .1 (a .m) (a .n) (a .i) (c .before .before .before .before .before .before .before .before .before .before .before .before .before .before .before .before .before .pre .0),
+    )
 
 pub one-type-spec : {M : Type 1} → statement M
 one-type-spec =

@@ -1,16 +1,13 @@
-use Rattle.textread.proofs.Laws.{digits-low, digits-high, digits-more, digits-end}
-use Rattle.sheet.specs.Numbers.{digits}
-use lib.ListN.{length, drop}
-use Prim.Native.Nat.{_≤_, _-_}
+-- Rests on `digits-low`, `digits-high`, `digits-more` and `digits-end`.
 use mathlib.Core.Path.{_≡_, _∙_}
+use Prim.Native.Nat.{_≤_, _-_}
 use native.Mathlib.Omega.{arith}
+use lib.ListN.{length, drop}
 use borrow.Author.Needs.{needs}
+use Rattle.sheet.specs.Numbers.{digits}
+use Rattle.textread.proofs.Laws.{digits-low, digits-high, digits-more, digits-end}
 use Rattle.textread.proofs.digits_at.Statement.{statement}
 use Rattle.textread.proofs.digits_at.Tie as tie
-use Rattle.textread.proofs.digits_at.Reads as reads
-use Rattle.textread.proofs.digits_at.Lts as lts
-use Rattle.numbers.proofs.least.Reads as least-reads
-use Rattle.numbers.proofs.wide.Reads as wide-reads
 
 abbrev Inv-loop : tie.InvT-loop
 Inv-loop l at a i₀ n₀ i n = (i ≤ length l) × (n ≤ 10000) × (digits n (drop i l) ≡ digits a (drop at l))
@@ -18,51 +15,39 @@ Inv-loop l at a i₀ n₀ i n = (i ≤ length l) × (n ≤ 10000) × (digits n (
 abbrev μ-loop : tie.MeasureT-loop
 μ-loop l at a i₀ n₀ i n = length l - i
 
--- src/lib.rt:93:5
 loop-holds : tie.Need-loop-holds Inv-loop μ-loop
 loop-holds c = search needs
 
--- src/lib.rt:94:22
 shared-slice-read-wide : tie.Need-shared-slice-read-wide Inv-loop μ-loop
 shared-slice-read-wide c = search needs
 
--- src/lib.rt:94:13
 wide-requires : tie.Need-wide-requires Inv-loop μ-loop
 wide-requires c κs = search needs
 
--- src/lib.rt:96:13
 returns : tie.Need-returns Inv-loop μ-loop
 returns c = (digits-low _ _ _ _ (c .before .before .before .loop-test .taken) (c .before .wide .ensures .0) (c .if1 .taken) ∙ c .before .before .before .before .loop .inv .2, (omega arith, omega arith))
 
--- src/lib.rt:99:13
 returns-2 : tie.Need-returns-2 Inv-loop μ-loop
 returns-2 c = (digits-high _ _ _ _ (c .before .before .before .before .loop-test .taken) (c .before .before .wide .ensures .0) (c .before .if1 .left) (c .if2 .taken) ∙ c .before .before .before .before .before .loop .inv .2, (omega arith, omega arith))
 
--- src/lib.rt:101:19
 mul-least : tie.Need-mul-least Inv-loop μ-loop
 mul-least c = search needs
 
--- src/lib.rt:101:19
 add-least : tie.Need-add-least Inv-loop μ-loop
 add-least c = search needs
 
--- src/lib.rt:101:9
 least-requires : tie.Need-least-requires Inv-loop μ-loop
 least-requires c κs = search needs
 
--- src/lib.rt:102:9
 add-i : tie.Need-add-i Inv-loop μ-loop
 add-i c = search needs
 
--- src/lib.rt:93:5
 loop-less : tie.Need-loop-less Inv-loop μ-loop
 loop-less c = search needs
 
--- src/lib.rt:93:5
 loop-again : tie.Need-loop-again Inv-loop μ-loop
 loop-again c = (omega arith, omega arith, digits-more _ _ _ _ (c .before .before .before .before .before .loop-test .taken) (c .before .before .before .wide .ensures .0) _ (c .before .before .if1 .left) (c .before .if2 .left) (c .least .ensures .0) ∙ c .before .before .before .before .before .before .loop .inv .2)
 
--- src/lib.rt:86:1
 returns-3 : tie.Need-returns-3 Inv-loop μ-loop
 returns-3 c = (digits-end _ _ _ (c .loop-test .left) ∙ c .before .loop .inv .2, (omega arith, omega arith))
 

@@ -1,53 +1,40 @@
-use Rattle.textread.proofs.Laws.{number-none, number-zero, number-low, number-high, number-more}
-use lib.ListN.{length}
-use Prim.Native.Nat.{_<_}
+-- Rests on `number-none`, `number-zero`, `number-low`, `number-high` and `number-more`.
 use mathlib.Core.Path.{_∙_}
+use Prim.Native.Nat.{_<_}
 use native.Mathlib.Omega.{arith}
+use lib.ListN.{length}
 use borrow.Author.Needs.{needs}
+use Rattle.textread.proofs.Laws.{number-none, number-zero, number-low, number-high, number-more}
 use Rattle.textread.proofs.number_at.Statement.{statement}
 use Rattle.textread.proofs.number_at.Tie as tie
-use Rattle.textread.proofs.number_at.Reads as reads
-use Rattle.textread.proofs.number_at.Lts as lts
-use Rattle.numbers.proofs.wide.Reads as wide-reads
-use Rattle.textread.proofs.digits_at.Reads as digits-at-reads
 
--- src/lib.rt:114:9
 returns : tie.Need-returns
 returns c = (number-none _ _ (c .if1 .taken), tt)
 
--- src/lib.rt:116:18
 shared-slice-read-wide : tie.Need-shared-slice-read-wide
 shared-slice-read-wide c = search needs
 
--- src/lib.rt:116:9
 wide-requires : tie.Need-wide-requires
 wide-requires c κs = search needs
 
--- src/lib.rt:118:33
 add-t8 : tie.Need-add-t8
 add-t8 c = search needs
 
--- src/lib.rt:118:9
 returns-2 : tie.Need-returns-2
 returns-2 c = let h : c .before .before .before .before .before .args .at < length (c .before .before .before .before .before .args .l .now) = omega arith in (number-zero _ _ _ h (c .before .wide .ensures .0) (c .if2 .taken), (omega arith, omega arith))
 
--- src/lib.rt:121:9
 returns-3 : tie.Need-returns-3
 returns-3 c = let h : c .before .before .before .before .before .before .args .at < length (c .before .before .before .before .before .before .args .l .now) = omega arith in (number-low _ _ _ h (c .before .before .wide .ensures .0) (c .before .if2 .left) (c .if3 .taken), tt)
 
--- src/lib.rt:124:9
 returns-4 : tie.Need-returns-4
 returns-4 c = let h : c .before .before .before .before .before .before .before .args .at < length (c .before .before .before .before .before .before .before .args .l .now) = omega arith in (number-high _ _ _ h (c .before .before .before .wide .ensures .0) (c .before .before .if2 .left) (c .before .if3 .left) (c .if4 .taken), tt)
 
--- src/lib.rt:126:18
 add-digits-at : tie.Need-add-digits-at
 add-digits-at c = search needs
 
--- src/lib.rt:126:5
 digits-at-requires : tie.Need-digits-at-requires
 digits-at-requires c κs = search needs
 
--- src/lib.rt:108:1
 returns-5 : tie.Need-returns-5
 returns-5 c = let h : c .before .before .before .before .before .before .before .before .args .at < length (c .before .before .before .before .before .before .before .before .args .l .now) = omega arith in (c .digits-at .ensures .0 ∙ number-more _ _ _ h (c .before .before .before .before .wide .ensures .0) (c .before .before .before .if2 .left) (c .before .before .if3 .left) (c .before .if4 .left), c .digits-at .ensures .1)
 

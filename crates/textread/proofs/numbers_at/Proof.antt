@@ -1,18 +1,15 @@
-use Rattle.textread.proofs.Laws.{scan-none, number-scan-wrong, number-scan-right, right-within, numbers-many, numbers-fail, numbers-end, numbers-other, numbers-comma}
-use Rattle.sheet.specs.Numbers.{numbers}
-use Rattle.sheet.proofs.Steps.{clash}
-use lib.ListN.{length, drop, take, length-set}
-use Prim.Native.Nat.{_≤_, _<_, _-_}
-use mathlib.Core.Path.{_≡_, refl, ap, sym, _∙_}
+-- Rests on `clash`, `scan-none`, `number-scan-wrong`, `number-scan-right`, `right-within` and `numbers-many` and what stands beside them.
 use mathlib.Core.List.{[]}
+use mathlib.Core.Path.{_≡_, refl, ap, sym, _∙_}
+use Prim.Native.Nat.{_≤_, _<_, _-_}
 use native.Mathlib.Omega.{arith}
+use lib.ListN.{length, drop, take, length-set}
 use borrow.Author.Needs.{needs}
+use Rattle.sheet.proofs.Steps.{clash}
+use Rattle.sheet.specs.Numbers.{numbers}
+use Rattle.textread.proofs.Laws.{scan-none, number-scan-wrong, number-scan-right, right-within, numbers-many, numbers-fail, numbers-end, numbers-other, numbers-comma}
 use Rattle.textread.proofs.numbers_at.Statement.{statement}
 use Rattle.textread.proofs.numbers_at.Tie as tie
-use Rattle.textread.proofs.numbers_at.Reads as reads
-use Rattle.textread.proofs.numbers_at.Lts as lts
-use Rattle.textread.proofs.no_numbers.Reads as no-numbers-reads
-use Rattle.textread.proofs.number_at.Reads as number-at-reads
 
 abbrev Inv-loop : tie.InvT-loop
 Inv-loop l at max i₀ items₀ count₀ i items count = (i ≤ length l) × (count ≤ max) × (length items ≡ 4) × (numbers (max - count) (take count items) (drop i l) ≡ numbers max [] (drop at l))
@@ -20,27 +17,21 @@ Inv-loop l at max i₀ items₀ count₀ i items count = (i ≤ length l) × (co
 abbrev μ-loop : tie.MeasureT-loop
 μ-loop l at max i₀ items₀ count₀ i items count = max - count
 
--- src/lib.rt:150:5
 loop-holds : tie.Need-loop-holds Inv-loop μ-loop
 loop-holds c = let a = c .before .args in let e : a .max - 0 ≡ a .max = omega arith in (omega arith, omega arith, refl, ap (λ z. numbers z [] (drop (a .at) (a .l .now))) e)
 
--- src/lib.rt:151:13
 number-at-requires : tie.Need-number-at-requires Inv-loop μ-loop
 number-at-requires c κs = search needs
 
--- src/lib.rt:152:27
 enum-known-t : tie.Need-enum-known-t Inv-loop μ-loop
 enum-known-t c = search needs
 
--- src/lib.rt:153:13
 enum-told : tie.Need-enum-told Inv-loop μ-loop
 enum-told c = search needs
 
--- src/lib.rt:153:13
 no-numbers-requires : tie.Need-no-numbers-requires Inv-loop μ-loop
 no-numbers-requires c κs = search needs
 
--- src/lib.rt:153:13
 returns : tie.Need-returns Inv-loop μ-loop
 returns c = let a = c .before .before .before .before .before .before .before .args in let p = c .before .before .before .before .before .loop in let t = c .before .before .before .number-at in let n = c .no-numbers in (
   scan-none (a .l .now) (n .result .right) (take (n .result .count) (n .result .items)) (n .result .next) _ (n .ensures .0)
@@ -48,45 +39,36 @@ returns c = let a = c .before .before .before .before .before .before .before .a
   (omega arith, omega arith, n .ensures .3, λ h. clash (sym h ∙ n .ensures .0)),
 )
 
--- src/lib.rt:155:9
 mul-items : tie.Need-mul-items Inv-loop μ-loop
 mul-items c = search needs
 
--- src/lib.rt:155:9
 array-write-items : tie.Need-array-write-items Inv-loop μ-loop
 array-write-items c = search needs
 
--- src/lib.rt:156:9
 add-count : tie.Need-add-count Inv-loop μ-loop
 add-count c = search needs
 
--- src/lib.rt:158:13
 returns-2 : tie.Need-returns-2 Inv-loop μ-loop
 returns-2 c = let a = c .before .before .before .before .before .before .before .before .args in let p = c .before .before .before .before .before .before .loop in let t = c .before .before .before .before .number-at in let k : p .count < length (p .items) = omega arith in (
   numbers-end (a .l .now) (p .items) (a .max) (p .count) (p .i) _ (p .inv .3) (c .before .before .before .before .before .loop-test .taken) k _ _ (number-scan-right (λ n. n) (a .l .now) (t .result) _ (t .ensures .0) _ _ (c .before .before .t .given .1)) (c .if1 .taken),
   (right-within _ (t .result) _ _ (c .before .before .t .given .1) (t .ensures .1) .0, omega arith, length-set (p .items) (p .count) _ ∙ p .inv .2, λ h. omega arith),
 )
 
--- src/lib.rt:165:12
 shared-slice-read-if2 : tie.Need-shared-slice-read-if2 Inv-loop μ-loop
 shared-slice-read-if2 c = omega (arith, right-within _ (c .before .before .before .before .before .number-at .result) _ _ (c .before .before .before .t .given .1) (c .before .before .before .before .before .number-at .ensures .1))
 
--- src/lib.rt:166:13
 returns-3 : tie.Need-returns-3 Inv-loop μ-loop
 returns-3 c = let a = c .before .before .before .before .before .before .before .before .before .before .args in let p = c .before .before .before .before .before .before .before .before .loop in let t = c .before .before .before .before .before .before .number-at in let k : p .count < length (p .items) = omega arith in let w = right-within _ (t .result) _ _ (c .before .before .before .before .t .given .1) (t .ensures .1) in (
   numbers-other (a .l .now) (p .items) (a .max) (p .count) (p .i) _ (p .inv .3) (c .before .before .before .before .before .before .before .loop-test .taken) k _ _ (number-scan-right (λ n. n) (a .l .now) (t .result) _ (t .ensures .0) _ _ (c .before .before .before .before .t .given .1)) (omega arith) (c .if2 .taken),
   (w .0, omega arith, length-set (p .items) (p .count) _ ∙ p .inv .2, λ h. omega arith),
 )
 
--- src/lib.rt:173:13
 add-i : tie.Need-add-i Inv-loop μ-loop
 add-i c = omega (arith, right-within _ (c .before .before .before .before .before .before .number-at .result) _ _ (c .before .before .before .before .t .given .1) (c .before .before .before .before .before .before .number-at .ensures .1))
 
--- src/lib.rt:150:5
 loop-less : tie.Need-loop-less Inv-loop μ-loop
 loop-less c = search needs
 
--- src/lib.rt:150:5
 loop-again : tie.Need-loop-again Inv-loop μ-loop
 loop-again c = let a = c .before .before .before .before .before .before .before .before .before .before .args in let p = c .before .before .before .before .before .before .before .before .loop in let t = c .before .before .before .before .before .before .number-at in let k : p .count < length (p .items) = omega arith in let w = right-within _ (t .result) _ _ (c .before .before .before .before .t .given .1) (t .ensures .1) in (
   omega arith,
@@ -95,11 +77,9 @@ loop-again c = let a = c .before .before .before .before .before .before .before
   numbers-comma (a .l .now) (p .items) (a .max) (p .count) (p .i) _ (p .inv .3) (c .before .before .before .before .before .before .before .loop-test .taken) k _ _ (number-scan-right (λ n. n) (a .l .now) (t .result) _ (t .ensures .0) _ _ (c .before .before .before .before .t .given .1)) (omega arith) (c .if2 .left),
 )
 
--- src/lib.rt:175:5
 no-numbers-requires-2 : tie.Need-no-numbers-requires-2 Inv-loop μ-loop
 no-numbers-requires-2 c κs = search needs
 
--- src/lib.rt:142:1
 returns-4 : tie.Need-returns-4 Inv-loop μ-loop
 returns-4 c = let a = c .before .before .before .before .args in let p = c .before .before .loop in let n = c .no-numbers2 in (
   scan-none (a .l .now) (n .result .right) (take (n .result .count) (n .result .items)) (n .result .next) _ (n .ensures .0) (numbers-many (a .l .now) (p .items) (a .max) (p .count) (p .i) _ (p .inv .3) (c .before .loop-test .left)),

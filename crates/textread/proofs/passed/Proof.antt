@@ -1,30 +1,22 @@
-use Rattle.textread.proofs.Laws.{pass-refused, pass-fits, pass-is}
+-- Rests on `pass-refused`, `pass-fits` and `pass-is`.
 use lib.ListN.{length}
-use native.Mathlib.Omega.{arith}
 use borrow.Author.Needs.{needs}
+use Rattle.textread.proofs.Laws.{pass-refused, pass-fits, pass-is}
 use Rattle.textread.proofs.passed.Statement.{statement}
 use Rattle.textread.proofs.passed.Tie as tie
-use Rattle.textread.proofs.passed.Reads as reads
-use Rattle.textread.proofs.passed.Lts as lts
-use Rattle.textread.proofs.past.Reads as past-reads
 
--- src/lib.rt:209:24
 enum-known-v : tie.Need-enum-known-v
 enum-known-v c = search needs
 
--- src/lib.rt:210:19
 enum-known-v-2 : tie.Need-enum-known-v-2
 enum-known-v-2 c = search needs
 
--- src/lib.rt:210:36
 past-requires : tie.Need-past-requires
 past-requires c κs = pass-fits (c .before .before .before .before .args .v) _ _ _ (c .before .v2 .given .1) (c .before .before .before .before .pre)
 
--- src/lib.rt:204:1
 returns : tie.Need-returns
 returns c = pass-refused (c .before .before .before .before .args .v) _ _ _ (c .before .v .given .1)
 
--- src/lib.rt:204:1
 returns-2 : tie.Need-returns-2
 returns-2 c = pass-is (c .before .before .before .before .before .args .v) (c .before .before .before .before .before .args .c .at) (length (c .before .before .before .before .before .args .l .now)) _ (c .before .before .v2 .given .1) (c .past .result) (c .past .ensures)
 

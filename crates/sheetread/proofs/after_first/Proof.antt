@@ -1,0 +1,98 @@
+-- Rests on `got-no`, `got-ok`, `got-at-most`, `done-no`, `done-ok` and `on-done` and what stands beside them.
+use mathlib.Core.Path.{ap, _∙_}
+use lib.ListN.{drop}
+use borrow.Author.Needs.{needs}
+use Rattle.table.specs.Store.{linksIn}
+use Rattle.sheet.specs.Lines.{split}
+use Rattle.sheet.specs.Sheet.{sheetAnswer}
+use Rattle.sheetread.proofs.Readings.{got-no, got-ok, got-at-most, done-no, done-ok, on-done, links-no, count-no, count-ok}
+use Rattle.sheetread.proofs.Stored.{links-count}
+use Rattle.sheetread.specs.View.{linksTo, answered}
+use Rattle.sheetread.proofs.after_first.Statement.{statement}
+use Rattle.sheetread.proofs.after_first.Tie as tie
+
+empty-links-requires : tie.Need-empty-links-requires
+empty-links-requires c κs = search needs
+
+links-into-requires : tie.Need-links-into-requires
+links-into-requires c κs = (c .before .before .before .pre .1, c .before .empty-links .ensures)
+
+enum-known-u : tie.Need-enum-known-u
+enum-known-u c = search needs
+
+refused-requires : tie.Need-refused-requires
+refused-requires c κs = search needs
+
+returns : tie.Need-returns
+returns c =
+    let a = c .before .before .before .before .before .before .before .before .args in
+    let s = a .s .now in
+    let u = c .before .before .before .before .links-into in
+    c .refused .ensures ∙ ap (λ z. answered (sheetAnswer z)) (links-no (a .h) (a .c .at) (split (drop (a .c .at) s)) _ _ (done-no s _ (u .result) _ (u .ensures .0) _ _ (c .before .before .u .given .1)))
+
+enum-known-u-2 : tie.Need-enum-known-u-2
+enum-known-u-2 c = search needs
+
+slice-aggregate-next-number : tie.Need-slice-aggregate-next-number
+slice-aggregate-next-number c = search needs
+
+next-number-requires : tie.Need-next-number-requires
+next-number-requires c κs = search needs
+
+enum-known-y : tie.Need-enum-known-y
+enum-known-y c = search needs
+
+refused-requires-2 : tie.Need-refused-requires-2
+refused-requires-2 c κs = search needs
+
+enum-known-y-2 : tie.Need-enum-known-y-2
+enum-known-y-2 c = search needs
+
+after-count-requires : tie.Need-after-count-requires
+after-count-requires c κs = (c .before .before .before .before .before .before .before .before .before .before .before .before .pre .0, c .before .before .before .before .before .before .before .before .before .before .before .before .pre .1, got-at-most 48 (c .before .before .before .next-number .result) _ _ (c .before .y2 .given .1) (c .before .before .before .next-number .ensures .1))
+
+returns-2 : tie.Need-returns-2
+returns-2 c =
+    let a = c .before .before .before .before .before .before .before .before .before .before .before .before .before .args in
+    let s = a .s .now in
+    let u = c .before .before .before .before .before .before .before .before .before .links-into in
+    let links = linksTo (a .h .cats) (linksIn (u .last .1 .1 .1 .0)) in
+    let at = c .before .before .before .before .before .before .before .u2 .given .0 .0 in
+    let y = c .before .before .before .before .next-number in
+    c .refused2 .ensures ∙ ap (λ z. answered (sheetAnswer z))
+    (count-no (a .h) (a .c .at) (split (drop (a .c .at) s)) links (at .at) (split (drop (at .at) s)) (done-ok s links (u .result) _ (u .ensures .0) at (c .before .before .before .before .before .before .before .u2 .given .1)) _ _
+    (got-no (λ n. n) s (at .at) (y .result) _ (y .ensures .0) _ (c .before .before .y .given .1)))
+
+returns-3 : tie.Need-returns-3
+returns-3 c =
+    let a = c .before .before .before .before .before .before .before .before .before .before .before .before .before .args in
+    let s = a .s .now in
+    let u = c .before .before .before .before .before .before .before .before .before .links-into in
+    let ls = linksIn (u .last .1 .1 .1 .0) in
+    let links = linksTo (a .h .cats) ls in
+    let at = c .before .before .before .before .before .before .before .u2 .given .0 .0 in
+    let y = c .before .before .before .before .next-number in
+    let n = c .before .before .y2 .given .0 .0 in
+    let e = c .before .before .y2 .given .0 .1 .0 in
+    c .after-count .ensures links (on-done (u .result) at _ (c .before .before .before .before .before .before .before .u2 .given .1) (u .ensures .1)) (links-count (a .h .cats) ls) ∙ ap (λ z. answered (sheetAnswer z))
+    (count-ok (a .h) (a .c .at) (split (drop (a .c .at) s)) links (at .at) (split (drop (at .at) s)) (done-ok s links (u .result) _ (u .ensures .0) at (c .before .before .before .before .before .before .before .u2 .given .1)) n (e .at) (split (drop (e .at) s))
+    (got-ok (λ n. n) s (at .at) (y .result) _ (y .ensures .0) n e (c .before .before .y2 .given .1)))
+
+pub after-first-spec : {M : Type 1} → statement M
+after-first-spec =
+    tie.close
+    (tie.spec
+    empty-links-requires
+    links-into-requires
+    enum-known-u
+    refused-requires
+    returns
+    enum-known-u-2
+    slice-aggregate-next-number
+    next-number-requires
+    enum-known-y
+    refused-requires-2
+    enum-known-y-2
+    after-count-requires
+    returns-2
+    returns-3)
