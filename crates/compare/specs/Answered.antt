@@ -1,4 +1,4 @@
--- The paper's numbers and values for each case of Compare's answer, and what the pair table's answer holds in each case.
+-- The refusal's number or the values for each case of Compare's answer, and what the pair table's answer holds in each case.
 use mathlib.Core.Bool.{true, false}
 use mathlib.Core.List.{List}
 use Prim.Native.Nat.{ℕ}

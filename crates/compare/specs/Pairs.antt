@@ -1,4 +1,4 @@
--- The pair table of a sheet: for each pair of sheet types one byte, in which subtype counts 1, strict 2, loose 4 and free 8. (T, S) stands at T * 48 + S.
+-- The pair table of a sheet (B24): for each pair of sheet types one byte, in which subtype counts 1, strict 2, loose 4 and free 8. (T, S) stands at T * 48 + S.
 use mathlib.Core.Bool.{_&&_, cond}
 use mathlib.Core.List.{List}
 use Prim.Native.Nat.{ℕ, _+_, _*_, _/_, _%_}

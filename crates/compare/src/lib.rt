@@ -13,7 +13,7 @@ use table::Counts;
 use table::LINK_BYTES;
 use table::TYPE_BYTES;
 
-// What Compare answers: 2 for a table that is not fit, 7 for a number that names no type, or the answers.
+// What Compare answers (R14): 2 for a table that is not fit, 7 for a number that names no type, or the answers.
 pub enum Compared {
     Unfit,
     Unknown,
@@ -94,7 +94,7 @@ fn pair_entry(b: &[u8; TYPE_BYTES], l: &[u8; LINK_BYTES], c: Counts, t: usize, s
     pair_code(a)
 }
 
-// The answers at every pair of sheet types, that of (T, S) at T * 48 + S.
+// The answers at every pair of sheet types, those of (T, S) at T * 48 + S (B24).
 pub fn pair_table(b: &[u8; TYPE_BYTES], l: &[u8; LINK_BYTES], c: Counts) -> [u8; 2304]
     requires { ⌜ Checked (now l) c ⌝ }
     ensures { λ r. ⌜ r ≡ pairTable (tableIn (now (b .entry)) (now (l .entry)) c) ⌝ }

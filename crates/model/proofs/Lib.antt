@@ -23,3 +23,6 @@ pub mod Checked
 pub mod Reached
 pub mod Crossings
 pub mod Records
+pub mod Onward
+pub mod Returned
+pub mod Loaded

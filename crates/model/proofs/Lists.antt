@@ -1,7 +1,7 @@
 -- Laws over plain lists: `from`, the values of a rule in order; tests over it; and one list as the first part of another.
 use mathlib.Core.Path.{_≡_, refl, ap, sym, subst, _∙_}
 use mathlib.Core.Bool.{Bool, So}
-use mathlib.Core.List.{List, [], _∷_, _++_}
+use mathlib.Core.List.{List, [], _∷_, _++_, map}
 use Prim.Native.Nat.{ℕ, zero, suc, _+_, _≤_, _<_}
 use native.Mathlib.Nat.{not-suc-le-zero, le-of-suc-le-suc, zero-add}
 use native.Mathlib.Omega.{arith}
@@ -40,6 +40,17 @@ module _ {A : Type 0} (f : ℕ → A) where
   unfolding from
   every-from p zero i h = refl
   every-from p (suc c) i h = both (h i (omega arith) (omega arith)) (every-from p c (suc i) (λ j a b. h j (omega arith) (omega arith)))
+
+pub from-shift : {A : Type 0} (f : ℕ → A) (c i : ℕ) → from c (suc i) f ≡ from c i (λ k. f (suc k))
+unfolding from
+from-shift f zero i = refl
+from-shift f (suc c) i = rw (from-shift f c (suc i))
+
+-- within its length a mapped list has the values, whatever is read past the end
+pub getD-map-in : {A B : Type 0} (f : A → B) (l : List A) (n : ℕ) (d : A) (e : B) → n < length l → getD (map f l) n e ≡ f (getD l n d)
+getD-map-in f [] n d e h = absurd (not-suc-le-zero h)
+getD-map-in f (x ∷ xs) zero d e h = refl
+getD-map-in f (x ∷ xs) (suc n) d e h = getD-map-in f xs n d e (le-of-suc-le-suc h)
 
 pub from-same : {A : Type 0} (f g : ℕ → A) (c i : ℕ) → ((j : ℕ) → i ≤ j → j < i + c → f j ≡ g j) → from c i f ≡ from c i g
 unfolding from

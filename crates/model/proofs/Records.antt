@@ -1,25 +1,25 @@
--- The record that stands for a thing of the model (Records, Handed): it means that thing, and its codes pass the check of 2.
+-- The record that stands for a thing of the model (Handed): it means that thing, and its codes pass the check of 2.
 use mathlib.Core.Path.{_≡_, refl, ap, sym, _∙_}
 use mathlib.Core.Bool.{Bool, true, false, _&&_, _||_, So, cond}
 use mathlib.Core.List.{List, [], _∷_}
 use mathlib.Core.Option.{Option, none, some}
-use Prim.Native.Nat.{ℕ, zero, suc, _≤_, _<_}
+use Prim.Native.Nat.{ℕ, suc, _≤_, _<_}
 use native.Mathlib.Omega.{arith}
 use native.Mathlib.Decide.{decLt}
 use lib.Dec.{eqb, ltb, leb}
 use lib.ListN.{length, getD}
-use Rattle.model.specs.Basics.{_⇒_, all, from}
-use Rattle.model.specs.Table.{State, denied, optional, avail, unavail, Rep, ref, w32, w64, Kind, sub, sup, closed, Key, Method, Ty, Table, noMethod, maxArguments, maxMethods, isRef, permit, between, isNone, methodCount}
+use Rattle.model.specs.Basics.{_⇒_, from}
+use Rattle.model.specs.Table.{State, denied, optional, avail, unavail, Rep, ref, w32, w64, Kind, sub, sup, closed, Key, Method, Ty, noMethod, maxArguments, maxMethods, isRef, permit, between, isNone, methodCount}
 use Rattle.model.specs.Relations.{bit}
 use Rattle.model.specs.Crossing.{Place, object, adapter}
 use Rattle.model.specs.Requests.{Call, flagged}
-use Rattle.model.specs.Check.{RawMethod, noRawMethod, stateOf, repOf, kindOf, answerOf, methodOf, typeOf, linksOf, placeOf, callOf, rawMethodFits, rawTypeFits}
+use Rattle.model.specs.Check.{noRawMethod, stateOf, repOf, kindOf, answerOf, methodOf, typeOf, linksOf, placeOf, callOf, rawMethodFits, rawTypeFits}
 use Rattle.model.specs.Records.{stateCode, repCode, kindCode, answerCode, keyCodes, argumentSlots, methodRecord, typeRecord, linksRecord}
 use Rattle.model.specs.Handed.{placeRecord, callRecord}
 use Rattle.model.proofs.Tests.{leb-so, so-leb}
 use Rattle.model.proofs.Rules.{never, both, second, imply}
 use Rattle.model.proofs.Largest.{getD-from-out}
-use Rattle.model.proofs.Lists.{from-first, is-from, from-same, take-from, all-from}
+use Rattle.model.proofs.Lists.{from-first, is-from, take-from, all-from}
 
 -- ---- places and calls
 pub place-back : (p : Place) → placeOf (placeRecord p) ≡ p

@@ -4,11 +4,11 @@ use mathlib.Core.Logic.{_↔_}
 use mathlib.Core.Bool.{Bool, true, false, So, cond}
 use mathlib.Core.List.{List, [], _∷_, _++_}
 use mathlib.Core.Option.{Option, none, some}
-use Prim.Native.Nat.{ℕ, zero, suc, _+_, _≤_, _<_}
+use Prim.Native.Nat.{ℕ, zero, suc, _+_, _<_}
 use native.Mathlib.Nat.{not-suc-le-zero}
 use native.Mathlib.Omega.{arith}
 use lib.Dec.{eqb, ltb}
-use lib.ListN.{length, length-append, List·getD-append}
+use lib.ListN.{length, length-append}
 use lib.Seq.{getD-append-seam}
 use Rattle.model.specs.Basics.{Res, refuse, ok, try, need, AllBelow}
 use Rattle.model.specs.Table.{sub, closed, Table, maxTypes, size, typeAt}

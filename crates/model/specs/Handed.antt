@@ -2,7 +2,7 @@
 -- accepted, the counted records are determined, and only what lies past a count is open.
 use mathlib.Core.Path.{_≡_}
 use mathlib.Core.Bool.{cond}
-use mathlib.Core.List.{List, map}
+use mathlib.Core.List.{List, [], _∷_, map}
 use Prim.Native.Nat.{ℕ, suc}
 use lib.Dec.{ltb}
 use lib.ListN.{length, getD}
@@ -11,8 +11,8 @@ use Rattle.model.specs.Table.{Table, size, typeAt}
 use Rattle.model.specs.Relations.{bit}
 use Rattle.model.specs.Crossing.{Place, object, adapter}
 use Rattle.model.specs.Requests.{Call, System, Request, Result, Outcome, got, refused, noCell, serve}
+use Rattle.model.specs.Records.{typeRecord, linksRecord}
 use Rattle.model.specs.Check.{RawTable, RawPlace, RawCall, RawSystem, noRawType, noRawLinks, noRawPlace, noRawCall, firstOf, systemOf, systemAccepted}
-use Rattle.model.specs.Records.{typeRecord}
 
 -- ---- The records that stand for a place and for a call; those for types and links are in Records.
 abbrev pub placeRecord : Place → RawPlace
@@ -21,6 +21,22 @@ placeRecord (adapter behind type) = record { code = 1; first = behind; second = 
 
 abbrev pub callRecord : Call → RawCall
 callRecord c = record { caller = c .caller; cell = c .cell; method = c .method; answered = bit (c .answered) }
+
+-- the whole table; category 0 names none
+abbrev pub rawTableOf : Table → RawTable
+rawTableOf t = record {
+  subjects = t .subjects;
+  methods = t .methods;
+  cats = length (t .cats);
+  sheet = t .sheet;
+  types = size t;
+  links = noRawLinks ∷ map linksRecord (t .cats);
+  records = map typeRecord (t .types);
+}
+
+-- the state of a loaded sheet
+abbrev pub rawLoaded : RawTable → RawSystem
+rawLoaded r = record { table = r; cells = 0; places = 0; calls = 0; cellRecords = []; placeRecords = []; callRecords = [] }
 
 -- ---- What is counted: the arrays cut to their counts. The links of category k stand at k, so that there is one more of them.
 abbrev pub countedTable : RawTable → RawTable

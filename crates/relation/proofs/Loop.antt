@@ -47,7 +47,8 @@ module _ (n t s : ℕ) (l : n ≤ 128) (p : t < n) (q : s < n) where
   root-queued = getD-set-same (replicate 16384 0) 0 (t * 128 + s) 0 (rw length-replicate (omega arith))
 
   only-root : (u : ℕ) → So (getD marks₀ u false) → u ≡ t * 128 + s
-  only-root u h = ⊎-elim (λ (e : u ≡ t * 128 + s). e) (λ (e : u ≡ t * 128 + s → ⊥). absurd (none-marked 16384 u (sym (getD-set-other (replicate 16384 false) (t * 128 + s) u true false e) ∙ h))) (same-or u (t * 128 + s))
+  only-root u h = ⊎-elim (λ (e : u ≡ t * 128 + s). e) (λ (e : u ≡ t * 128 + s → ⊥). absurd
+      (none-marked 16384 u (sym (getD-set-other (replicate 16384 false) (t * 128 + s) u true false e) ∙ h))) (same-or u (t * 128 + s))
 
   root-listed : Listed n marks₀ queue₀ 1
   root-listed = record {
@@ -120,9 +121,12 @@ module _ (k : Relation) (T : Table) (n t s : ℕ) (e : size T ≡ n) where
             root = w .more t s (g .root);
             done = λ i h. ⊎-elim
                 (λ (d : i ≡ head). rw (d, w .kept head l) (w .has))
-                (λ (d : i ≡ head → ⊥). let o = g .listed .back i (omega arith) in rw (w .kept i (omega arith)) (rule-up k T (found n marks) (found n marks′) (getD queue i 0 / 128) (getD queue i 0 % 128) (rw e (o .low)) (rw e (o .high)) (w .more) (g .done i (omega arith))))
+                (λ (d : i ≡ head → ⊥). let o = g .listed .back i (omega arith) in rw (w .kept i (omega arith))
+                (rule-up k T (found n marks) (found n marks′) (getD queue i 0 / 128) (getD queue i 0 % 128) (rw e (o .low)) (rw e (o .high)) (w .more)
+                (g .done i (omega arith))))
                 (same-or i head);
-            only = λ q. w .only (related k T) (kept (getD queue head 0 / 128) (getD queue head 0 % 128) (g .only q (getD queue head 0 / 128) (getD queue head 0 % 128) (pair-as n marks (getD queue head 0) (next l)))) (g .only q);
+            only = λ q. w .only (related k T) (kept (getD queue head 0 / 128) (getD queue head 0 % 128)
+                (g .only q (getD queue head 0 / 128) (getD queue head 0 % 128) (pair-as n marks (getD queue head 0) (next l)))) (g .only q);
           }
 
       pub broken : r ≡ 0 → false ≡ related k T t s
@@ -130,7 +134,9 @@ module _ (k : Relation) (T : Table) (n t s : ℕ) (e : size T ≡ n) where
       broken z = go (related k T t s) refl
         where
           go : (b : Bool) → related k T t s ≡ b → false ≡ b
-          go true q = absurd (met-zero n (λ M. rule k T M (getD queue head 0 / 128) (getD queue head 0 % 128)) marks queue tail marks′ queue′ r z m .none (related k T) of-table (kept (getD queue head 0 / 128) (getD queue head 0 % 128) (unfold Within in (g .only q) (getD queue head 0 / 128) (getD queue head 0 % 128) (pair-as n marks (getD queue head 0) (next l)))))
+          go true q = absurd (met-zero n (λ M. rule k T M (getD queue head 0 / 128) (getD queue head 0 % 128)) marks queue tail marks′ queue′ r z m .none (related k T) of-table
+              (kept (getD queue head 0 / 128) (getD queue head 0 % 128)
+              (unfold Within in (g .only q) (getD queue head 0 / 128) (getD queue head 0 % 128) (pair-as n marks (getD queue head 0) (next l)))))
           go false q = refl
 
     pub ended : tail ≤ head → true ≡ related k T t s

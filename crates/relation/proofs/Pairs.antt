@@ -102,9 +102,15 @@ module _ (n : ℕ) (s : List Bool) (l : List ℕ) (t x y : ℕ) (h : Listed n s 
   new-forth u v k =
       let g = found-says n (set s (x * 128 + y) true) u v k in
       ⊎-elim
-      (λ (a : u * 128 + v ≡ x * 128 + y). let o : Queued (set l t (x * 128 + y)) (t + 1) (u * 128 + v) = record { place = t; below = omega arith; there = getD-set-same l t (x * 128 + y) 0 at-room ∙ sym a } in o)
+      (λ (a : u * 128 + v ≡ x * 128 + y). let o : Queued (set l t (x * 128 + y)) (t + 1) (u * 128 + v) = record
+      { place = t; below = omega arith; there = getD-set-same l t (x * 128 + y) 0 at-room ∙ sym a } in o)
       (λ (a : So (getD s (u * 128 + v) false)). let w = h .forth u v (found-test n s u v (g .0) (g .1) a) in
-      let o : Queued (set l t (x * 128 + y)) (t + 1) (u * 128 + v) = record { place = w .place; below = omega (arith, w .below); there = getD-set-other l t (w .place) (x * 128 + y) 0 (λ z. let f = w .below in let d : w .place ≡ t = z in omega arith) ∙ w .there } in o)
+      let o : Queued (set l t (x * 128 + y)) (t + 1) (u * 128 + v) = record {
+        place = w .place;
+        below = omega (arith, w .below);
+        there = getD-set-other l t (w .place) (x * 128 + y) 0
+            (λ z. let f = w .below in let d : w .place ≡ t = z in omega arith) ∙ w .there;
+      } in o)
       (set-less s (x * 128 + y) (u * 128 + v) (g .2))
 
   new-listed : Listed n (set s (x * 128 + y) true) (set l t (x * 128 + y)) (t + 1)
@@ -160,7 +166,8 @@ module _ (n : ℕ) (W U : (ℕ → ℕ → Bool) → Bool) (s : List Bool) (l : 
   met-as s′ l′ r f g (inl b) = inl (broke-as n W U r g b)
   met-as s′ l′ r f g (inr w) = inr (grew-as s′ l′ r f g w)
 
-  pub grew-then : (s₁ : List Bool) (l₁ : List ℕ) (t₁ : ℕ) (s₂ : List Bool) (l₂ : List ℕ) (t₂ : ℕ) → Mono W → Grew n W s l t s₁ l₁ t₁ → Grew n U s₁ l₁ t₁ s₂ l₂ t₂ → Grew n (λ M. W M && U M) s l t s₂ l₂ t₂
+  pub grew-then : (s₁ : List Bool) (l₁ : List ℕ) (t₁ : ℕ) (s₂ : List Bool) (l₂ : List ℕ) (t₂ : ℕ) → Mono W → Grew n W s l t s₁ l₁ t₁ → Grew n U s₁ l₁ t₁ s₂ l₂ t₂ → Grew n
+      (λ M. W M && U M) s l t s₂ l₂ t₂
   unfolding Within Mono
   grew-then s₁ l₁ t₁ s₂ l₂ t₂ m a b = record {
     listed = b .listed;

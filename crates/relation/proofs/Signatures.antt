@@ -46,7 +46,8 @@ module _ (xs ys : List ℕ) where
       rw (getD-take c ys i 0 l, getD-take c xs i 0 l) at (args-at M (take c xs) (take c ys) w i k)
 
 -- one slot more
-pub args-next : (M : ℕ → ℕ → Bool) (xs ys : List ℕ) (i : ℕ) → i < length xs → i < length ys → argsRule M (take (suc i) xs) (take (suc i) ys) ≡ (argsRule M (take i xs) (take i ys) && M (getD ys i 0) (getD xs i 0))
+pub args-next : (M : ℕ → ℕ → Bool) (xs ys : List ℕ) (i : ℕ) → i < length xs → i < length ys → argsRule M (take (suc i) xs) (take (suc i) ys) ≡
+    (argsRule M (take i xs) (take i ys) && M (getD ys i 0) (getD xs i 0))
 args-next M [] ys i p q = absurd (not-suc-le-zero p)
 args-next M (x ∷ xs) [] i p q = absurd (not-suc-le-zero q)
 args-next M (x ∷ xs) (y ∷ ys) zero p q = and-true (M y x)

@@ -16,7 +16,8 @@ use Rattle.relation.proofs.Pairs.{stay, broke-as, grew-as, met-as, grew
 use Rattle.relation.proofs.Signatures.{args-differ, args-need, args-next, answer-none, answer-left, answer-right, answer-both, method-state, method-off, method-on, args-up, each-up, each-says}
 
 -- the same test by another name
-met-same : (n : ℕ) (W U : (ℕ → ℕ → Bool) → Bool) → ((M : ℕ → ℕ → Bool) → U M ≡ W M) → (s : List Bool) (l : List ℕ) (t : ℕ) (s′ : List Bool) (l′ : List ℕ) (r : ℕ) → Met n W s l t s′ l′ r → Met n U s l t s′ l′ r
+met-same : (n : ℕ) (W U : (ℕ → ℕ → Bool) → Bool) → ((M : ℕ → ℕ → Bool) → U M ≡ W M) → (s : List Bool) (l : List ℕ) (t : ℕ) (s′ : List Bool) (l′ : List ℕ) (r : ℕ) → Met n W s l t s′
+    l′ r → Met n U s l t s′ l′ r
 met-same n W U e s l t s′ l′ r m = met-as n W U s l t s′ l′ r (λ M h. e M ∙ h) (λ M h. sym (e M) ∙ h) m
 
 -- The answers, whose codes x and y were read as a and b.
@@ -30,11 +31,13 @@ module _ (n : ℕ) (s : List Bool) (l : List ℕ) (t x y a b : ℕ) (p : a ≡ x
   pub answers-right : (s′ : List Bool) (l′ : List ℕ) → (a ≡ 0 → ⊥) → b ≡ 0 → Met n (λ M. answerRule M (answerOf x) (answerOf y)) s l t s′ l′ 0
   answers-right s′ l′ u v = inl (record { zero = refl; none = λ M i w. answer-right M x y (λ e. u (p ∙ e)) (sym q ∙ v) w })
 
-  pub answers-both : (s′ : List Bool) (l′ : List ℕ) (r : ℕ) → (a ≡ 0 → ⊥) → (b ≡ 0 → ⊥) → Met n (λ M. M (a - 1) (b - 1)) s l t s′ l′ r → Met n (λ M. answerRule M (answerOf x) (answerOf y)) s l t s′ l′ r
+  pub answers-both : (s′ : List Bool) (l′ : List ℕ) (r : ℕ) → (a ≡ 0 → ⊥) → (b ≡ 0 → ⊥) → Met n (λ M. M (a - 1) (b - 1)) s l t s′ l′ r → Met n
+      (λ M. answerRule M (answerOf x) (answerOf y)) s l t s′ l′ r
   answers-both s′ l′ r u v m = met-same n (λ M. M (a - 1) (b - 1)) (λ M. answerRule M (answerOf x) (answerOf y)) (λ M. answer-both M x y (λ e. u (p ∙ e)) (λ e. v (q ∙ e)) ∙ rw (p, q)) s l t s′ l′ r m
 
 -- The arguments: xs and ys are the slots, i and j the counts, u and v how many slots these use.
-module _ (n : ℕ) (s : List Bool) (l : List ℕ) (t : ℕ) (xs ys : List ℕ) (lx : length xs ≡ 4) (ly : length ys ≡ 4) (i j u v : ℕ) (pu : u ≤ 4) (pv : v ≤ 4) (eu : take i xs ≡ take u xs) (ev : take j ys ≡ take v ys) where
+module _ (n : ℕ) (s : List Bool) (l : List ℕ) (t : ℕ) (xs ys : List ℕ) (lx : length xs ≡ 4) (ly : length ys ≡ 4) (i j u v : ℕ) (pu : u ≤ 4) (pv : v ≤ 4)
+    (eu : take i xs ≡ take u xs) (ev : take j ys ≡ take v ys) where
   abbrev Args : (ℕ → ℕ → Bool) → Bool
   Args M = argsRule M (take i xs) (take j ys)
 
@@ -111,7 +114,8 @@ module _ (n : ℕ) (k : Relation) (X Y : ℕ → Method) (s : List Bool) (l : Li
   module _ (j : ℕ) (s₁ : List Bool) (l₁ : List ℕ) (t₁ : ℕ) (g : Grew n (All j) s l t s₁ l₁ t₁) where
     module _ (x y : Method) (p : x ≡ X j) (q : y ≡ Y j) (s₂ : List Bool) (l₂ : List ℕ) (t₂ : ℕ) (m : Met n (λ M. methodRule k M x y) s₁ l₁ t₁ s₂ l₂ t₂) where
       pub methods-broke : (c : ℕ) → j < c → t₂ ≡ 0 → Met n (All c) s l t s₂ l₂ 0
-      methods-broke c h z = inl (broke-as n (λ M. methodRule k M x y) (All c) 0 (λ M w. rw (p, q) (each-says c (λ j. methodRule k M (X j) (Y j)) w j h)) (met-zero n (λ M. methodRule k M x y) s₁ l₁ t₁ s₂ l₂ t₂ z m))
+      methods-broke c h z = inl (broke-as n (λ M. methodRule k M x y) (All c) 0 (λ M w. rw (p, q) (each-says c (λ j. methodRule k M (X j) (Y j)) w j h))
+          (met-zero n (λ M. methodRule k M x y) s₁ l₁ t₁ s₂ l₂ t₂ z m))
 
       pub methods-more : (t₂ ≡ 0 → ⊥) → Grew n (All (j + 1)) s l t s₂ l₂ t₂
       unfolding eachBelow

@@ -18,12 +18,12 @@ use Rattle.table.specs.declared.Head.{Head}
 use Rattle.table.specs.Store.{typesIn, headOf, tableIn, methodIn}
 use Rattle.table.proofs.Lists.{from-first}
 use Rattle.table.proofs.Tables.{type-is}
-use Rattle.table.proofs.Codes.{number-rep}
+use Rattle.table.proofs.Codes.{number-rep, ref-rep}
 use Rattle.relation.specs.Found.{found, Listed, Met, eachBelow}
 use Rattle.rules.specs.Parts.{outerHeads}
 use Rattle.relation.proofs.Pairs.{clash, stay, met-as}
 use Rattle.relation.proofs.Signatures.{each-says, each-test}
-use Rattle.rules.proofs.Outside.{heads-rule, outer-sort, code-ref}
+use Rattle.rules.proofs.Outside.{heads-rule, outer-sort}
 
 -- every method of two lists that are as long
 module _ (f : Method → Method → Bool) (z : So (f noMethod noMethod)) (n : ℕ) (x y : ℕ → Method) where
@@ -63,7 +63,11 @@ module _ (b l : List ℕ) (c : Counts) (k : Relation) (a d : ℕ) (p : a < c .ty
   module _ (n : ℕ) (marks : List Bool) (queue : List ℕ) (t : ℕ) where
     -- the heads break it
     pub types-broke : (marks′ : List Bool) (queue′ : List ℕ) → fine ≡ false → Met n W marks queue t marks′ queue′ 0
-    types-broke marks′ queue′ e = inl (record { zero = refl; none = λ M i w. clash (first (outerRule k (tableIn b l c) (typeOf (c .methods) (c .sheet) a A) (typeOf (c .methods) (c .sheet) d D)) _ (rw (rule-is M) at w)) (sym outer-is ∙ e) })
+    types-broke marks′ queue′ e = inl (record {
+      zero = refl;
+      none = λ M i w. clash
+          (first (outerRule k (tableIn b l c) (typeOf (c .methods) (c .sheet) a A) (typeOf (c .methods) (c .sheet) d D)) _ (rw (rule-is M) at w)) (sym outer-is ∙ e);
+    })
 
     module _ (e : fine ≡ true) where
       sorts : isRef (repOf (A .rep)) ≡ isRef (repOf (D .rep))
@@ -85,6 +89,6 @@ module _ (b l : List ℕ) (c : Counts) (k : Relation) (a d : ℕ) (p : a < c .ty
         where
           all : (M : ℕ → ℕ → Bool) → W M ≡ everyMethod (methodRule k M) (from (c .methods) 0 (methodIn b a)) (from (c .methods) 0 (methodIn b d))
           all M =
-              let f : isRef (repOf (A .rep)) ≡ true = code-ref (A .rep) (sym (ap (λ (v : Head). v .rep) ex) ∙ z) in
+              let f : isRef (repOf (A .rep)) ≡ true = ref-rep (A .rep) (sym (ap (λ (v : Head). v .rep) ex) ∙ z) in
               let g : isRef (repOf (D .rep)) ≡ true = sym sorts ∙ f in
               rw (rule-is M, sym outer-is ∙ e, f, g)

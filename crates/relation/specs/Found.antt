@@ -1,4 +1,4 @@
--- "Each is the largest relation that keeps its rules": a pair is in it unless a pair that breaks its rule can be reached from it. So a search finds pairs, each once,
+-- A relation is the largest that keeps its rules (R3): a pair is in it unless a pair that breaks its rule can be reached from it. So a search finds pairs, each once,
 -- and asks the rule of each, which finds more. Here is what is found so far, and what a step of the search promises.
 use mathlib.Core.Path.{_≡_}
 use mathlib.Core.Logic.{_⊎_}

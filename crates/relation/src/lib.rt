@@ -1,5 +1,4 @@
-// Document 01, "Relations over all pairs": a relation at a pair of types. The pair is related unless a pair that breaks its rule can be reached from it through
-// signatures that both sides permit, so pairs are found in a queue, each once, and the rule of each is asked (specs/Found.antt). One array has the queue and says
+// A relation at a pair of types (R3). The pair is related unless a pair that breaks its rule can be reached from it through signatures that both sides permit, so pairs are found in a queue, each once, and the rule of each is asked (specs/Found.antt). One array has the queue and says
 // which pairs are found, so a relation at a pair takes time linear in the pairs that can be reached, no heap, and never visits a pair twice.
 ghost use mathlib.Core.Path.{_≡_};
 ghost use mathlib.Core.List.{List};
@@ -19,6 +18,7 @@ use numbers::wide;
 use numbers::wide16;
 use rules::Relation;
 use table::Counts;
+use table::Head;
 use table::LINK_BYTES;
 use table::Method;
 use table::TYPE_BYTES;
@@ -66,7 +66,7 @@ fn slots_used(count: u8) -> usize
     least(wide(count), 4)
 }
 
-// "the argument counts are equal, [..] arguments with sides exchanged"
+// R4 and R6: as many arguments, and each related with the sides exchanged.
 fn find_arguments(found: &mut [u16; 16384], tail: usize, n: usize, x: Method, y: Method) -> usize
     requires { ⌜ ListedIn n (now found) tail ⌝ }
     ensures { λ r. ⌜ MetIn n (λ M. argsRule M (take (x .count) (x .args)) (take (y .count) (y .args))) (now (found .entry)) tail (now (found .exit)) r ⌝ }
@@ -91,7 +91,7 @@ fn find_arguments(found: &mut [u16; 16384], tail: usize, n: usize, x: Method, y:
     t
 }
 
-// "answers are both present or both missing, answers are related in the same direction"
+// R4 and R5: both have an answer or neither, and then they are related in the direction of the pair.
 fn find_answer(found: &mut [u16; 16384], tail: usize, n: usize, x: u8, y: u8) -> usize
     requires { ⌜ ListedIn n (now found) tail ⌝ }
     ensures { λ r. ⌜ MetIn n (λ M. answerRule M (answerOf x) (answerOf y)) (now (found .entry)) tail (now (found .exit)) r ⌝ }
@@ -189,7 +189,7 @@ fn find_types(
     if !fine {
         return 0;
     }
-    if x.rep != 0 {
+    if x.rep != Head::REF {
         return tail;
     }
     find_methods(b, found, tail, c.types, c.methods, k, square, a, d)
@@ -262,7 +262,7 @@ pub fn related_at(
     search(b, l, c, k, square, t, s)
 }
 
-// What Compare answers at a pair of types.
+// What Compare answers at a pair of types (R14).
 pub struct Answers {
     pub subtype: bool,
     pub strict: bool,

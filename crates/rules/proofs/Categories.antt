@@ -1,4 +1,4 @@
--- "a ≤ b if a is 0, a = b, or a is reached from b by broader links": worked out for the categories in order, since links fall.
+-- The order of categories (T7), worked out for the categories from 0 up, since links fall.
 use mathlib.Core.Path.{_≡_, refl, ap, sym, _∙_}
 use mathlib.Core.Logic.{⊎-elim}
 use mathlib.Core.Bool.{Bool, true, false, _||_, cond}
@@ -51,7 +51,8 @@ or-none false false = refl
 module _ (l : List ℕ) (c : Counts) (h : Checked l c) where
   links-below : (x : ℕ) → AllBelow x (getD (broaderIn l c) x [])
   links-below zero = rw (links-zero l c) tt
-  links-below (suc x) = ⊎-elim (λ (p : c .cats < suc x). rw (links-out l c (suc x) p) tt) (λ (p : suc x ≤ c .cats). rw (links-in l c (suc x) (omega arith) p) (h .falls (suc x) (omega arith) p)) (lt-or-ge (c .cats) (suc x))
+  links-below (suc x) = ⊎-elim (λ (p : c .cats < suc x). rw (links-out l c (suc x) p) tt)
+      (λ (p : suc x ≤ c .cats). rw (links-in l c (suc x) (omega arith) p) (h .falls (suc x) (omega arith) p)) (lt-or-ge (c .cats) (suc x))
 
   -- as many steps as the category's number are enough
   more-fuel : (f a x : ℕ) → x ≤ f → reaches f (broaderIn l c) a x ≡ reaches (suc f) (broaderIn l c) a x

@@ -13,7 +13,7 @@ use Rattle.model.proofs.Rules.{first, never}
 use Rattle.table.specs.declared.Head.{Head}
 use Rattle.table.specs.Store.{headOf}
 use Rattle.table.proofs.Codes.{number-rep}
-use Rattle.rules.specs.Parts.{repRule, ordered, owned, ownOf, outerHeads}
+use Rattle.rules.specs.Parts.{repRule, ordered, owned, headOwns, outerHeads}
 
 -- the rule of the two types is that of their heads
 pub heads-rule : (k : Relation) (t : Table) (ms sh i j : ℕ) (x y : RawType) → outerRule k t (typeOf ms sh i x) (typeOf ms sh j y) ≡ outerHeads k t (headOf x) (headOf y)
@@ -35,7 +35,7 @@ module _ (k : Relation) (t : Table) (x y : Head) where
     unfolding outerHeads
     heads-cat f = rw (e, f)
 
-    pub heads-own : (ordered k ⇒ catLe t (x .cat) (y .cat)) ≡ true → (owned k ⇒ (ownOf x ⇒ ownOf y)) ≡ outerHeads k t x y
+    pub heads-own : (ordered k ⇒ catLe t (x .cat) (y .cat)) ≡ true → (owned k ⇒ (headOwns x ⇒ headOwns y)) ≡ outerHeads k t x y
     unfolding outerHeads
     heads-own f = rw (e, f)
 
@@ -66,9 +66,6 @@ outer-sort loose t x y h = same-sort (isRef (x .rep)) (isRef (y .rep)) h
 outer-sort free t x y h = same-sort (isRef (x .rep)) (isRef (y .rep)) h
 
 -- Codes of representations: 0 is ref.
-pub code-ref : (x : ℕ) → x ≡ 0 → isRef (repOf x) ≡ true
-code-ref x e = rw e
-
 ref-code : (y : ℕ) → eqb y 0 ≡ isRef (repOf y)
 ref-code zero = refl
 ref-code (suc zero) = refl
@@ -106,8 +103,8 @@ rep-long (suc (suc x)) (suc zero) p q = refl
 rep-long (suc (suc x)) (suc (suc y)) p q = le-leb 2 (suc (suc y)) (omega arith)
 
 -- own of a head
-pub own-ref : (x : Head) → x .rep ≡ 0 → eqb (x .own) 1 ≡ ownOf x
+pub own-ref : (x : Head) → x .rep ≡ 0 → eqb (x .own) 1 ≡ headOwns x
 own-ref x e = rw e
 
-pub own-number : (x : Head) → (x .rep ≡ 0 → ⊥) → false ≡ ownOf x
+pub own-number : (x : Head) → (x .rep ≡ 0 → ⊥) → false ≡ headOwns x
 own-number x e = rw (number-rep (x .rep) e)

@@ -1,21 +1,26 @@
 -- The bytes that stand for a table of the model (specs/Records), read back: they mean that table, and their codes pass the check of 2.
 use mathlib.Core.Path.{_≡_, refl, sym, ap, _∙_, subst}
-use mathlib.Core.Bool.{Bool, So}
+use mathlib.Core.Bool.{So}
 use mathlib.Core.List.{List, [], _∷_, _++_, map, flatten, append-assoc}
 use Prim.Native.Nat.{ℕ, zero, suc, _+_, _-_, _*_, _≤_, _<_}
 use native.Mathlib.Nat.{le-of-suc-le-suc, not-suc-le-zero, zero-add, add-comm, zero-mul, suc-mul}
 use native.Mathlib.Omega.{arith}
+use lib.Dec.{leb}
 use lib.ListN.{length, getD, replicate, length-append, List·getD-append}
 use lib.Seq.{getD-append-add}
-use Rattle.model.specs.Basics.{from, all, every}
-use Rattle.model.specs.Table.{Ty, Table, noType, noMethod, size, typeAt, between, linksFit, tableFits}
-use Rattle.model.specs.Check.{RawMethod, RawType, RawLinks, noRawType, noRawMethod, noRawLinks, typeOf, linksOf, tableOf, rawTypeFits, codesFit}
+use Rattle.model.specs.Basics.{from, every}
+use Rattle.model.specs.Table.{Ty, Table, noType, noMethod, size, between, tableFits}
+use Rattle.model.specs.Check.{RawMethod, RawType, RawLinks, RawTable, noRawType, noRawMethod, noRawLinks, typeOf, linksOf, tableOf, codesFit}
 use Rattle.model.specs.Records.{methodRecord, typeRecord, linksRecord}
-use Rattle.model.proofs.Records.{Shaped as Shapedᵐ, type-back, type-codes, links-back}
-use Rattle.table.specs.declared.Counts.{Counts}
-use Rattle.table.specs.Store.{rawTypeAt, rawLinksAt, typesIn, linksIn, rawTable, tableIn, recordBytes, linksBytes, Shaped}
+use Rattle.model.specs.Handed.{rawTableOf}
+use Rattle.model.proofs.Tests.{leb-so}
+use Rattle.model.proofs.Rules.{first, second}
+use Rattle.model.proofs.Fitting.{table-fitting}
+use Rattle.model.proofs.Lists.{getD-map-in}
+use Rattle.model.proofs.Loaded.{table-back, table-codes}
+use Rattle.table.specs.Store.{typesIn, linksIn, rawTable, tableIn, Shaped}
 use Rattle.table.specs.Records.{padded, bytesOf, linkBytesOf, typeBytes, linkBytes, countsOf}
-use Rattle.table.proofs.Lists.{from-first}
+use Rattle.table.proofs.Lists.{from-first, from-same}
 use Rattle.table.proofs.Laws.{Agree, type-agree, type-in, links-in, record-length, record-own}
 
 -- Pieces of n bytes each, one behind the other: byte p of piece i.
@@ -74,3 +79,36 @@ links-back-at cs k m l =
   where
     links-eq : {x y z x′ y′ z′ : ℕ} → x ≡ x′ → y ≡ y′ → z ≡ z′ → _≡_ {A = RawLinks} (record { count = x; first = y; second = z }) (record { count = x′; first = y′; second = z′ })
     links-eq p q r = cc
+
+-- A table that fits: what the bytes that stand for it mean, and that they pass the check.
+module _ (t : Table) (fits : So (tableFits t)) where
+  abbrev whole : RawTable
+  whole = rawTable (typeBytes (t .types)) (linkBytes (t .cats)) (countsOf t)
+
+  few : (length (t .cats) ≤ 31) × (size t ≤ 128)
+  few =
+      let f = table-fitting t fits in
+      let c = second (between 1 16 (t .methods)) _ (second (between 1 16 (t .subjects)) _ (f .counts)) in
+      (leb-so (first (leb (length (t .cats)) 31) _ c), f .room)
+
+  type-agrees : (i : ℕ) → i < size t → getD (typesIn (typeBytes (t .types))) i noRawType ≡ getD (map typeRecord (t .types)) i noRawType
+  type-agrees i h = types-back (t .types) i (few .1) h ∙ sym (getD-map-in typeRecord (t .types) i noType noRawType h)
+
+  link-agrees : (k : ℕ) → 1 ≤ k → k < 1 + length (t .cats) → getD (linksIn (linkBytes (t .cats))) k noRawLinks ≡ getD (rawTableOf t .links) k noRawLinks
+  link-agrees zero p l = absurd (not-suc-le-zero p)
+  link-agrees (suc k) p l = links-back-at (t .cats) (suc k) (few .0) (omega arith) ∙ sym (getD-map-in linksRecord (t .cats) k [] noRawLinks (omega arith))
+
+  -- what is made of each counted record
+  types-same : {A : Type 0} (f : ℕ → RawType → A) → from (size t) 0 (λ i. f i (getD (typesIn (typeBytes (t .types))) i noRawType)) ≡ from (size t) 0 (λ i. f i (getD (map typeRecord (t .types)) i noRawType))
+  types-same f = from-same _ _ (size t) 0 (λ i p l. ap (f i) (type-agrees i (omega arith)))
+
+  links-same : {A : Type 0} (f : RawLinks → A) → from (length (t .cats)) 1 (λ k. f (getD (linksIn (linkBytes (t .cats))) k noRawLinks)) ≡ from (length (t .cats)) 1 (λ k. f (getD (rawTableOf t .links) k noRawLinks))
+  links-same f = from-same _ _ (length (t .cats)) 1 (λ k p l. ap f (link-agrees k p l))
+
+  pub bytes-codes : So (codesFit whole)
+  unfolding codesFit
+  bytes-codes = rw (links-same (λ x. x), types-same (λ i x. x)) (table-codes t (table-fitting t fits))
+
+  pub bytes-mean : tableIn (typeBytes (t .types)) (linkBytes (t .cats)) (countsOf t) ≡ t
+  unfolding tableIn tableOf
+  bytes-mean = rw (links-same linksOf, types-same (typeOf (t .methods) (t .sheet))) (table-back t (table-fitting t fits))

@@ -24,7 +24,9 @@ returns c =
     let get-head2 = c .before .before .get-head2 in
     let outer-rule = c .before .outer-rule in
     let if1 = c .if1 in
-    types-broke (a .b .now) (a .l .now) (a .c) (relationOf (a .k)) (a .a) (a .d) (pre .3) (pre .4) (get-head .result) (get-head2 .result) (get-head .ensures) (get-head2 .ensures) (outer-rule .result) (outer-rule .ensures (a .b .now)) (a .c .types) (marksIn (a .found .now)) (queueIn (a .found .now)) (a .tail) (marksIn (a .found .now)) (queueIn (a .found .now)) (not-true (outer-rule .result) (if1 .taken))
+    types-broke (a .b .now) (a .l .now) (a .c) (relationOf (a .k)) (a .a) (a .d) (pre .3) (pre .4) (get-head .result) (get-head2 .result) (get-head .ensures) (get-head2 .ensures)
+    (outer-rule .result) (outer-rule .ensures (a .b .now)) (a .c .types) (marksIn (a .found .now)) (queueIn (a .found .now)) (a .tail) (marksIn (a .found .now))
+    (queueIn (a .found .now)) (not-true (outer-rule .result) (if1 .taken))
 
 returns-2 : tie.Need-returns-2
 returns-2 c =
@@ -35,7 +37,9 @@ returns-2 c =
     let outer-rule = c .before .before .before .outer-rule in
     let if1 = c .before .before .if1 in
     let if2 = c .if2 in
-    types-numbers (a .b .now) (a .l .now) (a .c) (relationOf (a .k)) (a .a) (a .d) (pre .3) (pre .4) (get-head .result) (get-head2 .result) (get-head .ensures) (get-head2 .ensures) (outer-rule .result) (outer-rule .ensures (a .b .now)) (a .c .types) (marksIn (a .found .now)) (queueIn (a .found .now)) (a .tail) (not-false (outer-rule .result) (if1 .left)) (if2 .taken) (pre .0)
+    types-numbers (a .b .now) (a .l .now) (a .c) (relationOf (a .k)) (a .a) (a .d) (pre .3) (pre .4) (get-head .result) (get-head2 .result) (get-head .ensures) (get-head2 .ensures)
+    (outer-rule .result) (outer-rule .ensures (a .b .now)) (a .c .types) (marksIn (a .found .now)) (queueIn (a .found .now)) (a .tail)
+    (not-false (outer-rule .result) (if1 .left)) (if2 .taken) (pre .0)
 
 find-methods-requires : tie.Need-find-methods-requires
 find-methods-requires c κs =
@@ -52,7 +56,10 @@ returns-3 c =
     let if1 = c .before .before .before .before .if1 in
     let find-methods = c .find-methods in
     let if2 = c .before .before .if2 in
-    types-methods (a .b .now) (a .l .now) (a .c) (relationOf (a .k)) (a .a) (a .d) (pre .3) (pre .4) (get-head .result) (get-head2 .result) (get-head .ensures) (get-head2 .ensures) (outer-rule .result) (outer-rule .ensures (a .b .now)) (a .c .types) (marksIn (a .found .now)) (queueIn (a .found .now)) (a .tail) (not-false (outer-rule .result) (if1 .left)) (marksIn (find-methods .last .1 .0)) (queueIn (find-methods .last .1 .0)) (find-methods .result) (if2 .left) (find-methods .ensures)
+    types-methods (a .b .now) (a .l .now) (a .c) (relationOf (a .k)) (a .a) (a .d) (pre .3) (pre .4) (get-head .result) (get-head2 .result) (get-head .ensures) (get-head2 .ensures)
+    (outer-rule .result) (outer-rule .ensures (a .b .now)) (a .c .types) (marksIn (a .found .now)) (queueIn (a .found .now)) (a .tail)
+    (not-false (outer-rule .result) (if1 .left)) (marksIn (find-methods .last .1 .0)) (queueIn (find-methods .last .1 .0)) (find-methods .result) (if2 .left)
+    (find-methods .ensures)
 
 pub find-types-spec : {M : Type 1} → statement M
 find-types-spec =

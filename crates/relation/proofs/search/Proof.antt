@@ -31,7 +31,8 @@ loop-holds c =
     let a = c .before .before .args in
     let pre = c .before .before .pre in
     let add-pair = c .add-pair in
-    start-at (relationOf (a .k)) (tableIn (a .b .now) (a .l .now) (a .c)) (a .c .types) (a .t) (a .s) (size-is (a .b .now) (a .l .now) (a .c)) (add-pair .last .0) (add-pair .result) (add-pair .ensures) (pre .1 .limits .types) (pre .2) (pre .3)
+    start-at (relationOf (a .k)) (tableIn (a .b .now) (a .l .now) (a .c)) (a .c .types) (a .t) (a .s) (size-is (a .b .now) (a .l .now) (a .c)) (add-pair .last .0)
+    (add-pair .result) (add-pair .ensures) (pre .1 .limits .types) (pre .2) (pre .3)
 
 find-next-requires : tie.Need-find-next-requires Inv-loop μ-loop
 find-next-requires c κs =
@@ -47,7 +48,9 @@ returns c =
     let loop-test = c .before .before .before .loop-test in
     let find-next = c .before .find-next in
     let if1 = c .if1 in
-    broken (relationOf (a .k)) (tableIn (a .b .now) (a .l .now) (a .c)) (a .c .types) (a .t) (a .s) (size-is (a .b .now) (a .l .now) (a .c)) (marksIn (loop .found)) (queueIn (loop .found)) (loop .tail) (loop .head) (loop .inv) (loop-test .taken) (marksIn (find-next .last .1 .1 .0)) (queueIn (find-next .last .1 .1 .0)) (find-next .result) (find-next .ensures) (if1 .taken)
+    broken (relationOf (a .k)) (tableIn (a .b .now) (a .l .now) (a .c)) (a .c .types) (a .t) (a .s) (size-is (a .b .now) (a .l .now) (a .c)) (marksIn (loop .found))
+    (queueIn (loop .found)) (loop .tail) (loop .head) (loop .inv) (loop-test .taken) (marksIn (find-next .last .1 .1 .0)) (queueIn (find-next .last .1 .1 .0))
+    (find-next .result) (find-next .ensures) (if1 .taken)
 
 add-head : tie.Need-add-head Inv-loop μ-loop
 add-head c =
@@ -72,14 +75,17 @@ loop-again c =
     let loop-test = c .before .before .before .loop-test in
     let find-next = c .before .find-next in
     let if1 = c .if1 in
-    again (relationOf (a .k)) (tableIn (a .b .now) (a .l .now) (a .c)) (a .c .types) (a .t) (a .s) (size-is (a .b .now) (a .l .now) (a .c)) (marksIn (loop .found)) (queueIn (loop .found)) (loop .tail) (loop .head) (loop .inv) (loop-test .taken) (marksIn (find-next .last .1 .1 .0)) (queueIn (find-next .last .1 .1 .0)) (find-next .result) (find-next .ensures) (if1 .left)
+    again (relationOf (a .k)) (tableIn (a .b .now) (a .l .now) (a .c)) (a .c .types) (a .t) (a .s) (size-is (a .b .now) (a .l .now) (a .c)) (marksIn (loop .found))
+    (queueIn (loop .found)) (loop .tail) (loop .head) (loop .inv) (loop-test .taken) (marksIn (find-next .last .1 .1 .0)) (queueIn (find-next .last .1 .1 .0))
+    (find-next .result) (find-next .ensures) (if1 .left)
 
 returns-2 : tie.Need-returns-2 Inv-loop μ-loop
 returns-2 c =
     let a = c .before .before .before .before .args in
     let loop = c .before .loop in
     let loop-test = c .loop-test in
-    ended (relationOf (a .k)) (tableIn (a .b .now) (a .l .now) (a .c)) (a .c .types) (a .t) (a .s) (size-is (a .b .now) (a .l .now) (a .c)) (marksIn (loop .found)) (queueIn (loop .found)) (loop .tail) (loop .head) (loop .inv) (loop-test .left)
+    ended (relationOf (a .k)) (tableIn (a .b .now) (a .l .now) (a .c)) (a .c .types) (a .t) (a .s) (size-is (a .b .now) (a .l .now) (a .c)) (marksIn (loop .found))
+    (queueIn (loop .found)) (loop .tail) (loop .head) (loop .inv) (loop-test .left)
 
 pub search-spec : {M : Type 1} → statement M
 search-spec =

@@ -1,7 +1,6 @@
--- Rests on `outcome-is`: what the recursion gives is the model's answer.
+-- Rests on `derives`: what the recursion gives, as callers use it.
 use borrow.Author.Needs.{needs}
-use Rattle.restrict.proofs.Codes.{codes-stay}
-use Rattle.restrict.proofs.Ends.{outcome-is}
+use Rattle.restrict.proofs.Ends.{derives}
 use Rattle.restrict.proofs.closed_type.Tie as tie
 use Rattle.restrict.proofs.closed_type.Statement.{statement}
 
@@ -9,7 +8,7 @@ closed-requires : tie.Need-closed-requires
 closed-requires c κs = search needs
 
 returns : tie.Need-returns
-returns c = (outcome-is (c .before .before .args .c) (c .closed .ensures), (c .closed .ensures .keeps, codes-stay (c .before .before .args .b .now) _ (c .before .before .args .c) (c .closed .result) (c .closed .ensures .coded)))
+returns c = derives (c .before .before .args .c) (c .closed .ensures)
 
 pub closed-type-spec : {M : Type 1} → statement M
 closed-type-spec = tie.close (tie.spec closed-requires returns)
