@@ -1,6 +1,6 @@
-// Document 01, "Sheet read" and "Sheet text": the line kinds of a sheet but those of one number. Each is read by 1 (form), 2 (number outside its range), 3 (broader category not below),
-// in this order over the whole line. A function `read_..` reads the bytes of one line, a function `next_..` the next line of the text.
-// `is` says what is read, `exact` that the record is the one that stands for it: a state by its own code, unused slots 0.
+// The line kinds of a sheet but those of one number (docs/SPEC.md S24 to S26). In each the tests for 1 come first, then those for 2, then those for 3, over the whole line (S5).
+// A function `read_..` reads the bytes of one line, a function `next_..` the next line of the text.
+// `is` says what is read, `exact` that the record is the one that stands for it: a state by its own code, unused slots 0 (B13).
 ghost use mathlib.Core.Path.{_≡_};
 ghost use mathlib.Core.Bool.{true, false};
 ghost use Prim.Native.Nat.{ℕ, _≤_, _<_};
@@ -56,7 +56,7 @@ pub struct MethodGot {
     pub next: Cursor,
 }
 
-// "A type has a representation: ref, w32 or w64"; another word is 1.
+// A `rep=` line (S25); another word is 1.
 fn read_rep(l: &[u8]) -> Value
     ensures is { λ r. ⌜ valueBy repOf r ≡ repLine (now (l .entry)) ⌝ }
     ensures within { λ r. ⌜ AtMost 2 r ⌝ }
@@ -82,7 +82,7 @@ pub fn next_rep(s: &[u8], c: Cursor) -> Got
     textread::passed(v, c, l)
 }
 
-// "`own=`(yes or no)"
+// An `own=` line (S25).
 fn read_own(l: &[u8]) -> Value
     ensures is { λ r. ⌜ valueBy yesOf r ≡ ownLine (now (l .entry)) ⌝ }
     ensures within { λ r. ⌜ AtMost 1 r ⌝ }
@@ -105,7 +105,7 @@ pub fn next_own(s: &[u8], c: Cursor) -> Got
     textread::passed(v, c, l)
 }
 
-// "`end=sheet`"
+// The last line (S22).
 fn read_end(l: &[u8]) -> Value
     ensures { λ r. ⌜ valueBy (λ n. tt) r ≡ endLine (now (l .entry)) ⌝ }
 {
@@ -148,7 +148,7 @@ fn pack(items: [usize; 4], count: usize, n: usize) -> Packed
     }
 }
 
-// "one `under=` line (one or two numbers, comma) for each category": the line of category k. "a broader category above the last, is 2".
+// An `under=` line, of category k (S24): a broader category above the last is 2, another that is not below k is 3 (S12).
 fn read_under(l: &[u8], cats: usize, k: usize) -> Under
     requires { ⌜ (cats ≤ 31) × (k ≤ 31) ⌝ }
     ensures is { λ r. ⌜ underBy r ≡ underLine cats k (now (l .entry)) ⌝ }
@@ -193,7 +193,7 @@ pub fn next_under(s: &[u8], c: Cursor, cats: usize, k: usize) -> UnderGot
     }
 }
 
-// The arguments of a signature, to the bracket that closes them. "more than two arguments is 1"
+// The arguments of a signature, to the bracket that closes them (S26). More than two are a fault of form (S11).
 fn args_at(l: &[u8], at: usize) -> Numbers
     requires { ⌜ at ≤ length (now l) ⌝ }
     ensures is { λ r. ⌜ scanned (now (l .entry)) (r .right) (take (r .count) (r .items)) (r .next) ≡ arguments (drop at (now (l .entry))) ⌝ }
@@ -230,7 +230,7 @@ fn args_at(l: &[u8], at: usize) -> Numbers
     }
 }
 
-// The answer of a signature: 0 for "a missing answer `-`", else the number plus 1.
+// The answer of a signature: 0 for `-`, else the number plus 1 (B10).
 fn answer_at(l: &[u8], at: usize) -> Number
     requires { ⌜ at ≤ length (now l) ⌝ }
     ensures { λ r. ⌜ scanBy answerOf (now (l .entry)) r ≡ answer (drop at (now (l .entry))) ⌝ }
@@ -272,7 +272,7 @@ fn read_unsigned(state: u8) -> MethodLine
     MethodLine { refusal: 0, m }
 }
 
-// "A state with signature is written `avail(0,3)2`": the signature from `at` on, of a sheet with n types.
+// A signature, from `at` on, of a sheet with n types (S26): a number that isn't below n is 2 (S29).
 fn read_signature(l: &[u8], at: usize, state: u8, n: usize) -> MethodLine
     requires { ⌜ (at ≤ length (now l)) × (n ≤ 48) × (permit (stateOf state) ≡ true) ⌝ }
     ensures is { λ r. ⌜ result (r .refusal) (methodOf (rawMethod (r .m))) ≡ signature n (stateOf state) (drop at (now (l .entry))) ⌝ }
@@ -307,7 +307,7 @@ fn read_signature(l: &[u8], at: usize, state: u8, n: usize) -> MethodLine
     MethodLine { refusal: 0, m }
 }
 
-// "an `m=` line for each method", of a sheet with n types.
+// An `m=` line of a sheet with n types (S26).
 fn read_method(l: &[u8], n: usize) -> MethodLine
     requires { ⌜ n ≤ 48 ⌝ }
     ensures is { λ r. ⌜ result (r .refusal) (methodOf (rawMethod (r .m))) ≡ methodLine n (now (l .entry)) ⌝ }

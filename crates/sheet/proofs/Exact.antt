@@ -18,7 +18,7 @@ use Rattle.model.specs.Check.{RawTable, tableOf, codesFit, tableAccepted}
 use Rattle.model.proofs.Rules.{second}
 use Rattle.sheet.specs.Lines.{Row, row, split, join, Reading, refused, got, Reader, line, follow, bind, endOfInput}
 use Rattle.sheet.specs.Text.{endText, sheetLines, withoutDerived, text, Written, writeText, write}
-use Rattle.sheet.specs.Sheet.{endLine, body, signaturesStand, ending, sheet, malformed, loaded, sheetAnswer, read, emptyTable, tableRead}
+use Rattle.sheet.specs.Sheet.{endLine, body, signaturesStand, ending, sheet, malformed, loaded, sheetAnswer, read}
 use Rattle.sheet.proofs.Steps.{cond-cases, refuse-ok, ok-value}
 use Rattle.sheet.proofs.Lines.{rows, rows-append, split-sound, split-full, clean-lines}
 use Rattle.sheet.proofs.LineKinds.{end-exact}
@@ -103,10 +103,6 @@ same-table bs t u h k = loaded-table (sym h ∙ k)
 
 pub same-text : (bs cs : List ℕ) (t : Table) → read bs ≡ loaded t → read cs ≡ loaded t → bs ≡ cs
 same-text bs cs t h k = sym (text-of-read bs t h) ∙ text-of-read cs t k
-
--- "the table is always a new one, here with every count 0"
-pub refused-empty : (bs : List ℕ) (n at : ℕ) → read bs ≡ malformed n at → tableRead (read bs) ≡ emptyTable
-refused-empty bs n at h = ap tableRead h
 
 -- The text of a table that keeps the rules, derived types or not, is read back as the table without them (docs/DECISIONS.md S17).
 pub read-of-fitting : (t : Table) → So (tableFits t) → read (text t) ≡ loaded (withoutDerived t)

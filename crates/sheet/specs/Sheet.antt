@@ -108,11 +108,11 @@ body = bind (line (numberLine (bytes "guide=") 1 newestForm)) λ g.
 abbrev pub stands : (ℕ → Bool) → Method → Bool
 stands may m = all may (m .args) && unlessMissing (m .answer) may
 
--- every type in a signature of the table may stand in one (the model's `mayStand`)
+-- every type in a signature of the table may stand in one (the model's `mayStand`, docs/SPEC.md T14)
 unfoldable pub signaturesStand : Table → Bool
 signaturesStand t = all (λ (x : Ty). all (stands (λ a. mayStand (typeAt t a))) (x .methods)) (t .types)
 
--- "`end=sheet`, nothing after"; "then, every line being right, 3 for own in a signature, at the last line" (S6, S13)
+-- the last line, and nothing behind it; then, every line being right, 3 at its offset where a type stands in a signature that may not (docs/SPEC.md S6, S10, S13)
 unfoldable pub ending : Table → Reader Table
 unfolding endLine signaturesStand
 ending t last = bind (line endLine) (λ u. bind endOfInput λ u at rs. cond (signaturesStand t) (got t at rs) (refused 3 last)) last
@@ -135,11 +135,3 @@ sheetAnswer (got t at rs) = loaded t
 unfoldable pub read : List ℕ → SheetAnswer
 unfolding sheet split
 read bs = sheetAnswer (sheet 0 (split bs))
-
--- "the table is always a new one, here with every count 0"
-abbrev pub emptyTable : Table
-emptyTable = record { subjects = 0; methods = 0; cats = []; sheet = 0; types = [] }
-
-abbrev pub tableRead : SheetAnswer → Table
-tableRead (malformed n at) = emptyTable
-tableRead (loaded t) = t

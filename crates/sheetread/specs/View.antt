@@ -57,7 +57,7 @@ pub record MethodsExact (m : ℕ) (ms : List Method) : Type 0 where
   pub exact : (j : ℕ) → j < m → MethodExact (getD (map rawMethod ms) j noRawMethod)
   pub rest : (j : ℕ) → m ≤ j → j < 16 → getD (map rawMethod ms) j noRawMethod ≡ blankMethod
 
--- "one `under=` line .. for each category"; "an `m=` line for each method"
+-- the `under=` line of a category, and the `m=` line of a method
 abbrev pub eachUnder : ℕ → ℕ → Reader (List ℕ)
 eachUnder cats k = line (underLine cats k)
 
@@ -86,7 +86,8 @@ typeStands rs n x = methodsStand (standsAt rs n) (x .methods)
 
 -- The lines of `body` in groups: the first four, the `under=` lines, the number of types, and the rest.
 abbrev pub first₁ : ℕ → Reader Front
-first₁ g = bind (line (numberLine (bytes "subjects=") 1 maxSubjects)) λ s. bind (line (numberLine (bytes "methods=") 1 maxMethods)) λ m. bind (line (numberLine (bytes "cats=") 0 maxCategories)) λ c. pure (record { subjects = s; methods = m; cats = c })
+first₁ g = bind (line (numberLine (bytes "subjects=") 1 maxSubjects)) λ s. bind (line (numberLine (bytes "methods=") 1 maxMethods)) λ m. bind (line (numberLine (bytes "cats=") 0 maxCategories)) λ cats.
+    pure (record { subjects = s; methods = m; cats = cats })
 
 unfoldable pub first : Reader Front
 unfolding numberLine
@@ -105,7 +106,7 @@ unfoldable pub afterFirst : Front → Reader Table
 unfolding times underLine afterCats
 afterFirst h = bind (times (eachUnder (h .cats)) (h .cats) 1 []) (afterCats h)
 
--- The reader's answer for the definition's, every byte of it: the bytes that stand for the table; or number and offset of the refusal, with a table that holds nothing.
+-- The reader's answer for the definition's, every byte of it: the bytes that stand for the table; or number and offset of the refusal, with a table that holds nothing (docs/SPEC.md B21).
 abbrev pub answered : SheetAnswer → Sheet
 answered (malformed n at) = record { refusal = n; at = at; types = emptyTypes; links = emptyLinks; counts = emptyCounts }
 answered (loaded t) = record { refusal = 0; at = 0; types = typeBytes (t .types); links = linkBytes (t .cats); counts = countsOf t }

@@ -1,4 +1,4 @@
-// Document 01, "Sheet read": the sheet reader. `read` takes any bytes and answers with a table, or with the number of a refusal and the byte offset of the line.
+// The sheet reader (docs/SPEC.md S). `read` takes any bytes and answers with a table, or with the number of a refusal and the byte offset of the line.
 // What it answers is crate `sheet`'s definition `read`, and every byte of the answer is determined by it (specs/View.antt, `answered`).
 // Lines are found by crate `textread` and read by `lineread`; here they are put together and stored, as crate `table` has it.
 ghost use mathlib.Core.Path.{_≡_};
@@ -69,7 +69,7 @@ pub struct Sheet {
     pub counts: Counts,
 }
 
-// "one `under=` line (one or two numbers, comma) for each category", stored in lent bytes that hold nothing.
+// The `under=` lines of the categories (S22), stored in lent bytes that hold nothing.
 fn links_into(s: &[u8], c: Cursor, cats: usize, l: &mut [u8; LINK_BYTES]) -> Done
     requires { ⌜ (cats ≤ 31) × (now l ≡ emptyLinks) ⌝ }
     ensures is { λ r. ⌜ doneBy (now (s .entry)) (linksTo cats (linksIn (now (l .exit)))) r ≡ times (eachUnder cats) cats 1 [] (c .at) (split (drop (c .at) (now (s .entry)))) ⌝ }
@@ -93,7 +93,7 @@ fn links_into(s: &[u8], c: Cursor, cats: usize, l: &mut [u8; LINK_BYTES]) -> Don
     Done::At(Cursor { at })
 }
 
-// "an `m=` line for each method": m of them, of a sheet with n types.
+// The `m=` lines of a type: m of them, of a sheet with n types.
 fn methods_at(s: &[u8], c: Cursor, m: usize, n: usize) -> MethodsGot
     requires { ⌜ (m ≤ 16) × (n ≤ 48) ⌝ }
     ensures is { λ r. ⌜ reading (now (s .entry)) (r .refusal) (map methodIs (take m (r .list))) (r .next .at) ≡ times (eachMethod n) m 0 [] (c .at) (split (drop (c .at) (now (s .entry)))) ⌝ }
@@ -133,7 +133,7 @@ fn no_type(refusal: usize, next: Cursor) -> TypeGot
     TypeGot { refusal, t, next }
 }
 
-// The head of a sheet type: kind, left and right are 0.
+// The head of a sheet type: kind, left and right are 0 (B14).
 fn sheet_head(rep: usize, cat: usize, own: usize) -> Head
     requires { ⌜ (rep ≤ 2) × (cat ≤ 31) × (own ≤ 1) ⌝ }
     ensures { λ r. ⌜ r ≡ record { rep = rep; cat = cat; own = own; kind = 0; left = 0; right = 0 } ⌝ }
@@ -148,7 +148,7 @@ fn sheet_head(rep: usize, cat: usize, own: usize) -> Head
     }
 }
 
-// A number type: neither own nor methods.
+// A number type: neither own nor methods (B15).
 fn number_type(rep: usize, cat: usize) -> TypeRec
     requires { ⌜ (0 < rep) × (rep ≤ 2) × (cat ≤ 31) ⌝ }
     ensures is { λ r. ⌜ ((m n i : ℕ) → i < n → typeOf m n i (rawOf r) ≡ sheetType (repOf rep) cat false []) ⌝ }
@@ -160,7 +160,7 @@ fn number_type(rep: usize, cat: usize) -> TypeRec
     TypeRec { head, methods }
 }
 
-// "and for ref `own=`(yes or no) and an `m=` line for each method": m methods, of a sheet with n types.
+// What a reference type has behind its `cat=` line (S25): m methods, of a sheet with n types.
 fn ref_type(s: &[u8], c: Cursor, cat: usize, m: usize, n: usize) -> TypeGot
     requires { ⌜ (cat ≤ 31) × (m ≤ 16) × (n ≤ 48) ⌝ }
     ensures is { λ r. ⌜ ((i : ℕ) → i < n → reading (now (s .entry)) (r .refusal) (typeOf m n i (rawOf (r .t))) (r .next .at) ≡ membersRead m n cat (c .at) (split (drop (c .at) (now (s .entry))))) ⌝ }
@@ -187,7 +187,7 @@ fn ref_type(s: &[u8], c: Cursor, cat: usize, m: usize, n: usize) -> TypeGot
     }
 }
 
-// "for each type `type=`, `rep=`, `cat=`": type i of n. "A type number out of turn .. is 2".
+// The block of type i of n (S25). A number out of turn is 2 (S30).
 fn one_type(s: &[u8], c: Cursor, i: usize, m: usize, cats: usize, n: usize) -> TypeGot
     requires { ⌜ (i < n) × (n ≤ 48) × (m ≤ 16) × (cats ≤ 31) ⌝ }
     ensures is { λ r. ⌜ reading (now (s .entry)) (r .refusal) (typeOf m n i (rawOf (r .t))) (r .next .at) ≡ oneType m cats n i (c .at) (split (drop (c .at) (now (s .entry)))) ⌝ }
@@ -283,7 +283,7 @@ fn args_stand(b: &[u8; TYPE_BYTES], n: usize, m: Method) -> bool
     true
 }
 
-// "A type with own=yes stands in no signature": whether a method's keeps this.
+// Whether every type of a method's signature may stand there (T14).
 fn method_stands(b: &[u8; TYPE_BYTES], n: usize, m: Method) -> bool
     requires { ⌜ n ≤ 128 ⌝ }
     ensures { λ r. ⌜ r ≡ stands (standsAt (typesIn (now (b .entry))) n) (methodIs m) ⌝ }
@@ -336,7 +336,7 @@ fn types_stand(b: &[u8; TYPE_BYTES], n: usize, m: usize) -> bool
     true
 }
 
-// "`end=sheet`, nothing after"; "then, every line being right, 3 for own in a signature, at the last line"
+// The last line, and nothing behind it (S10); then, every line being right, 3 at its offset where a type stands in a signature that may not (S13).
 fn last_line(s: &[u8], c: Cursor, b: &[u8; TYPE_BYTES], n: usize, m: usize) -> Done
     requires { ⌜ (n ≤ 128) × (m ≤ 16) ⌝ }
     ensures { λ r. ⌜ ((t : Table) → t .types ≡ typesTo m n n (typesIn (now (b .entry))) → doneBy (now (s .entry)) t r ≡ ending t (c .at) (split (drop (c .at) (now (s .entry))))) ⌝ }
@@ -356,7 +356,7 @@ fn last_line(s: &[u8], c: Cursor, b: &[u8; TYPE_BYTES], n: usize, m: usize) -> D
     }
 }
 
-// "Fixed order: `guide=1`, `subjects=`, `methods=`, `cats=`"
+// The first four lines (S22).
 fn first_lines(s: &[u8]) -> First
     ensures is { λ r. ⌜ firstBy (now (s .entry)) r ≡ first 0 (split (now (s .entry))) ⌝ }
     ensures within { λ r. ⌜ FirstWithin r ⌝ }
@@ -395,7 +395,7 @@ fn first_lines(s: &[u8]) -> First
     }
 }
 
-// "It returns number and byte offset of that line ..; the table is always a new one, here with every count 0."
+// A refusal: its number, the offset of its line, and a table that holds nothing (S31, S32).
 fn refused(refusal: usize, at: usize) -> Sheet
     ensures { λ r. ⌜ r ≡ answered (malformed refusal at) ⌝ }
 {
@@ -466,7 +466,7 @@ fn after_first(s: &[u8], c: Cursor, h: Front) -> Sheet
     }
 }
 
-// "Sheet read", for any bytes. Where a sheet is accepted there is no line to point at, and `at` is 0.
+// Sheet read, for any bytes. Where a sheet is accepted there is no line to point at, and `at` is 0 (S33).
 pub fn read(s: &[u8]) -> Sheet
     ensures { λ r. ⌜ r ≡ answered (readSheet (now (s .entry))) ⌝ }
 {

@@ -1,4 +1,4 @@
-// Document 01, "Sheet text": "ASCII lines ended by LF, decimal without leading zeros." Lines and decimals, for every program that reads text.
+// Lines and decimals (docs/SPEC.md S20, S21), for every program that reads text.
 // Contracts say what is read in the words of crate `sheet`: scans of a line, and readings of the lines from a byte offset on (specs/View.antt).
 ghost use mathlib.Core.Path.{_≡_};
 ghost use mathlib.Core.Bool.{true, false};

@@ -33,10 +33,22 @@ add-t12 : tie.Need-add-t12
 add-t12 c = omega (arith, right-within _ (c .before .before .before .number-at .result) _ _ (c .before .t .given .1) (c .before .before .before .number-at .ensures .1))
 
 returns-3 : tie.Need-returns-3
-returns-3 c = let a = c .before .before .before .before .before .before .before .args in let h : a .at < length (a .l .now) = omega arith in answer-wrong _ _ h (c .before .before .before .if2 .left) (number-scan-wrong (λ n. n) (a .l .now) (c .before .before .number-at .result) _ (c .before .before .number-at .ensures .0) (c .enum-told .given .1))
+returns-3 c =
+    let c2 = c .before .before in
+    let c3 = c2 .before in
+    let c7 = c3 .before .before .before .before in
+    let a = c7 .args in
+    let h : a .at < length (a .l .now) = omega arith in answer-wrong _ _ h (c3 .if2 .left) (number-scan-wrong (λ n. n) (a .l .now) (c2 .number-at .result) _ (c2 .number-at .ensures .0) (c .enum-told .given .1))
 
 returns-4 : tie.Need-returns-4
-returns-4 c = let a = c .before .before .before .before .before .before .before .before .args in let h : a .at < length (a .l .now) = omega arith in let n = c .before .t .given .0 .0 in let e = c .before .t .given .0 .1 .0 in answer-took _ _ h (c .before .before .before .before .if2 .left) n e (number-scan-right (λ n. n) (a .l .now) (c .before .before .before .number-at .result) _ (c .before .before .before .number-at .ensures .0) n e (c .before .t .given .1))
+returns-4 c =
+    let c3 = c .before .before .before in
+    let c4 = c3 .before in
+    let c8 = c4 .before .before .before .before in
+    let a = c8 .args in
+    let h : a .at < length (a .l .now) = omega arith in
+    let n = c .before .t .given .0 .0 in
+    let e = c .before .t .given .0 .1 .0 in answer-took _ _ h (c4 .if2 .left) n e (number-scan-right (λ n. n) (a .l .now) (c3 .number-at .result) _ (c3 .number-at .ensures .0) n e (c .before .t .given .1))
 
 pub answer-at-spec : {M : Type 1} → statement M
 answer-at-spec =

@@ -14,10 +14,15 @@ read-end-requires : tie.Need-read-end-requires
 read-end-requires c κs = search needs
 
 passed-requires : tie.Need-passed-requires
-passed-requires c κs = let a = c .before .before .before .args in line-passable endLine end-empty (a .s .now) (a .c .at) _ (c .before .line-at .ensures) (λ n. tt) (c .read-end .result) (c .read-end .ensures) (omega arith)
+passed-requires c κs =
+    let c3 = c .before .before .before in
+    let a = c3 .args in line-passable endLine end-empty (a .s .now) (a .c .at) _ (c .before .line-at .ensures) (λ n. tt) (c .read-end .result) (c .read-end .ensures) (omega arith)
 
 returns : tie.Need-returns
-returns c = let a = c .before .before .before .before .args in line-read endLine end-empty (a .s .now) (a .c .at) _ (c .before .before .line-at .ensures) (λ n. tt) (c .before .read-end .result) (c .passed .result) (c .before .read-end .ensures) (c .passed .ensures)
+returns c =
+    let c2 = c .before .before in
+    let c4 = c2 .before .before in
+    let a = c4 .args in line-read endLine end-empty (a .s .now) (a .c .at) _ (c2 .line-at .ensures) (λ n. tt) (c .before .read-end .result) (c .passed .result) (c .before .read-end .ensures) (c .passed .ensures)
 
 pub next-end-spec : {M : Type 1} → statement M
 next-end-spec = tie.close (tie.spec line-at-requires read-end-requires passed-requires returns)

@@ -17,22 +17,31 @@ read-method-requires c κs = search needs
 
 returns : tie.Need-returns
 returns c =
-    let a = c .before .before .before .before .before .before .args in
-    let g = c .before .before .before .read-method in
-    (line-result-no (methodLine (a .n)) (method-empty (a .n)) (a .s .now) (a .c .at) _ (c .before .before .before .before .line-at .ensures) (g .result .refusal) (methodOf (rawMethod (g .result .m))) (g .ensures .0) (c .if1 .taken), g .ensures .1)
+    let c3 = c .before .before .before in
+    let c4 = c3 .before in
+    let c6 = c4 .before .before in
+    let a = c6 .args in
+    let g = c3 .read-method in
+    (line-result-no (methodLine (a .n)) (method-empty (a .n)) (a .s .now) (a .c .at) _ (c4 .line-at .ensures) (g .result .refusal) (methodOf (rawMethod (g .result .m))) (g .ensures .0) (c .if1 .taken), g .ensures .1)
 
 past-requires : tie.Need-past-requires
 past-requires c κs =
-    let a = c .before .before .before .before .before .before .args in
-    let g = c .before .before .before .read-method in
+    let c3 = c .before .before .before in
+    let c4 = c3 .before in
+    let c6 = c4 .before .before in
+    let a = c6 .args in
+    let g = c3 .read-method in
     let x = methodOf (rawMethod (g .result .m)) in
-    omega (arith, line-fits (methodLine (a .n)) (method-empty (a .n)) (a .s .now) (a .c .at) _ (c .before .before .before .before .line-at .ensures) x (result-ok (g .result .refusal) x _ (g .ensures .0) (c .if1 .left)))
+    omega (arith, line-fits (methodLine (a .n)) (method-empty (a .n)) (a .s .now) (a .c .at) _ (c4 .line-at .ensures) x (result-ok (g .result .refusal) x _ (g .ensures .0) (c .if1 .left)))
 
 returns-2 : tie.Need-returns-2
 returns-2 c =
-    let a = c .before .before .before .before .before .before .before .args in
-    let g = c .before .before .before .before .read-method in (
-      line-result-ok (methodLine (a .n)) (method-empty (a .n)) (a .s .now) (a .c .at) _ (c .before .before .before .before .before .line-at .ensures) (g .result .refusal) (methodOf (rawMethod (g .result .m))) (c .past .result .at)
+    let c4 = c .before .before .before .before in
+    let c5 = c4 .before in
+    let c7 = c5 .before .before in
+    let a = c7 .args in
+    let g = c4 .read-method in (
+      line-result-ok (methodLine (a .n)) (method-empty (a .n)) (a .s .now) (a .c .at) _ (c5 .line-at .ensures) (g .result .refusal) (methodOf (rawMethod (g .result .m))) (c .past .result .at)
           (g .ensures .0) (c .before .if1 .left) (c .past .ensures),
       g .ensures .1,
     )

@@ -15,13 +15,18 @@ read-rep-requires : tie.Need-read-rep-requires
 read-rep-requires c κs = search needs
 
 passed-requires : tie.Need-passed-requires
-passed-requires c κs = let a = c .before .before .before .args in line-passable repLine rep-empty (a .s .now) (a .c .at) _ (c .before .line-at .ensures) repOf (c .read-rep .result) (c .read-rep .ensures .0) (omega arith)
+passed-requires c κs =
+    let c3 = c .before .before .before in
+    let a = c3 .args in line-passable repLine rep-empty (a .s .now) (a .c .at) _ (c .before .line-at .ensures) repOf (c .read-rep .result) (c .read-rep .ensures .0) (omega arith)
 
 returns : tie.Need-returns
-returns c = let a = c .before .before .before .before .args in (
-  line-read repLine rep-empty (a .s .now) (a .c .at) _ (c .before .before .line-at .ensures) repOf (c .before .read-rep .result) (c .passed .result) (c .before .read-rep .ensures .0) (c .passed .ensures),
-  passed-at-most 2 (a .c .at) _ (c .before .read-rep .result) (c .passed .result) (c .before .read-rep .ensures .1) (c .passed .ensures),
-)
+returns c =
+    let c2 = c .before .before in
+    let c4 = c2 .before .before in
+    let a = c4 .args in (
+      line-read repLine rep-empty (a .s .now) (a .c .at) _ (c2 .line-at .ensures) repOf (c .before .read-rep .result) (c .passed .result) (c .before .read-rep .ensures .0) (c .passed .ensures),
+      passed-at-most 2 (a .c .at) _ (c .before .read-rep .result) (c .passed .result) (c .before .read-rep .ensures .1) (c .passed .ensures),
+    )
 
 pub next-rep-spec : {M : Type 1} → statement M
 next-rep-spec = tie.close (tie.spec line-at-requires read-rep-requires passed-requires returns)

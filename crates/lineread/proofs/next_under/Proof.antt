@@ -28,24 +28,34 @@ enum-known-v-2 c = search needs
 
 past-requires : tie.Need-past-requires
 past-requires c κs =
-    let a = c .before .before .before .before .before .before .args in
-    let v = c .before .before .before .read-under in
-    omega (arith, line-fits (underLine (a .cats) (a .k)) (under-empty (a .cats) (a .k)) (a .s .now) (a .c .at) _ (c .before .before .before .before .line-at .ensures) _ (ap underBy (sym (c .before .v2 .given .1)) ∙ v .ensures .0))
+    let c3 = c .before .before .before in
+    let c4 = c3 .before in
+    let c6 = c4 .before .before in
+    let a = c6 .args in
+    let v = c3 .read-under in
+    omega (arith, line-fits (underLine (a .cats) (a .k)) (under-empty (a .cats) (a .k)) (a .s .now) (a .c .at) _ (c4 .line-at .ensures) _ (ap underBy (sym (c .before .v2 .given .1)) ∙ v .ensures .0))
 
 returns : tie.Need-returns
 returns c =
-    let a = c .before .before .before .before .before .before .args in
-    let v = c .before .before .before .read-under in
-    (line-refused (underLine (a .cats) (a .k)) (under-empty (a .cats) (a .k)) (a .s .now) (a .c .at) _ (c .before .before .before .before .line-at .ensures) _ (ap underBy (sym (c .before .v .given .1)) ∙ v .ensures .0), tt)
+    let c3 = c .before .before .before in
+    let c4 = c3 .before in
+    let c6 = c4 .before .before in
+    let a = c6 .args in
+    let v = c3 .read-under in
+    (line-refused (underLine (a .cats) (a .k)) (under-empty (a .cats) (a .k)) (a .s .now) (a .c .at) _ (c4 .line-at .ensures) _ (ap underBy (sym (c .before .v .given .1)) ∙ v .ensures .0), tt)
 
 returns-2 : tie.Need-returns-2
 returns-2 c =
-    let a = c .before .before .before .before .before .before .before .args in
-    let v = c .before .before .before .before .read-under in
-    let x = linksOf (rawLinks (c .before .before .v2 .given .0 .0)) in (
+    let c2 = c .before .before in
+    let c4 = c2 .before .before in
+    let c5 = c4 .before in
+    let c7 = c5 .before .before in
+    let a = c7 .args in
+    let v = c4 .read-under in
+    let x = linksOf (rawLinks (c2 .v2 .given .0 .0)) in (
       ap (λ (z : ℕ). got x z (split (drop z (a .s .now)))) (c .past .ensures)
-          ∙ line-accepted (underLine (a .cats) (a .k)) (under-empty (a .cats) (a .k)) (a .s .now) (a .c .at) _ (c .before .before .before .before .before .line-at .ensures) x (ap underBy (sym (c .before .before .v2 .given .1)) ∙ v .ensures .0),
-      subst UnderExact (c .before .before .v2 .given .1) (v .ensures .1),
+          ∙ line-accepted (underLine (a .cats) (a .k)) (under-empty (a .cats) (a .k)) (a .s .now) (a .c .at) _ (c5 .line-at .ensures) x (ap underBy (sym (c2 .v2 .given .1)) ∙ v .ensures .0),
+      subst UnderExact (c2 .v2 .given .1) (v .ensures .1),
     )
 
 pub next-under-spec : {M : Type 1} → statement M

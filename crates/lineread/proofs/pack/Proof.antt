@@ -45,13 +45,20 @@ loop-less : tie.Need-loop-less Inv-loop μ-loop
 loop-less c = search needs
 
 loop-again : tie.Need-loop-again Inv-loop μ-loop
-loop-again c = let a = c .before .before .before .before .args in let p = c .before .before .before .loop in let h : p .i < length (a .t1) = omega (arith, c .before .before .before .before .pre .1) in let k : p .i < length (p .bytes) = omega arith in (
-  omega arith,
-  length-set (p .bytes) (p .i) _ ∙ p .inv .1,
-  kept-next (a .t1) (p .bytes) (p .i) _ h k (c .narrow .ensures) (p .inv .2),
-  rest-next (p .bytes) (p .i) _ (p .inv .3),
-  below-next (a .t1) (a .count) (p .i) (a .n) (c .before .before .before .before .pre .1) (c .before .before .before .before .pre .0) (p .inv .4) (c .before .before .loop-test .taken) (c .before .if1 .left),
-)
+loop-again c =
+    let c2 = c .before .before in
+    let c3 = c2 .before in
+    let c4 = c3 .before in
+    let a = c4 .args in
+    let p = c3 .loop in
+    let h : p .i < length (a .t1) = omega (arith, c4 .pre .1) in
+    let k : p .i < length (p .bytes) = omega arith in (
+      omega arith,
+      length-set (p .bytes) (p .i) _ ∙ p .inv .1,
+      kept-next (a .t1) (p .bytes) (p .i) _ h k (c .narrow .ensures) (p .inv .2),
+      rest-next (p .bytes) (p .i) _ (p .inv .3),
+      below-next (a .t1) (a .count) (p .i) (a .n) (c4 .pre .1) (c4 .pre .0) (p .inv .4) (c2 .loop-test .taken) (c .before .if1 .left),
+    )
 
 returns-2 : tie.Need-returns-2 Inv-loop μ-loop
 returns-2 c = let a = c .before .before .args in let p = c .before .loop in let e : p .i ≡ a .count = omega arith in (

@@ -25,10 +25,18 @@ is-word-requires-2 : tie.Need-is-word-requires-2
 is-word-requires-2 c κs = search needs
 
 returns-2 : tie.Need-returns-2
-returns-2 c = (own-no (c .before .before .before .before .before .before .before .args .l .now) (sym (c .before .before .before .before .is-word .ensures) ∙ c .before .before .before .if1 .left) (sym (c .before .is-word2 .ensures) ∙ c .if2 .taken), omega arith)
+returns-2 c =
+    let c3 = c .before .before .before in
+    let c4 = c3 .before in
+    let c7 = c4 .before .before .before in
+    (own-no (c7 .args .l .now) (sym (c4 .is-word .ensures) ∙ c3 .if1 .left) (sym (c .before .is-word2 .ensures) ∙ c .if2 .taken), omega arith)
 
 returns-3 : tie.Need-returns-3
-returns-3 c = (own-none (c .before .before .before .before .before .before .before .args .l .now) (sym (c .before .before .before .before .is-word .ensures) ∙ c .before .before .before .if1 .left) (sym (c .before .is-word2 .ensures) ∙ c .if2 .left), omega arith)
+returns-3 c =
+    let c3 = c .before .before .before in
+    let c4 = c3 .before in
+    let c7 = c4 .before .before .before in
+    (own-none (c7 .args .l .now) (sym (c4 .is-word .ensures) ∙ c3 .if1 .left) (sym (c .before .is-word2 .ensures) ∙ c .if2 .left), omega arith)
 
 pub read-own-spec : {M : Type 1} → statement M
 read-own-spec =

@@ -28,7 +28,11 @@ cast-t12 : tie.Need-cast-t12
 cast-t12 c = search needs
 
 returns-2 : tie.Need-returns-2
-returns-2 c = (rep-w32 (c .before .before .before .before .before .before .before .args .l .now) (sym (c .before .before .before .before .is-word .ensures) ∙ c .before .before .before .if1 .left) (sym (c .before .is-word2 .ensures) ∙ c .if2 .taken), omega arith)
+returns-2 c =
+    let c3 = c .before .before .before in
+    let c4 = c3 .before in
+    let c7 = c4 .before .before .before in
+    (rep-w32 (c7 .args .l .now) (sym (c4 .is-word .ensures) ∙ c3 .if1 .left) (sym (c .before .is-word2 .ensures) ∙ c .if2 .taken), omega arith)
 
 slice-aggregate-is-word-3 : tie.Need-slice-aggregate-is-word-3
 slice-aggregate-is-word-3 c = search needs
@@ -40,10 +44,22 @@ cast-t16 : tie.Need-cast-t16
 cast-t16 c = search needs
 
 returns-3 : tie.Need-returns-3
-returns-3 c = (rep-w64 (c .before .before .before .before .before .before .before .before .before .before .args .l .now) (sym (c .before .before .before .before .before .before .before .is-word .ensures) ∙ c .before .before .before .before .before .before .if1 .left) (sym (c .before .before .before .before .is-word2 .ensures) ∙ c .before .before .before .if2 .left) (sym (c .before .is-word3 .ensures) ∙ c .if3 .taken), omega arith)
+returns-3 c =
+    let c3 = c .before .before .before in
+    let c4 = c3 .before in
+    let c6 = c4 .before .before in
+    let c7 = c6 .before in
+    let c10 = c7 .before .before .before in
+    (rep-w64 (c10 .args .l .now) (sym (c7 .is-word .ensures) ∙ c6 .if1 .left) (sym (c4 .is-word2 .ensures) ∙ c3 .if2 .left) (sym (c .before .is-word3 .ensures) ∙ c .if3 .taken), omega arith)
 
 returns-4 : tie.Need-returns-4
-returns-4 c = (rep-none (c .before .before .before .before .before .before .before .before .before .before .args .l .now) (sym (c .before .before .before .before .before .before .before .is-word .ensures) ∙ c .before .before .before .before .before .before .if1 .left) (sym (c .before .before .before .before .is-word2 .ensures) ∙ c .before .before .before .if2 .left) (sym (c .before .is-word3 .ensures) ∙ c .if3 .left), omega arith)
+returns-4 c =
+    let c3 = c .before .before .before in
+    let c4 = c3 .before in
+    let c6 = c4 .before .before in
+    let c7 = c6 .before in
+    let c10 = c7 .before .before .before in
+    (rep-none (c10 .args .l .now) (sym (c7 .is-word .ensures) ∙ c6 .if1 .left) (sym (c4 .is-word2 .ensures) ∙ c3 .if2 .left) (sym (c .before .is-word3 .ensures) ∙ c .if3 .left), omega arith)
 
 pub read-rep-spec : {M : Type 1} → statement M
 read-rep-spec =

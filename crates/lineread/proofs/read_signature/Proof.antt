@@ -21,8 +21,10 @@ no-method-requires c κs = search needs
 
 returns : tie.Need-returns
 returns c =
-    let a = c .before .before .before .before .before .args in
-    let t = c .before .before .before .args-at in
+    let c3 = c .before .before .before in
+    let c5 = c3 .before .before in
+    let a = c5 .args in
+    let t = c3 .args-at in
     let xs = take (t .result .count) (t .result .items) in
     let l = drop (a .at) (a .l .now) in (
       c .no-method .ensures .0 ∙ signature-args (a .n) (stateOf (a .state)) l (scan-wrong (a .l .now) (t .result .right) xs (t .result .next) _ (t .ensures .0) (not-true (t .result .right) (c .before .if1 .taken))),
@@ -43,12 +45,16 @@ no-method-requires-2 c κs = search needs
 
 returns-2 : tie.Need-returns-2
 returns-2 c =
-    let a = c .before .before .before .before .before .before .before .before .args in
-    let t = c .before .before .before .before .before .before .args-at in
+    let c3 = c .before .before .before in
+    let c4 = c3 .before in
+    let c6 = c4 .before .before in
+    let c8 = c6 .before .before in
+    let a = c8 .args in
+    let t = c6 .args-at in
     let xs = take (t .result .count) (t .result .items) in
     let l = drop (a .at) (a .l .now) in
-    let e = scan-right (a .l .now) (t .result .right) xs (t .result .next) _ (t .ensures .0) (not-false (t .result .right) (c .before .before .before .before .if1 .left)) in (
-      c .no-method2 .ensures .0 ∙ signature-answer (a .n) (stateOf (a .state)) l xs (drop (t .result .next) (a .l .now)) e (number-scan-wrong answerOf (a .l .now) (c .before .before .before .answer-at .result) _ (c .before .before .before .answer-at .ensures) (c .before .enum-told .given .1)),
+    let e = scan-right (a .l .now) (t .result .right) xs (t .result .next) _ (t .ensures .0) (not-false (t .result .right) (c4 .if1 .left)) in (
+      c .no-method2 .ensures .0 ∙ signature-answer (a .n) (stateOf (a .state)) l xs (drop (t .result .next) (a .l .now)) e (number-scan-wrong answerOf (a .l .now) (c3 .answer-at .result) _ (c3 .answer-at .ensures) (c .before .enum-told .given .1)),
       c .no-method2 .ensures .1,
     )
 
@@ -57,14 +63,19 @@ no-method-requires-3 c κs = search needs
 
 returns-3 : tie.Need-returns-3
 returns-3 c =
-    let a = c .before .before .before .before .before .before .before .before .before .before .args in
-    let t = c .before .before .before .before .before .before .before .before .args-at in
+    let c3 = c .before .before .before in
+    let c5 = c3 .before .before in
+    let c6 = c5 .before in
+    let c8 = c6 .before .before in
+    let c10 = c8 .before .before in
+    let a = c10 .args in
+    let t = c8 .args-at in
     let xs = take (t .result .count) (t .result .items) in
     let l = drop (a .at) (a .l .now) in
-    let e = scan-right (a .l .now) (t .result .right) xs (t .result .next) _ (t .ensures .0) (not-false (t .result .right) (c .before .before .before .before .before .before .if1 .left)) in
-    let m : ℕ = c .before .before .before .o .given .0 .0 in
-    let next : ℕ = c .before .before .before .o .given .0 .1 .0 in
-    let q = number-scan-right answerOf (a .l .now) (c .before .before .before .before .before .answer-at .result) _ (c .before .before .before .before .before .answer-at .ensures) m next (c .before .before .before .o .given .1) in
+    let e = scan-right (a .l .now) (t .result .right) xs (t .result .next) _ (t .ensures .0) (not-false (t .result .right) (c6 .if1 .left)) in
+    let m : ℕ = c3 .o .given .0 .0 in
+    let next : ℕ = c3 .o .given .0 .1 .0 in
+    let q = number-scan-right answerOf (a .l .now) (c5 .answer-at .result) _ (c5 .answer-at .ensures) m next (c3 .o .given .1) in
     (c .no-method3 .ensures .0 ∙ signature-behind (a .n) (stateOf (a .state)) l xs (drop (t .result .next) (a .l .now)) e m (a .l .now) next q (c .before .if2 .taken), c .no-method3 .ensures .1)
 
 pack-requires : tie.Need-pack-requires
@@ -75,33 +86,48 @@ no-method-requires-4 c κs = search needs
 
 returns-4 : tie.Need-returns-4
 returns-4 c =
-    let a = c .before .before .before .before .before .before .before .before .before .before .before .before .before .before .args in
-    let t = c .before .before .before .before .before .before .before .before .before .before .before .before .args-at in
+    let c3 = c .before .before .before in
+    let c5 = c3 .before .before in
+    let c7 = c5 .before .before in
+    let c9 = c7 .before .before in
+    let c10 = c9 .before in
+    let c12 = c10 .before .before in
+    let c14 = c12 .before .before in
+    let a = c14 .args in
+    let t = c12 .args-at in
     let xs = take (t .result .count) (t .result .items) in
     let l = drop (a .at) (a .l .now) in
-    let e = scan-right (a .l .now) (t .result .right) xs (t .result .next) _ (t .ensures .0) (not-false (t .result .right) (c .before .before .before .before .before .before .before .before .before .before .if1 .left)) in
-    let m : ℕ = c .before .before .before .before .before .before .before .o .given .0 .0 in
-    let next : ℕ = c .before .before .before .before .before .before .before .o .given .0 .1 .0 in
-    let q = number-scan-right answerOf (a .l .now) (c .before .before .before .before .before .before .before .before .before .answer-at .result) _ (c .before .before .before .before .before .before .before .before .before .answer-at .ensures) m next (c .before .before .before .before .before .before .before .o .given .1) in
-    let p = c .before .before .before .pack in
-    (c .no-method4 .ensures .0 ∙ signature-high (a .n) (stateOf (a .state)) l xs (drop (t .result .next) (a .l .now)) e m (a .l .now) next q (c .before .before .before .before .before .if2 .left) (sym (p .ensures .0) ∙ not-true (p .result .right) (c .before .if3 .taken)), c .no-method4 .ensures .1)
+    let e = scan-right (a .l .now) (t .result .right) xs (t .result .next) _ (t .ensures .0) (not-false (t .result .right) (c10 .if1 .left)) in
+    let m : ℕ = c7 .o .given .0 .0 in
+    let next : ℕ = c7 .o .given .0 .1 .0 in
+    let q = number-scan-right answerOf (a .l .now) (c9 .answer-at .result) _ (c9 .answer-at .ensures) m next (c7 .o .given .1) in
+    let p = c3 .pack in
+    (c .no-method4 .ensures .0 ∙ signature-high (a .n) (stateOf (a .state)) l xs (drop (t .result .next) (a .l .now)) e m (a .l .now) next q (c5 .if2 .left) (sym (p .ensures .0) ∙ not-true (p .result .right) (c .before .if3 .taken)), c .no-method4 .ensures .1)
 
 no-method-requires-5 : tie.Need-no-method-requires-5
 no-method-requires-5 c κs = search needs
 
 returns-5 : tie.Need-returns-5
 returns-5 c =
-    let a = c .before .before .before .before .before .before .before .before .before .before .before .before .before .before .before .args in
-    let t = c .before .before .before .before .before .before .before .before .before .before .before .before .before .args-at in
+    let c2 = c .before .before in
+    let c4 = c2 .before .before in
+    let c6 = c4 .before .before in
+    let c8 = c6 .before .before in
+    let c10 = c8 .before .before in
+    let c11 = c10 .before in
+    let c13 = c11 .before .before in
+    let c15 = c13 .before .before in
+    let a = c15 .args in
+    let t = c13 .args-at in
     let xs = take (t .result .count) (t .result .items) in
     let l = drop (a .at) (a .l .now) in
-    let e = scan-right (a .l .now) (t .result .right) xs (t .result .next) _ (t .ensures .0) (not-false (t .result .right) (c .before .before .before .before .before .before .before .before .before .before .before .if1 .left)) in
-    let m : ℕ = c .before .before .before .before .before .before .before .before .o .given .0 .0 in
-    let next : ℕ = c .before .before .before .before .before .before .before .before .o .given .0 .1 .0 in
-    let q = number-scan-right answerOf (a .l .now) (c .before .before .before .before .before .before .before .before .before .before .answer-at .result) _ (c .before .before .before .before .before .before .before .before .before .before .answer-at .ensures) m next (c .before .before .before .before .before .before .before .before .o .given .1) in
-    let p = c .before .before .before .before .pack in
-    let low = sym (p .ensures .0) ∙ not-false (p .result .right) (c .before .before .if3 .left) in
-    (c .no-method5 .ensures .0 ∙ signature-answer-high (a .n) (stateOf (a .state)) l xs (drop (t .result .next) (a .l .now)) e m (a .l .now) next q (c .before .before .before .before .before .before .if2 .left) low (c .before .if4 .taken), c .no-method5 .ensures .1)
+    let e = scan-right (a .l .now) (t .result .right) xs (t .result .next) _ (t .ensures .0) (not-false (t .result .right) (c11 .if1 .left)) in
+    let m : ℕ = c8 .o .given .0 .0 in
+    let next : ℕ = c8 .o .given .0 .1 .0 in
+    let q = number-scan-right answerOf (a .l .now) (c10 .answer-at .result) _ (c10 .answer-at .ensures) m next (c8 .o .given .1) in
+    let p = c4 .pack in
+    let low = sym (p .ensures .0) ∙ not-false (p .result .right) (c2 .if3 .left) in
+    (c .no-method5 .ensures .0 ∙ signature-answer-high (a .n) (stateOf (a .state)) l xs (drop (t .result .next) (a .l .now)) e m (a .l .now) next q (c6 .if2 .left) low (c .before .if4 .taken), c .no-method5 .ensures .1)
 
 narrow-requires : tie.Need-narrow-requires
 narrow-requires c κs = search needs
@@ -111,19 +137,28 @@ narrow-requires-2 c κs = search needs
 
 returns-6 : tie.Need-returns-6
 returns-6 c =
-    let a = c .before .before .before .before .before .before .before .before .before .before .before .before .before .before .before .before .before .args in
-    let t = c .before .before .before .before .before .before .before .before .before .before .before .before .before .before .before .args-at in
+    let c3 = c .before .before .before in
+    let c4 = c3 .before in
+    let c6 = c4 .before .before in
+    let c8 = c6 .before .before in
+    let c10 = c8 .before .before in
+    let c12 = c10 .before .before in
+    let c13 = c12 .before in
+    let c15 = c13 .before .before in
+    let c17 = c15 .before .before in
+    let a = c17 .args in
+    let t = c15 .args-at in
     let xs = take (t .result .count) (t .result .items) in
     let l = drop (a .at) (a .l .now) in
-    let e = scan-right (a .l .now) (t .result .right) xs (t .result .next) _ (t .ensures .0) (not-false (t .result .right) (c .before .before .before .before .before .before .before .before .before .before .before .before .before .if1 .left)) in
-    let m : ℕ = c .before .before .before .before .before .before .before .before .before .before .o .given .0 .0 in
-    let next : ℕ = c .before .before .before .before .before .before .before .before .before .before .o .given .0 .1 .0 in
-    let q = number-scan-right answerOf (a .l .now) (c .before .before .before .before .before .before .before .before .before .before .before .before .answer-at .result) _ (c .before .before .before .before .before .before .before .before .before .before .before .before .answer-at .ensures) m next (c .before .before .before .before .before .before .before .before .before .before .o .given .1) in
-    let p = c .before .before .before .before .before .before .pack in
-    let low = not-false (p .result .right) (c .before .before .before .before .if3 .left) in
-    let permits = c .before .before .before .before .before .before .before .before .before .before .before .before .before .before .before .before .before .pre .2 in (
+    let e = scan-right (a .l .now) (t .result .right) xs (t .result .next) _ (t .ensures .0) (not-false (t .result .right) (c13 .if1 .left)) in
+    let m : ℕ = c10 .o .given .0 .0 in
+    let next : ℕ = c10 .o .given .0 .1 .0 in
+    let q = number-scan-right answerOf (a .l .now) (c12 .answer-at .result) _ (c12 .answer-at .ensures) m next (c10 .o .given .1) in
+    let p = c6 .pack in
+    let low = not-false (p .result .right) (c4 .if3 .left) in
+    let permits = c17 .pre .2 in (
       ap ok (signed-means (a .state) (c .before .narrow .result) (c .narrow2 .result) m (t .result .count) (p .result .items) xs permits (c .before .narrow .ensures) (p .ensures .1 .0 low) (c .narrow2 .ensures))
-          ∙ signature-good (a .n) (stateOf (a .state)) l xs (drop (t .result .next) (a .l .now)) e m (a .l .now) next q (c .before .before .before .before .before .before .before .before .if2 .left) (sym (p .ensures .0) ∙ low) (c .before .before .before .if4 .left),
+          ∙ signature-good (a .n) (stateOf (a .state)) l xs (drop (t .result .next) (a .l .now)) e m (a .l .now) next q (c8 .if2 .left) (sym (p .ensures .0) ∙ low) (c3 .if4 .left),
       signed-exact _ (permits-below (a .state) permits) permits (omega (arith, c .before .narrow .ensures, t .ensures .1 .1)) (p .ensures .1 .1) (λ k h. p .ensures .1 .2 k (omega (arith, c .before .narrow .ensures))),
     )
 

@@ -50,30 +50,39 @@ enum-told c = search needs
 
 returns-2 : tie.Need-returns-2
 returns-2 c =
-    let a = c .before .before .before .before .before .before .before .before .before .before .before .before .before .args in
+    let c2 = c .before .before in
+    let c4 = c2 .before .before in
+    let c7 = c4 .before .before .before in
+    let c9 = c7 .before .before in
+    let c13 = c9 .before .before .before .before in
+    let a = c13 .args in
     let s = a .s .now in
-    let t = c .before .before .before .before .before .before .before .before .before .types-into in
+    let t = c9 .types-into in
     let ts = typesTo (a .h .methods) (a .n) (a .n) (typesIn (t .last .1 .1 .1 .1 .1 .0)) in
-    let at = c .before .before .before .before .before .before .before .t2 .given .0 .0 in
-    let g = c .before .before .before .before .last-line in
+    let at = c7 .t2 .given .0 .0 in
+    let g = c4 .last-line in
     λ cs e f. c .refused2 .ensures ∙ ap (λ z. answered (sheetAnswer z))
-    (done-no s (tableWith (a .h) cs (a .n) ts) (g .result) _ (g .ensures (tableWith (a .h) cs (a .n) ts) refl) _ _ (c .before .before .g .given .1)
-    ∙ to-ending (a .h) cs (a .n) (a .c .at) (split (drop (a .c .at) s)) ts (at .at) (split (drop (at .at) s)) (done-ok s ts (t .result) _ (t .ensures .0) at (c .before .before .before .before .before .before .before .t2 .given .1)))
+    (done-no s (tableWith (a .h) cs (a .n) ts) (g .result) _ (g .ensures (tableWith (a .h) cs (a .n) ts) refl) _ _ (c2 .g .given .1)
+    ∙ to-ending (a .h) cs (a .n) (a .c .at) (split (drop (a .c .at) s)) ts (at .at) (split (drop (at .at) s)) (done-ok s ts (t .result) _ (t .ensures .0) at (c7 .t2 .given .1)))
 
 returns-3 : tie.Need-returns-3
 returns-3 c =
-    let a = c .before .before .before .before .before .before .before .before .before .before .before .args in
+    let c2 = c .before .before in
+    let c5 = c2 .before .before .before in
+    let c7 = c5 .before .before in
+    let c11 = c7 .before .before .before .before in
+    let a = c11 .args in
     let s = a .s .now in
-    let t = c .before .before .before .before .before .before .before .types-into in
+    let t = c7 .types-into in
     let b = t .last .1 .1 .1 .1 .1 .0 in
     let ts = typesTo (a .h .methods) (a .n) (a .n) (typesIn b) in
-    let at = c .before .before .before .before .before .t2 .given .0 .0 in
-    let g = c .before .before .last-line in
+    let at = c5 .t2 .given .0 .0 in
+    let g = c2 .last-line in
     λ cs e f. sheet-loaded (tableWith (a .h) cs (a .n) ts) b _ (a .n) (a .h .cats)
-    (on-done (t .result) at _ (c .before .before .before .before .before .t2 .given .1) (t .ensures .1)) e (sym (types-to-length (a .h .methods) (a .n) (typesIn b) (a .n))) (sym f)
+    (on-done (t .result) at _ (c5 .t2 .given .1) (t .ensures .1)) e (sym (types-to-length (a .h .methods) (a .n) (typesIn b) (a .n))) (sym f)
     ∙ ap (λ z. answered (sheetAnswer z))
     (done-ok s (tableWith (a .h) cs (a .n) ts) (g .result) _ (g .ensures (tableWith (a .h) cs (a .n) ts) refl) _ (c .enum-told .given .1)
-    ∙ to-ending (a .h) cs (a .n) (a .c .at) (split (drop (a .c .at) s)) ts (at .at) (split (drop (at .at) s)) (done-ok s ts (t .result) _ (t .ensures .0) at (c .before .before .before .before .before .t2 .given .1)))
+    ∙ to-ending (a .h) cs (a .n) (a .c .at) (split (drop (a .c .at) s)) ts (at .at) (split (drop (at .at) s)) (done-ok s ts (t .result) _ (t .ensures .0) at (c5 .t2 .given .1)))
 
 pub after-count-spec : {M : Type 1} → statement M
 after-count-spec =

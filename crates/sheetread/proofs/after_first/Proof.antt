@@ -25,10 +25,13 @@ refused-requires c κs = search needs
 
 returns : tie.Need-returns
 returns c =
-    let a = c .before .before .before .before .before .before .before .before .args in
+    let c2 = c .before .before in
+    let c4 = c2 .before .before in
+    let c8 = c4 .before .before .before .before in
+    let a = c8 .args in
     let s = a .s .now in
-    let u = c .before .before .before .before .links-into in
-    c .refused .ensures ∙ ap (λ z. answered (sheetAnswer z)) (links-no (a .h) (a .c .at) (split (drop (a .c .at) s)) _ _ (done-no s _ (u .result) _ (u .ensures .0) _ _ (c .before .before .u .given .1)))
+    let u = c4 .links-into in
+    c .refused .ensures ∙ ap (λ z. answered (sheetAnswer z)) (links-no (a .h) (a .c .at) (split (drop (a .c .at) s)) _ _ (done-no s _ (u .result) _ (u .ensures .0) _ _ (c2 .u .given .1)))
 
 enum-known-u-2 : tie.Need-enum-known-u-2
 enum-known-u-2 c = search needs
@@ -49,34 +52,47 @@ enum-known-y-2 : tie.Need-enum-known-y-2
 enum-known-y-2 c = search needs
 
 after-count-requires : tie.Need-after-count-requires
-after-count-requires c κs = (c .before .before .before .before .before .before .before .before .before .before .before .before .pre .0, c .before .before .before .before .before .before .before .before .before .before .before .before .pre .1, got-at-most 48 (c .before .before .before .next-number .result) _ _ (c .before .y2 .given .1) (c .before .before .before .next-number .ensures .1))
+after-count-requires c κs =
+    let c3 = c .before .before .before in
+    let c12 = c3 .before .before .before .before .before .before .before .before .before in
+    (c12 .pre .0, c12 .pre .1, got-at-most 48 (c3 .next-number .result) _ _ (c .before .y2 .given .1) (c3 .next-number .ensures .1))
 
 returns-2 : tie.Need-returns-2
 returns-2 c =
-    let a = c .before .before .before .before .before .before .before .before .before .before .before .before .before .args in
+    let c2 = c .before .before in
+    let c4 = c2 .before .before in
+    let c7 = c4 .before .before .before in
+    let c9 = c7 .before .before in
+    let c13 = c9 .before .before .before .before in
+    let a = c13 .args in
     let s = a .s .now in
-    let u = c .before .before .before .before .before .before .before .before .before .links-into in
+    let u = c9 .links-into in
     let links = linksTo (a .h .cats) (linksIn (u .last .1 .1 .1 .0)) in
-    let at = c .before .before .before .before .before .before .before .u2 .given .0 .0 in
-    let y = c .before .before .before .before .next-number in
+    let at = c7 .u2 .given .0 .0 in
+    let y = c4 .next-number in
     c .refused2 .ensures ∙ ap (λ z. answered (sheetAnswer z))
-    (count-no (a .h) (a .c .at) (split (drop (a .c .at) s)) links (at .at) (split (drop (at .at) s)) (done-ok s links (u .result) _ (u .ensures .0) at (c .before .before .before .before .before .before .before .u2 .given .1)) _ _
-    (got-no (λ n. n) s (at .at) (y .result) _ (y .ensures .0) _ (c .before .before .y .given .1)))
+    (count-no (a .h) (a .c .at) (split (drop (a .c .at) s)) links (at .at) (split (drop (at .at) s)) (done-ok s links (u .result) _ (u .ensures .0) at (c7 .u2 .given .1)) _ _
+    (got-no (λ n. n) s (at .at) (y .result) _ (y .ensures .0) _ (c2 .y .given .1)))
 
 returns-3 : tie.Need-returns-3
 returns-3 c =
-    let a = c .before .before .before .before .before .before .before .before .before .before .before .before .before .args in
+    let c2 = c .before .before in
+    let c4 = c2 .before .before in
+    let c7 = c4 .before .before .before in
+    let c9 = c7 .before .before in
+    let c13 = c9 .before .before .before .before in
+    let a = c13 .args in
     let s = a .s .now in
-    let u = c .before .before .before .before .before .before .before .before .before .links-into in
+    let u = c9 .links-into in
     let ls = linksIn (u .last .1 .1 .1 .0) in
     let links = linksTo (a .h .cats) ls in
-    let at = c .before .before .before .before .before .before .before .u2 .given .0 .0 in
-    let y = c .before .before .before .before .next-number in
-    let n = c .before .before .y2 .given .0 .0 in
-    let e = c .before .before .y2 .given .0 .1 .0 in
-    c .after-count .ensures links (on-done (u .result) at _ (c .before .before .before .before .before .before .before .u2 .given .1) (u .ensures .1)) (links-count (a .h .cats) ls) ∙ ap (λ z. answered (sheetAnswer z))
-    (count-ok (a .h) (a .c .at) (split (drop (a .c .at) s)) links (at .at) (split (drop (at .at) s)) (done-ok s links (u .result) _ (u .ensures .0) at (c .before .before .before .before .before .before .before .u2 .given .1)) n (e .at) (split (drop (e .at) s))
-    (got-ok (λ n. n) s (at .at) (y .result) _ (y .ensures .0) n e (c .before .before .y2 .given .1)))
+    let at = c7 .u2 .given .0 .0 in
+    let y = c4 .next-number in
+    let n = c2 .y2 .given .0 .0 in
+    let e = c2 .y2 .given .0 .1 .0 in
+    c .after-count .ensures links (on-done (u .result) at _ (c7 .u2 .given .1) (u .ensures .1)) (links-count (a .h .cats) ls) ∙ ap (λ z. answered (sheetAnswer z))
+    (count-ok (a .h) (a .c .at) (split (drop (a .c .at) s)) links (at .at) (split (drop (at .at) s)) (done-ok s links (u .result) _ (u .ensures .0) at (c7 .u2 .given .1)) n (e .at) (split (drop (e .at) s))
+    (got-ok (λ n. n) s (at .at) (y .result) _ (y .ensures .0) n e (c2 .y2 .given .1)))
 
 pub after-first-spec : {M : Type 1} → statement M
 after-first-spec =

@@ -23,9 +23,12 @@ enum-known-g c = search needs
 
 returns : tie.Need-returns
 returns c =
-    let s = c .before .before .before .before .before .before .before .args .s .now in
-    let g = c .before .before .before .next-number in
-    (guide-no 0 (split s) _ _ (got-no (λ n. n) s (c .before .before .before .before .before .start .result .at) (g .result) _ (g .ensures .0) _ (c .before .g .given .1) ∙ ap (λ (z : ℕ). line (numberLine (bytes "guide=") 1 1) z (split (drop z s))) (c .before .before .before .before .before .start .ensures)), tt)
+    let c3 = c .before .before .before in
+    let c5 = c3 .before .before in
+    let c7 = c5 .before .before in
+    let s = c7 .args .s .now in
+    let g = c3 .next-number in
+    (guide-no 0 (split s) _ _ (got-no (λ n. n) s (c5 .start .result .at) (g .result) _ (g .ensures .0) _ (c .before .g .given .1) ∙ ap (λ (z : ℕ). line (numberLine (bytes "guide=") 1 1) z (split (drop z s))) (c5 .start .ensures)), tt)
 
 enum-known-g-2 : tie.Need-enum-known-g-2
 enum-known-g-2 c = search needs
@@ -68,74 +71,104 @@ enum-known-y-2 c = search needs
 
 returns-2 : tie.Need-returns-2
 returns-2 c =
-    let s = c .before .before .before .before .before .before .before .before .before .before .before .before .args .s .now in
-    let g = c .before .before .before .before .before .before .before .before .next-number in
-    let gn = c .before .before .before .before .before .before .g2 .given .0 .0 in
-    let gc = c .before .before .before .before .before .before .g2 .given .0 .1 .0 in
+    let c3 = c .before .before .before in
+    let c6 = c3 .before .before .before in
+    let c8 = c6 .before .before in
+    let c10 = c8 .before .before in
+    let c12 = c10 .before .before in
+    let s = c12 .args .s .now in
+    let g = c8 .next-number in
+    let gn = c6 .g2 .given .0 .0 in
+    let gc = c6 .g2 .given .0 .1 .0 in
     let gr = split (drop (gc .at) s) in
-    let ge = got-ok (λ n. n) s (c .before .before .before .before .before .before .before .before .before .before .start .result .at) (g .result) _ (g .ensures .0) gn gc (c .before .before .before .before .before .before .g2 .given .1) ∙ ap (λ (z : ℕ). line (numberLine (bytes "guide=") 1 1) z (split (drop z s))) (c .before .before .before .before .before .before .before .before .before .before .start .ensures) in
-    (subjects-no 0 (split s) gn (gc .at) gr ge _ _ (got-no (λ n. n) s (gc .at) (c .before .before .before .next-number2 .result) _ (c .before .before .before .next-number2 .ensures .0) _ (c .before .u .given .1)), tt)
+    let ge = got-ok (λ n. n) s (c10 .start .result .at) (g .result) _ (g .ensures .0) gn gc (c6 .g2 .given .1) ∙ ap (λ (z : ℕ). line (numberLine (bytes "guide=") 1 1) z (split (drop z s))) (c10 .start .ensures) in
+    (subjects-no 0 (split s) gn (gc .at) gr ge _ _ (got-no (λ n. n) s (gc .at) (c3 .next-number2 .result) _ (c3 .next-number2 .ensures .0) _ (c .before .u .given .1)), tt)
 
 returns-3 : tie.Need-returns-3
 returns-3 c =
-    let s = c .before .before .before .before .before .before .before .before .before .before .before .before .before .before .before .before .before .args .s .now in
-    let g = c .before .before .before .before .before .before .before .before .before .before .before .before .before .next-number in
-    let gn = c .before .before .before .before .before .before .before .before .before .before .before .g2 .given .0 .0 in
-    let gc = c .before .before .before .before .before .before .before .before .before .before .before .g2 .given .0 .1 .0 in
+    let c3 = c .before .before .before in
+    let c6 = c3 .before .before .before in
+    let c8 = c6 .before .before in
+    let c11 = c8 .before .before .before in
+    let c13 = c11 .before .before in
+    let c15 = c13 .before .before in
+    let c17 = c15 .before .before in
+    let s = c17 .args .s .now in
+    let g = c13 .next-number in
+    let gn = c11 .g2 .given .0 .0 in
+    let gc = c11 .g2 .given .0 .1 .0 in
     let gr = split (drop (gc .at) s) in
-    let ge = got-ok (λ n. n) s (c .before .before .before .before .before .before .before .before .before .before .before .before .before .before .before .start .result .at) (g .result) _ (g .ensures .0) gn gc (c .before .before .before .before .before .before .before .before .before .before .before .g2 .given .1) ∙ ap (λ (z : ℕ). line (numberLine (bytes "guide=") 1 1) z (split (drop z s))) (c .before .before .before .before .before .before .before .before .before .before .before .before .before .before .before .start .ensures) in
-    let u = c .before .before .before .before .before .before .before .before .next-number2 in
-    let un = c .before .before .before .before .before .before .u2 .given .0 .0 in
-    let uc = c .before .before .before .before .before .before .u2 .given .0 .1 .0 in
+    let ge = got-ok (λ n. n) s (c15 .start .result .at) (g .result) _ (g .ensures .0) gn gc (c11 .g2 .given .1) ∙ ap (λ (z : ℕ). line (numberLine (bytes "guide=") 1 1) z (split (drop z s))) (c15 .start .ensures) in
+    let u = c8 .next-number2 in
+    let un = c6 .u2 .given .0 .0 in
+    let uc = c6 .u2 .given .0 .1 .0 in
     let ur = split (drop (uc .at) s) in
-    let ue = got-ok (λ n. n) s (gc .at) (u .result) _ (u .ensures .0) un uc (c .before .before .before .before .before .before .u2 .given .1) in
-    (methods-no 0 (split s) gn (gc .at) gr ge un (uc .at) ur ue _ _ (got-no (λ n. n) s (uc .at) (c .before .before .before .next-number3 .result) _ (c .before .before .before .next-number3 .ensures .0) _ (c .before .m .given .1)), tt)
+    let ue = got-ok (λ n. n) s (gc .at) (u .result) _ (u .ensures .0) un uc (c6 .u2 .given .1) in
+    (methods-no 0 (split s) gn (gc .at) gr ge un (uc .at) ur ue _ _ (got-no (λ n. n) s (uc .at) (c3 .next-number3 .result) _ (c3 .next-number3 .ensures .0) _ (c .before .m .given .1)), tt)
 
 returns-4 : tie.Need-returns-4
 returns-4 c =
-    let s = c .before .before .before .before .before .before .before .before .before .before .before .before .before .before .before .before .before .before .before .before .before .before .args .s .now in
-    let g = c .before .before .before .before .before .before .before .before .before .before .before .before .before .before .before .before .before .before .next-number in
-    let gn = c .before .before .before .before .before .before .before .before .before .before .before .before .before .before .before .before .g2 .given .0 .0 in
-    let gc = c .before .before .before .before .before .before .before .before .before .before .before .before .before .before .before .before .g2 .given .0 .1 .0 in
+    let c3 = c .before .before .before in
+    let c6 = c3 .before .before .before in
+    let c8 = c6 .before .before in
+    let c11 = c8 .before .before .before in
+    let c13 = c11 .before .before in
+    let c16 = c13 .before .before .before in
+    let c18 = c16 .before .before in
+    let c20 = c18 .before .before in
+    let c22 = c20 .before .before in
+    let s = c22 .args .s .now in
+    let g = c18 .next-number in
+    let gn = c16 .g2 .given .0 .0 in
+    let gc = c16 .g2 .given .0 .1 .0 in
     let gr = split (drop (gc .at) s) in
-    let ge = got-ok (λ n. n) s (c .before .before .before .before .before .before .before .before .before .before .before .before .before .before .before .before .before .before .before .before .start .result .at) (g .result) _ (g .ensures .0) gn gc (c .before .before .before .before .before .before .before .before .before .before .before .before .before .before .before .before .g2 .given .1) ∙ ap (λ (z : ℕ). line (numberLine (bytes "guide=") 1 1) z (split (drop z s))) (c .before .before .before .before .before .before .before .before .before .before .before .before .before .before .before .before .before .before .before .before .start .ensures) in
-    let u = c .before .before .before .before .before .before .before .before .before .before .before .before .before .next-number2 in
-    let un = c .before .before .before .before .before .before .before .before .before .before .before .u2 .given .0 .0 in
-    let uc = c .before .before .before .before .before .before .before .before .before .before .before .u2 .given .0 .1 .0 in
+    let ge = got-ok (λ n. n) s (c20 .start .result .at) (g .result) _ (g .ensures .0) gn gc (c16 .g2 .given .1) ∙ ap (λ (z : ℕ). line (numberLine (bytes "guide=") 1 1) z (split (drop z s))) (c20 .start .ensures) in
+    let u = c13 .next-number2 in
+    let un = c11 .u2 .given .0 .0 in
+    let uc = c11 .u2 .given .0 .1 .0 in
     let ur = split (drop (uc .at) s) in
-    let ue = got-ok (λ n. n) s (gc .at) (u .result) _ (u .ensures .0) un uc (c .before .before .before .before .before .before .before .before .before .before .before .u2 .given .1) in
-    let m = c .before .before .before .before .before .before .before .before .next-number3 in
-    let mn = c .before .before .before .before .before .before .m2 .given .0 .0 in
-    let mc = c .before .before .before .before .before .before .m2 .given .0 .1 .0 in
+    let ue = got-ok (λ n. n) s (gc .at) (u .result) _ (u .ensures .0) un uc (c11 .u2 .given .1) in
+    let m = c8 .next-number3 in
+    let mn = c6 .m2 .given .0 .0 in
+    let mc = c6 .m2 .given .0 .1 .0 in
     let mr = split (drop (mc .at) s) in
-    let me = got-ok (λ n. n) s (uc .at) (m .result) _ (m .ensures .0) mn mc (c .before .before .before .before .before .before .m2 .given .1) in
-    (cats-no 0 (split s) gn (gc .at) gr ge un (uc .at) ur ue mn (mc .at) mr me _ _ (got-no (λ n. n) s (mc .at) (c .before .before .before .next-number4 .result) _ (c .before .before .before .next-number4 .ensures .0) _ (c .before .y .given .1)), tt)
+    let me = got-ok (λ n. n) s (uc .at) (m .result) _ (m .ensures .0) mn mc (c6 .m2 .given .1) in
+    (cats-no 0 (split s) gn (gc .at) gr ge un (uc .at) ur ue mn (mc .at) mr me _ _ (got-no (λ n. n) s (mc .at) (c3 .next-number4 .result) _ (c3 .next-number4 .ensures .0) _ (c .before .y .given .1)), tt)
 
 returns-5 : tie.Need-returns-5
 returns-5 c =
-    let s = c .before .before .before .before .before .before .before .before .before .before .before .before .before .before .before .before .before .before .before .before .before .before .args .s .now in
-    let g = c .before .before .before .before .before .before .before .before .before .before .before .before .before .before .before .before .before .before .next-number in
-    let gn = c .before .before .before .before .before .before .before .before .before .before .before .before .before .before .before .before .g2 .given .0 .0 in
-    let gc = c .before .before .before .before .before .before .before .before .before .before .before .before .before .before .before .before .g2 .given .0 .1 .0 in
+    let c3 = c .before .before .before in
+    let c6 = c3 .before .before .before in
+    let c8 = c6 .before .before in
+    let c11 = c8 .before .before .before in
+    let c13 = c11 .before .before in
+    let c16 = c13 .before .before .before in
+    let c18 = c16 .before .before in
+    let c20 = c18 .before .before in
+    let c22 = c20 .before .before in
+    let s = c22 .args .s .now in
+    let g = c18 .next-number in
+    let gn = c16 .g2 .given .0 .0 in
+    let gc = c16 .g2 .given .0 .1 .0 in
     let gr = split (drop (gc .at) s) in
-    let ge = got-ok (λ n. n) s (c .before .before .before .before .before .before .before .before .before .before .before .before .before .before .before .before .before .before .before .before .start .result .at) (g .result) _ (g .ensures .0) gn gc (c .before .before .before .before .before .before .before .before .before .before .before .before .before .before .before .before .g2 .given .1) ∙ ap (λ (z : ℕ). line (numberLine (bytes "guide=") 1 1) z (split (drop z s))) (c .before .before .before .before .before .before .before .before .before .before .before .before .before .before .before .before .before .before .before .before .start .ensures) in
-    let u = c .before .before .before .before .before .before .before .before .before .before .before .before .before .next-number2 in
-    let un = c .before .before .before .before .before .before .before .before .before .before .before .u2 .given .0 .0 in
-    let uc = c .before .before .before .before .before .before .before .before .before .before .before .u2 .given .0 .1 .0 in
+    let ge = got-ok (λ n. n) s (c20 .start .result .at) (g .result) _ (g .ensures .0) gn gc (c16 .g2 .given .1) ∙ ap (λ (z : ℕ). line (numberLine (bytes "guide=") 1 1) z (split (drop z s))) (c20 .start .ensures) in
+    let u = c13 .next-number2 in
+    let un = c11 .u2 .given .0 .0 in
+    let uc = c11 .u2 .given .0 .1 .0 in
     let ur = split (drop (uc .at) s) in
-    let ue = got-ok (λ n. n) s (gc .at) (u .result) _ (u .ensures .0) un uc (c .before .before .before .before .before .before .before .before .before .before .before .u2 .given .1) in
-    let m = c .before .before .before .before .before .before .before .before .next-number3 in
-    let mn = c .before .before .before .before .before .before .m2 .given .0 .0 in
-    let mc = c .before .before .before .before .before .before .m2 .given .0 .1 .0 in
+    let ue = got-ok (λ n. n) s (gc .at) (u .result) _ (u .ensures .0) un uc (c11 .u2 .given .1) in
+    let m = c8 .next-number3 in
+    let mn = c6 .m2 .given .0 .0 in
+    let mc = c6 .m2 .given .0 .1 .0 in
     let mr = split (drop (mc .at) s) in
-    let me = got-ok (λ n. n) s (uc .at) (m .result) _ (m .ensures .0) mn mc (c .before .before .before .before .before .before .m2 .given .1) in
-    let y = c .before .before .before .next-number4 in
+    let me = got-ok (λ n. n) s (uc .at) (m .result) _ (m .ensures .0) mn mc (c6 .m2 .given .1) in
+    let y = c3 .next-number4 in
     let yn = c .before .y2 .given .0 .0 in
     let yc = c .before .y2 .given .0 .1 .0 in
     let yr = split (drop (yc .at) s) in
     let ye = got-ok (λ n. n) s (mc .at) (y .result) _ (y .ensures .0) yn yc (c .before .y2 .given .1) in (
       first-ok 0 (split s) gn (gc .at) gr ge un (uc .at) ur ue mn (mc .at) mr me yn (yc .at) yr ye,
-      (got-at-most 16 (m .result) mn mc (c .before .before .before .before .before .before .m2 .given .1) (m .ensures .1), got-at-most 31 (y .result) yn yc (c .before .y2 .given .1) (y .ensures .1)),
+      (got-at-most 16 (m .result) mn mc (c6 .m2 .given .1) (m .ensures .1), got-at-most 31 (y .result) yn yc (c .before .y2 .given .1) (y .ensures .1)),
     )
 
 pub first-lines-spec : {M : Type 1} → statement M

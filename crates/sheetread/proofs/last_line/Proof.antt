@@ -30,11 +30,15 @@ types-stand-requires c κs = search needs
 
 returns-2 : tie.Need-returns-2
 returns-2 c =
-    let a = c .before .before .before .before .before .before .before .before .before .args in
+    let c2 = c .before .before in
+    let c5 = c2 .before .before .before in
+    let c7 = c5 .before .before in
+    let c9 = c7 .before .before in
+    let a = c9 .args in
     let s = a .s .now in
-    let g = c .before .before .before .before .before .before .before .next-end in
-    let next = c .before .before .before .before .before .g2 .given .0 .1 .0 in
-    λ t e. ending-own t s (a .c .at) (next .at) (got-ok (λ n. tt) s (a .c .at) (g .result) _ (g .ensures) _ next (c .before .before .before .before .before .g2 .given .1)) (c .before .before .if1 .left)
+    let g = c7 .next-end in
+    let next = c5 .g2 .given .0 .1 .0 in
+    λ t e. ending-own t s (a .c .at) (next .at) (got-ok (λ n. tt) s (a .c .at) (g .result) _ (g .ensures) _ next (c5 .g2 .given .1)) (c2 .if1 .left)
     (table-stands t (a .m) (a .n) (typesIn (a .b .now)) e ∙ sym (c .before .types-stand .ensures) ∙ not-true (c .before .types-stand .result) (c .if2 .taken))
 
 returns-3 : tie.Need-returns-3
@@ -46,11 +50,15 @@ returns-3 c =
 
 returns-4 : tie.Need-returns-4
 returns-4 c =
-    let a = c .before .before .before .before .before .before .before .before .before .args in
+    let c2 = c .before .before in
+    let c5 = c2 .before .before .before in
+    let c7 = c5 .before .before in
+    let c9 = c7 .before .before in
+    let a = c9 .args in
     let s = a .s .now in
-    let g = c .before .before .before .before .before .before .before .next-end in
-    let next = c .before .before .before .before .before .g2 .given .0 .1 .0 in
-    λ t e. ending-good t s (a .c .at) (next .at) (got-ok (λ n. tt) s (a .c .at) (g .result) _ (g .ensures) _ next (c .before .before .before .before .before .g2 .given .1)) (c .before .before .if1 .left)
+    let g = c7 .next-end in
+    let next = c5 .g2 .given .0 .1 .0 in
+    λ t e. ending-good t s (a .c .at) (next .at) (got-ok (λ n. tt) s (a .c .at) (g .result) _ (g .ensures) _ next (c5 .g2 .given .1)) (c2 .if1 .left)
     (table-stands t (a .m) (a .n) (typesIn (a .b .now)) e ∙ sym (c .before .types-stand .ensures) ∙ not-false (c .before .types-stand .result) (c .if2 .left))
 
 pub last-line-spec : {M : Type 1} → statement M

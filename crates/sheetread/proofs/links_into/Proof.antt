@@ -47,10 +47,14 @@ enum-known-g c = search needs
 
 returns : tie.Need-returns Inv-loop μ-loop
 returns c =
-    let a = c .before .before .before .before .before .before .before .args in
-    let p = c .before .before .before .before .before .loop in
-    let g = c .before .before .before .next-under in (
-      times-stop (eachUnder (a .cats)) (a .cats) (p .j) (p .j + 1) (linksTo (p .j) (linksIn (p .l))) (p .at) (split (drop (p .at) (a .s .now))) _ (p .inv .2) (c .before .before .before .before .loop-test .taken) _ (p .at)
+    let c3 = c .before .before .before in
+    let c4 = c3 .before in
+    let c5 = c4 .before in
+    let c7 = c5 .before .before in
+    let a = c7 .args in
+    let p = c5 .loop in
+    let g = c3 .next-under in (
+      times-stop (eachUnder (a .cats)) (a .cats) (p .j) (p .j + 1) (linksTo (p .j) (linksIn (p .l))) (p .at) (split (drop (p .at) (a .s .now))) _ (p .inv .2) (c4 .loop-test .taken) _ (p .at)
           (under-no (a .s .now) (p .at) (g .result) _ (g .ensures .0) _ (c .before .g .given .1)),
       tt,
     )
@@ -63,9 +67,12 @@ add-put-links c = search needs
 
 put-links-requires : tie.Need-put-links-requires Inv-loop μ-loop
 put-links-requires c κs =
-    let p = c .before .before .before .before .before .before .loop in
+    let c5 = c .before .before .before .before .before in
+    let c6 = c5 .before in
+    let c8 = c6 .before .before in
+    let p = c6 .loop in
     let n : length (linksTo (p .j) (linksIn (p .l))) ≡ p .j = links-count (p .j) (linksIn (p .l)) in
-    (omega (arith, c .before .before .before .before .before .before .before .before .pre .0, c .before .before .before .before .before .loop-test .taken), ap length (p .inv .1) ∙ links-room (linksTo (p .j) (linksIn (p .l))) (omega (arith, c .before .before .before .before .before .before .before .before .pre .0, c .before .before .before .before .before .loop-test .taken)))
+    (omega (arith, c8 .pre .0, c5 .loop-test .taken), ap length (p .inv .1) ∙ links-room (linksTo (p .j) (linksIn (p .l))) (omega (arith, c8 .pre .0, c5 .loop-test .taken)))
 
 add-j : tie.Need-add-j Inv-loop μ-loop
 add-j c = search needs
@@ -75,22 +82,27 @@ loop-less c = search needs
 
 loop-again : tie.Need-loop-again Inv-loop μ-loop
 loop-again c =
-    let a = c .before .before .before .before .before .before .before .before .before .args in
-    let p = c .before .before .before .before .before .before .before .loop in
-    let g = c .before .before .before .before .before .next-under in
-    let x = c .before .before .before .g2 .given .0 .0 in
-    let next = c .before .before .before .g2 .given .0 .1 .0 in
+    let c3 = c .before .before .before in
+    let c5 = c3 .before .before in
+    let c6 = c5 .before in
+    let c7 = c6 .before in
+    let c9 = c7 .before .before in
+    let a = c9 .args in
+    let p = c7 .loop in
+    let g = c5 .next-under in
+    let x = c3 .g2 .given .0 .0 in
+    let next = c3 .g2 .given .0 .1 .0 in
     let ls = linksIn (p .l) in
-    let small : p .j < 31 = omega (arith, c .before .before .before .before .before .before .before .before .before .pre .0, c .before .before .before .before .before .before .loop-test .taken) in
+    let small : p .j < 31 = omega (arith, c9 .pre .0, c6 .loop-test .taken) in
     let n : length (linksTo (p .j) ls) ≡ p .j = links-count (p .j) ls in
     let k : p .j + 1 < length ls = omega (arith, links-length (p .l)) in
     let put = ap linksIn (c .put-links .ensures) ∙ links-put (p .l) (p .j + 1) (rawLinks x) (omega arith) (ap length (p .inv .1) ∙ links-room (linksTo (p .j) ls) (omega arith)) in
     let one = ap (linksTo (p .j + 1)) put ∙ links-add ls (p .j) (rawLinks x) k in (
       omega arith,
-      links-stored (linksTo (p .j) ls) (linksOf (rawLinks x)) (p .j) (rawLinks x) (p .l) _ n small (p .inv .1) (subst UnderGotExact (c .before .before .before .g2 .given .1) (g .ensures .1)) (c .put-links .ensures) ∙ ap linkBytes (sym one),
-      times-next (eachUnder (a .cats)) (a .cats) (p .j) (p .j + 1) (linksTo (p .j) ls) (p .at) (split (drop (p .at) (a .s .now))) _ (p .inv .2) (c .before .before .before .before .before .before .loop-test .taken)
+      links-stored (linksTo (p .j) ls) (linksOf (rawLinks x)) (p .j) (rawLinks x) (p .l) _ n small (p .inv .1) (subst UnderGotExact (c3 .g2 .given .1) (g .ensures .1)) (c .put-links .ensures) ∙ ap linkBytes (sym one),
+      times-next (eachUnder (a .cats)) (a .cats) (p .j) (p .j + 1) (linksTo (p .j) ls) (p .at) (split (drop (p .at) (a .s .now))) _ (p .inv .2) (c6 .loop-test .taken)
           (linksOf (rawLinks x)) (next .at) (split (drop (next .at) (a .s .now))) (p .j + 1 + 1) _
-          (under-ok (a .s .now) (p .at) (g .result) _ (g .ensures .0) x next (c .before .before .before .g2 .given .1)) (add-one (p .j + 1)) one,
+          (under-ok (a .s .now) (p .at) (g .result) _ (g .ensures .0) x next (c3 .g2 .given .1)) (add-one (p .j + 1)) one,
     )
 
 returns-2 : tie.Need-returns-2 Inv-loop μ-loop

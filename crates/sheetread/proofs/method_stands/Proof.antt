@@ -12,7 +12,9 @@ permits-requires : tie.Need-permits-requires
 permits-requires c κs = search needs
 
 returns : tie.Need-returns
-returns c = let a = c .before .before .args in method-unsigned (standsAt (typesIn (a .b .now)) (a .n)) (rawMethod (a .m)) (sym (c .before .permits .ensures) ∙ not-true (c .before .permits .result) (c .if1 .taken))
+returns c =
+    let c2 = c .before .before in
+    let a = c2 .args in method-unsigned (standsAt (typesIn (a .b .now)) (a .n)) (rawMethod (a .m)) (sym (c .before .permits .ensures) ∙ not-true (c .before .permits .result) (c .if1 .taken))
 
 args-stand-requires : tie.Need-args-stand-requires
 args-stand-requires c κs = search needs
@@ -41,10 +43,16 @@ stands-at-requires c κs = search needs
 
 returns-4 : tie.Need-returns-4
 returns-4 c =
-    let a = c .before .before .before .before .before .before .before .args in
-    let p = sym (c .before .before .before .before .before .before .permits .ensures) ∙ not-false (c .before .before .before .before .before .before .permits .result) (c .before .before .before .before .before .if1 .left) in
-    let e = sym (c .before .before .before .before .args-stand .ensures) ∙ not-false (c .before .before .before .before .args-stand .result) (c .before .before .before .if2 .left) in
-    c .stands-at .ensures ∙ method-answer (standsAt (typesIn (a .b .now)) (a .n)) (rawMethod (a .m)) p e (c .before .before .wide .result) (c .before .before .wide .ensures .0) (c .before .if3 .left)
+    let c2 = c .before .before in
+    let c3 = c2 .before in
+    let c4 = c3 .before in
+    let c5 = c4 .before in
+    let c6 = c5 .before in
+    let c7 = c6 .before in
+    let a = c7 .args in
+    let p = sym (c6 .permits .ensures) ∙ not-false (c6 .permits .result) (c5 .if1 .left) in
+    let e = sym (c4 .args-stand .ensures) ∙ not-false (c4 .args-stand .result) (c3 .if2 .left) in
+    c .stands-at .ensures ∙ method-answer (standsAt (typesIn (a .b .now)) (a .n)) (rawMethod (a .m)) p e (c2 .wide .result) (c2 .wide .ensures .0) (c .before .if3 .left)
 
 pub method-stands-spec : {M : Type 1} → statement M
 method-stands-spec =

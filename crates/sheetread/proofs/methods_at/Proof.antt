@@ -33,12 +33,16 @@ next-method-requires c κs = search needs
 
 returns : tie.Need-returns Inv-loop μ-loop
 returns c =
-    let a = c .before .before .before .before .before .before .before .before .args in
-    let p = c .before .before .before .before .before .loop in
-    let g = c .before .before .before .next-method in
+    let c3 = c .before .before .before in
+    let c4 = c3 .before in
+    let c5 = c4 .before in
+    let c8 = c5 .before .before .before in
+    let a = c8 .args in
+    let p = c5 .loop in
+    let g = c3 .next-method in
     let rs = split (drop (p .at) (a .s .now)) in (
       refused-is (a .s .now) (g .result .refusal) (g .result .refusal) (g .result .next .at) (g .result .next .at) _ _ (c .if1 .taken) refl refl
-          (times-stop (eachMethod (a .n)) (a .m) (p .j) (p .j) (map methodIs (take (p .j) (p .list))) (p .at) rs _ (p .inv .3) (c .before .before .before .before .loop-test .taken) (g .result .refusal) (g .result .next .at)
+          (times-stop (eachMethod (a .n)) (a .m) (p .j) (p .j) (map methodIs (take (p .j) (p .list))) (p .at) rs _ (p .inv .3) (c4 .loop-test .taken) (g .result .refusal) (g .result .next .at)
           (read-no (a .s .now) (g .result .refusal) (methodIs (g .result .m)) (g .result .next .at) _ (g .ensures .0) (c .if1 .taken))),
       (λ z. absurd (c .if1 .taken z), p .inv .1),
     )

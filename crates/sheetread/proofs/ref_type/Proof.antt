@@ -52,7 +52,11 @@ returns c =
     )
 
 sheet-head-requires : tie.Need-sheet-head-requires
-sheet-head-requires c κs = (omega arith, c .before .before .before .before .before .before .before .before .before .before .pre .0, got-at-most 1 (c .before .before .before .before .before .before .before .before .next-own .result) (c .before .before .before .before .before .before .o2 .given .0 .0) (c .before .before .before .before .before .before .o2 .given .0 .1 .0) (c .before .before .before .before .before .before .o2 .given .1) (c .before .before .before .before .before .before .before .before .next-own .ensures .1))
+sheet-head-requires c κs =
+    let c6 = c .before .before .before .before .before .before in
+    let c8 = c6 .before .before in
+    let c10 = c8 .before .before in
+    (omega arith, c10 .pre .0, got-at-most 1 (c8 .next-own .result) (c6 .o2 .given .0 .0) (c6 .o2 .given .0 .1 .0) (c6 .o2 .given .1) (c8 .next-own .ensures .1))
 
 returns-2 : tie.Need-returns-2
 returns-2 c =
@@ -69,26 +73,31 @@ returns-2 c =
 
 returns-3 : tie.Need-returns-3
 returns-3 c =
-    let a = c .before .before .before .before .before .before .before .before .before .before .before .args in
+    let c2 = c .before .before in
+    let c5 = c2 .before .before .before in
+    let c7 = c5 .before .before in
+    let c9 = c7 .before .before in
+    let c11 = c9 .before .before in
+    let a = c11 .args in
     let s = a .s .now in
-    let o = c .before .before .before .before .before .before .before .before .before .next-own in
-    let on = c .before .before .before .before .before .before .before .o2 .given .0 .0 in
-    let oc = c .before .before .before .before .before .before .before .o2 .given .0 .1 .0 in
-    let oe = got-ok yesOf s (a .c .at) (o .result) _ (o .ensures .0) on oc (c .before .before .before .before .before .before .before .o2 .given .1) in
-    let g = c .before .before .before .before .before .methods-at in
+    let o = c9 .next-own in
+    let on = c7 .o2 .given .0 .0 in
+    let oc = c7 .o2 .given .0 .1 .0 in
+    let oe = got-ok yesOf s (a .c .at) (o .result) _ (o .ensures .0) on oc (c7 .o2 .given .1) in
+    let g = c5 .methods-at in
     let list = g .result .list in
-    let few : a .m ≤ length list = omega (arith, g .ensures .1 .1, c .before .before .before .before .before .before .before .before .before .before .before .pre .1) in
+    let few : a .m ≤ length list = omega (arith, g .ensures .1 .1, c11 .pre .1) in
     let head = c .sheet-head .ensures in
     let x = rawOf (record { head = c .sheet-head .result; methods = list }) in
-    let exact = g .ensures .1 .0 (c .before .before .if1 .left) in (
+    let exact = g .ensures .1 .0 (c2 .if1 .left) in (
       λ i h. ap (λ (z : Ty). got z (g .result .next .at) (split (drop (g .result .next .at) s)))
           (ref-means (a .m) (a .n) i x h (a .cat) on (map methodIs (take (a .m) list)) (ap (λ (z : Head). z .rep) head) (ap (λ (z : Head). z .cat) head) (ap (λ (z : Head). z .own) head) (methods-all list (a .m) few))
           ∙ member-ok (a .m) (a .n) (a .cat) (a .c .at) (split (drop (a .c .at) s)) (yesOf on) (oc .at) (split (drop (oc .at) s)) oe
-          (map methodIs (take (a .m) list)) (g .result .next .at) (split (drop (g .result .next .at) s)) (read-ok s (g .result .refusal) (map methodIs (take (a .m) list)) (g .result .next .at) _ (g .ensures .0) (c .before .before .if1 .left)),
+          (map methodIs (take (a .m) list)) (g .result .next .at) (split (drop (g .result .next .at) s)) (read-ok s (g .result .refusal) (map methodIs (take (a .m) list)) (g .result .next .at) _ (g .ensures .0) (c2 .if1 .left)),
       λ i h z. ref-exact (a .m) (a .n) i x (length-map list rawMethod ∙ g .ensures .1 .1)
           (sheet-key (a .n) i x h (ap (λ (z : Head). z .kind) head) (ap (λ (z : Head). z .left) head) (ap (λ (z : Head). z .right) head))
           (ap (λ (z : Head). z .rep) head)
-          (omega (arith, ap (λ (z : Head). z .own) head, got-at-most 1 (o .result) on oc (c .before .before .before .before .before .before .before .o2 .given .1) (o .ensures .1)))
+          (omega (arith, ap (λ (z : Head). z .own) head, got-at-most 1 (o .result) on oc (c7 .o2 .given .1) (o .ensures .1)))
           (exact .exact) (exact .rest),
     )
 

@@ -14,7 +14,10 @@ empty-requires : tie.Need-empty-requires
 empty-requires c κs = search needs
 
 returns : tie.Need-returns
-returns c = sheet-malformed (c .before .before .before .args .refusal) (c .before .before .before .args .at) _ _ _ (c .before .before .empty-types .ensures) (c .before .empty-links .ensures) (c .empty .ensures)
+returns c =
+    let c2 = c .before .before in
+    let c3 = c2 .before in
+    sheet-malformed (c3 .args .refusal) (c3 .args .at) _ _ _ (c2 .empty-types .ensures) (c .before .empty-links .ensures) (c .empty .ensures)
 
 pub refused-spec : {M : Type 1} → statement M
 refused-spec =

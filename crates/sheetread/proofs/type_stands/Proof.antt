@@ -45,16 +45,22 @@ method-stands-requires c κs = search needs
 
 returns-2 : tie.Need-returns-2 Inv-loop μ-loop
 returns-2 c =
-    let a = c .before .before .before .before .before .before .before .before .args in
-    let p = c .before .before .before .before .loop in
+    let c2 = c .before .before in
+    let c3 = c2 .before in
+    let c4 = c3 .before in
+    let c5 = c4 .before in
+    let c7 = c5 .before .before in
+    let c8 = c7 .before in
+    let a = c8 .args in
+    let p = c4 .loop in
     let rs = typesIn (a .b .now) in
     let x = getD rs (a .i) noRawType in
     let f : ℕ → Method = λ j. methodOf (getD (x .methods) j noRawMethod) in
     let l : length (from (a .m) 0 f) ≡ a .m = length-from f (a .m) 0 in
     all-broken (stands (standsAt rs (a .n))) (from (a .m) 0 f) (p .j) (methodOf noRawMethod) (p .inv .1) (omega arith)
-    (ap (stands (standsAt rs (a .n))) (from-first f (a .m) (p .j) (methodOf noRawMethod) (c .before .before .before .loop-test .taken) ∙ ap methodOf (sym (c .before .before .get-method .ensures)))
+    (ap (stands (standsAt rs (a .n))) (from-first f (a .m) (p .j) (methodOf noRawMethod) (c3 .loop-test .taken) ∙ ap methodOf (sym (c2 .get-method .ensures)))
     ∙ sym (c .before .method-stands .ensures) ∙ not-true (c .before .method-stands .result) (c .if2 .taken))
-    ∙ methods-ref (standsAt rs (a .n)) (a .m) x (sym (ap (λ (h : Head). h .rep) (c .before .before .before .before .before .before .before .get-head .ensures)) ∙ c .before .before .before .before .before .if1 .left)
+    ∙ methods-ref (standsAt rs (a .n)) (a .m) x (sym (ap (λ (h : Head). h .rep) (c7 .get-head .ensures)) ∙ c5 .if1 .left)
 
 add-j : tie.Need-add-j Inv-loop μ-loop
 add-j c = search needs
@@ -64,15 +70,19 @@ loop-less c = search needs
 
 loop-again : tie.Need-loop-again Inv-loop μ-loop
 loop-again c =
-    let a = c .before .before .before .before .before .before .before .before .args in
-    let p = c .before .before .before .before .loop in
+    let c2 = c .before .before in
+    let c3 = c2 .before in
+    let c4 = c3 .before in
+    let c8 = c4 .before .before .before .before in
+    let a = c8 .args in
+    let p = c4 .loop in
     let rs = typesIn (a .b .now) in
     let x = getD rs (a .i) noRawType in
     let f : ℕ → Method = λ j. methodOf (getD (x .methods) j noRawMethod) in
     let l : length (from (a .m) 0 f) ≡ a .m = length-from f (a .m) 0 in (
       omega arith,
       all-next (stands (standsAt rs (a .n))) (from (a .m) 0 f) (p .j) (methodOf noRawMethod) (p .inv .1) (omega arith)
-          (ap (stands (standsAt rs (a .n))) (from-first f (a .m) (p .j) (methodOf noRawMethod) (c .before .before .before .loop-test .taken) ∙ ap methodOf (sym (c .before .before .get-method .ensures)))
+          (ap (stands (standsAt rs (a .n))) (from-first f (a .m) (p .j) (methodOf noRawMethod) (c3 .loop-test .taken) ∙ ap methodOf (sym (c2 .get-method .ensures)))
           ∙ sym (c .before .method-stands .ensures) ∙ not-false (c .before .method-stands .result) (c .if2 .left)),
     )
 

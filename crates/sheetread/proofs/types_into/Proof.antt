@@ -38,21 +38,28 @@ one-type-requires c κs = search needs
 
 returns : tie.Need-returns Inv-loop μ-loop
 returns c =
-    let a = c .before .before .before .before .before .before .before .args in
-    let p = c .before .before .before .before .before .loop in
-    let g = c .before .before .before .one-type in (
-      times-stop (oneType (a .m) (a .cats) (a .n)) (a .n) (p .i) (p .i) (typesTo (a .m) (a .n) (p .i) (typesIn (p .b))) (p .at) (split (drop (p .at) (a .s .now))) _ (p .inv .2) (c .before .before .before .before .loop-test .taken)
+    let c3 = c .before .before .before in
+    let c4 = c3 .before in
+    let c5 = c4 .before in
+    let c7 = c5 .before .before in
+    let a = c7 .args in
+    let p = c5 .loop in
+    let g = c3 .one-type in (
+      times-stop (oneType (a .m) (a .cats) (a .n)) (a .n) (p .i) (p .i) (typesTo (a .m) (a .n) (p .i) (typesIn (p .b))) (p .at) (split (drop (p .at) (a .s .now))) _ (p .inv .2) (c4 .loop-test .taken)
           (g .result .refusal) (g .result .next .at) (read-no (a .s .now) (g .result .refusal) (typeOf (a .m) (a .n) (p .i) (rawOf (g .result .t))) (g .result .next .at) _ (g .ensures .0) (c .if1 .taken)),
       tt,
     )
 
 put-type-requires : tie.Need-put-type-requires Inv-loop μ-loop
 put-type-requires c κs =
-    let a = c .before .before .before .before .before .before .before .before .before .args in
-    let p = c .before .before .before .before .before .before .before .loop in
+    let c6 = c .before .before .before .before .before .before in
+    let c7 = c6 .before in
+    let c9 = c7 .before .before in
+    let a = c9 .args in
+    let p = c7 .loop in
     let ts = typesTo (a .m) (a .n) (p .i) (typesIn (p .b)) in
     let l : length ts ≡ p .i = types-to-length (a .m) (a .n) (typesIn (p .b)) (p .i) in
-    (omega (arith, c .before .before .before .before .before .before .before .before .before .pre .2, c .before .before .before .before .before .before .loop-test .taken), ap length (p .inv .1) ∙ types-room ts (omega (arith, c .before .before .before .before .before .before .before .before .before .pre .2, c .before .before .before .before .before .before .loop-test .taken)))
+    (omega (arith, c9 .pre .2, c6 .loop-test .taken), ap length (p .inv .1) ∙ types-room ts (omega (arith, c9 .pre .2, c6 .loop-test .taken)))
 
 add-i : tie.Need-add-i Inv-loop μ-loop
 add-i c = search needs
@@ -62,22 +69,27 @@ loop-less c = search needs
 
 loop-again : tie.Need-loop-again Inv-loop μ-loop
 loop-again c =
-    let a = c .before .before .before .before .before .before .before .before .before .before .args in
-    let p = c .before .before .before .before .before .before .before .before .loop in
-    let g = c .before .before .before .before .before .before .one-type in
+    let c3 = c .before .before .before in
+    let c6 = c3 .before .before .before in
+    let c7 = c6 .before in
+    let c8 = c7 .before in
+    let c10 = c8 .before .before in
+    let a = c10 .args in
+    let p = c8 .loop in
+    let g = c6 .one-type in
     let x = rawOf (g .result .t) in
     let bs = typesIn (p .b) in
     let ts = typesTo (a .m) (a .n) (p .i) bs in
-    let small : p .i < 128 = omega (arith, c .before .before .before .before .before .before .before .before .before .before .pre .2, c .before .before .before .before .before .before .before .loop-test .taken) in
+    let small : p .i < 128 = omega (arith, c10 .pre .2, c7 .loop-test .taken) in
     let l : length ts ≡ p .i = types-to-length (a .m) (a .n) bs (p .i) in
     let k : p .i < length bs = omega (arith, types-length (p .b)) in
     let put = put-types (c .put-type .ensures) (ap length (p .inv .1) ∙ types-room ts (omega arith)) small in
     let one = ap (typesTo (a .m) (a .n) (p .i + 1)) put ∙ types-next (a .m) (a .n) (p .i) bs x k in (
       omega arith,
-      types-stored ts (typeOf (a .m) (a .n) (p .i) x) (p .i) x (p .b) _ l small (p .inv .1) (type-record (a .m) (a .n) (p .i) x (g .ensures .1 (c .before .before .before .if1 .left))) (c .put-type .ensures .bytes) ∙ ap typeBytes (sym one),
-      times-next (oneType (a .m) (a .cats) (a .n)) (a .n) (p .i) (p .i) ts (p .at) (split (drop (p .at) (a .s .now))) _ (p .inv .2) (c .before .before .before .before .before .before .before .loop-test .taken)
+      types-stored ts (typeOf (a .m) (a .n) (p .i) x) (p .i) x (p .b) _ l small (p .inv .1) (type-record (a .m) (a .n) (p .i) x (g .ensures .1 (c3 .if1 .left))) (c .put-type .ensures .bytes) ∙ ap typeBytes (sym one),
+      times-next (oneType (a .m) (a .cats) (a .n)) (a .n) (p .i) (p .i) ts (p .at) (split (drop (p .at) (a .s .now))) _ (p .inv .2) (c7 .loop-test .taken)
           (typeOf (a .m) (a .n) (p .i) x) (g .result .next .at) (split (drop (g .result .next .at) (a .s .now))) (p .i + 1) _
-          (read-ok (a .s .now) (g .result .refusal) (typeOf (a .m) (a .n) (p .i) x) (g .result .next .at) _ (g .ensures .0) (c .before .before .before .if1 .left)) (add-one (p .i)) one,
+          (read-ok (a .s .now) (g .result .refusal) (typeOf (a .m) (a .n) (p .i) x) (g .result .next .at) _ (g .ensures .0) (c3 .if1 .left)) (add-one (p .i)) one,
     )
 
 returns-2 : tie.Need-returns-2 Inv-loop μ-loop

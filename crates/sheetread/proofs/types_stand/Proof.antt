@@ -28,13 +28,16 @@ type-stands-requires c κs = search needs
 
 returns : tie.Need-returns Inv-loop μ-loop
 returns c =
-    let a = c .before .before .before .before .args in
-    let p = c .before .before .before .loop in
+    let c2 = c .before .before in
+    let c3 = c2 .before in
+    let c4 = c3 .before in
+    let a = c4 .args in
+    let p = c3 .loop in
     let rs = typesIn (a .b .now) in
     let ts = typesTo (a .m) (a .n) (a .n) rs in
     let l : length ts ≡ a .n = types-to-length (a .m) (a .n) rs (a .n) in
     all-broken (typeStands rs (a .n)) ts (p .i) noType (p .inv .1) (omega arith)
-    (ap (typeStands rs (a .n)) (types-to-at (a .m) (a .n) rs (a .n) (p .i) noType (c .before .before .loop-test .taken)) ∙ sym (c .before .type-stands .ensures) ∙ not-true (c .before .type-stands .result) (c .if1 .taken))
+    (ap (typeStands rs (a .n)) (types-to-at (a .m) (a .n) rs (a .n) (p .i) noType (c2 .loop-test .taken)) ∙ sym (c .before .type-stands .ensures) ∙ not-true (c .before .type-stands .result) (c .if1 .taken))
 
 add-i : tie.Need-add-i Inv-loop μ-loop
 add-i c = search needs
@@ -44,14 +47,17 @@ loop-less c = search needs
 
 loop-again : tie.Need-loop-again Inv-loop μ-loop
 loop-again c =
-    let a = c .before .before .before .before .args in
-    let p = c .before .before .before .loop in
+    let c2 = c .before .before in
+    let c3 = c2 .before in
+    let c4 = c3 .before in
+    let a = c4 .args in
+    let p = c3 .loop in
     let rs = typesIn (a .b .now) in
     let ts = typesTo (a .m) (a .n) (a .n) rs in
     let l : length ts ≡ a .n = types-to-length (a .m) (a .n) rs (a .n) in (
       omega arith,
       all-next (typeStands rs (a .n)) ts (p .i) noType (p .inv .1) (omega arith)
-          (ap (typeStands rs (a .n)) (types-to-at (a .m) (a .n) rs (a .n) (p .i) noType (c .before .before .loop-test .taken)) ∙ sym (c .before .type-stands .ensures) ∙ not-false (c .before .type-stands .result) (c .if1 .left)),
+          (ap (typeStands rs (a .n)) (types-to-at (a .m) (a .n) rs (a .n) (p .i) noType (c2 .loop-test .taken)) ∙ sym (c .before .type-stands .ensures) ∙ not-false (c .before .type-stands .result) (c .if1 .left)),
     )
 
 returns-2 : tie.Need-returns-2 Inv-loop μ-loop

@@ -25,10 +25,17 @@ wide-requires : tie.Need-wide-requires Inv-loop μ-loop
 wide-requires c κs = search needs
 
 returns : tie.Need-returns Inv-loop μ-loop
-returns c = (digits-low _ _ _ _ (c .before .before .before .loop-test .taken) (c .before .wide .ensures .0) (c .if1 .taken) ∙ c .before .before .before .before .loop .inv .2, (omega arith, omega arith))
+returns c =
+    let c3 = c .before .before .before in
+    let c4 = c3 .before in
+    (digits-low _ _ _ _ (c3 .loop-test .taken) (c .before .wide .ensures .0) (c .if1 .taken) ∙ c4 .loop .inv .2, (omega arith, omega arith))
 
 returns-2 : tie.Need-returns-2 Inv-loop μ-loop
-returns-2 c = (digits-high _ _ _ _ (c .before .before .before .before .loop-test .taken) (c .before .before .wide .ensures .0) (c .before .if1 .left) (c .if2 .taken) ∙ c .before .before .before .before .before .loop .inv .2, (omega arith, omega arith))
+returns-2 c =
+    let c2 = c .before .before in
+    let c4 = c2 .before .before in
+    let c5 = c4 .before in
+    (digits-high _ _ _ _ (c4 .loop-test .taken) (c2 .wide .ensures .0) (c .before .if1 .left) (c .if2 .taken) ∙ c5 .loop .inv .2, (omega arith, omega arith))
 
 mul-least : tie.Need-mul-least Inv-loop μ-loop
 mul-least c = search needs
@@ -46,7 +53,12 @@ loop-less : tie.Need-loop-less Inv-loop μ-loop
 loop-less c = search needs
 
 loop-again : tie.Need-loop-again Inv-loop μ-loop
-loop-again c = (omega arith, omega arith, digits-more _ _ _ _ (c .before .before .before .before .before .loop-test .taken) (c .before .before .before .wide .ensures .0) _ (c .before .before .if1 .left) (c .before .if2 .left) (c .least .ensures .0) ∙ c .before .before .before .before .before .before .loop .inv .2)
+loop-again c =
+    let c2 = c .before .before in
+    let c3 = c2 .before in
+    let c5 = c3 .before .before in
+    let c6 = c5 .before in
+    (omega arith, omega arith, digits-more _ _ _ _ (c5 .loop-test .taken) (c3 .wide .ensures .0) _ (c2 .if1 .left) (c .before .if2 .left) (c .least .ensures .0) ∙ c6 .loop .inv .2)
 
 returns-3 : tie.Need-returns-3 Inv-loop μ-loop
 returns-3 c = (digits-end _ _ _ (c .loop-test .left) ∙ c .before .loop .inv .2, (omega arith, omega arith))

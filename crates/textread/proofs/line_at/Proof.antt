@@ -30,7 +30,11 @@ part-result-end : tie.Need-part-result-end Inv-loop μ-loop
 part-result-end c = search needs
 
 returns : tie.Need-returns Inv-loop μ-loop
-returns c = line-found (c .before .before .before .before .before .args .s .now) (c .before .before .before .before .before .args .c .at) (c .before .before .before .before .loop .e) (c .before .before .before .before .loop .inv .0) (c .before .before .before .loop-test .taken) (c .before .before .before .before .loop .inv .1) (c .before .if1 .taken)
+returns c =
+    let c3 = c .before .before .before in
+    let c4 = c3 .before in
+    let c5 = c4 .before in
+    line-found (c5 .args .s .now) (c5 .args .c .at) (c4 .loop .e) (c4 .loop .inv .0) (c3 .loop-test .taken) (c4 .loop .inv .1) (c .before .if1 .taken)
 
 add-e : tie.Need-add-e Inv-loop μ-loop
 add-e c = search needs
@@ -45,7 +49,10 @@ slice-aggregate-result : tie.Need-slice-aggregate-result Inv-loop μ-loop
 slice-aggregate-result c = search needs
 
 returns-2 : tie.Need-returns-2 Inv-loop μ-loop
-returns-2 c = line-none (c .before .before .before .args .s .now) (c .before .before .before .args .c .at) (c .before .before .loop .e) (c .before .before .loop .inv .0) (c .before .loop-test .left) (c .before .before .loop .inv .1)
+returns-2 c =
+    let c2 = c .before .before in
+    let c3 = c2 .before in
+    line-none (c3 .args .s .now) (c3 .args .c .at) (c2 .loop .e) (c2 .loop .inv .0) (c .before .loop-test .left) (c2 .loop .inv .1)
 
 pub line-at-spec : {M : Type 1} → statement M
 line-at-spec =

@@ -18,7 +18,10 @@ returns : tie.Need-returns
 returns c = pass-refused (c .before .before .before .before .args .v) _ _ _ (c .before .v .given .1)
 
 returns-2 : tie.Need-returns-2
-returns-2 c = pass-is (c .before .before .before .before .before .args .v) (c .before .before .before .before .before .args .c .at) (length (c .before .before .before .before .before .args .l .now)) _ (c .before .before .v2 .given .1) (c .past .result) (c .past .ensures)
+returns-2 c =
+    let c2 = c .before .before in
+    let c5 = c2 .before .before .before in
+    pass-is (c5 .args .v) (c5 .args .c .at) (length (c5 .args .l .now)) _ (c2 .v2 .given .1) (c .past .result) (c .past .ensures)
 
 pub passed-spec : {M : Type 1} → statement M
 passed-spec = tie.close (tie.spec enum-known-v enum-known-v-2 past-requires returns returns-2)
