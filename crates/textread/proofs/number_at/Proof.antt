@@ -1,4 +1,4 @@
--- By the first byte. Rests on the laws of a number.
+-- Rests on `number-none`, `number-zero`, `number-low`, `number-high` and `number-more`.
 use mathlib.Core.Path.{_∙_}
 use Prim.Native.Nat.{_<_}
 use native.Mathlib.Omega.{arith}
@@ -9,7 +9,7 @@ use Rattle.textread.proofs.number_at.Statement.{statement}
 use Rattle.textread.proofs.number_at.Tie as tie
 
 returns : tie.Need-returns
-returns c = (number-none _ _ (c .if1 .taken), search needs)
+returns c = (number-none _ _ (c .if1 .taken), tt)
 
 shared-slice-read-wide : tie.Need-shared-slice-read-wide
 shared-slice-read-wide c = search needs
@@ -24,10 +24,10 @@ returns-2 : tie.Need-returns-2
 returns-2 c = let h : c .before .before .before .before .before .args .at < length (c .before .before .before .before .before .args .l .now) = omega arith in (number-zero _ _ _ h (c .before .wide .ensures .0) (c .if2 .taken), (omega arith, omega arith))
 
 returns-3 : tie.Need-returns-3
-returns-3 c = let h : c .before .before .before .before .before .before .args .at < length (c .before .before .before .before .before .before .args .l .now) = omega arith in (number-low _ _ _ h (c .before .before .wide .ensures .0) (c .before .if2 .left) (c .if3 .taken), (omega arith, omega arith))
+returns-3 c = let h : c .before .before .before .before .before .before .args .at < length (c .before .before .before .before .before .before .args .l .now) = omega arith in (number-low _ _ _ h (c .before .before .wide .ensures .0) (c .before .if2 .left) (c .if3 .taken), tt)
 
 returns-4 : tie.Need-returns-4
-returns-4 c = let h : c .before .before .before .before .before .before .before .args .at < length (c .before .before .before .before .before .before .before .args .l .now) = omega arith in (number-high _ _ _ h (c .before .before .before .wide .ensures .0) (c .before .before .if2 .left) (c .before .if3 .left) (c .if4 .taken), (omega arith, omega arith))
+returns-4 c = let h : c .before .before .before .before .before .before .before .args .at < length (c .before .before .before .before .before .before .before .args .l .now) = omega arith in (number-high _ _ _ h (c .before .before .before .wide .ensures .0) (c .before .before .if2 .left) (c .before .if3 .left) (c .if4 .taken), tt)
 
 add-digits-at : tie.Need-add-digits-at
 add-digits-at c = search needs

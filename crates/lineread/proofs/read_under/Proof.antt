@@ -1,0 +1,123 @@
+-- Rests on `starts-length`, `scan-right`, `scan-wrong`, `under-key`, `under-wrong` and `under-behind` and what stands beside them.
+use mathlib.Core.Bool.{cond}
+use mathlib.Core.List.{[], _∷_}
+use mathlib.Core.Path.{ap, sym, _∙_}
+use Prim.Native.Nat.{_≤_, ℕ}
+use native.Mathlib.Omega.{arith}
+use lib.Dec.{eqb}
+use lib.ListN.{take, getD}
+use borrow.Author.Needs.{needs}
+use borrow.Author.Tests.{not-true, not-false}
+use Rattle.model.specs.Basics.{ok}
+use Rattle.textread.proofs.Laws.{starts-length, scan-right, scan-wrong}
+use Rattle.lineread.proofs.Laws.{under-key, under-wrong, under-behind, under-above, under-high, under-good, one-or-two, one-or-two-exact}
+use Rattle.lineread.proofs.read_under.Statement.{statement}
+use Rattle.lineread.proofs.read_under.Tie as tie
+
+slice-aggregate-begins : tie.Need-slice-aggregate-begins
+slice-aggregate-begins c = search needs
+
+begins-requires : tie.Need-begins-requires
+begins-requires c κs = search needs
+
+returns : tie.Need-returns
+returns c = (under-key (c .before .before .before .before .args .cats) (c .before .before .before .before .args .k) (c .before .before .before .before .args .l .now) (sym (c .before .begins .ensures) ∙ not-true (c .before .begins .result) (c .if1 .taken)), tt)
+
+numbers-at-requires : tie.Need-numbers-at-requires
+numbers-at-requires c κs = (starts-length _ _ (sym (c .before .begins .ensures) ∙ not-false (c .before .begins .result) (c .if1 .left)), omega arith)
+
+returns-2 : tie.Need-returns-2
+returns-2 c =
+    let a = c .before .before .before .before .before .before .before .args in
+    let key = sym (c .before .before .before .before .begins .ensures) ∙ not-false (c .before .before .before .before .begins .result) (c .before .before .before .if1 .left) in
+    let t = c .before .before .numbers-at in
+    let xs = take (t .result .count) (t .result .items) in
+    (under-wrong (a .cats) (a .k) (a .l .now) key (scan-wrong (a .l .now) (t .result .right) xs (t .result .next) _ (t .ensures .0) (not-true (t .result .right) (c .if2 .taken))), tt)
+
+returns-3 : tie.Need-returns-3
+returns-3 c =
+    let a = c .before .before .before .before .before .before .before .before .before .args in
+    let key = sym (c .before .before .before .before .before .before .begins .ensures) ∙ not-false (c .before .before .before .before .before .before .begins .result) (c .before .before .before .before .before .if1 .left) in
+    let t = c .before .before .before .before .numbers-at in
+    let xs = take (t .result .count) (t .result .items) in
+    let right = not-false (t .result .right) (c .before .before .if2 .left) in
+    let s = scan-right (a .l .now) (t .result .right) xs (t .result .next) _ (t .ensures .0) right in
+    (under-behind (a .cats) (a .k) (a .l .now) key xs (t .result .next) s (c .if3 .taken), tt)
+
+add-pack : tie.Need-add-pack
+add-pack c = search needs
+
+pack-requires : tie.Need-pack-requires
+pack-requires c κs = search needs
+
+returns-4 : tie.Need-returns-4
+returns-4 c =
+    let a = c .before .before .before .before .before .before .before .before .before .before .before .before .before .args in
+    let key = sym (c .before .before .before .before .before .before .before .before .before .before .begins .ensures) ∙ not-false (c .before .before .before .before .before .before .before .before .before .before .begins .result) (c .before .before .before .before .before .before .before .before .before .if1 .left) in
+    let t = c .before .before .before .before .before .before .before .before .numbers-at in
+    let xs = take (t .result .count) (t .result .items) in
+    let right = not-false (t .result .right) (c .before .before .before .before .before .before .if2 .left) in
+    let s = scan-right (a .l .now) (t .result .right) xs (t .result .next) _ (t .ensures .0) right in
+    (under-above (a .cats) (a .k) (a .l .now) key xs (t .result .next) s (c .before .before .before .before .if3 .left) (sym (c .before .before .pack .ensures .0) ∙ not-true (c .before .before .pack .result .right) (c .if4 .taken)), tt)
+
+pack-requires-2 : tie.Need-pack-requires-2
+pack-requires-2 c κs = search needs
+
+returns-5 : tie.Need-returns-5
+returns-5 c =
+    let a = c .before .before .before .before .before .before .before .before .before .before .before .before .before .before .before .args in
+    let key = sym (c .before .before .before .before .before .before .before .before .before .before .before .before .begins .ensures) ∙ not-false (c .before .before .before .before .before .before .before .before .before .before .before .before .begins .result) (c .before .before .before .before .before .before .before .before .before .before .before .if1 .left) in
+    let t = c .before .before .before .before .before .before .before .before .before .before .numbers-at in
+    let xs = take (t .result .count) (t .result .items) in
+    let right = not-false (t .result .right) (c .before .before .before .before .before .before .before .before .if2 .left) in
+    let s = scan-right (a .l .now) (t .result .right) xs (t .result .next) _ (t .ensures .0) right in
+    let known = sym (c .before .before .before .before .pack .ensures .0) ∙ not-false (c .before .before .before .before .pack .result .right) (c .before .before .if4 .left) in
+    (under-high (a .cats) (a .k) (a .l .now) key xs (t .result .next) s (c .before .before .before .before .before .before .if3 .left) known (sym (c .before .pack2 .ensures .0) ∙ not-true (c .before .pack2 .result .right) (c .if5 .taken)), tt)
+
+narrow-requires : tie.Need-narrow-requires
+narrow-requires c κs = search needs
+
+element-copy-out-t18 : tie.Need-element-copy-out-t18
+element-copy-out-t18 c = search needs
+
+element-copy-out-t21 : tie.Need-element-copy-out-t21
+element-copy-out-t21 c = search needs
+
+returns-6 : tie.Need-returns-6
+returns-6 c =
+    let a = c .before .before .before .before .before .before .before .before .before .before .before .before .before .before .before .before .before .before .args in
+    let key = sym (c .before .before .before .before .before .before .before .before .before .before .before .before .before .before .before .begins .ensures) ∙ not-false (c .before .before .before .before .before .before .before .before .before .before .before .before .before .before .before .begins .result) (c .before .before .before .before .before .before .before .before .before .before .before .before .before .before .if1 .left) in
+    let t = c .before .before .before .before .before .before .before .before .before .before .before .before .before .numbers-at in
+    let xs = take (t .result .count) (t .result .items) in
+    let right = not-false (t .result .right) (c .before .before .before .before .before .before .before .before .before .before .before .if2 .left) in
+    let s = scan-right (a .l .now) (t .result .right) xs (t .result .next) _ (t .ensures .0) right in
+    let known = sym (c .before .before .before .before .before .before .before .pack .ensures .0) ∙ not-false (c .before .before .before .before .before .before .before .pack .result .right) (c .before .before .before .before .before .if4 .left) in
+    let p = c .before .before .before .before .pack2 in
+    let low = not-false (p .result .right) (c .before .before .before .if5 .left) in
+    let bytes = p .result .items in
+    let some : 1 ≤ t .result .count = t .ensures .1 .3 right in (
+      ap (λ (z : ℕ). ok (cond (eqb z 2) (getD bytes 0 0 ∷ getD bytes 1 0 ∷ []) (getD bytes 0 0 ∷ []))) (c .before .before .narrow .ensures)
+          ∙ ap ok (one-or-two bytes (t .result .count) (p .ensures .1 .1) some (t .ensures .1 .1) ∙ p .ensures .1 .0 low)
+          ∙ under-good (a .cats) (a .k) (a .l .now) key xs (t .result .next) s (c .before .before .before .before .before .before .before .before .before .if3 .left) known (sym (p .ensures .0) ∙ low),
+      one-or-two-exact bytes _ (t .result .count) (c .before .before .narrow .ensures) some (t .ensures .1 .1) (p .ensures .1 .2),
+    )
+
+pub read-under-spec : {M : Type 1} → statement M
+read-under-spec =
+    tie.close
+    (tie.spec
+    slice-aggregate-begins
+    begins-requires
+    returns
+    numbers-at-requires
+    returns-2
+    returns-3
+    add-pack
+    pack-requires
+    returns-4
+    pack-requires-2
+    returns-5
+    narrow-requires
+    element-copy-out-t18
+    element-copy-out-t21
+    returns-6)
