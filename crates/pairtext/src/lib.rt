@@ -84,11 +84,11 @@ fn pair_lines(buf: &mut [u8], pairs: &[u8; 2304], n: usize) -> usize
 }
 
 // `no=N at=OFFSET`
-fn refused_line(buf: &mut [u8], no: usize, at: usize) -> usize
-    ensures is { λ r. ⌜ Lined (now (buf .entry)) (now (buf .exit)) (answerLines (malformed no at)) r ⌝ }
+fn refused_line(buf: &mut [u8], refusal: usize, at: usize) -> usize
+    ensures is { λ r. ⌜ Lined (now (buf .entry)) (now (buf .exit)) (answerLines (malformed refusal at)) r ⌝ }
     ensures few { λ r. ⌜ r ≤ 73 ⌝ }
 {
-    let a = put_number(buf, b"no=", no);
+    let a = put_number(buf, b"no=", refusal);
     let k = least(a, buf.len());
     a + write_number(&mut buf[k..], b" at=", at)
 }
@@ -102,8 +102,8 @@ fn put_report(buf: &mut [u8], s: &[u8]) -> usize
         return write_word(buf, b"no=2");
     }
     let x = sheetread::read(s);
-    if x.no != 0 {
-        return refused_line(buf, x.no, x.at);
+    if x.refusal != 0 {
+        return refused_line(buf, x.refusal, x.at);
     }
     let links = x.links;
     let c = x.counts;
