@@ -306,3 +306,33 @@ pub fn base_owner(ps: Places, p: usize) -> usize
 {
     place_owner(place_at(ps, base_of(ps, p)))
 }
+
+// The layers of place p (C9).
+pub fn layers_of(ps: Places, p: usize) -> Layers
+    requires { ⌜ Falling ps × (p < ps .count) ⌝ }
+    ensures { λ r. ⌜ LayersAt ps p r ⌝ }
+{
+    let mut list = [0u8; 128];
+    let mut count: usize = 0;
+    let mut at = p;
+    while !is_object(place_at(ps, at)) {
+        let x = place_at(ps, at);
+        list[count] = numbers::narrow(place_type(x));
+        count += 1;
+        at = place_behind(x);
+    }
+    list[count] = numbers::narrow(place_type(place_at(ps, at)));
+    Layers {
+        list,
+        count: count + 1,
+    }
+}
+
+// How many adapters stand between place p and its base (C19).
+pub fn adapters_of(ps: Places, p: usize) -> usize
+    requires { ⌜ Falling ps × (p < ps .count) ⌝ }
+    ensures { λ r. ⌜ r ≡ adapterCount (placesIn ps) p ⌝ }
+{
+    let l = layers_of(ps, p);
+    l.count - 1
+}
