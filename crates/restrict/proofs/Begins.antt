@@ -15,6 +15,7 @@ use Rattle.model.specs.Restriction.{isKey, find, withoutNew, mainSide}
 use Rattle.model.specs.Check.{RawType, noRawType, repOf, kindOf, typeOf}
 use Rattle.model.proofs.Largest.{getD-from-out}
 use Rattle.model.proofs.Rules.{first, second}
+use Rattle.table.specs.declared.Counts.{Counts}
 use Rattle.table.specs.declared.Head.{Head}
 use Rattle.table.specs.Store.{typesIn, typesTo, headOf}
 use Rattle.table.proofs.Tables.{types-to-at}
@@ -99,21 +100,21 @@ ref-below n t b e = ltb-true t n (first (ltb t n) _ e)
 pub ref-rep : (n t : ℕ) (b : List ℕ) → refIn n b t ≡ true → isRef (repOf (getD (typesIn b) t noRawType .rep)) ≡ true
 ref-rep n t b e = second (ltb t n) _ e
 
-pub ref-type : (T : Table) (ms sh n t : ℕ) (b : List ℕ) → isRef (typeAt (tabled T ms sh n b) t .rep) ≡ refIn n b t
+pub ref-type : (T : Table) (c : Counts) (n t : ℕ) (b : List ℕ) → isRef (typeAt (tabled T c n b) t .rep) ≡ refIn n b t
 unfolding typesTo
-ref-type T ms sh n t b = go (ltb t n) refl
+ref-type T c n t b = go (ltb t n) refl
   where
-    go : (a : Bool) → ltb t n ≡ a → isRef (typeAt (tabled T ms sh n b) t .rep) ≡ (a && isRef (repOf (getD (typesIn b) t noRawType .rep)))
-    go true e = ap (λ (x : Ty). isRef (x .rep)) (types-to-at ms sh (typesIn b) n t noType (ltb-true t n e))
-    go false e = ap (λ (x : Ty). isRef (x .rep)) (getD-from-out (λ i. typeOf ms sh i (getD (typesIn b) i noRawType)) noType n 0 t (ltb-false t n e))
+    go : (a : Bool) → ltb t n ≡ a → isRef (typeAt (tabled T c n b) t .rep) ≡ (a && isRef (repOf (getD (typesIn b) t noRawType .rep)))
+    go true e = ap (λ (x : Ty). isRef (x .rep)) (types-to-at (c .methods) (c .sheet) (typesIn b) n t noType (ltb-true t n e))
+    go false e = ap (λ (x : Ty). isRef (x .rep)) (getD-from-out (λ i. typeOf (c .methods) (c .sheet) i (getD (typesIn b) i noRawType)) noType n 0 t (ltb-false t n e))
 
 -- What the search comes to.
-module _ (o : Table → ℕ → Option ℕ) (n t s : ℕ) (b : List ℕ) (i : ℕ) (is : (ms : ℕ) (T : Table) → foundOf n i ≡ o T ms) where
+module _ (o : Table → Option ℕ) (n t s : ℕ) (b : List ℕ) (i : ℕ) (is : (T : Table) → foundOf n i ≡ o T) where
   pub found-known : i < n → Begins o n t s b (Settled (At i n))
-  found-known h = (λ T ms. sym (is ms T) ∙ ap (λ (a : Bool). cond a (some i) none) (lt-ltb i n h), refl, λ z p q r. omega arith)
+  found-known h = (λ T. sym (is T) ∙ ap (λ (a : Bool). cond a (some i) none) (lt-ltb i n h), refl, λ z p q r. omega arith)
 
-  none-found : n ≤ i → (T : Table) (ms : ℕ) → o T ms ≡ none
-  none-found h T ms = sym (is ms T) ∙ ap (λ (a : Bool). cond a (some i) none) (le-ltb i n h)
+  none-found : n ≤ i → (T : Table) → o T ≡ none
+  none-found h T = sym (is T) ∙ ap (λ (a : Bool). cond a (some i) none) (le-ltb i n h)
 
   pub found-full : n ≤ i → 128 ≤ n → Begins o n t s b (Settled Full)
   found-full h l = (none-found h, l)
@@ -121,34 +122,43 @@ module _ (o : Table → ℕ → Option ℕ) (n t s : ℕ) (b : List ℕ) (i : �
   pub found-new : n ≤ i → n < 128 → refIn n b t ≡ true → refIn n b s ≡ true → Begins o n t s b New
   found-new h l p q = (none-found h, l, p, q)
 
-pub begins-same : (o u : Table → ℕ → Option ℕ) (n t s : ℕ) (b : List ℕ) (g : Begun) → ((T : Table) (ms : ℕ) → u T ms ≡ o T ms) → Begins o n t s b g → Begins u n t s b g
-begins-same o u n t s b (Settled Full) e h = (λ T ms. e T ms ∙ h .0 T ms, h .1)
-begins-same o u n t s b (Settled (At i m)) e h = (λ T ms. e T ms ∙ h .0 T ms, h .1, h .2)
-begins-same o u n t s b New e h = (λ T ms. e T ms ∙ h .0 T ms, h .1, h .2, h .3)
+begins-same : (o u : Table → Option ℕ) (n t s : ℕ) (b : List ℕ) (g : Begun) → ((T : Table) → u T ≡ o T) → Begins o n t s b g → Begins u n t s b g
+begins-same o u n t s b (Settled Full) e h = (λ T. e T ∙ h .0 T, h .1)
+begins-same o u n t s b (Settled (At i m)) e h = (λ T. e T ∙ h .0 T, h .1, h .2)
+begins-same o u n t s b New e h = (λ T. e T ∙ h .0 T, h .1, h .2, h .3)
+
+-- Sub and Sup keep one of the sides.
+pub main-sup : (kind t s : ℕ) → kind ≡ 1 → s ≡ mainSide (kindOf kind) t s
+main-sup kind t s e = ap (λ (k : ℕ). mainSide (kindOf k) t s) (sym e)
+
+pub main-other : (kind t s : ℕ) → (kind ≡ 1 → ⊥) → t ≡ mainSide (kindOf kind) t s
+main-other zero t s h = refl
+main-other (suc zero) t s h = absurd (h refl)
+main-other (suc (suc kind)) t s h = refl
 
 -- Sub and Sup of a type with itself, and of numbers.
 module _ (kind t s : ℕ) (l : kind < 2) where
-  abbrev Opened : Table → Bool → Bool → ℕ → Option ℕ
-  Opened T same refs k = elim same [ true ↦ some t | false ↦ elim refs [ true ↦ find (kindOf k) t s 0 (T .types) | false ↦ some (mainSide (kindOf k) t s) ] ]
+  abbrev Plain : Table → Bool → Bool → ℕ → Option ℕ
+  Plain T same refs k = elim same [ true ↦ some t | false ↦ elim refs [ true ↦ find (kindOf k) t s 0 (T .types) | false ↦ some (mainSide (kindOf k) t s) ] ]
 
-  opened : (T : Table) (k : ℕ) → k < 2 → withoutNew T (kindOf k) t s ≡ Opened T (eqb t s) (isRef (typeAt T t .rep) && isRef (typeAt T s .rep)) k
+  plain : (T : Table) (k : ℕ) → k < 2 → withoutNew T (kindOf k) t s ≡ Plain T (eqb t s) (isRef (typeAt T t .rep) && isRef (typeAt T s .rep)) k
   unfolding withoutNew
-  opened T zero h = refl
-  opened T (suc zero) h = refl
-  opened T (suc (suc k)) h = absurd (omega arith)
+  plain T zero h = refl
+  plain T (suc zero) h = refl
+  plain T (suc (suc k)) h = absurd (omega arith)
 
-  module _ (sh n : ℕ) (b : List ℕ) where
-    abbrev Without : Table → ℕ → Option ℕ
-    Without T ms = withoutNew (tabled T ms sh n b) (kindOf kind) t s
+  module _ (c : Counts) (n : ℕ) (b : List ℕ) where
+    abbrev Without : Table → Option ℕ
+    Without T = withoutNew (tabled T c n b) (kindOf kind) t s
 
-    refs-are : (T : Table) (ms : ℕ) → (isRef (typeAt (tabled T ms sh n b) t .rep) && isRef (typeAt (tabled T ms sh n b) s .rep)) ≡ (refIn n b t && refIn n b s)
-    refs-are T ms = rw (ref-type T ms sh n t b, ref-type T ms sh n s b)
+    refs-are : (T : Table) → (isRef (typeAt (tabled T c n b) t .rep) && isRef (typeAt (tabled T c n b) s .rep)) ≡ (refIn n b t && refIn n b s)
+    refs-are T = rw (ref-type T c n t b, ref-type T c n s b)
 
-    without : (T : Table) (ms : ℕ) → Without T ms ≡ Opened (tabled T ms sh n b) (eqb t s) (refIn n b t && refIn n b s) kind
-    without T ms = opened (tabled T ms sh n b) kind l ∙ ap (λ (a : Bool). Opened (tabled T ms sh n b) (eqb t s) a kind) (refs-are T ms)
+    without : (T : Table) → Without T ≡ Plain (tabled T c n b) (eqb t s) (refIn n b t && refIn n b s) kind
+    without T = plain (tabled T c n b) kind l ∙ ap (λ (a : Bool). Plain (tabled T c n b) (eqb t s) a kind) (refs-are T)
 
     pub begins-self : t ≡ s → Begins Without n t s b (Settled (At t n))
-    begins-self e = (λ T ms. without T ms ∙ ap (λ (a : Bool). Opened (tabled T ms sh n b) a (refIn n b t && refIn n b s) kind) (eq-eqb t s e), refl, λ z p q r. q)
+    begins-self e = (λ T. without T ∙ ap (λ (a : Bool). Plain (tabled T c n b) a (refIn n b t && refIn n b s) kind) (eq-eqb t s e), refl, λ z p q r. q)
 
     main-below : (k own z : ℕ) → own ≡ mainSide (kindOf k) t s → t < z → s < z → own < z
     main-below zero own z e p q = omega arith
@@ -157,16 +167,17 @@ module _ (kind t s : ℕ) (l : kind < 2) where
 
     pub begins-number : (own : ℕ) → own ≡ mainSide (kindOf kind) t s → (t ≡ s → ⊥) → (refIn n b t && refIn n b s) ≡ false → Begins Without n t s b (Settled (At own n))
     begins-number own e ne off = (
-      λ T ms. without T ms ∙ ap (λ (a : Bool). Opened (tabled T ms sh n b) a (refIn n b t && refIn n b s) kind) (ne-eqb t s ne) ∙ ap (λ (a : Bool). Opened (tabled T ms sh n b) false a kind) off ∙ ap some (sym e),
+      λ T. without T ∙ ap (λ (a : Bool). Plain (tabled T c n b) a (refIn n b t && refIn n b s) kind) (ne-eqb t s ne) ∙ ap (λ (a : Bool). Plain (tabled T c n b) false a kind) off ∙ ap some (sym e),
       refl,
       λ z p q r. main-below kind own z e q r,
     )
 
-    pub begins-search : (g : Begun) → (t ≡ s → ⊥) → refIn n b t ≡ true → refIn n b s ≡ true → Begins (λ T ms. find (kindOf kind) t s 0 (typesTo ms sh n (typesIn b))) n t s b g → Begins Without n t s b g
+    pub begins-search : (g : Begun) → (t ≡ s → ⊥) → refIn n b t ≡ true → refIn n b s ≡ true
+        → Begins (λ T. find (kindOf kind) t s 0 (typesTo (c .methods) (c .sheet) n (typesIn b))) n t s b g → Begins Without n t s b g
     begins-search g ne p q =
-        begins-same (λ T ms. find (kindOf kind) t s 0 (typesTo ms sh n (typesIn b))) Without n t s b g
-        (λ T ms. without T ms ∙ ap (λ (a : Bool). Opened (tabled T ms sh n b) a (refIn n b t && refIn n b s) kind) (ne-eqb t s ne)
-        ∙ ap (λ (a : Bool). Opened (tabled T ms sh n b) false (a && refIn n b s) kind) p ∙ ap (λ (a : Bool). Opened (tabled T ms sh n b) false a kind) q)
+        begins-same (λ T. find (kindOf kind) t s 0 (typesTo (c .methods) (c .sheet) n (typesIn b))) Without n t s b g
+        (λ T. without T ∙ ap (λ (a : Bool). Plain (tabled T c n b) a (refIn n b t && refIn n b s) kind) (ne-eqb t s ne)
+        ∙ ap (λ (a : Bool). Plain (tabled T c n b) false (a && refIn n b s) kind) p ∙ ap (λ (a : Bool). Plain (tabled T c n b) false a kind) q)
 
 pub not-left : (a b : Bool) → a ≡ false → (a && b) ≡ false
 not-left a b e = rw e
@@ -176,6 +187,6 @@ not-right true b e = e
 not-right false b e = refl
 
 -- Closed has only the search.
-pub closed-begins : (sh n t s : ℕ) (b : List ℕ) (g : Begun) → Begins (λ T ms. find closed t s 0 (typesTo ms sh n (typesIn b))) n t s b g → Begins (λ T ms. withoutNew (tabled T ms sh n b) closed t s) n t s b g
+pub closed-begins : (c : Counts) (n t s : ℕ) (b : List ℕ) (g : Begun) → Begins (λ T. find closed t s 0 (typesTo (c .methods) (c .sheet) n (typesIn b))) n t s b g → Begins (λ T. withoutNew (tabled T c n b) closed t s) n t s b g
 unfolding withoutNew
-closed-begins sh n t s b g h = h
+closed-begins c n t s b g h = h

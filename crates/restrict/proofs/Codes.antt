@@ -6,20 +6,20 @@ use mathlib.Core.List.{List, [], _∷_, map}
 use Prim.Native.Nat.{ℕ, zero, suc, _+_, _≤_, _<_}
 use native.Mathlib.Omega.{arith}
 use lib.Dec.{ltb}
-use lib.ListN.{length, getD, set, replicate}
-use lib.Seq.{getD-set-same, getD-set-other}
+use lib.ListN.{getD, replicate}
 use Rattle.model.specs.Basics.{all, every, from, _⇒_}
 use Rattle.model.specs.Table.{isRef, between}
 use Rattle.model.specs.Check.{RawMethod, RawType, noRawMethod, noRawType, noRawLinks, repOf, rawMethodFits, rawTypeFits, codesFit}
 use Rattle.model.proofs.Rules.{both, first, second, applied}
 use Rattle.model.proofs.Tests.{so-ltb}
 use Rattle.table.specs.declared.Counts.{Counts}
-use Rattle.table.specs.Store.{rawMethod, emptyMethod, rawTable, typesIn, linksIn}
+use Rattle.table.specs.Store.{rawMethod, emptyMethod, rawTable, typesIn, linksIn, withCount}
 use Rattle.table.proofs.Lists.{same-or}
+use Rattle.slots.specs.declared.Work.{Work}
 use Rattle.slots.specs.Slots.{newRecord}
 use Rattle.restrict.specs.declared.Derived.{Derived}
 use Rattle.restrict.specs.declared.Derived.the-variants.{Full, At}
-use Rattle.restrict.specs.Link.{withCount, Coded, CodedTo, CodesStay}
+use Rattle.restrict.specs.Link.{Coded, CodedTo, CodesStay}
 
 -- a test of the values of a rule, by their numbers
 module _ {A : Type 0} (f : ℕ → A → Bool) (g : ℕ → A) where
@@ -40,12 +40,6 @@ all-every : {A : Type 0} (f : A → Bool) (i : ℕ) (xs : List A) → all f xs �
 all-every f i [] = refl
 all-every f i (x ∷ xs) = ap (λ (b : Bool). f x && b) (all-every f (suc i) xs)
 
-pub set-holds : {A : Type 0} (P : ℕ → A → Type 0) (l : List A) (n : ℕ) (v d : A) → n < length l → P n v → (i : ℕ) → P i (getD l i d) → P i (getD (set l n v) i d)
-set-holds P l n v d h new i old = ⊎-elim
-    (λ (e : i ≡ n). subst (λ (k : ℕ). P k (getD (set l n v) k d)) (sym e) (subst (P n) (sym (getD-set-same l n v d h)) new))
-    (λ (e : i ≡ n → ⊥). subst (P i) (sym (getD-set-other l n i v d e)) old)
-    (same-or i n)
-
 pub denied-coded : (n j : ℕ) → So (rawMethodFits (getD (map rawMethod (replicate n emptyMethod)) j noRawMethod))
 denied-coded zero j = refl
 denied-coded (suc n) zero = refl
@@ -58,23 +52,24 @@ methods-coded ms sh i x r h j l =
     every-from (λ _. rawMethodFits) f ms 0 (subst So (all-every rawMethodFits 0 (from ms 0 f)) (second (ltb (x .own) 2) _ (applied (first (isRef (repOf (x .rep)) ⇒ _) _ (second (ltb (x .rep) 3) _ h)) r))) j (omega arith) (omega arith)
 
 -- a derived type
-pub new-coded : (ms sh n cat kind t s : ℕ) (zs : List RawMethod) → kind < 3 → ((j : ℕ) → j < ms → So (rawMethodFits (getD zs j noRawMethod))) → So (rawTypeFits ms sh n (newRecord cat kind t s zs))
-new-coded ms sh n cat kind t s zs k h = both (subst So (sym (all-every rawMethodFits 0 (from ms 0 (λ j. getD zs j noRawMethod)))) (from-every (λ _. rawMethodFits) (λ j. getD zs j noRawMethod) ms 0 (λ j p q. h j (omega arith)))) (go (ltb n sh))
+pub new-coded : (ms sh n : ℕ) (w : Work) (zs : List RawMethod) → w .key .kind < 3 → ((j : ℕ) → j < ms → So (rawMethodFits (getD zs j noRawMethod))) → So (rawTypeFits ms sh n (newRecord w zs))
+new-coded ms sh n w zs k h =
+    both (subst So (sym (all-every rawMethodFits 0 (from ms 0 (λ j. getD zs j noRawMethod)))) (from-every (λ _. rawMethodFits) (λ j. getD zs j noRawMethod) ms 0 (λ j p q. h j (omega arith)))) (go (ltb n sh))
   where
-    go : (b : Bool) → So (b || ltb kind 3)
+    go : (b : Bool) → So (b || ltb (w .key .kind) 3)
     go true = refl
     go false = so-ltb k
 
 -- The counted records of a table in bytes: as the check of a table asks, and by their numbers.
 module _ (b l : List ℕ) (c : Counts) where
-  pub codes-coded : So (codesFit (rawTable b l c)) → Coded (c .methods) (c .sheet) (c .types) b
+  pub codes-coded : So (codesFit (rawTable b l c)) → Coded c (c .types) b
   unfolding codesFit
   codes-coded h i p = every-from (rawTypeFits (c .methods) (c .sheet)) (λ i. getD (typesIn b) i noRawType) (c .types) 0 (second (all (λ x. between 1 2 (x .count)) (from (c .cats) 1 (λ k. getD (linksIn l) k noRawLinks))) _ h) i (omega arith) (omega arith)
 
-pub coded-codes : (b b′ l : List ℕ) (c : Counts) (m : ℕ) → So (codesFit (rawTable b l c)) → Coded (c .methods) (c .sheet) m b′ → So (codesFit (rawTable b′ l (withCount c m)))
+pub coded-codes : (b b′ l : List ℕ) (c : Counts) (m : ℕ) → So (codesFit (rawTable b l c)) → Coded c m b′ → So (codesFit (rawTable b′ l (withCount c m)))
 unfolding codesFit
 coded-codes b b′ l c m h k = both (first (all (λ x. between 1 2 (x .count)) (from (c .cats) 1 (λ k. getD (linksIn l) k noRawLinks))) _ h) (from-every (rawTypeFits (c .methods) (c .sheet)) (λ i. getD (typesIn b′) i noRawType) m 0 (λ i p q. k i (omega arith)))
 
-pub codes-stay : (b b′ : List ℕ) (c : Counts) (r : Derived) → (Coded (c .methods) (c .sheet) (c .types) b → CodedTo (c .methods) (c .sheet) b′ r) → CodesStay c b b′ r
+pub codes-stay : (b b′ : List ℕ) (c : Counts) (r : Derived) → (Coded c (c .types) b → CodedTo c b′ r) → CodesStay c b b′ r
 codes-stay b b′ c Full h l k = tt
 codes-stay b b′ c (At i m) h l k = coded-codes b b′ l c m k (h (codes-coded b l c k))

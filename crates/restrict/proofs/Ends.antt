@@ -1,36 +1,42 @@
 -- A derivation from its beginning to its end: what is settled at once, and a new type, from the store of the type at work to that of the finished one.
 use mathlib.Core.Path.{_≡_, refl, sym, ap, _∙_, subst}
 use mathlib.Core.Bool.{Bool, So, true, false, cond}
-use mathlib.Core.List.{List, [], _∷_, _++_, map}
+use mathlib.Core.List.{List, [], _∷_, _++_, map, flatten}
 use mathlib.Core.Option.{Option, none, some}
 use mathlib.Core.Logic.{_⊎_, ⊎-elim}
 use Prim.Native.Nat.{ℕ, zero, suc, _+_, _*_, _≤_, _<_}
 use native.Mathlib.Omega.{arith}
 use native.Mathlib.Numerals.{add-one}
 use lib.Dec.{ltb}
-use lib.ListN.{length, getD, set, take, replicate, List·getD-eq-default}
+use lib.ListN.{length, getD, set, take, drop, replicate, List·getD-eq-default}
 use lib.Seq.{getD-set-same, getD-set-other}
 use borrow.Author.Tests.{lt-ltb, le-ltb}
-use Rattle.model.specs.Basics.{refuse, ok, then, from}
+use Rattle.model.specs.Basics.{Res, refuse, ok, then, from}
 use Rattle.model.specs.Table.{Rep, ref, w32, w64, Kind, sub, sup, closed, Method, Ty, Table, noMethod, noType, size, typeAt, withTypes, isRef, permit}
+use Rattle.model.specs.Table.{Key as Keyᵐ}
 use Rattle.model.specs.Restriction.{mainSide, withoutNew, entry, pending, Derivation, deriveMethods, make, derive, derived}
 use Rattle.model.specs.Check.{RawMethod, RawType, noRawType, noRawMethod, repOf, kindOf, stateOf, methodOf, typeOf, tableOf, rawMethodFits, rawTypeFits}
 use Rattle.model.proofs.Rules.{never}
 use Rattle.table.specs.declared.Counts.{Counts}
+use Rattle.table.specs.declared.Key.{Key}
 use Rattle.table.specs.declared.TypeRec.{TypeRec}
-use Rattle.table.specs.Store.{rawMethod, rawOf, typesIn, typesTo, tableIn, emptyMethod}
-use Rattle.table.proofs.Lists.{lt-or-ge, from-same}
-use Rattle.table.proofs.Laws.{types-length, methods-length, method-in}
-use Rattle.table.proofs.Tables.{types-to-length, types-to-at, types-add, types-put, table-same}
+use Rattle.table.specs.Store.{rawMethod, rawOf, typesIn, typesTo, tableIn, withCount, emptyMethod, Put}
+use Rattle.table.specs.Limits.{Limits}
+use Rattle.table.specs.Records.{bytesOf}
+use Rattle.table.proofs.Lists.{lt-or-ge, same-or, from-same}
+use Rattle.table.proofs.Laws.{types-length, methods-length, method-in, put-length, put-types}
+use Rattle.table.proofs.Tables.{types-to-length, types-to-at, types-add, types-put, types-of, size-is}
 use Rattle.restrict.specs.declared.Derived.{Derived}
 use Rattle.restrict.specs.declared.Derived.the-variants.{Full, At}
 use Rattle.restrict.specs.declared.Begun.{Begun}
 use Rattle.restrict.specs.declared.Begun.the-variants.{Settled, New}
-use Rattle.slots.specs.Slots.{shared, fillAt, methodIn, newRecord, Finished}
-use Rattle.restrict.specs.Link.{Ready, Kept, Leaves, Coded, Gives, Begins, Stored, refIn, tabled, outcome, pendingRecord}
+use Rattle.slots.specs.declared.Work.{Work}
+use Rattle.slots.specs.Slots.{shared, fillAt, methodIn, kindIn, catIn, mainOf, newRecord, pendingRecord, Finished}
+use Rattle.restrict.specs.Link.{Ready, Writes, recordAt, Kept, ExactAt, Exact, ExactTo, Sized, Leaves, Coded, Gives, Begins, Opened, Stored, refIn, tabled, derivedIn, derivationIn}
 use Rattle.slots.proofs.Runs.{Row, methods-run}
 use Rattle.restrict.proofs.Begins.{ref-below, ref-rep, ref-type}
-use Rattle.restrict.proofs.Codes.{set-holds, denied-coded, methods-coded, new-coded}
+use Rattle.restrict.proofs.Bytes.{record-same, exact-same, put-below, put-above, put-exact, kept-take, exact-take}
+use Rattle.restrict.proofs.Codes.{denied-coded, methods-coded, new-coded}
 use Rattle.restrict.proofs.Turns.{zeros, Whole, Comes, Loop, loop-starts, loop-ends}
 
 -- What needs no new type.
@@ -55,62 +61,72 @@ module _ (T : Table) (d : Kind) (t s : ℕ) where
   derive-full zero e h = sym (by-new T none (withoutNew T d t s) e)
   derive-full (suc f) e h = sym (by-new T _ (withoutNew T d t s) e ∙ by-room _ (ltb (size T) 128) (le-ltb (size T) 128 h))
 
-pub size-tabled : (T : Table) (ms sh n : ℕ) (b : List ℕ) → size (tabled T ms sh n b) ≡ n
-size-tabled T ms sh n b = types-to-length ms sh (typesIn b) n
+size-tabled : (T : Table) (c : Counts) (n : ℕ) (b : List ℕ) → size (tabled T c n b) ≡ n
+size-tabled T c n b = types-to-length (c .methods) (c .sheet) (typesIn b) n
 
-abbrev Without : Kind → ℕ → ℕ → ℕ → ℕ → List ℕ → Table → ℕ → Option ℕ
-Without d sh n t s b T ms = withoutNew (tabled T ms sh n b) d t s
+abbrev Without : Kind → Counts → ℕ → ℕ → ℕ → List ℕ → Table → Option ℕ
+Without d c n t s b T = withoutNew (tabled T c n b) d t s
 
-module _ (d : Kind) {ms sh n t s : ℕ} {b : List ℕ} (asked : Ready ms sh n t s b) where
-  by-answer : (r : Derived) → Begins (Without d sh n t s b) n t s b (Settled r) → Gives d ms sh n t s b b r
+module _ (d : Kind) {c : Counts} {n t s : ℕ} {b : List ℕ} (asked : Ready c n t s b) where
+  by-answer : (r : Derived) → Begins (Without d c n t s b) n t s b (Settled r) → Gives d c n t s b b r
   by-answer Full h = record {
     keeps = record { long = asked .long; kept = λ i l. refl; sized = tt };
-    is = λ T e f l. derive-full (tabled T ms sh n b) d t s f (h .0 T ms) (let z = size-tabled T ms sh n b in let y = h .1 in omega arith);
+    is = λ T e f l. derive-full (tabled T c n b) d t s f (h .0 T) (let z = size-tabled T c n b in let y = h .1 in omega arith);
+    exact = tt;
     coded = λ h. tt;
   }
-  by-answer (At i m) h = let e : m ≡ n = h .1 in let u = asked .types in record {
+  by-answer (At i m) h = let e : m ≡ n = h .1 in let u = asked .limits .types in record {
     keeps = record { long = asked .long; kept = λ i l. refl; sized = (omega arith, omega arith, λ z p q r. h .2 z (omega arith) q r) };
-    is = λ T et f l. ap (λ (k : ℕ). some (tabled T ms sh k b, i)) e ∙ derive-known (tabled T ms sh n b) d t s i f (h .0 T ms);
+    is = λ T et f l. ap (λ (k : ℕ). some (tabled T c k b, i)) e ∙ derive-known (tabled T c n b) d t s i f (h .0 T);
+    exact = λ j p q. absurd (omega arith);
     coded = λ h j l. h j (omega arith);
   }
 
-  pub settled : {g : Begun} {r : Derived} → g ≡ Settled r → Begins (Without d sh n t s b) n t s b g → Gives d ms sh n t s b b r
-  settled {r = r} e h = by-answer r (subst (Begins (Without d sh n t s b) n t s b) e h)
+  pub settled : {g : Begun} {r : Derived} → g ≡ Settled r → Begins (Without d c n t s b) n t s b g → Gives d c n t s b b r
+  settled {r = r} e h = by-answer r (subst (Begins (Without d c n t s b) n t s b) e h)
 
-  module _ {g : Begun} (e : g ≡ New) (h : Begins (Without d sh n t s b) n t s b g) where
-    new-begins : Begins (Without d sh n t s b) n t s b New
-    new-begins = subst (Begins (Without d sh n t s b) n t s b) e h
+  module _ {g : Begun} (e : g ≡ New) (h : Begins (Without d c n t s b) n t s b g) where
+    new-begins : Begins (Without d c n t s b) n t s b New
+    new-begins = subst (Begins (Without d c n t s b) n t s b) e h
 
-    pub new-left : t < 128
-    new-left = let p = ref-below n t b (new-begins .2) in let u = asked .types in omega arith
-
-    pub new-right : s < 128
-    new-right = let p = ref-below n s b (new-begins .3) in let u = asked .types in omega arith
-
-    pub new-room : n < 128
-    new-room = new-begins .1
+    -- what `start` asks
+    pub new-ready : (n < 128) × (t < 128) × (s < 128) × (length b ≡ 16384)
+    new-ready =
+        let p = ref-below n t b (new-begins .2) in let q = ref-below n s b (new-begins .3) in let u = asked .limits .types in
+        (new-begins .1, omega arith, omega arith, asked .long)
 
 -- A new type: what is known when the type at work has been stored.
-pub record Started (d : Kind) (cat kind ms sh n t s : ℕ) (x y : TypeRec) (b b₀ : List ℕ) : Type 0 where
-  pub few : ms ≤ 16
-  pub under : sh ≤ n
+pub record Started (d : Kind) (c : Counts) (n t s : ℕ) (w : Work) (b b₀ : List ℕ) : Type 0 where
+  pub limits : Limits (withCount c n)
   pub room : n < 128
-  pub kinds : kindOf kind ≡ d
-  pub known : kind < 3
-  pub new : (T : Table) (ms : ℕ) → withoutNew (tabled T ms sh n b) d t s ≡ none
+  pub kinds : kindIn w ≡ d
+  pub known : w .key .kind < 3
+  pub keyLeft : w .key .left ≡ t
+  pub keyRight : w .key .right ≡ s
+  pub new : (T : Table) → withoutNew (tabled T c n b) d t s ≡ none
   pub left : refIn n b t ≡ true
   pub right : refIn n b s ≡ true
-  pub leftRecord : rawOf x ≡ getD (typesIn b) t noRawType
-  pub rightRecord : rawOf y ≡ getD (typesIn b) s noRawType
-  pub main : cat ≡ getD (typesIn b) (mainSide d t s) noRawType .cat
-  pub stored : typesIn b₀ ≡ set (typesIn b) n (pendingRecord cat kind t s)
-  pub long : length b₀ ≡ 16384
+  pub leftRecord : rawOf (w .left) ≡ getD (typesIn b) t noRawType
+  pub rightRecord : rawOf (w .right) ≡ getD (typesIn b) s noRawType
+  pub put : Put b n (pendingRecord w) b₀
+  pub long : length b ≡ 16384
 
-pub started : {d : Kind} {cat kind ms sh n t s : ℕ} {x y : TypeRec} {b b₀ : List ℕ} {g : Begun} → Ready ms sh n t s b → kindOf kind ≡ d → kind < 3 → g ≡ New → Begins (Without d sh n t s b) n t s b g
-    → rawOf x ≡ getD (typesIn b) t noRawType → rawOf y ≡ getD (typesIn b) s noRawType → cat ≡ getD (typesIn b) (mainSide d t s) noRawType .cat
-    → typesIn b₀ ≡ set (typesIn b) n (pendingRecord cat kind t s) → length b₀ ≡ 16384 → Started d cat kind ms sh n t s x y b b₀
-started {d} asked kinds known told begun vx vy main stored long = let h = new-begins d asked told begun in
-    record { few = asked .methods; under = asked .sheet; room = h .1; kinds = kinds; known = known; new = h .0; left = h .2; right = h .3; leftRecord = vx; rightRecord = vy; main = main; stored = stored; long = long }
+pub started : {d : Kind} {kind : ℕ} {c : Counts} {n t s : ℕ} {w : Work} {b b₀ : List ℕ} {g : Begun} → Ready c n t s b → kindOf kind ≡ d → kind < 3 → g ≡ New → Begins (Without d c n t s b) n t s b g → Opened kind t s n w b b₀ → Started d c n t s w b b₀
+started {d} {kind} asked kinds known told begun o = let h = new-begins d asked told begun in record {
+  limits = asked .limits;
+  room = h .1;
+  kinds = ap (λ (k : Key). kindOf (k .kind)) (o .key) ∙ kinds;
+  known = subst (λ (k : Key). k .kind < 3) (sym (o .key)) known;
+  keyLeft = ap (λ (k : Key). k .left) (o .key);
+  keyRight = ap (λ (k : Key). k .right) (o .key);
+  new = h .0;
+  left = h .2;
+  right = h .3;
+  leftRecord = o .left;
+  rightRecord = o .right;
+  put = o .put;
+  long = asked .long;
+}
 
 -- four arguments at most
 shared-left : (xs ys : List ℕ) → shared xs ys ≤ length xs
@@ -156,84 +172,112 @@ is-ref ref h = refl
 is-ref w32 h = never h
 is-ref w64 h = never h
 
-module _ {d : Kind} {cat kind ms sh n t s : ℕ} {x y : TypeRec} {b b₀ : List ℕ} (from-start : Started d cat kind ms sh n t s x y b b₀) where
-  low-left : t < n
-  low-left = ref-below n t b (from-start .left)
+-- a type by its parts
+ty-eq : {r r′ : Rep} {c c′ : ℕ} {ms ms′ : List Method} {k k′ : Option Keyᵐ} → r ≡ r′ → c ≡ c′ → ms ≡ ms′ → k ≡ k′
+    → _≡_ {A = Ty} (record { rep = r; cat = c; own = false; methods = ms; key = k }) (record { rep = r′; cat = c′; own = false; methods = ms′; key = k′ })
+ty-eq p q r s = rw (p, q, r, s)
 
-  low-right : s < n
-  low-right = ref-below n s b (from-start .right)
+key-eq : (n sh : ℕ) → sh ≤ n → {d e : Kind} {l l′ r r′ : ℕ} → d ≡ e → l ≡ l′ → r ≡ r′
+    → _≡_ {A = Option Keyᵐ} (cond (ltb n sh) none (some (record { kind = d; left = l; right = r }))) (some (record { kind = e; left = l′; right = r′ }))
+key-eq n sh h p q r = rw (le-ltb n sh h, p, q, r)
+
+-- a side that is a reference type, as it is read
+module _ (T : Table) (c : Counts) (n : ℕ) (b : List ℕ) (i : ℕ) (z : TypeRec) (r : refIn n b i ≡ true) (e : rawOf z ≡ getD (typesIn b) i noRawType) where
+  read-type : typeAt (tabled T c n b) i ≡ typeOf (c .methods) (c .sheet) i (rawOf z)
+  read-type = types-to-at (c .methods) (c .sheet) (typesIn b) n i noType (ref-below n i b r) ∙ ap (typeOf (c .methods) (c .sheet) i) (sym e)
+
+  read-ref : isRef (repOf (z .head .rep)) ≡ true
+  read-ref = ap (λ (w : RawType). isRef (repOf (w .rep))) e ∙ ref-rep n i b r
+
+  side-methods : typeAt (tabled T c n b) i .methods ≡ from (c .methods) 0 (methodIn z)
+  side-methods = ap (λ (w : Ty). w .methods) read-type ∙ ap (λ (a : Bool). cond a (from (c .methods) 0 (methodIn z)) []) read-ref
+
+  side-is : (typeAt (tabled T c n b) i .rep ≡ ref) × (typeAt (tabled T c n b) i .cat ≡ z .head .cat)
+  side-is = (ap (λ (w : Ty). w .rep) read-type ∙ is-ref (repOf (z .head .rep)) read-ref, ap (λ (w : Ty). w .cat) read-type)
+
+module _ {d : Kind} {c : Counts} {n t s : ℕ} {w : Work} {b b₀ : List ℕ} (from-start : Started d c n t s w b b₀) where
+  abbrev x : TypeRec
+  x = w .left
+
+  abbrev y : TypeRec
+  y = w .right
+
+  abbrev ms : ℕ
+  ms = c .methods
+
+  abbrev sh : ℕ
+  sh = c .sheet
+
+  stored : typesIn b₀ ≡ set (typesIn b) n (pendingRecord w)
+  stored = put-types (from-start .put) (from-start .long) (from-start .room)
 
   few-args : (i : ℕ) → shared (methodIn x i .args) (methodIn y i .args) ≤ 4
   few-args i =
-      let p = low-left in let q = from-start .room in
+      let p = ref-below n t b (from-start .left) in let q = from-start .room in
       let e = shared-left (methodIn x i .args) (methodIn y i .args) in
-      let h : length (getD (rawOf x .methods) i noRawMethod .args) ≤ 4 = subst (λ (w : RawType). length (getD (w .methods) i noRawMethod .args) ≤ 4) (sym (from-start .leftRecord)) (raw-four b t i (omega arith)) in
+      let h : length (getD (rawOf x .methods) i noRawMethod .args) ≤ 4 = subst (λ (r : RawType). length (getD (r .methods) i noRawMethod .args) ≤ 4) (sym (from-start .leftRecord)) (raw-four b t i (omega arith)) in
       let g = method-four (getD (rawOf x .methods) i noRawMethod) h in omega arith
 
   -- nothing below the count was written
-  pub start-kept : Kept n b b₀
-  start-kept i l = ap (λ (rs : List RawType). getD rs i noRawType) (from-start .stored) ∙ getD-set-other (typesIn b) n i (pendingRecord cat kind t s) noRawType (λ e. let w : i ≡ n = e in omega arith)
+  start-kept : Kept n b b₀
+  start-kept i l = put-below (from-start .put) (from-start .long) (from-start .room) i (let r = from-start .room in omega arith) l
 
-  -- The codes of a side's methods, of the type at work, and of the finished one.
-  side-coded : Coded ms sh n b → (i : ℕ) (z : TypeRec) → refIn n b i ≡ true → rawOf z ≡ getD (typesIn b) i noRawType → (j : ℕ) → j < ms → So (rawMethodFits (getD (rawOf z .methods) j noRawMethod))
-  side-coded h i z r e j l = subst (λ (w : RawType). So (rawMethodFits (getD (w .methods) j noRawMethod))) (sym e) (methods-coded ms sh i (getD (typesIn b) i noRawType) (ref-rep n i b r) (h i (ref-below n i b r)) j l)
+  -- The codes of the left side's methods, of the type at work, and of the finished one.
+  side-coded : Coded c n b → (j : ℕ) → j < ms → So (rawMethodFits (getD (rawOf x .methods) j noRawMethod))
+  side-coded h j l = subst (λ (r : RawType). So (rawMethodFits (getD (r .methods) j noRawMethod))) (sym (from-start .leftRecord))
+      (methods-coded ms sh t (getD (typesIn b) t noRawType) (ref-rep n t b (from-start .left)) (h t (ref-below n t b (from-start .left))) j l)
 
-  start-coded : Coded ms sh n b → Coded ms sh (n + 1) b₀
+  start-coded : Coded c n b → Coded c (n + 1) b₀
   start-coded h i l = ⊎-elim
-      (λ (p : i < n). subst (λ (r : RawType). So (rawTypeFits ms sh i r)) (sym (start-kept i p)) (h i p))
+      (λ (p : i < n). subst (λ (r : RawType). So (rawTypeFits ms sh i r)) (sym (record-same b b₀ i (let r = from-start .room in omega arith) (start-kept i p))) (h i p))
       (λ (p : n ≤ i). let e : i ≡ n = omega arith in
       subst (λ (k : ℕ). So (rawTypeFits ms sh k (getD (typesIn b₀) k noRawType))) (sym e)
-      (subst (λ (r : RawType). So (rawTypeFits ms sh n r)) (sym (ap (λ (rs : List RawType). getD rs n noRawType) (from-start .stored) ∙ getD-set-same (typesIn b) n (pendingRecord cat kind t s) noRawType (let z = types-length b in let r = from-start .room in omega arith)))
-      (new-coded ms sh n cat kind t s (map rawMethod (replicate 16 emptyMethod)) (from-start .known) (λ j l. denied-coded 16 j))))
+      (subst (λ (r : RawType). So (rawTypeFits ms sh n r)) (sym (ap (λ (rs : List RawType). getD rs n noRawType) stored ∙ getD-set-same (typesIn b) n (pendingRecord w) noRawType (let z = types-length b in let r = from-start .room in omega arith)))
+      (new-coded ms sh n w (map rawMethod (replicate 16 emptyMethod)) (from-start .known) (λ j l. denied-coded 16 j))))
       (lt-or-ge i n)
 
-  finished-coded : Coded ms sh n b → (z : TypeRec) {ns : List ℕ} → Finished d cat kind t s ms x y ns z → So (rawTypeFits ms sh n (rawOf z))
-  finished-coded h z fin = subst (λ (r : RawType). So (rawTypeFits ms sh n r)) (sym (fin .head)) (new-coded ms sh n cat kind t s (rawOf z .methods) (from-start .known) (λ j l. fin .coded j l (side-coded h t x (from-start .left) (from-start .leftRecord) j l) (side-coded h s y (from-start .right) (from-start .rightRecord) j l)))
+  finished-coded : Coded c n b → (z : TypeRec) {ns : List ℕ} → Finished w ms ns z → So (rawTypeFits ms sh n (rawOf z))
+  finished-coded h z fin = subst (λ (r : RawType). So (rawTypeFits ms sh n r)) (sym (fin .head)) (new-coded ms sh n w (rawOf z .methods) (from-start .known) (λ j l. fin .coded j l (side-coded h j l)))
 
-  pub start-loop : Loop d ms sh n x y b₀ b₀ (ms * 5) zeros (n + 1) 0
-  start-loop = loop-starts d ms sh n x y b₀ (from-start .few) (from-start .under) (from-start .room) (from-start .long)
+  pub start-loop : Loop d c n w b₀ b₀ (ms * 5) zeros (n + 1) 0
+  start-loop = loop-starts d c n w b₀ (from-start .limits) (from-start .kinds) (from-start .room) (put-length (from-start .put) ∙ from-start .long)
+
+  -- what `finish` asks
+  pub finish-ready : {b₁ : List ℕ} {end : ℕ} {ns : List ℕ} {m k : ℕ} → Ready c n t s b → Loop d c n w b₀ b₁ end ns m k → (n < 128) × (length b₁ ≡ 16384) × (w .key .kind < 3) × (w .key .left < 256) × (w .key .right < 256) × (ms ≤ 16)
+  finish-ready asked now = (
+    from-start .room,
+    now .long,
+    from-start .known,
+    subst (λ (i : ℕ). i < 256) (sym (from-start .keyLeft)) (asked .left),
+    subst (λ (i : ℕ). i < 256) (sym (from-start .keyRight)) (asked .right),
+    from-start .limits .methods,
+  )
 
   module _ (T : Table) (et : T .methods ≡ ms) where
     abbrev Tb : Table
-    Tb = tabled T ms sh n b
+    Tb = tabled T c n b
 
-    side : (i : ℕ) (z : TypeRec) → i < n → rawOf z ≡ getD (typesIn b) i noRawType → typeAt Tb i ≡ typeOf ms sh i (rawOf z)
-    side i z l e = types-to-at ms sh (typesIn b) n i noType l ∙ ap (typeOf ms sh i) (sym e)
-
-    side-methods : (i : ℕ) (z : TypeRec) → refIn n b i ≡ true → rawOf z ≡ getD (typesIn b) i noRawType → typeAt Tb i .methods ≡ from ms 0 (methodIn z)
-    side-methods i z r e =
-        ap (λ (w : Ty). w .methods) (side i z (ref-below n i b r) e)
-        ∙ ap (λ (a : Bool). cond a (from ms 0 (methodIn z)) []) (ap (λ (w : RawType). isRef (repOf (w .rep))) e ∙ ref-rep n i b r)
-
-    main-ref : (k : Kind) → refIn n b (mainSide k t s) ≡ true
-    main-ref sub = from-start .left
-    main-ref sup = from-start .right
-    main-ref closed = from-start .left
-
-    main-type : typeAt Tb (mainSide d t s) ≡ typeOf ms sh (mainSide d t s) (getD (typesIn b) (mainSide d t s) noRawType)
-    main-type = types-to-at ms sh (typesIn b) n (mainSide d t s) noType (ref-below n (mainSide d t s) b (main-ref d))
-
-    main-rep : typeAt Tb (mainSide d t s) .rep ≡ ref
-    main-rep = ap (λ (w : Ty). w .rep) main-type ∙ is-ref (repOf (getD (typesIn b) (mainSide d t s) noRawType .rep)) (ref-rep n (mainSide d t s) b (main-ref d))
-
-    main-cat : typeAt Tb (mainSide d t s) .cat ≡ cat
-    main-cat = ap (λ (w : Ty). w .cat) main-type ∙ sym (from-start .main)
+    -- the main side: a reference type, whose category is kept
+    main-is : (k : Kind) → (typeAt Tb (mainSide k t s) .rep ≡ ref) × (typeAt Tb (mainSide k t s) .cat ≡ mainOf k x y .head .cat)
+    main-is sub = side-is T c n b t x (from-start .left) (from-start .leftRecord)
+    main-is sup = side-is T c n b s y (from-start .right) (from-start .rightRecord)
+    main-is closed = side-is T c n b t x (from-start .left) (from-start .leftRecord)
 
     -- the record that is stored is the model's entry
-    entry-is : (zs : List RawMethod) (ws : List Method) → from ms 0 (λ j. methodOf (getD zs j noRawMethod)) ≡ ws → typeOf ms sh n (newRecord cat kind t s zs) ≡ entry Tb d t s ws
-    entry-is zs ws e = rw (main-rep, main-cat, le-ltb n sh (from-start .under), from-start .kinds, e)
+    entry-is : (zs : List RawMethod) (ws : List Method) → from ms 0 (λ j. methodOf (getD zs j noRawMethod)) ≡ ws → typeOf ms sh n (newRecord w zs) ≡ entry Tb d t s ws
+    entry-is zs ws e = ty-eq (sym (main-is d .0)) (ap (λ (k : Kind). mainOf k x y .head .cat) (from-start .kinds) ∙ sym (main-is d .1)) e (key-eq n sh (from-start .limits .counted) (from-start .kinds) (from-start .keyLeft) (from-start .keyRight))
 
-    pending-is : typeOf ms sh n (pendingRecord cat kind t s) ≡ pending Tb d t s
+    pending-is : typeOf ms sh n (pendingRecord w) ≡ pending Tb d t s
     pending-is =
         entry-is (map rawMethod (replicate 16 emptyMethod)) (from (T .methods) 0 (λ _. noMethod))
         (from-same (λ j. methodOf (getD (map rawMethod (replicate 16 emptyMethod)) j noRawMethod)) (λ _. noMethod) ms 0 (λ j p q. pending-method j) ∙ rw et)
 
-    begun-is : withTypes Tb (Tb .types ++ (pending Tb d t s ∷ [])) ≡ tabled T ms sh (n + 1) b₀
+    begun-is : withTypes Tb (Tb .types ++ (pending Tb d t s ∷ [])) ≡ tabled T c (n + 1) b₀
     begun-is =
         ap (withTypes T)
         (ap (λ (z : Ty). typesTo ms sh n (typesIn b) ++ (z ∷ [])) (sym pending-is)
-        ∙ sym (types-add ms sh (typesIn b) n (pendingRecord cat kind t s) (let l = types-length b in let r = from-start .room in omega arith))
-        ∙ ap (typesTo ms sh (suc n)) (sym (from-start .stored)) ∙ ap (λ (k : ℕ). typesTo ms sh k (typesIn b₀)) (sym (add-one n)))
+        ∙ sym (types-add ms sh (typesIn b) n (pendingRecord w) (let l = types-length b in let r = from-start .room in omega arith))
+        ∙ ap (typesTo ms sh (suc n)) (sym stored) ∙ ap (λ (k : ℕ). typesTo ms sh k (typesIn b₀)) (sym (add-one n)))
 
     -- the model's derivation of a new type is the run of its slots
     abbrev After : Option Row → Option (Table × ℕ)
@@ -248,70 +292,104 @@ module _ {d : Kind} {cat kind ms sh n t s : ℕ} {x y : TypeRec} {b b₀ : List 
     make-new : (rec : Derivation) → make rec Tb d t s ≡ Last n (Methods rec)
     unfolding make
     make-new rec =
-        by-new Tb (elim (ltb (size Tb) 128) as (λ _. Option (Table × ℕ)) [ false ↦ none | true ↦ Last (size Tb) (Methods rec) ]) (withoutNew Tb d t s) (from-start .new T ms)
-        ∙ ap (λ (k : ℕ). elim (ltb k 128) as (λ _. Option (Table × ℕ)) [ false ↦ none | true ↦ Last k (Methods rec) ]) (size-tabled T ms sh n b)
+        by-new Tb (elim (ltb (size Tb) 128) as (λ _. Option (Table × ℕ)) [ false ↦ none | true ↦ Last (size Tb) (Methods rec) ]) (withoutNew Tb d t s) (from-start .new T)
+        ∙ ap (λ (k : ℕ). elim (ltb k 128) as (λ _. Option (Table × ℕ)) [ false ↦ none | true ↦ Last k (Methods rec) ]) (size-tabled T c n b)
         ∙ ap (λ (a : Bool). elim a as (λ _. Option (Table × ℕ)) [ false ↦ none | true ↦ Last n (Methods rec) ]) (lt-ltb n 128 (from-start .room))
 
     last-after : (o : Option Row) → Last n (then o λ q. some (q .0, from ms 0 (fillAt d (methodIn x) (methodIn y) (q .1)))) ≡ After o
     last-after none = refl
     last-after (some q) = refl
 
-    make-runs : (f : ℕ) → make (derive f) Tb d t s ≡ After (Whole d ms sh n x y b₀ T f)
+    make-runs : (f : ℕ) → make (derive f) Tb d t s ≡ After (Whole d c n w b₀ T f)
     make-runs f =
         make-new (derive f)
         ∙ ap (Last n)
         (ap (λ (u : Table). deriveMethods (derive f) d u (typeAt Tb t .methods) (typeAt Tb s .methods)) begun-is
-        ∙ ap (λ (l : List Method). deriveMethods (derive f) d (tabled T ms sh (n + 1) b₀) l (typeAt Tb s .methods)) (side-methods t x (from-start .left) (from-start .leftRecord))
-        ∙ ap (λ (l : List Method). deriveMethods (derive f) d (tabled T ms sh (n + 1) b₀) (from ms 0 (methodIn x)) l) (side-methods s y (from-start .right) (from-start .rightRecord))
-        ∙ methods-run (derive f) d (methodIn x) (methodIn y) ms (tabled T ms sh (n + 1) b₀) zeros few-args (let l = from-start .few in omega arith) (zero-at 80))
-        ∙ last-after (Whole d ms sh n x y b₀ T f)
+        ∙ ap (λ (l : List Method). deriveMethods (derive f) d (tabled T c (n + 1) b₀) l (typeAt Tb s .methods)) (side-methods T c n b t x (from-start .left) (from-start .leftRecord))
+        ∙ ap (λ (l : List Method). deriveMethods (derive f) d (tabled T c (n + 1) b₀) (from ms 0 (methodIn x)) l) (side-methods T c n b s y (from-start .right) (from-start .rightRecord))
+        ∙ methods-run (derive f) d (methodIn x) (methodIn y) ms (tabled T c (n + 1) b₀) zeros few-args (let l = from-start .limits .methods in omega arith) (zero-at 80))
+        ∙ last-after (Whole d c n w b₀ T f)
 
-    derive-runs : (f : ℕ) → 128 ≤ n + f → (o : Table → ℕ → Option Row) → Comes d ms sh n x y b₀ o → (g : ℕ) × (derive f Tb d t s ≡ After (o T g))
+    derive-runs : (f : ℕ) → 128 ≤ n + f → (o : Table → ℕ → Option Row) → Comes d c n w b₀ o → (g : ℕ) × (derive f Tb d t s ≡ After (o T g))
     unfolding derive
     derive-runs zero h o all = let l = from-start .room in absurd (omega arith)
     derive-runs (suc f) h o all = (f, make-runs f ∙ ap After (all T et f (omega arith)))
 
   -- The table is full somewhere inside.
-  pub new-full : {b₁ b′ : List ℕ} {end : ℕ} {ns : List ℕ} {m k l r : ℕ} {g : Derived} → Loop d ms sh n x y b₀ b₁ end ns m k → Leaves m l r b₁ b′ g → Comes d ms sh n x y b₀ (λ T f. none) → Gives d ms sh n t s b b′ Full
+  pub new-full : {b₁ b′ : List ℕ} {end : ℕ} {ns : List ℕ} {m k l r : ℕ} {g : Derived} → Loop d c n w b₀ b₁ end ns m k → Leaves m l r b₁ b′ g → Comes d c n w b₀ (λ T f. none) → Gives d c n t s b b′ Full
   new-full now keeps all = record {
     keeps = record { long = keeps .long; kept = λ i l. keeps .kept i (let p = now .more in omega arith) ∙ now .kept i (omega arith) ∙ start-kept i l; sized = tt };
     is = λ T et f h. sym (derive-runs T et f h (λ T f. none) all .1);
+    exact = tt;
     coded = λ h. tt;
   }
 
   -- The finished type is stored.
-  pub new-at : {b₁ b′ : List ℕ} {end : ℕ} {ns : List ℕ} {m k : ℕ} → Loop d ms sh n x y b₀ b₁ end ns m k → end ≤ k → Stored d cat kind t s ms n x y ns b₁ b′ → Gives d ms sh n t s b b′ (At n m)
+  pub new-at : {b₁ b′ : List ℕ} {end : ℕ} {ns : List ℕ} {m k : ℕ} → Loop d c n w b₀ b₁ end ns m k → end ≤ k → Stored w ms n ns b₁ b′ → Gives d c n t s b b′ (At n m)
   new-at {b₁} {b′} {end} {ns} {m} {k} now done put = record {
-    keeps = record { long = put .long; kept = kept; sized = (let l = now .more in omega arith, now .most, λ z p q r. let l = now .more in omega arith) };
-    is = λ T et f h. ap (λ (ts : List Ty). some (withTypes T ts, n)) (types T et) ∙ sym (derive-runs T et f h (λ T f. some (tabled T ms sh m b₁, ns)) (loop-ends now done) .1);
+    keeps = record { long = put-length (put .put) ∙ now .long; kept = kept; sized = (let l = now .more in omega arith, now .most, λ z p q r. let l = now .more in omega arith) };
+    is = λ T et f h. ap (λ (ts : List Ty). some (withTypes T ts, n)) (types T et) ∙ sym (derive-runs T et f h (λ T f. some (tabled T c m b₁, ns)) (loop-ends now done) .1);
+    exact = exact;
     coded = coded;
   }
     where
-      coded : Coded ms sh n b → Coded ms sh m b′
-      coded h i l = subst (λ (rs : List RawType). So (rawTypeFits ms sh i (getD rs i noRawType))) (sym (put .types))
-          (set-holds (λ i r. So (rawTypeFits ms sh i r)) (typesIn b₁) n (rawOf (put .z)) noRawType (let e = types-length b₁ in let r = from-start .room in omega arith) (finished-coded h (put .z) (put .finished)) i (now .coded (start-coded h) i l))
+      placed : typesIn b′ ≡ set (typesIn b₁) n (rawOf (put .z))
+      placed = put-types (put .put) (now .long) (from-start .room)
+
+      above : (i : ℕ) → n < i → i < m → recordAt b′ i ≡ recordAt b₁ i
+      above i p q = put-above (put .put) (now .long) (from-start .room) i (let l = now .most in omega arith) p
+
+      exact : Exact c n m b′
+      exact i p q = ⊎-elim
+          (λ (l : n < i). exact-same c b₁ b′ i (let o = now .most in omega arith) (above i l q) (now .exact i (omega arith) q))
+          (λ (l : i ≤ n). let e : i ≡ n = omega arith in subst (ExactAt c b′) (sym e) (put-exact (put .put) (now .long) (from-start .room) c (put .finished .exact sh n (from-start .limits .counted))))
+          (lt-or-ge n i)
+
+      coded : Coded c n b → Coded c m b′
+      coded h i l = ⊎-elim
+          (λ (e : i ≡ n). subst (λ (k : ℕ). So (rawTypeFits ms sh k (getD (typesIn b′) k noRawType))) (sym e)
+          (subst (λ (r : RawType). So (rawTypeFits ms sh n r))
+          (sym (ap (λ (rs : List RawType). getD rs n noRawType) placed ∙ getD-set-same (typesIn b₁) n (rawOf (put .z)) noRawType (let z = types-length b₁ in let r = from-start .room in omega arith)))
+          (finished-coded h (put .z) (put .finished))))
+          (λ (e : i ≡ n → ⊥). subst (λ (r : RawType). So (rawTypeFits ms sh i r)) (sym (ap (λ (rs : List RawType). getD rs i noRawType) placed ∙ getD-set-other (typesIn b₁) n i (rawOf (put .z)) noRawType e)) (now .coded (start-coded h) i l))
+          (same-or i n)
 
       kept : Kept n b b′
-      kept i l = ap (λ (rs : List RawType). getD rs i noRawType) (put .types) ∙ getD-set-other (typesIn b₁) n i (rawOf (put .z)) noRawType (λ e. let w : i ≡ n = e in omega arith) ∙ now .kept i (omega arith) ∙ start-kept i l
+      kept i l = put-below (put .put) (now .long) (from-start .room) i (let r = from-start .room in omega arith) l ∙ now .kept i (omega arith) ∙ start-kept i l
 
-      types : (T : Table) (et : T .methods ≡ ms) → typesTo ms sh m (typesIn b′) ≡ set (typesTo ms sh m (typesIn b₁)) n (entry (tabled T ms sh n b) d t s (from ms 0 (fillAt d (methodIn x) (methodIn y) ns)))
+      types : (T : Table) (et : T .methods ≡ ms) → typesTo ms sh m (typesIn b′) ≡ set (typesTo ms sh m (typesIn b₁)) n (entry (tabled T c n b) d t s (from ms 0 (fillAt d (methodIn x) (methodIn y) ns)))
       types T et =
-          ap (typesTo ms sh m) (put .types) ∙ types-put ms sh (typesIn b₁) m n (rawOf (put .z)) (now .more) (let l = types-length b₁ in let p = now .most in omega arith)
+          ap (typesTo ms sh m) placed ∙ types-put ms sh (typesIn b₁) m n (rawOf (put .z)) (now .more) (let l = types-length b₁ in let p = now .most in omega arith)
           ∙ ap (set (typesTo ms sh m (typesIn b₁)) n)
           (ap (typeOf ms sh n) (put .finished .head)
           ∙ entry-is T et (rawOf (put .z) .methods) (from ms 0 (fillAt d (methodIn x) (methodIn y) ns))
-          (from-same (methodIn (put .z)) (fillAt d (methodIn x) (methodIn y) ns) ms 0 (λ j p q. put .finished .filled j (omega arith))))
+          (from-same (methodIn (put .z)) (fillAt d (methodIn x) (methodIn y) ns) ms 0
+          (λ j p q. put .finished .filled j (omega arith) ∙ ap (λ (k : Kind). fillAt k (methodIn x) (methodIn y) ns j) (from-start .kinds))))
 
--- What the public functions say: the answer is the model's.
-pub outcome-is : {d : Kind} {t s : ℕ} {b b′ : List ℕ} (c : Counts) {r : Derived} → Gives d (c .methods) (c .sheet) (c .types) t s b b′ r → (l : List ℕ) → outcome b′ l c r ≡ derived (tableIn b l c) d t s
-unfolding derived tableIn tableOf typesTo
-outcome-is {b = b} c {r = Full} g l = ap (λ (o : Option (Table × ℕ)). elim o [ none ↦ refuse 11 | some p ↦ ok p ]) (g .is (tableIn b l c) refl 128 (omega arith))
-outcome-is {b = b} c {r = At i m} g l = ap (λ (o : Option (Table × ℕ)). elim o [ none ↦ refuse 11 | some p ↦ ok p ]) (g .is (tableIn b l c) refl 128 (omega arith))
+-- What the public functions say: the answer is the model's, and every counted byte.
+module _ {d : Kind} {t s : ℕ} {b b′ : List ℕ} (c : Counts) {r : Derived} (g : Gives d c (c .types) t s b b′ r) (l : List ℕ) where
+  abbrev answer : Option (Table × ℕ) → Res (Table × ℕ)
+  answer o = elim o [ none ↦ refuse 11 | some p ↦ ok p ]
 
--- For callers: what `refIn` asks, and what `Kept` leaves, of the table that the bytes mean.
+  answered : (r : Derived) → derivationIn b′ l c r ≡ answer (derivedIn (tableIn b l c) c r b′)
+  unfolding tableIn tableOf typesTo
+  answered Full = refl
+  answered (At i m) = refl
+
+  pub derivation-is : derivationIn b′ l c r ≡ derived (tableIn b l c) d t s
+  unfolding derived tableIn tableOf typesTo
+  derivation-is = answered r ∙ ap answer (g .is (tableIn b l c) refl 128 (omega arith))
+
+  pub derivation-writes : Writes (c .types) b b′ (derived (tableIn b l c) d t s)
+  derivation-writes = subst (Writes (c .types) b b′) derivation-is (go r (g .keeps .sized) (g .exact))
+    where
+      go : (r : Derived) → Sized (c .types) t s r → ExactTo c (c .types) b′ r → Writes (c .types) b b′ (derivationIn b′ l c r)
+      go Full z x = kept-take (c .types) b b′ (g .keeps .kept)
+      go (At i m) z x =
+          ap (λ (k : ℕ). take (k * 128) b′) (size-is b′ l (withCount c m)) ∙ exact-take c (c .types) m b b′ (z .0) (g .keeps .kept) x
+          ∙ ap (λ (ts : List Ty). take (c .types * 128) b ++ flatten (map bytesOf (drop (c .types) ts))) (sym (types-of b′ l (withCount c m)))
+
+-- For callers: what `refIn` asks, of the table that the bytes mean.
 pub ref-table : (b l : List ℕ) (c : Counts) (t : ℕ) → isRef (typeAt (tableIn b l c) t .rep) ≡ refIn (c .types) b t
 unfolding tableIn tableOf typesTo
-ref-table b l c t = ref-type (tableIn b l c) (c .methods) (c .sheet) (c .types) t b
-
-pub kept-table : (b b′ l : List ℕ) (c : Counts) → Kept (c .types) b b′ → tableIn b′ l c ≡ tableIn b l c
-kept-table b b′ l c h = table-same b b′ l c h
+ref-table b l c t = ref-type (tableIn b l c) c (c .types) t b

@@ -1,21 +1,24 @@
-// Document 01, "Restriction": Sub, Sup and Closed over the lent bytes of a type table.
+// Restriction: Sub, Sup and Closed over the lent bytes of a type table.
 // A new type takes the next number and stands there with every method denied until its signatures are derived; then it is stored once, whole.
 // Both sides are read before anything is derived, and nothing below the count is ever written: what a refusal leaves past the count is open, every counted
-// type is as before. What the answers mean is in specs/Link.antt, the order in which signatures are derived in crate `slots`.
+// byte is as before. What the answers mean is in specs/Link.antt, the order in which signatures are derived in crate `slots`.
 ghost use mathlib.Core.Path.{_≡_};
 ghost use mathlib.Core.Bool.{true};
 ghost use mathlib.Core.List.{List};
 ghost use Prim.Native.Nat.{ℕ, _≤_, _<_};
-ghost use lib.ListN.{length, set};
+ghost use lib.ListN.{length};
 ghost use Rattle.model.specs.Table.{sub, sup, closed};
 ghost use Rattle.model.specs.Restriction.{find, withoutNew, mainSide, derived};
 ghost use Rattle.model.specs.Check.{kindOf};
-ghost use Rattle.table.specs.Store.{typesIn, typesTo, tableIn};
-ghost use Rattle.restrict.specs.Link.{Ready, Leaves, CodesStay, Gives, Begins, Stored, outcome, foundOf, refIn, pendingRecord, tabled};
+ghost use Rattle.table.specs.Store.{typesIn, typesTo, tableIn, withCount};
+ghost use Rattle.table.specs.Limits.{Limits};
+ghost use Rattle.restrict.specs.Link.{Ready, Writes, CodesStay, Gives, Begins, Opened, Stored, derivationIn, foundOf, refIn, tabled};
 use slots::Slot;
+use slots::Work;
 use table::Counts;
+use table::Head;
+use table::Key;
 use table::TYPE_BYTES;
-use table::TypeRec;
 
 // What a derivation answers: the table is full, or the type's number and how many types there are now.
 pub enum Derived {
@@ -29,15 +32,15 @@ enum Begun {
     New,
 }
 
-// "The lowest known one is used again": its number, or n. Sheet types are not searched.
-fn lookup(b: &[u8; TYPE_BYTES], sheet: usize, n: usize, kind: u8, t: usize, s: usize) -> usize
-    requires { ⌜ (kind < 3) × (sheet ≤ n) × (n ≤ 128) ⌝ }
-    ensures { λ r. ⌜ ((ms : ℕ) → foundOf n r ≡ find (kindOf kind) t s 0 (typesTo ms sheet n (typesIn (now (b .entry))))) ⌝ }
+// The lowest of n types with this key, or n. Sheet types are not searched.
+fn lookup(b: &[u8; TYPE_BYTES], c: Counts, n: usize, key: Key) -> usize
+    requires { ⌜ (key .kind < 3) × Limits (withCount c n) ⌝ }
+    ensures { λ r. ⌜ foundOf n r ≡ find (kindOf (key .kind)) (key .left) (key .right) 0 (typesTo (c .methods) (c .sheet) n (typesIn (now (b .entry)))) ⌝ }
 {
-    let mut i = sheet;
+    let mut i = c.sheet;
     while i < n {
         let h = table::get_head(b, i);
-        if slots::is_key(h, kind, t, s) {
+        if slots::is_key(h, key) {
             return i;
         }
         i += 1;
@@ -54,15 +57,20 @@ pub fn is_ref(b: &[u8; TYPE_BYTES], n: usize, t: usize) -> bool
         return false;
     }
     let h = table::get_head(b, t);
-    h.rep == 0
+    h.rep == Head::REF
 }
 
 // Of two reference types: the known type, or whether there is room for a new one.
-fn search(b: &[u8; TYPE_BYTES], sheet: usize, n: usize, kind: u8, t: usize, s: usize) -> Begun
-    requires { ⌜ (kind < 3) × (sheet ≤ n) × (n ≤ 128) × (refIn n (now b) t ≡ true) × (refIn n (now b) s ≡ true) ⌝ }
-    ensures { λ r. ⌜ Begins (λ T ms. find (kindOf kind) t s 0 (typesTo ms sheet n (typesIn (now (b .entry))))) n t s (now (b .entry)) r ⌝ }
+fn search(b: &[u8; TYPE_BYTES], c: Counts, n: usize, kind: u8, t: usize, s: usize) -> Begun
+    requires { ⌜ (kind < 3) × Limits (withCount c n) × (refIn n (now b) t ≡ true) × (refIn n (now b) s ≡ true) ⌝ }
+    ensures { λ r. ⌜ Begins (λ T. find (kindOf kind) t s 0 (typesTo (c .methods) (c .sheet) n (typesIn (now (b .entry))))) n t s (now (b .entry)) r ⌝ }
 {
-    let found = lookup(b, sheet, n, kind, t, s);
+    let key = Key {
+        kind,
+        left: t,
+        right: s,
+    };
+    let found = lookup(b, c, n, key);
     if found < n {
         return Begun::Settled(Derived::At(found, n));
     }
@@ -72,22 +80,25 @@ fn search(b: &[u8; TYPE_BYTES], sheet: usize, n: usize, kind: u8, t: usize, s: u
     Begun::New
 }
 
-// "Sub and Sup of a type with itself are that type; of numbers, Sub is T and Sup is S": `main` is that side.
-fn begin(
-    b: &[u8; TYPE_BYTES],
-    sheet: usize,
-    n: usize,
-    kind: u8,
-    t: usize,
-    s: usize,
-    main: usize,
-) -> Begun
-    requires { ⌜ (kind < 2) × (sheet ≤ n) × (n ≤ 128) × (main ≡ mainSide (kindOf kind) t s) ⌝ }
-    ensures { λ r. ⌜ Begins (λ T ms. withoutNew (tabled T ms sheet n (now (b .entry))) (kindOf kind) t s) n t s (now (b .entry)) r ⌝ }
+// The side that Sub or Sup keeps.
+fn main_side(kind: u8, t: usize, s: usize) -> usize
+    ensures { λ r. ⌜ r ≡ mainSide (kindOf kind) t s ⌝ }
+{
+    if kind == Key::SUP {
+        return s;
+    }
+    t
+}
+
+// Sub or Sup of a type with itself is that type, and of numbers the main side.
+fn begin(b: &[u8; TYPE_BYTES], c: Counts, n: usize, kind: u8, t: usize, s: usize) -> Begun
+    requires { ⌜ (kind < 2) × Limits (withCount c n) ⌝ }
+    ensures { λ r. ⌜ Begins (λ T. withoutNew (tabled T c n (now (b .entry))) (kindOf kind) t s) n t s (now (b .entry)) r ⌝ }
 {
     if t == s {
         return Begun::Settled(Derived::At(t, n));
     }
+    let main = main_side(kind, t, s);
     let left = is_ref(b, n, t);
     if !left {
         return Begun::Settled(Derived::At(main, n));
@@ -96,68 +107,55 @@ fn begin(
     if !right {
         return Begun::Settled(Derived::At(main, n));
     }
-    search(b, sheet, n, kind, t, s)
+    search(b, c, n, kind, t, s)
 }
 
-// "A new one takes the next number before its signatures are derived": until then every method is denied.
-fn start(b: &mut [u8; TYPE_BYTES], n: usize, cat: u8, kind: u8, t: usize, s: usize)
-    requires { ⌜ (n < 128) × (t < 256) × (s < 256) × (length (now b) ≡ 16384) ⌝ }
-    ensures { λ _. ⌜ (typesIn (now (b .exit)) ≡ set (typesIn (now (b .entry))) n (pendingRecord cat kind t s)) × (length (now (b .exit)) ≡ 16384) ⌝ }
+// Both sides are read. The new type takes the next number before its signatures are derived; until then every method of it is denied.
+fn start(b: &mut [u8; TYPE_BYTES], n: usize, kind: u8, t: usize, s: usize) -> Work
+    requires { ⌜ (n < 128) × (t < 128) × (s < 128) × (length (now b) ≡ 16384) ⌝ }
+    ensures { λ w. ⌜ Opened kind t s n w (now (b .entry)) (now (b .exit)) ⌝ }
 {
-    let empty = TypeRec::empty();
-    let methods = empty.methods;
-    let z = slots::new_type(cat, kind, t, s, methods);
+    let left = table::get_type(b, t);
+    let right = table::get_type(b, s);
+    let key = Key {
+        kind,
+        left: t,
+        right: s,
+    };
+    let w = Work { key, left, right };
+    let z = slots::pending(w);
     table::put_type(b, n, z);
+    w
 }
 
 // The type at work is stored, whole.
-fn finish(
-    b: &mut [u8; TYPE_BYTES],
-    n: usize,
-    x: TypeRec,
-    y: TypeRec,
-    cat: u8,
-    kind: u8,
-    t: usize,
-    s: usize,
-    methods: usize,
-    bytes: [u8; 80],
-)
-    requires { ⌜ (n < 128) × (length (now b) ≡ 16384) × (kind < 3) × (t < 256) × (s < 256) × (methods ≤ 16) ⌝ }
-    ensures { λ _. ⌜ Stored (kindOf kind) cat kind t s methods n x y bytes (now (b .entry)) (now (b .exit)) ⌝ }
+fn finish(b: &mut [u8; TYPE_BYTES], n: usize, w: Work, methods: usize, bytes: [u8; 80])
+    requires { ⌜ (n < 128) × (length (now b) ≡ 16384) × (w .key .kind < 3) × (w .key .left < 256) × (w .key .right < 256) × (methods ≤ 16) ⌝ }
+    ensures { λ _. ⌜ Stored w methods n bytes (now (b .entry)) (now (b .exit)) ⌝ }
 {
-    let z = slots::finished(x, y, cat, kind, t, s, methods, bytes);
+    let z = slots::finished(w, methods, bytes);
     table::put_type(b, n, z);
 }
 
-// Sub(T,S), in a table of so many methods, sheet types and types: T's category, "arguments Sup(S argument, T argument) and answer Sub(T answer, S answer)".
-fn sub(
-    b: &mut [u8; TYPE_BYTES],
-    methods: usize,
-    sheet: usize,
-    n: usize,
-    t: usize,
-    s: usize,
-) -> Derived
-    requires { ⌜ Ready methods sheet n t s (now b) ⌝ }
-    ensures { λ r. ⌜ Gives sub methods sheet n t s (now (b .entry)) (now (b .exit)) r ⌝ }
+// Sub(T,S), n being the types so far: arguments by Sup, answers by Sub.
+fn sub(b: &mut [u8; TYPE_BYTES], c: Counts, n: usize, t: usize, s: usize) -> Derived
+    requires { ⌜ Ready c n t s (now b) ⌝ }
+    ensures { λ r. ⌜ Gives sub c n t s (now (b .entry)) (now (b .exit)) r ⌝ }
 {
-    let begun = begin(b, sheet, n, 0, t, s, t);
+    let begun = begin(b, c, n, Key::SUB, t, s);
     if let Begun::Settled(answer) = begun {
         return answer;
     }
-    let x = table::get_type(b, t);
-    let y = table::get_type(b, s);
-    start(b, n, x.cat, 0, t, s);
-    let end = methods * 5;
+    let w = start(b, n, Key::SUB, t, s);
+    let end = c.methods * 5;
     let mut bytes = [0u8; 80];
     let mut m = n + 1;
     let mut k: usize = 0;
     while k < end {
-        match slots::slot_at(x, y, 0, k) {
+        match slots::slot_at(w, k) {
             Slot::Empty => k += 1,
             Slot::Argument(l1, r1) => {
-                let Derived::At(i1, m1) = sup(b, methods, sheet, m, l1, r1) else {
+                let Derived::At(i1, m1) = sup(b, c, m, l1, r1) else {
                     return Derived::Full;
                 };
                 bytes[k] = numbers::narrow(i1);
@@ -165,7 +163,7 @@ fn sub(
                 k += 1;
             }
             Slot::Answer(l2, r2) => {
-                let Derived::At(i2, m2) = sub(b, methods, sheet, m, l2, r2) else {
+                let Derived::At(i2, m2) = sub(b, c, m, l2, r2) else {
                     return Derived::Full;
                 };
                 bytes[k] = numbers::narrow(i2 + 1);
@@ -174,38 +172,29 @@ fn sub(
             }
         }
     }
-    finish(b, n, x, y, x.cat, 0, t, s, methods, bytes);
+    finish(b, n, w, c.methods, bytes);
     Derived::At(n, m)
 }
 
-// Sup(T,S): S's category, "arguments Sub(S argument, T argument) and answer Sup(T answer, S answer)".
-fn sup(
-    b: &mut [u8; TYPE_BYTES],
-    methods: usize,
-    sheet: usize,
-    n: usize,
-    t: usize,
-    s: usize,
-) -> Derived
-    requires { ⌜ Ready methods sheet n t s (now b) ⌝ }
-    ensures { λ r. ⌜ Gives sup methods sheet n t s (now (b .entry)) (now (b .exit)) r ⌝ }
+// Sup(T,S): arguments by Sub, answers by Sup.
+fn sup(b: &mut [u8; TYPE_BYTES], c: Counts, n: usize, t: usize, s: usize) -> Derived
+    requires { ⌜ Ready c n t s (now b) ⌝ }
+    ensures { λ r. ⌜ Gives sup c n t s (now (b .entry)) (now (b .exit)) r ⌝ }
 {
-    let begun = begin(b, sheet, n, 1, t, s, s);
+    let begun = begin(b, c, n, Key::SUP, t, s);
     if let Begun::Settled(answer) = begun {
         return answer;
     }
-    let x = table::get_type(b, t);
-    let y = table::get_type(b, s);
-    start(b, n, y.cat, 1, t, s);
-    let end = methods * 5;
+    let w = start(b, n, Key::SUP, t, s);
+    let end = c.methods * 5;
     let mut bytes = [0u8; 80];
     let mut m = n + 1;
     let mut k: usize = 0;
     while k < end {
-        match slots::slot_at(x, y, 1, k) {
+        match slots::slot_at(w, k) {
             Slot::Empty => k += 1,
             Slot::Argument(l1, r1) => {
-                let Derived::At(i1, m1) = sub(b, methods, sheet, m, l1, r1) else {
+                let Derived::At(i1, m1) = sub(b, c, m, l1, r1) else {
                     return Derived::Full;
                 };
                 bytes[k] = numbers::narrow(i1);
@@ -213,7 +202,7 @@ fn sup(
                 k += 1;
             }
             Slot::Answer(l2, r2) => {
-                let Derived::At(i2, m2) = sup(b, methods, sheet, m, l2, r2) else {
+                let Derived::At(i2, m2) = sup(b, c, m, l2, r2) else {
                     return Derived::Full;
                 };
                 bytes[k] = numbers::narrow(i2 + 1);
@@ -222,38 +211,30 @@ fn sup(
             }
         }
     }
-    finish(b, n, x, y, y.cat, 1, t, s, methods, bytes);
+    finish(b, n, w, c.methods, bytes);
     Derived::At(n, m)
 }
 
-// Closed(R,V), of two reference types: the category and the signatures of Sub(R,V). "It takes one number; the outer Sub it is read from takes none."
-fn closed(
-    b: &mut [u8; TYPE_BYTES],
-    methods: usize,
-    sheet: usize,
-    n: usize,
-    r: usize,
-    v: usize,
-) -> Derived
-    requires { ⌜ Ready methods sheet n r v (now b) × (refIn n (now b) r ≡ true) × (refIn n (now b) v ≡ true) ⌝ }
-    ensures { λ d. ⌜ Gives closed methods sheet n r v (now (b .entry)) (now (b .exit)) d ⌝ }
+// Closed(R,V) of two reference types, with the signatures of Sub(R,V), which takes no number itself.
+fn closed(b: &mut [u8; TYPE_BYTES], c: Counts, r: usize, v: usize) -> Derived
+    requires { ⌜ Ready c (c .types) r v (now b) × (refIn (c .types) (now b) r ≡ true) × (refIn (c .types) (now b) v ≡ true) ⌝ }
+    ensures { λ d. ⌜ Gives closed c (c .types) r v (now (b .entry)) (now (b .exit)) d ⌝ }
 {
-    let begun = search(b, sheet, n, 2, r, v);
+    let n = c.types;
+    let begun = search(b, c, n, Key::CLOSED, r, v);
     if let Begun::Settled(answer) = begun {
         return answer;
     }
-    let x = table::get_type(b, r);
-    let y = table::get_type(b, v);
-    start(b, n, x.cat, 2, r, v);
-    let end = methods * 5;
+    let w = start(b, n, Key::CLOSED, r, v);
+    let end = c.methods * 5;
     let mut bytes = [0u8; 80];
     let mut m = n + 1;
     let mut k: usize = 0;
     while k < end {
-        match slots::slot_at(x, y, 2, k) {
+        match slots::slot_at(w, k) {
             Slot::Empty => k += 1,
             Slot::Argument(l3, r3) => {
-                let Derived::At(i3, m3) = sup(b, methods, sheet, m, l3, r3) else {
+                let Derived::At(i3, m3) = sup(b, c, m, l3, r3) else {
                     return Derived::Full;
                 };
                 bytes[k] = numbers::narrow(i3);
@@ -261,7 +242,7 @@ fn closed(
                 k += 1;
             }
             Slot::Answer(l4, r4) => {
-                let Derived::At(i4, m4) = sub(b, methods, sheet, m, l4, r4) else {
+                let Derived::At(i4, m4) = sub(b, c, m, l4, r4) else {
                     return Derived::Full;
                 };
                 bytes[k] = numbers::narrow(i4 + 1);
@@ -270,36 +251,36 @@ fn closed(
             }
         }
     }
-    finish(b, n, x, y, x.cat, 2, r, v, methods, bytes);
+    finish(b, n, w, c.methods, bytes);
     Derived::At(n, m)
 }
 
 // Sub(T,S), in the table of these bytes and counts.
 pub fn sub_type(b: &mut [u8; TYPE_BYTES], c: Counts, t: usize, s: usize) -> Derived
-    requires { ⌜ Ready (c .methods) (c .sheet) (c .types) t s (now b) ⌝ }
-    ensures is { λ r. ⌜ ((l : List ℕ) → outcome (now (b .exit)) l c r ≡ derived (tableIn (now (b .entry)) l c) sub t s) ⌝ }
-    ensures keeps { λ r. ⌜ Leaves (c .types) t s (now (b .entry)) (now (b .exit)) r ⌝ }
+    requires { ⌜ Ready c (c .types) t s (now b) ⌝ }
+    ensures is { λ r. ⌜ ((l : List ℕ) → derivationIn (now (b .exit)) l c r ≡ derived (tableIn (now (b .entry)) l c) sub t s) ⌝ }
+    ensures writes { λ _. ⌜ ((l : List ℕ) → Writes (c .types) (now (b .entry)) (now (b .exit)) (derived (tableIn (now (b .entry)) l c) sub t s)) ⌝ }
     ensures codes { λ r. ⌜ CodesStay c (now (b .entry)) (now (b .exit)) r ⌝ }
 {
-    sub(b, c.methods, c.sheet, c.types, t, s)
+    sub(b, c, c.types, t, s)
 }
 
 // Sup(T,S).
 pub fn sup_type(b: &mut [u8; TYPE_BYTES], c: Counts, t: usize, s: usize) -> Derived
-    requires { ⌜ Ready (c .methods) (c .sheet) (c .types) t s (now b) ⌝ }
-    ensures is { λ r. ⌜ ((l : List ℕ) → outcome (now (b .exit)) l c r ≡ derived (tableIn (now (b .entry)) l c) sup t s) ⌝ }
-    ensures keeps { λ r. ⌜ Leaves (c .types) t s (now (b .entry)) (now (b .exit)) r ⌝ }
+    requires { ⌜ Ready c (c .types) t s (now b) ⌝ }
+    ensures is { λ r. ⌜ ((l : List ℕ) → derivationIn (now (b .exit)) l c r ≡ derived (tableIn (now (b .entry)) l c) sup t s) ⌝ }
+    ensures writes { λ _. ⌜ ((l : List ℕ) → Writes (c .types) (now (b .entry)) (now (b .exit)) (derived (tableIn (now (b .entry)) l c) sup t s)) ⌝ }
     ensures codes { λ r. ⌜ CodesStay c (now (b .entry)) (now (b .exit)) r ⌝ }
 {
-    sup(b, c.methods, c.sheet, c.types, t, s)
+    sup(b, c, c.types, t, s)
 }
 
 // Closed(R,V).
 pub fn closed_type(b: &mut [u8; TYPE_BYTES], c: Counts, r: usize, v: usize) -> Derived
-    requires { ⌜ Ready (c .methods) (c .sheet) (c .types) r v (now b) × (refIn (c .types) (now b) r ≡ true) × (refIn (c .types) (now b) v ≡ true) ⌝ }
-    ensures is { λ d. ⌜ ((l : List ℕ) → outcome (now (b .exit)) l c d ≡ derived (tableIn (now (b .entry)) l c) closed r v) ⌝ }
-    ensures keeps { λ d. ⌜ Leaves (c .types) r v (now (b .entry)) (now (b .exit)) d ⌝ }
+    requires { ⌜ Ready c (c .types) r v (now b) × (refIn (c .types) (now b) r ≡ true) × (refIn (c .types) (now b) v ≡ true) ⌝ }
+    ensures is { λ d. ⌜ ((l : List ℕ) → derivationIn (now (b .exit)) l c d ≡ derived (tableIn (now (b .entry)) l c) closed r v) ⌝ }
+    ensures writes { λ _. ⌜ ((l : List ℕ) → Writes (c .types) (now (b .entry)) (now (b .exit)) (derived (tableIn (now (b .entry)) l c) closed r v)) ⌝ }
     ensures codes { λ d. ⌜ CodesStay c (now (b .entry)) (now (b .exit)) d ⌝ }
 {
-    closed(b, c.methods, c.sheet, c.types, r, v)
+    closed(b, c, r, v)
 }

@@ -1,29 +1,34 @@
 -- Codes of kinds and states, the slots of two methods, and a method from its slots.
 use mathlib.Core.Path.{_≡_, refl, sym, ap, _∙_, subst}
-use mathlib.Core.Bool.{Bool, true, false, So}
+use mathlib.Core.Bool.{Bool, true, false, So, cond}
 use mathlib.Core.List.{List, [], _∷_, map}
-use Prim.Native.Nat.{ℕ, zero, suc, _+_, _*_, _-_, _≤_, _<_}
+use Prim.Native.Nat.{ℕ, zero, suc, _+_, _*_, _-_, _≤_, _<_, min}
 use native.Mathlib.Omega.{arith}
-use native.Mathlib.Nat.{not-suc-le-zero, le-of-suc-le-suc}
+use native.Mathlib.Nat.{not-suc-le-zero, le-of-suc-le-suc, zero-min, min-zero, suc-min-suc, min-le-left, min-le-right}
 use lib.Dec.{eqb, leb, ltb}
-use lib.ListN.{length, getD, take, List·getD-map}
-use borrow.Author.Tests.{eq-eqb, ne-eqb, le-leb, lt-ltb}
+use lib.ListN.{length, getD, set, take, replicate, length-set, length-map, List·getD-map}
+use lib.Seq.{take-nil, getD-set-other}
+use borrow.Author.Tests.{eq-eqb, ne-eqb, le-leb, lt-ltb, le-ltb}
 use Rattle.model.specs.Basics.{_⇒_}
 use Rattle.model.specs.Table.{State, denied, optional, avail, unavail, Kind, sub, sup, closed, permit, isAvail}
 use Rattle.model.specs.Table as model
 use Rattle.model.specs.Restriction.{restricted, sameKind, isKey}
-use Rattle.model.specs.Check.{RawMethod, noRawMethod, stateOf, kindOf, answerOf, methodOf}
+use Rattle.model.specs.Check.{RawMethod, RawType, noRawMethod, stateOf, kindOf, answerOf, methodOf}
 use Rattle.model.proofs.Rules.{never, both, first, second, imply, applied}
 use Rattle.model.proofs.Tests.{ltb-so, so-ltb, leb-so, so-leb}
 use Rattle.model.proofs.States.{each₂}
 use Rattle.table.specs.declared.Head.{Head}
 use Rattle.table.specs.declared.Method.{Method}
 use Rattle.table.specs.declared.TypeRec.{TypeRec}
-use Rattle.table.specs.Store.{rawMethod}
-use Rattle.table.proofs.Laws.{absent}
+use Rattle.table.specs.Store.{rawMethod, rawOf, emptyMethod}
+use Rattle.table.proofs.Lists.{set-next}
+use Rattle.table.specs.Records.{MethodExact, TypeExact}
+use Rattle.table.proofs.Laws.{absent, four}
 use Rattle.table.proofs.Codes.{closed-kind}
+use Rattle.table.proofs.Exact.{blank, unsigned-exact, signed-exact, derived-key, ref-exact}
+use Rattle.slots.specs.declared.Work.{Work}
 use Rattle.slots.specs.declared.Slot.the-variants.{Empty, Argument, Answer}
-use Rattle.slots.specs.Slots.{argumentSlot, answerSlot, slotOf, shared, lesser, fill, fillAt, methodIn, rawIn, MethodCoded, keyIn, keptState}
+use Rattle.slots.specs.Slots.{argumentSlot, answerSlot, slotOf, shared, fill, fillAt, methodIn, rawIn, MethodCoded, bareMethod, slotByte, signedMethod, keyIn, kindIn, catIn, mainOf, newRecord, keptState, Finished}
 
 -- Kinds.
 pub closed-same : (kind k : ℕ) → kind ≡ 2 → leb 2 k ≡ sameKind (kindOf kind) (kindOf k)
@@ -45,6 +50,12 @@ open-same (suc (suc zero)) k h n = absurd (n refl)
 open-same (suc (suc (suc kind))) k h n = absurd (omega arith)
 
 -- States.
+pub state-high : (x : ℕ) → 3 ≤ x → unavail ≡ stateOf x
+state-high zero h = absurd (omega arith)
+state-high (suc zero) h = absurd (omega arith)
+state-high (suc (suc zero)) h = absurd (omega arith)
+state-high (suc (suc (suc x))) h = refl
+
 module _ (own other lost : State) where
   pub kept-not : permit own ≡ false → own ≡ keptState own other lost
   kept-not e = rw e
@@ -61,7 +72,7 @@ not-avail (suc zero) h = refl
 not-avail (suc (suc zero)) h = absurd (h refl)
 not-avail (suc (suc (suc y))) h = refl
 
--- "optional made avail and denied made unavail on the outside; a method not avail in V is unavail"
+-- Closed: what the left side permits is avail, the rest unavail, where the right side has it avail
 shut-on : (a : State) → permit a ≡ true → avail ≡ restricted closed a avail
 shut-on denied e = never e
 shut-on optional e = refl
@@ -130,33 +141,38 @@ both-answer zero y a b = absurd (a refl)
 both-answer (suc x) zero a b = absurd (b refl)
 both-answer (suc x) (suc y) a b = let e : suc x - 1 ≡ x = omega arith in let f : suc y - 1 ≡ y = omega arith in rw (e, f)
 
--- the lesser count
-pub lesser-left : (x y : ℕ) → x ≤ y → x ≡ lesser x y
-lesser-left zero y h = refl
-lesser-left (suc x) zero h = absurd (not-suc-le-zero h)
-lesser-left (suc x) (suc y) h = ap suc (lesser-left x y (le-of-suc-le-suc h))
-
-pub lesser-right : (x y : ℕ) → y ≤ x → y ≡ lesser x y
-lesser-right zero zero h = refl
-lesser-right zero (suc y) h = absurd (not-suc-le-zero h)
-lesser-right (suc x) zero h = refl
-lesser-right (suc x) (suc y) h = ap suc (lesser-right x y (le-of-suc-le-suc h))
-
-lesser-least : (x y : ℕ) → lesser x y ≤ x
-lesser-least zero y = omega arith
-lesser-least (suc x) zero = omega arith
-lesser-least (suc x) (suc y) = let h = lesser-least x y in omega arith
-
-take-shared : (c e : ℕ) (ps qs ns : List ℕ) → length ns ≤ length ps → length ns ≤ length qs → take (lesser c e) ns ≡ take (shared (take c ps) (take e qs)) ns
-take-shared zero e ps qs ns h k = refl
-take-shared (suc c) zero [] qs ns h k = refl
-take-shared (suc c) zero (p ∷ ps) qs ns h k = refl
-take-shared (suc c) (suc e) [] qs [] h k = refl
+-- how many arguments are shared
+take-shared : (c e : ℕ) (ps qs ns : List ℕ) → length ns ≤ length ps → length ns ≤ length qs → take (min c e) ns ≡ take (shared (take c ps) (take e qs)) ns
+take-shared zero e ps qs ns h k = rw (zero-min e)
+take-shared (suc c) zero [] qs ns h k = rw (min-zero (suc c))
+take-shared (suc c) zero (p ∷ ps) qs ns h k = rw (min-zero (suc c))
+take-shared (suc c) (suc e) [] qs [] h k = rw (suc-min-suc c e)
 take-shared (suc c) (suc e) [] qs (n ∷ ns) h k = absurd (not-suc-le-zero h)
-take-shared (suc c) (suc e) (p ∷ ps) [] [] h k = refl
+take-shared (suc c) (suc e) (p ∷ ps) [] [] h k = rw (suc-min-suc c e)
 take-shared (suc c) (suc e) (p ∷ ps) [] (n ∷ ns) h k = absurd (not-suc-le-zero k)
-take-shared (suc c) (suc e) (p ∷ ps) (q ∷ qs) [] h k = refl
-take-shared (suc c) (suc e) (p ∷ ps) (q ∷ qs) (n ∷ ns) h k = ap (λ (l : List ℕ). n ∷ l) (take-shared c e ps qs ns (le-of-suc-le-suc h) (le-of-suc-le-suc k))
+take-shared (suc c) (suc e) (p ∷ ps) (q ∷ qs) [] h k = rw (suc-min-suc c e)
+take-shared (suc c) (suc e) (p ∷ ps) (q ∷ qs) (n ∷ ns) h k = rw (suc-min-suc c e) (ap (λ (l : List ℕ). n ∷ l) (take-shared c e ps qs ns (le-of-suc-le-suc h) (le-of-suc-le-suc k)))
+
+take-capped : (k : ℕ) (ns : List ℕ) → take (min k (length ns)) ns ≡ take k ns
+take-capped k [] = ap (λ (n : ℕ). take n []) (min-zero k) ∙ sym (take-nil k)
+take-capped zero (n ∷ ns) = rw (zero-min (suc (length ns)))
+take-capped (suc k) (n ∷ ns) = rw (suc-min-suc k (length ns)) (ap (λ (l : List ℕ). n ∷ l) (take-capped k ns))
+
+-- slots past the count don't matter
+take-slots : (n a b c d : ℕ) → n ≤ 4 → let l : List ℕ = a ∷ b ∷ c ∷ d ∷ [] in take n (slotByte n l 0 ∷ slotByte n l 1 ∷ slotByte n l 2 ∷ slotByte n l 3 ∷ []) ≡ take n l
+take-slots zero a b c d h = refl
+take-slots (suc zero) a b c d h = refl
+take-slots (suc (suc zero)) a b c d h = refl
+take-slots (suc (suc (suc zero))) a b c d h = refl
+take-slots (suc (suc (suc (suc zero)))) a b c d h = refl
+take-slots (suc (suc (suc (suc (suc n))))) a b c d h = absurd (omega arith)
+
+slots-zero : (n : ℕ) (l : List ℕ) (k : ℕ) → n ≤ k → getD (slotByte n l 0 ∷ slotByte n l 1 ∷ slotByte n l 2 ∷ slotByte n l 3 ∷ []) k 0 ≡ 0
+slots-zero n l zero h = rw (le-ltb 0 n h)
+slots-zero n l (suc zero) h = rw (le-ltb 1 n h)
+slots-zero n l (suc (suc zero)) h = rw (le-ltb 2 n h)
+slots-zero n l (suc (suc (suc zero))) h = rw (le-ltb 3 n h)
+slots-zero n l (suc (suc (suc (suc k)))) h = refl
 
 -- Two methods as they are stored.
 module _ (d : Kind) (p q : RawMethod) where
@@ -179,24 +195,63 @@ module _ (d : Kind) (p q : RawMethod) where
     pub slot-argument : (i : ℕ) → i < 4 → argumentSlot i (take (p .count) (p .args)) (take (q .count) (q .args)) ≡ slotOf d (methodOf p) (methodOf q) i
     slot-argument i h = rw (e, lt-ltb i 4 h, left-on, right-on)
 
-  -- the method from its slots
-  abbrev made : ℕ → List ℕ → ℕ → RawMethod
-  made st args a = record { state = st; count = lesser (p .count) (q .count); args = args; answer = a }
+  -- The method from its slots: what it means, that it is stored exactly, and that its codes name something where the left side's do.
+  abbrev count : ℕ
+  count = min (min (p .count) (q .count)) 4
 
-  pub filled-is : (st : ℕ) (args : List ℕ) (a : ℕ) → stateOf st ≡ restricted d (stateOf (p .state)) (stateOf (q .state)) → length args ≤ length (p .args) → length args ≤ length (q .args) → methodOf (made st args a) ≡ fill d (methodOf p) (methodOf q) args a
-  filled-is st args a es h k = go stays refl
-    where
-      go : (b : Bool) → stays ≡ b → methodOf (made st args a) ≡ fill d (methodOf p) (methodOf q) args a
-      go false e = rw (es, e)
-      go true e = rw (es, e, left-on e, right-on e, take-shared (p .count) (q .count) (p .args) (q .args) args h k)
+  pub shared-low : count ≤ 4
+  shared-low = min-le-right (min (p .count) (q .count)) 4
 
-  -- its codes name something where those of both sides do
-  pub filled-coded : (st : ℕ) (args : List ℕ) (a : ℕ) → stateOf st ≡ restricted d (stateOf (p .state)) (stateOf (q .state)) → (p .state < 4 → q .state < 4 → st < 4) → MethodCoded p → MethodCoded q → MethodCoded (made st args a)
-  filled-coded st args a es low hp hq =
-      both (so-ltb (low (ltb-so (first (ltb (p .state) 4) _ hp)) (ltb-so (first (ltb (q .state) 4) _ hq)))) (imply (permit (stateOf st)) (leb (lesser (p .count) (q .count)) 2) (λ on. so-leb (few on)))
-    where
-      few : So (permit (stateOf st)) → lesser (p .count) (q .count) ≤ 2
-      few on = let h : p .count ≤ 2 = leb-so (applied (second (ltb (p .state) 4) _ hp) (left-on (subst (λ (z : State). So (permit z)) es on))) in let l = lesser-least (p .count) (q .count) in omega arith
+  module _ (st : ℕ) (es : stateOf st ≡ restricted d (stateOf (p .state)) (stateOf (q .state))) (low : st < 4) (args : List ℕ) (a : ℕ) where
+    abbrev pub Made : RawMethod → Type 0
+    Made m = (methodOf m ≡ fill d (methodOf p) (methodOf q) args a) × (MethodExact m × (MethodCoded p → MethodCoded m))
+
+    pub bare-made : permit (stateOf st) ≡ false → Made (bareMethod st)
+    bare-made e = (rw (e, es, sym (ap permit es) ∙ e), (unsigned-exact st low e, λ h. both (so-ltb low) (imply (permit (stateOf st)) true (λ _. refl))))
+
+    pub signed-made : permit (stateOf st) ≡ true → length args ≡ 4 → length (p .args) ≡ 4 → length (q .args) ≡ 4 → Made (signedMethod st count args a)
+    signed-made e l lp lq = (
+      rw (e, es, s, left-on s, right-on s, same),
+      (
+        signed-exact (signedMethod st count args a) low e shared-low refl (slots-zero count args),
+        λ h. both (so-ltb low) (imply (permit (stateOf st)) (leb count 2) (λ _. so-leb (few h))),
+      ),
+    )
+      where
+        s : stays ≡ true
+        s = sym (ap permit es) ∙ e
+
+        same : take count (slotByte count args 0 ∷ slotByte count args 1 ∷ slotByte count args 2 ∷ slotByte count args 3 ∷ []) ≡ take (shared (take (p .count) (p .args)) (take (q .count) (q .args))) args
+        same =
+            take-slots count (getD args 0 0) (getD args 1 0) (getD args 2 0) (getD args 3 0) shared-low ∙ ap (take count) (four args l)
+            ∙ ap (λ (n : ℕ). take (min (min (p .count) (q .count)) n) args) (sym l) ∙ take-capped (min (p .count) (q .count)) args
+            ∙ take-shared (p .count) (q .count) (p .args) (q .args) args (omega arith) (omega arith)
+
+        few : MethodCoded p → count ≤ 2
+        few h =
+            let w : p .count ≤ 2 = leb-so (applied (second (ltb (p .state) 4) _ h) (left-on s)) in
+            let u = min-le-left (min (p .count) (q .count)) 4 in
+            let v = min-le-left (p .count) (q .count) in omega arith
+
+-- A method's bytes, and a type's head, put together from their parts.
+pub signed-bytes : (st count : ℕ) (args : List ℕ) (a : ℕ) {n x₀ x₁ x₂ x₃ : ℕ} → n ≡ count → x₀ ≡ slotByte count args 0 → x₁ ≡ slotByte count args 1 → x₂ ≡ slotByte count args 2 → x₃ ≡ slotByte count args 3
+    → _≡_ {A = RawMethod} (record { state = st; count = n; args = x₀ ∷ x₁ ∷ x₂ ∷ x₃ ∷ []; answer = a }) (signedMethod st count args a)
+signed-bytes st count args a e e₀ e₁ e₂ e₃ = rw (e, e₀, e₁, e₂, e₃)
+
+pub head-made : (w : Work) (ms : List RawMethod) {cat left right : ℕ} → cat ≡ catIn w → left ≡ w .key .left → right ≡ w .key .right
+    → _≡_ {A = RawType} (record { rep = 0; cat = cat; own = 0; kind = w .key .kind; left = left; right = right; methods = ms }) (newRecord w ms)
+head-made w ms e l r = rw (e, l, r)
+
+pub main-right : (w : Work) → w .key .kind ≡ 1 → w .right .head .cat ≡ catIn w
+main-right w e = ap (λ (k : ℕ). mainOf (kindOf k) (w .left) (w .right) .head .cat) (sym e)
+
+pub main-left : (w : Work) → (w .key .kind ≡ 1 → ⊥) → w .left .head .cat ≡ catIn w
+main-left w n = go (w .key .kind) n
+  where
+    go : (k : ℕ) → (k ≡ 1 → ⊥) → w .left .head .cat ≡ mainOf (kindOf k) (w .left) (w .right) .head .cat
+    go zero n = refl
+    go (suc zero) n = absurd (n refl)
+    go (suc (suc k)) n = refl
 
 -- Keys.
 module _ (d : Kind) (t s : ℕ) (h : Head) where
@@ -213,12 +268,53 @@ module _ (d : Kind) (t s : ℕ) (h : Head) where
 pub raw-methods : (ms : List Method) (j : ℕ) → rawMethod (getD ms j absent) ≡ getD (map rawMethod ms) j noRawMethod
 raw-methods ms j = sym (List·getD-map rawMethod ms j absent)
 
-pub in-methods : (ms : List Method) (j : ℕ) → methodOf (rawMethod (getD ms j absent)) ≡ methodOf (getD (map rawMethod ms) j noRawMethod)
-in-methods ms j = ap methodOf (raw-methods ms j)
-
-pub filled-here : (d : Kind) (x y : TypeRec) (ns : List ℕ) (j : ℕ) (p q m : Method) → rawMethod p ≡ rawIn x j → rawMethod q ≡ rawIn y j
+filled-here : (d : Kind) (x y : TypeRec) (ns : List ℕ) (j : ℕ) (p q m : Method) → rawMethod p ≡ rawIn x j → rawMethod q ≡ rawIn y j
     → methodOf (rawMethod m) ≡ fill d (methodOf (rawMethod p)) (methodOf (rawMethod q)) (getD ns (j * 5) 0 ∷ getD ns (j * 5 + 1) 0 ∷ getD ns (j * 5 + 2) 0 ∷ getD ns (j * 5 + 3) 0 ∷ []) (getD ns (j * 5 + 4) 0)
     → methodOf (rawMethod m) ≡ fillAt d (methodIn x) (methodIn y) ns j
 filled-here d x y ns j p q m ep eq em =
     em ∙ ap (λ (z : model.Method). fill d z (methodOf (rawMethod q)) (getD ns (j * 5) 0 ∷ getD ns (j * 5 + 1) 0 ∷ getD ns (j * 5 + 2) 0 ∷ getD ns (j * 5 + 3) 0 ∷ []) (getD ns (j * 5 + 4) 0)) (ap methodOf ep)
     ∙ ap (λ (z : model.Method). fill d (methodIn x j) z (getD ns (j * 5) 0 ∷ getD ns (j * 5 + 1) 0 ∷ getD ns (j * 5 + 2) 0 ∷ getD ns (j * 5 + 3) 0 ∷ []) (getD ns (j * 5 + 4) 0)) (ap methodOf eq)
+
+-- The loop over the methods: those before j are made from their slots, the others are blank.
+module _ (w : Work) (ns : List ℕ) where
+  abbrev Well : ℕ → Method → Type 0
+  Well j m = (methodOf (rawMethod m) ≡ fillAt (kindIn w) (methodIn (w .left)) (methodIn (w .right)) ns j) × (MethodExact (rawMethod m) × (MethodCoded (rawIn (w .left) j) → MethodCoded (rawMethod m)))
+
+  pub record Filling (ms : ℕ) (all : List Method) (j : ℕ) : Type 0 where
+    pub low : j ≤ ms
+    pub long : length all ≡ 16
+    pub made : (i : ℕ) → i < j → Well i (getD all i absent)
+    pub rest : (i : ℕ) → j ≤ i → i < 16 → rawMethod (getD all i absent) ≡ blank
+
+  pub filling-starts : (ms : ℕ) (m : Method) → m ≡ emptyMethod → Filling ms (replicate 16 m) 0
+  filling-starts ms m e = subst (λ (m : Method). Filling ms (replicate 16 m) 0) (sym e) record { low = omega arith; long = refl; made = λ i h. absurd (not-suc-le-zero h); rest = λ i h l. blank-at 16 i l }
+    where
+      blank-at : (n i : ℕ) → i < n → rawMethod (getD (replicate n emptyMethod) i absent) ≡ blank
+      blank-at zero i h = absurd (not-suc-le-zero h)
+      blank-at (suc n) zero h = refl
+      blank-at (suc n) (suc i) h = blank-at n i (le-of-suc-le-suc h)
+
+  pub filling-next : {ms : ℕ} {all : List Method} {j : ℕ} → Filling ms all j → j < ms → ms ≤ 16 → (p q m : Method) → rawMethod p ≡ rawIn (w .left) j → rawMethod q ≡ rawIn (w .right) j
+      → (methodOf (rawMethod m) ≡ fill (kindIn w) (methodOf (rawMethod p)) (methodOf (rawMethod q)) (getD ns (j * 5) 0 ∷ getD ns (j * 5 + 1) 0 ∷ getD ns (j * 5 + 2) 0 ∷ getD ns (j * 5 + 3) 0 ∷ []) (getD ns (j * 5 + 4) 0))
+      × (MethodExact (rawMethod m) × (MethodCoded (rawMethod p) → MethodCoded (rawMethod m))) → Filling ms (set all j m) (j + 1)
+  filling-next {ms} {all} {j} so h few p q m ep eq em = let l = so .long in record {
+    low = omega arith;
+    long = length-set all j m ∙ so .long;
+    made = set-next Well all j m absent (omega arith) (so .made)
+        (filled-here (kindIn w) (w .left) (w .right) ns j p q m ep eq (em .0), (em .1 .0, λ c. em .1 .1 (subst MethodCoded (sym ep) c)));
+    rest = λ i g k. ap rawMethod (getD-set-other all j i m absent (λ e. let z : i ≡ j = e in omega arith)) ∙ so .rest i (omega arith) k;
+  }
+
+  -- the type that they make
+  pub filling-ends : {ms : ℕ} {all : List Method} {j : ℕ} → Filling ms all j → ms ≤ j → w .key .kind < 3 → (z : TypeRec) → rawOf z ≡ newRecord w (rawOf z .methods) → z .methods ≡ all → Finished w ms ns z
+  filling-ends {ms} {all} {j} so done k z e em = record {
+    head = e;
+    filled = λ i h. ap methodOf (at i) ∙ so .made i (omega arith) .0;
+    exact = λ sh i h. subst (TypeExact ms sh i) (sym e)
+        (ref-exact ms sh i (newRecord w (rawOf z .methods)) (length-map (z .methods) rawMethod ∙ ap length em ∙ so .long) (derived-key sh i (newRecord w (rawOf z .methods)) h k) refl (omega arith)
+        (λ n l. subst MethodExact (sym (at n)) (so .made n (omega arith) .1 .0)) (λ n l r. at n ∙ so .rest n (let g = so .low in omega arith) r));
+    coded = λ i h c. subst MethodCoded (sym (at i)) (so .made i (omega arith) .1 .1 c);
+  }
+    where
+      at : (i : ℕ) → rawIn z i ≡ rawMethod (getD all i absent)
+      at i = sym (raw-methods (z .methods) i) ∙ ap (λ (ms : List Method). rawMethod (getD ms i absent)) em

@@ -1,22 +1,23 @@
--- Document 01, "Restriction": "A new one takes the next number before its signatures are derived, methods in order, arguments before answer, each to its end."
--- As the code goes through it: five slots to a method, four for arguments and one for the answer, the slots of all methods in one row.
+-- Restriction as the code goes through it: five slots to a method, four for arguments and one for the answer, the slots of all methods in one row.
 use mathlib.Core.Path.{_≡_}
 use mathlib.Core.Bool.{So, not, _&&_, cond}
-use mathlib.Core.List.{List, [], _∷_}
+use mathlib.Core.List.{List, [], _∷_, map}
 use mathlib.Core.Option.{Option, none, some}
-use Prim.Native.Nat.{ℕ, zero, suc, _+_, _*_, _/_, _%_, _<_}
+use Prim.Native.Nat.{ℕ, zero, suc, _+_, _*_, _/_, _%_, _≤_, _<_}
 use lib.Dec.{ltb}
 use lib.ListN.{getD, take}
-use Rattle.model.specs.Table.{State, Kind, Key, Method, permit}
+use Rattle.model.specs.Table.{State, Kind, sub, sup, closed, Key, Method, permit}
 use Rattle.model.specs.Restriction.{restricted}
 use Rattle.model.specs.Check.{RawMethod, RawType, noRawMethod, kindOf, answerOf, methodOf, rawMethodFits}
 use Rattle.table.specs.declared.Head.{Head}
 use Rattle.table.specs.declared.TypeRec.{TypeRec}
-use Rattle.table.specs.Store.{rawOf}
+use Rattle.table.specs.Store.{rawMethod, rawOf, emptyType}
+use Rattle.table.specs.Records.{TypeExact}
+use Rattle.slots.specs.declared.Work.{Work}
 use Rattle.slots.specs.declared.Slot.{Slot}
 use Rattle.slots.specs.declared.Slot.the-variants.{Empty, Argument, Answer}
 
--- What is derived for argument i of two signatures, and for their answers. "arguments Sup(S argument, T argument) and answer Sub(T answer, S answer)"
+-- What is derived for argument i of two signatures, the sides exchanged, and for their answers.
 abbrev pub argumentSlot : ℕ → List ℕ → List ℕ → Slot
 argumentSlot i [] ys = Empty
 argumentSlot i (x ∷ xs) [] = Empty
@@ -42,16 +43,11 @@ Low Empty = Unit {0}
 Low (Argument l r) = (l < 256) × (r < 256)
 Low (Answer l r) = (l < 255) × (r < 255)
 
--- how many arguments both signatures have, and the lesser of two counts
+-- how many arguments both signatures have
 abbrev pub shared : List ℕ → List ℕ → ℕ
 shared [] ys = 0
 shared (x ∷ xs) [] = 0
 shared (x ∷ xs) (y ∷ ys) = suc (shared xs ys)
-
-abbrev pub lesser : ℕ → ℕ → ℕ
-lesser zero y = 0
-lesser (suc x) zero = 0
-lesser (suc x) (suc y) = suc (lesser x y)
 
 -- A method of the derived type, from what its slots came to: the arguments' numbers, and the answer's byte, 0 for none.
 abbrev pub fill : Kind → Method → Method → List ℕ → ℕ → Method
@@ -76,20 +72,47 @@ methodIn x j = methodOf (rawIn x j)
 abbrev pub MethodCoded : RawMethod → Type 0
 MethodCoded m = So (rawMethodFits m)
 
+-- A method as it is stored: without a signature, and with one of so many arguments, the bytes of the other slots being 0.
+abbrev pub bareMethod : ℕ → RawMethod
+bareMethod state = record { state = state; count = 0; args = 0 ∷ 0 ∷ 0 ∷ 0 ∷ []; answer = 0 }
+
+abbrev pub slotByte : ℕ → List ℕ → ℕ → ℕ
+slotByte count args i = cond (ltb i count) (getD args i 0) 0
+
+abbrev pub signedMethod : ℕ → ℕ → List ℕ → ℕ → RawMethod
+signedMethod state count args answer =
+    record { state = state; count = count; args = slotByte count args 0 ∷ slotByte count args 1 ∷ slotByte count args 2 ∷ slotByte count args 3 ∷ []; answer = answer }
+
 -- the key of a derived type
 abbrev pub keyIn : Head → Option Key
 keyIn h = some (record { kind = kindOf (h .kind); left = h .left; right = h .right })
 
--- "T's .. states, except that a method T permits and S doesn't becomes unavail", and the same of Sup with denied
+-- The kind of the type at work, and the category of the side that it keeps.
+abbrev pub kindIn : Work → Kind
+kindIn w = kindOf (w .key .kind)
+
+abbrev pub mainOf : Kind → TypeRec → TypeRec → TypeRec
+mainOf sub x y = x
+mainOf sup x y = y
+mainOf closed x y = x
+
+abbrev pub catIn : Work → ℕ
+catIn w = mainOf (kindIn w) (w .left) (w .right) .head .cat
+
+-- the main side's state, but for a method that it permits and the other side doesn't
 abbrev pub keptState : State → State → State → State
 keptState main other lost = cond (permit main && not (permit other)) lost main
 
--- A derived type as it is stored.
-abbrev pub newRecord : ℕ → ℕ → ℕ → ℕ → List RawMethod → RawType
-newRecord cat kind t s ms = record { rep = 0; cat = cat; own = 0; kind = kind; left = t; right = s; methods = ms }
+-- A derived type as it is stored, and one at work, with every method denied.
+abbrev pub newRecord : Work → List RawMethod → RawType
+newRecord w ms = record { rep = 0; cat = catIn w; own = 0; kind = w .key .kind; left = w .key .left; right = w .key .right; methods = ms }
 
--- The finished type, from the bytes of its slots.
-pub record Finished (d : Kind) (cat kind t s ms : ℕ) (x y : TypeRec) (ns : List ℕ) (z : TypeRec) : Type 0 where
-  pub head : rawOf z ≡ newRecord cat kind t s (rawOf z .methods)
-  pub filled : (j : ℕ) → j < ms → methodIn z j ≡ fillAt d (methodIn x) (methodIn y) ns j
-  pub coded : (j : ℕ) → j < ms → MethodCoded (rawIn x j) → MethodCoded (rawIn y j) → MethodCoded (rawIn z j)
+abbrev pub pendingRecord : Work → RawType
+pendingRecord w = newRecord w (map rawMethod (emptyType .methods))
+
+-- The finished type, from the bytes of its slots: it is stored exactly.
+pub record Finished (w : Work) (ms : ℕ) (ns : List ℕ) (z : TypeRec) : Type 0 where
+  pub head : rawOf z ≡ newRecord w (rawOf z .methods)
+  pub filled : (j : ℕ) → j < ms → methodIn z j ≡ fillAt (kindIn w) (methodIn (w .left)) (methodIn (w .right)) ns j
+  pub exact : (sheet i : ℕ) → sheet ≤ i → TypeExact ms sheet i (rawOf z)
+  pub coded : (j : ℕ) → j < ms → MethodCoded (rawIn (w .left) j) → MethodCoded (rawIn z j)

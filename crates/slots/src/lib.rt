@@ -1,18 +1,30 @@
-// Document 01, "Restriction": the parts of a derived type, from its two sides as they were read: its key, the states of its methods, and its signatures slot by
-// slot. What is derived for a slot is said here, not derived; crate `restrict` does that. Five slots to a method, four arguments and the answer.
+// Restriction: the parts of a derived type, from its two sides as they were read: its key, the states of its methods, and its signatures slot by slot.
+// What is derived for a slot is said here, not derived; crate `restrict` does that. Five slots to a method, four arguments and the answer.
 ghost use mathlib.Core.Path.{_≡_};
-ghost use Prim.Native.Nat.{_≤_, _<_};
+ghost use mathlib.Core.Bool.{cond};
+ghost use Prim.Native.Nat.{_≤_, _<_, min};
+ghost use lib.Dec.{ltb};
 ghost use lib.ListN.{length, getD, take};
 ghost use Rattle.model.specs.Restriction.{restricted, sameKind, isKey};
 ghost use Rattle.model.specs.Check.{stateOf, kindOf, answerOf, methodOf};
 ghost use Rattle.table.specs.Store.{rawMethod, rawOf};
-ghost use Rattle.slots.specs.Slots.{answerSlot, argumentSlot, slotOf, slotAt, lesser, fill, methodIn, rawIn, MethodCoded, Low, keyIn, keptState, newRecord, Finished};
+ghost use Rattle.table.specs.Records.{MethodExact};
+ghost use Rattle.slots.specs.Slots.{answerSlot, argumentSlot, slotOf, slotAt, fill, methodIn, rawIn, MethodCoded, Low, keyIn, kindIn, catIn, keptState, bareMethod, signedMethod, newRecord, pendingRecord, Finished};
+use numbers::least;
 use numbers::narrow;
 use numbers::wide;
 use table::Head;
+use table::Key;
 use table::Method;
 use table::TypeRec;
 use table::permits;
+
+// A new type at work: its key, and both sides as they were read.
+pub struct Work {
+    pub key: Key,
+    pub left: TypeRec,
+    pub right: TypeRec,
+}
 
 // What is derived for a slot of a new type: nothing, an argument or an answer, from these two types.
 pub enum Slot {
@@ -21,45 +33,57 @@ pub enum Slot {
     Answer(usize, usize),
 }
 
-// Kinds are coded as in the table: 0 Sub, 1 Sup, 2 Closed.
+// A code past the last kind is read as Closed.
 fn same_kind(kind: u8, k: u8) -> bool
     requires { ⌜ kind < 3 ⌝ }
     ensures { λ r. ⌜ r ≡ sameKind (kindOf kind) (kindOf k) ⌝ }
 {
-    if kind == 2 {
-        return 2 <= k;
+    if kind == Key::CLOSED {
+        return Key::CLOSED <= k;
     }
     k == kind
 }
 
-// "A derived type is known by kind, left and right number."
-pub fn is_key(h: Head, kind: u8, t: usize, s: usize) -> bool
-    requires { ⌜ kind < 3 ⌝ }
-    ensures { λ r. ⌜ r ≡ isKey (kindOf kind) t s (keyIn h) ⌝ }
+// Whether a derived type's head has this key.
+pub fn is_key(h: Head, key: Key) -> bool
+    requires { ⌜ key .kind < 3 ⌝ }
+    ensures { λ r. ⌜ r ≡ isKey (kindOf (key .kind)) (key .left) (key .right) (keyIn h) ⌝ }
 {
     let l = wide(h.left);
     let r = wide(h.right);
-    let same = same_kind(kind, h.kind);
+    let same = same_kind(key.kind, h.kind);
     if !same {
         return false;
     }
-    if t != l {
+    if key.left != l {
         return false;
     }
-    s == r
+    key.right == r
+}
+
+// A code past the last state is read as unavail, and stored as unavail's.
+fn state_code(x: u8) -> u8
+    ensures { λ r. ⌜ (stateOf r ≡ stateOf x) × (r < 4) ⌝ }
+{
+    if x < Method::UNAVAIL {
+        return x;
+    }
+    Method::UNAVAIL
 }
 
 // The main side's state, except that a method it permits and the other doesn't is lost.
 fn kept_state(main: u8, other: u8, lost: u8) -> u8
-    ensures { λ r. ⌜ (stateOf r ≡ keptState (stateOf main) (stateOf other) (stateOf lost)) × (main < 4 → lost < 4 → r < 4) ⌝ }
+    requires { ⌜ lost < 4 ⌝ }
+    ensures { λ r. ⌜ (stateOf r ≡ keptState (stateOf main) (stateOf other) (stateOf lost)) × (r < 4) ⌝ }
 {
-    let p = permits(main);
+    let own = state_code(main);
+    let p = permits(own);
     if !p {
-        return main;
+        return own;
     }
     let q = permits(other);
     if q {
-        return main;
+        return own;
     }
     lost
 }
@@ -67,22 +91,22 @@ fn kept_state(main: u8, other: u8, lost: u8) -> u8
 // The state of a method in the derived type, from its states on the left and on the right.
 fn state_of(kind: u8, x: u8, y: u8) -> u8
     requires { ⌜ kind < 3 ⌝ }
-    ensures { λ r. ⌜ (stateOf r ≡ restricted (kindOf kind) (stateOf x) (stateOf y)) × (x < 4 → y < 4 → r < 4) ⌝ }
+    ensures { λ r. ⌜ (stateOf r ≡ restricted (kindOf kind) (stateOf x) (stateOf y)) × (r < 4) ⌝ }
 {
-    if kind == 0 {
-        return kept_state(x, y, 3);
+    if kind == Key::SUB {
+        return kept_state(x, y, Method::UNAVAIL);
     }
-    if kind == 1 {
-        return kept_state(y, x, 0);
+    if kind == Key::SUP {
+        return kept_state(y, x, Method::DENIED);
     }
-    if y != 2 {
-        return 3;
+    if y != Method::AVAIL {
+        return Method::UNAVAIL;
     }
     let p = permits(x);
     if p {
-        return 2;
+        return Method::AVAIL;
     }
-    3
+    Method::UNAVAIL
 }
 
 // The answer slot, from the answer bytes of both sides.
@@ -110,7 +134,7 @@ fn argument(m: Method, i: usize) -> usize
     wide(args[i])
 }
 
-// Argument slot i: "arguments Sup(S argument, T argument)", the same sides for Sub by Sup.
+// Argument slot i: the sides are exchanged, the right side's argument on the left.
 fn argument_slot(p: Method, q: Method, i: usize) -> Slot
     requires { ⌜ i < 4 ⌝ }
     ensures { λ r. ⌜ (r ≡ argumentSlot i (take (p .count) (p .args)) (take (q .count) (q .args))) × Low r ⌝ }
@@ -152,83 +176,135 @@ fn method_at(x: TypeRec, j: usize) -> Method
 }
 
 // Slot k of all: five to a method.
-pub fn slot_at(x: TypeRec, y: TypeRec, kind: u8, k: usize) -> Slot
-    requires { ⌜ (kind < 3) × (k < 80) ⌝ }
-    ensures { λ r. ⌜ (r ≡ slotAt (kindOf kind) (methodIn x) (methodIn y) k) × Low r ⌝ }
+pub fn slot_at(w: Work, k: usize) -> Slot
+    requires { ⌜ (w .key .kind < 3) × (k < 80) ⌝ }
+    ensures { λ r. ⌜ (r ≡ slotAt (kindIn w) (methodIn (w .left)) (methodIn (w .right)) k) × Low r ⌝ }
 {
-    let p = method_at(x, k / 5);
-    let q = method_at(y, k / 5);
-    slot_of(kind, p, q, k % 5)
+    let p = method_at(w.left, k / 5);
+    let q = method_at(w.right, k / 5);
+    slot_of(w.key.kind, p, q, k % 5)
 }
 
-fn least(x: u8, y: u8) -> u8
-    ensures { λ r. ⌜ r ≡ lesser x y ⌝ }
+// How many arguments both signatures have, at most the four that a record has room for.
+fn shared_count(x: u8, y: u8) -> usize
+    ensures { λ r. ⌜ r ≡ min (min x y) 4 ⌝ }
 {
-    if x < y {
+    let c = wide(x);
+    let e = wide(y);
+    let both = least(c, e);
+    least(both, 4)
+}
+
+// The byte of argument i of so many: 0 past the last.
+fn argument_byte(x: u8, i: usize, count: usize) -> u8
+    ensures { λ r. ⌜ r ≡ cond (ltb i count) x 0 ⌝ }
+{
+    if i < count {
         return x;
     }
-    y
+    0
 }
 
-// A method of the derived type, from the bytes of its slots.
-fn filled(kind: u8, p: Method, q: Method, args: [u8; 4], answer: u8) -> Method
-    requires { ⌜ kind < 3 ⌝ }
-    ensures is { λ r. ⌜ methodOf (rawMethod r) ≡ fill (kindOf kind) (methodOf (rawMethod p)) (methodOf (rawMethod q)) args answer ⌝ }
-    ensures coded { λ r. ⌜ (MethodCoded (rawMethod p) → MethodCoded (rawMethod q) → MethodCoded (rawMethod r)) ⌝ }
+// A method that isn't permitted has no signature, and no byte of one.
+fn unsigned(state: u8) -> Method
+    ensures { λ r. ⌜ rawMethod r ≡ bareMethod state ⌝ }
 {
-    let state = state_of(kind, p.state, q.state);
-    let count = least(p.count, q.count);
     Method {
         state,
-        count,
-        args,
+        count: 0,
+        args: [0u8; 4],
+        answer: 0,
+    }
+}
+
+// A method with a signature of so many arguments.
+fn signed(state: u8, count: usize, args: [u8; 4], answer: u8) -> Method
+    requires { ⌜ count ≤ 4 ⌝ }
+    ensures { λ r. ⌜ rawMethod r ≡ signedMethod state count args answer ⌝ }
+{
+    let a = argument_byte(args[0], 0, count);
+    let b = argument_byte(args[1], 1, count);
+    let c = argument_byte(args[2], 2, count);
+    let d = argument_byte(args[3], 3, count);
+    Method {
+        state,
+        count: narrow(count),
+        args: [a, b, c, d],
         answer,
     }
 }
 
-// "Derived types have own=no."
-pub fn new_type(cat: u8, kind: u8, t: usize, s: usize, methods: [Method; 16]) -> TypeRec
-    requires { ⌜ (t < 256) × (s < 256) ⌝ }
-    ensures { λ r. ⌜ (rawOf r ≡ newRecord cat kind t s (rawOf r .methods)) × (r .methods ≡ methods) ⌝ }
+// A method of the derived type, from the bytes of its slots: the record that stands for what it means.
+fn filled(kind: u8, p: Method, q: Method, args: [u8; 4], answer: u8) -> Method
+    requires { ⌜ kind < 3 ⌝ }
+    ensures is { λ r. ⌜ methodOf (rawMethod r) ≡ fill (kindOf kind) (methodOf (rawMethod p)) (methodOf (rawMethod q)) args answer ⌝ }
+    ensures exact { λ r. ⌜ MethodExact (rawMethod r) ⌝ }
+    ensures coded { λ r. ⌜ (MethodCoded (rawMethod p) → MethodCoded (rawMethod r)) ⌝ }
 {
-    let left = narrow(t);
-    let right = narrow(s);
-    TypeRec {
-        rep: 0,
+    let state = state_of(kind, p.state, q.state);
+    let stays = permits(state);
+    if !stays {
+        return unsigned(state);
+    }
+    let count = shared_count(p.count, q.count);
+    signed(state, count, args, answer)
+}
+
+// The category of the side that the derived type keeps: the right one for Sup.
+fn category(w: Work) -> u8
+    ensures { λ r. ⌜ r ≡ catIn w ⌝ }
+{
+    if w.key.kind == Key::SUP {
+        return w.right.head.cat;
+    }
+    w.left.head.cat
+}
+
+// A derived type is a reference type with own=no, known by its key.
+fn new_type(w: Work, methods: [Method; 16]) -> TypeRec
+    requires { ⌜ (w .key .left < 256) × (w .key .right < 256) ⌝ }
+    ensures { λ r. ⌜ (rawOf r ≡ newRecord w (rawOf r .methods)) × (r .methods ≡ methods) ⌝ }
+{
+    let cat = category(w);
+    let left = narrow(w.key.left);
+    let right = narrow(w.key.right);
+    let head = Head {
+        rep: Head::REF,
         cat,
         own: 0,
-        kind,
+        kind: w.key.kind,
         left,
         right,
-        methods,
-    }
+    };
+    TypeRec { head, methods }
+}
+
+// The type as it stands until its signatures are derived: every method is denied.
+pub fn pending(w: Work) -> TypeRec
+    requires { ⌜ (w .key .left < 256) × (w .key .right < 256) ⌝ }
+    ensures { λ r. ⌜ rawOf r ≡ pendingRecord w ⌝ }
+{
+    let empty = TypeRec::empty();
+    let methods = empty.methods;
+    new_type(w, methods)
 }
 
 // The derived type, from the bytes of its slots.
-pub fn finished(
-    x: TypeRec,
-    y: TypeRec,
-    cat: u8,
-    kind: u8,
-    t: usize,
-    s: usize,
-    methods: usize,
-    slots: [u8; 80],
-) -> TypeRec
-    requires { ⌜ (kind < 3) × (t < 256) × (s < 256) × (methods ≤ 16) ⌝ }
-    ensures { λ r. ⌜ Finished (kindOf kind) cat kind t s methods x y slots r ⌝ }
+pub fn finished(w: Work, methods: usize, slots: [u8; 80]) -> TypeRec
+    requires { ⌜ (w .key .kind < 3) × (w .key .left < 256) × (w .key .right < 256) × (methods ≤ 16) ⌝ }
+    ensures { λ r. ⌜ Finished w methods slots r ⌝ }
 {
     let empty = Method::empty();
     let mut all = [empty; 16];
     let mut j: usize = 0;
     while j < methods {
-        let p = method_at(x, j);
-        let q = method_at(y, j);
+        let p = method_at(w.left, j);
+        let q = method_at(w.right, j);
         let k = j * 5;
         let args = [slots[k], slots[k + 1], slots[k + 2], slots[k + 3]];
-        let m = filled(kind, p, q, args, slots[k + 4]);
+        let m = filled(w.key.kind, p, q, args, slots[k + 4]);
         all[j] = m;
         j += 1;
     }
-    new_type(cat, kind, t, s, all)
+    new_type(w, all)
 }

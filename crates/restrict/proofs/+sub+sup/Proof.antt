@@ -1,17 +1,15 @@
 -- Sub and Sup call each other; the measure is the free type numbers, 128 - n. The invariant is `Loop`: what is left of the slots comes to the whole.
--- Rests on Turns (a turn of the loop) and Ends (from the type at work to the finished one); Sub and Sup differ in the kind and in the main side.
-use mathlib.Core.Path.{refl, ap}
+-- Rests on Turns (a turn of the loop) and Ends (from the type at work to the finished one); Sub and Sup differ in the kind.
+use mathlib.Core.Path.{refl}
 use Prim.Native.Nat.{ℕ, _-_, _<_}
 use native.Mathlib.Omega.{arith}
 use borrow.Author.Needs.{needs}
 use borrow.Fn.Kinds.{In}
 use borrow.Fn.PlainCycle.{Measures, is, falls, and}
 use Rattle.model.specs.Table.{sub, sup}
-use Rattle.model.specs.Check.{RawType}
-use Rattle.table.proofs.get_type.Reads as get-type-reads
 use Rattle.numbers.proofs.narrow.Reads as narrow-reads
 use Rattle.slots.proofs.slot_at.Reads as slot-at-reads
-use Rattle.restrict.proofs.Ends.{Started, started, settled, new-left, new-right, new-room, start-loop, new-full, new-at}
+use Rattle.restrict.proofs.Ends.{Started, started, settled, new-ready, start-loop, finish-ready, new-full, new-at}
 use Rattle.restrict.proofs.Turns.{Loop, turn-empty, argument-ready, argument-full, argument-low, argument-turn, answer-ready, answer-full, answer-low, answer-turn}
 use Rattle.restrict.proofs.sub.Reads as sub-reads
 use Rattle.restrict.proofs.sub.Kinds as sub-kinds
@@ -26,10 +24,10 @@ use Rattle.restrict.proofs.+sub+sup.{statement}
 use Rattle.restrict.proofs.+sub+sup.Tie.{close}
 
 abbrev μ-sub : Measures 1 sub-kinds.ps ℕ
-μ-sub κs a = 128 - a .1 .1 .1 .0
+μ-sub κs a = 128 - a .1 .1 .0
 
 abbrev μ-sup : Measures 1 sup-kinds.ps ℕ
-μ-sup κs a = 128 - a .1 .1 .1 .0
+μ-sup κs a = 128 - a .1 .1 .0
 
 abbrev sub-at : ℕ → In 1 sub-kinds.ps
 sub-at t = and 1 sub-kinds.ps (is 1 sub-kinds.ps μ-sub t) sub-reads.Pre
@@ -44,20 +42,20 @@ abbrev sup-below : ℕ → In 1 sup-kinds.ps
 sup-below t = and 1 sup-kinds.ps (falls 1 sup-kinds.ps _<_ μ-sup t) sup-reads.Pre
 
 abbrev sub-calls : ℕ → sub-lts.Claims
-sub-calls t = (begin-reads.Asked, begin-reads.Learnt, get-type-reads.Asked, get-type-reads.Learnt, start-reads.Asked, start-reads.Learnt, slot-at-reads.Asked, slot-at-reads.Learnt, sup-below t, sup-reads.Post, narrow-reads.Asked, narrow-reads.Learnt, sub-below t, sub-reads.Post, finish-reads.Asked, finish-reads.Learnt)
+sub-calls t = (begin-reads.Asked, begin-reads.Learnt, start-reads.Asked, start-reads.Learnt, slot-at-reads.Asked, slot-at-reads.Learnt, sup-below t, sup-reads.Post, narrow-reads.Asked, narrow-reads.Learnt, sub-below t, sub-reads.Post, finish-reads.Asked, finish-reads.Learnt)
 
 abbrev sub-Inv-loop : sub-lts.InvT-loop
-sub-Inv-loop b₀ methods sheet n t s x y end bytes₀ m₀ k₀ b bytes m k = Loop sub methods sheet n x y b₀ b end bytes m k
+sub-Inv-loop b₀ c n t s w end bytes₀ m₀ k₀ b bytes m k = Loop sub c n w b₀ b end bytes m k
 
 abbrev sub-μ-loop : sub-lts.MeasureT-loop
-sub-μ-loop b₀ methods sheet n t s x y end bytes₀ m₀ k₀ b bytes m k = end - k
+sub-μ-loop b₀ c n t s w end bytes₀ m₀ k₀ b bytes m k = end - k
 
 -- Sub, when the type at work has been stored.
-sub-started : (t : ℕ) (c : sub-lts.After-start (sub-calls t) (sub-at t) sub-reads.Post sub-Inv-loop sub-μ-loop) → let a = c .before .before .before .before .before .before .before .before .before .before .args in Started sub (c .before .before .before .before .get-type .result .cat) 0 (a .methods) (a .sheet) (a .n) (a .t) (a .s) (c .before .before .before .before .get-type .result) (c .before .before .get-type2 .result) (a .b .now) (c .start .last .0)
-sub-started t c = started (c .before .before .before .before .before .before .before .before .before .before .pre .1) refl (omega arith) (c .before .before .before .before .before .before .enum-told .given .1) (c .before .before .before .before .before .before .before .before .begin .ensures) (c .before .before .before .before .get-type .ensures .0) (c .before .before .get-type2 .ensures .0) (ap (λ (r : RawType). r .cat) (c .before .before .before .before .get-type .ensures .0)) (c .start .ensures .0) (c .start .ensures .1)
+sub-started : (t : ℕ) (c : sub-lts.After-start (sub-calls t) (sub-at t) sub-reads.Post sub-Inv-loop sub-μ-loop) → let a = c .before .before .before .before .before .before .args in Started sub (a .c) (a .n) (a .t) (a .s) (c .start .result) (a .b .now) (c .start .last .0)
+sub-started t c = started (c .before .before .before .before .before .before .pre .1) refl (omega arith) (c .before .before .enum-told .given .1) (c .before .before .before .before .begin .ensures) (c .start .ensures)
 
 sub-begin-requires : (t : ℕ) → sub-lts.Need-begin-requires (sub-calls t) (sub-at t) sub-reads.Post sub-Inv-loop sub-μ-loop
-sub-begin-requires t c κs = let p = (c .before .pre .1) in (omega arith, p .sheet, p .types, refl)
+sub-begin-requires t c κs = (omega arith, c .before .pre .1 .limits)
 
 sub-enum-known-begun : (t : ℕ) → sub-lts.Need-enum-known-begun (sub-calls t) (sub-at t) sub-reads.Post sub-Inv-loop sub-μ-loop
 sub-enum-known-begun t c = search needs
@@ -68,26 +66,20 @@ sub-returns t c = settled sub (c .before .before .before .before .before .pre .1
 sub-enum-told : (t : ℕ) → sub-lts.Need-enum-told (sub-calls t) (sub-at t) sub-reads.Post sub-Inv-loop sub-μ-loop
 sub-enum-told t c = search needs
 
-sub-get-type-requires : (t : ℕ) → sub-lts.Need-get-type-requires (sub-calls t) (sub-at t) sub-reads.Post sub-Inv-loop sub-μ-loop
-sub-get-type-requires t c κs = new-left sub (c .before .before .before .before .before .pre .1) (c .before .enum-told .given .1) (c .before .before .before .begin .ensures)
-
-sub-get-type-requires-2 : (t : ℕ) → sub-lts.Need-get-type-requires-2 (sub-calls t) (sub-at t) sub-reads.Post sub-Inv-loop sub-μ-loop
-sub-get-type-requires-2 t c κs = new-right sub (c .before .before .before .before .before .before .before .pre .1) (c .before .before .before .enum-told .given .1) (c .before .before .before .before .before .begin .ensures)
-
 sub-start-requires : (t : ℕ) → sub-lts.Need-start-requires (sub-calls t) (sub-at t) sub-reads.Post sub-Inv-loop sub-μ-loop
-sub-start-requires t c κs = let p = (c .before .before .before .before .before .before .before .before .before .pre .1) in (new-room sub p (c .before .before .before .before .before .enum-told .given .1) (c .before .before .before .before .before .before .before .begin .ensures), p .left, p .right, p .long)
+sub-start-requires t c κs = new-ready sub (c .before .before .before .before .before .pre .1) (c .before .enum-told .given .1) (c .before .before .before .begin .ensures)
 
 sub-mul-end : (t : ℕ) → sub-lts.Need-mul-end (sub-calls t) (sub-at t) sub-reads.Post sub-Inv-loop sub-μ-loop
-sub-mul-end t c = let p = (c .before .before .before .before .before .before .before .before .before .before .pre .1) in let h = p .methods in omega arith
+sub-mul-end t c = let h = c .before .before .before .before .before .before .before .pre .1 .limits .methods in omega arith
 
 sub-add-m : (t : ℕ) → sub-lts.Need-add-m (sub-calls t) (sub-at t) sub-reads.Post sub-Inv-loop sub-μ-loop
-sub-add-m t c = let p = (c .before .before .before .before .before .before .before .before .before .before .pre .1) in let h = p .types in omega arith
+sub-add-m t c = let h = c .before .before .before .before .before .before .before .pre .1 .limits .types in omega arith
 
 sub-loop-holds : (t : ℕ) → sub-lts.Need-loop-holds (sub-calls t) (sub-at t) sub-reads.Post sub-Inv-loop sub-μ-loop
-sub-loop-holds t c = start-loop (sub-started t c)
+sub-loop-holds t c = start-loop (sub-started t (c .before))
 
 sub-slot-at-requires : (t : ℕ) → sub-lts.Need-slot-at-requires (sub-calls t) (sub-at t) sub-reads.Post sub-Inv-loop sub-μ-loop
-sub-slot-at-requires t c κs = (omega arith, omega (arith, c .loop-test .taken, c .before .loop .inv .edge, c .before .loop .inv .few))
+sub-slot-at-requires t c κs = (sub-started t (c .before .before .before) .known, omega (arith, c .loop-test .taken, c .before .loop .inv .edge, c .before .loop .inv .limits .methods))
 
 sub-enum-told-2 : (t : ℕ) → sub-lts.Need-enum-told-2 (sub-calls t) (sub-at t) sub-reads.Post sub-Inv-loop sub-μ-loop
 sub-enum-told-2 t c = search needs
@@ -105,7 +97,7 @@ sub-enum-known-l1 : (t : ℕ) → sub-lts.Need-enum-known-l1 (sub-calls t) (sub-
 sub-enum-known-l1 t c = search needs
 
 sub-sup-requires : (t : ℕ) → sub-lts.Need-sup-requires (sub-calls t) (sub-at t) sub-reads.Post sub-Inv-loop sub-μ-loop
-sub-sup-requires t c κs = (omega (arith, c .before .before .before .before .before .before .loop .inv .more, c .before .before .before .before .before .before .loop .inv .most, c .before .before .before .before .before .before .loop .inv .room, c .before .before .before .before .before .before .before .before .before .before .before .before .before .before .before .before .before .pre .0), argument-ready (c .before .before .before .before .before .before .loop .inv) (c .before .before .before .before .before .loop-test .taken) (c .before .before .before .before .slot-at .ensures .0) (c .before .before .before .before .slot-at .ensures .1) (c .before .before .l1 .given .1))
+sub-sup-requires t c κs = (omega (arith, c .before .before .before .before .before .before .loop .inv .more, c .before .before .before .before .before .before .loop .inv .most, c .before .before .before .before .before .before .loop .inv .room, c .before .before .before .before .before .before .before .before .before .before .before .before .before .before .pre .0), argument-ready (c .before .before .before .before .before .before .loop .inv) (c .before .before .before .before .before .loop-test .taken) (c .before .before .before .before .slot-at .ensures .0) (c .before .before .before .before .slot-at .ensures .1) (c .before .before .l1 .given .1))
 
 sub-enum-known-i1 : (t : ℕ) → sub-lts.Need-enum-known-i1 (sub-calls t) (sub-at t) sub-reads.Post sub-Inv-loop sub-μ-loop
 sub-enum-known-i1 t c = search needs
@@ -114,13 +106,13 @@ sub-enum-told-3 : (t : ℕ) → sub-lts.Need-enum-told-3 (sub-calls t) (sub-at t
 sub-enum-told-3 t c = search needs
 
 sub-returns-2 : (t : ℕ) → sub-lts.Need-returns-2 (sub-calls t) (sub-at t) sub-reads.Post sub-Inv-loop sub-μ-loop
-sub-returns-2 t c = new-full (sub-started t (c .before .before .before .before .before .before .before .before .before .before)) (c .before .before .before .before .before .before .before .before .before .loop .inv) (c .before .before .sup .ensures .keeps) (argument-full (c .before .before .before .before .before .before .before .before .before .loop .inv) (c .before .before .before .before .before .before .before .before .loop-test .taken) (c .before .before .before .before .before .before .before .slot-at .ensures .0) (c .before .before .before .before .before .before .before .slot-at .ensures .1) (c .before .before .before .before .before .l1 .given .1) (c .before .before .sup .ensures) (c .enum-told3 .given .1))
+sub-returns-2 t c = new-full (sub-started t (c .before .before .before .before .before .before .before .before .before .before .before)) (c .before .before .before .before .before .before .before .before .before .loop .inv) (c .before .before .sup .ensures .keeps) (argument-full (c .before .before .before .before .before .before .before .before .before .loop .inv) (c .before .before .before .before .before .before .before .before .loop-test .taken) (c .before .before .before .before .before .before .before .slot-at .ensures .0) (c .before .before .before .before .before .before .before .slot-at .ensures .1) (c .before .before .before .before .before .l1 .given .1) (c .before .before .sup .ensures) (c .enum-told3 .given .1))
 
 sub-narrow-requires : (t : ℕ) → sub-lts.Need-narrow-requires (sub-calls t) (sub-at t) sub-reads.Post sub-Inv-loop sub-μ-loop
 sub-narrow-requires t c κs = argument-low (c .before .before .before .before .before .before .before .before .before .before .loop .inv) (c .before .before .before .before .before .before .before .before .before .loop-test .taken) (c .before .before .before .before .before .before .before .before .slot-at .ensures .0) (c .before .before .before .before .before .before .before .before .slot-at .ensures .1) (c .before .before .before .before .before .before .l1 .given .1) (c .before .before .before .sup .ensures) (c .before .i1 .given .1)
 
 sub-array-write-bytes : (t : ℕ) → sub-lts.Need-array-write-bytes (sub-calls t) (sub-at t) sub-reads.Post sub-Inv-loop sub-μ-loop
-sub-array-write-bytes t c = omega (arith, c .before .before .before .before .before .before .before .before .before .before .loop-test .taken, c .before .before .before .before .before .before .before .before .before .before .before .loop .inv .edge, c .before .before .before .before .before .before .before .before .before .before .before .loop .inv .few, c .before .before .before .before .before .before .before .before .before .before .before .loop .inv .wide)
+sub-array-write-bytes t c = omega (arith, c .before .before .before .before .before .before .before .before .before .before .loop-test .taken, c .before .before .before .before .before .before .before .before .before .before .before .loop .inv .edge, c .before .before .before .before .before .before .before .before .before .before .before .loop .inv .limits .methods, c .before .before .before .before .before .before .before .before .before .before .before .loop .inv .wide)
 
 sub-add-k-2 : (t : ℕ) → sub-lts.Need-add-k-2 (sub-calls t) (sub-at t) sub-reads.Post sub-Inv-loop sub-μ-loop
 sub-add-k-2 t c = search needs
@@ -135,7 +127,7 @@ sub-enum-known-l2 : (t : ℕ) → sub-lts.Need-enum-known-l2 (sub-calls t) (sub-
 sub-enum-known-l2 t c = search needs
 
 sub-sub-requires : (t : ℕ) → sub-lts.Need-sub-requires (sub-calls t) (sub-at t) sub-reads.Post sub-Inv-loop sub-μ-loop
-sub-sub-requires t c κs = (omega (arith, c .before .before .before .before .before .before .loop .inv .more, c .before .before .before .before .before .before .loop .inv .most, c .before .before .before .before .before .before .loop .inv .room, c .before .before .before .before .before .before .before .before .before .before .before .before .before .before .before .before .before .pre .0), answer-ready (c .before .before .before .before .before .before .loop .inv) (c .before .before .before .before .before .loop-test .taken) (c .before .before .before .before .slot-at .ensures .0) (c .before .before .before .before .slot-at .ensures .1) (c .before .before .l2 .given .1))
+sub-sub-requires t c κs = (omega (arith, c .before .before .before .before .before .before .loop .inv .more, c .before .before .before .before .before .before .loop .inv .most, c .before .before .before .before .before .before .loop .inv .room, c .before .before .before .before .before .before .before .before .before .before .before .before .before .before .pre .0), answer-ready (c .before .before .before .before .before .before .loop .inv) (c .before .before .before .before .before .loop-test .taken) (c .before .before .before .before .slot-at .ensures .0) (c .before .before .before .before .slot-at .ensures .1) (c .before .before .l2 .given .1))
 
 sub-enum-known-i2 : (t : ℕ) → sub-lts.Need-enum-known-i2 (sub-calls t) (sub-at t) sub-reads.Post sub-Inv-loop sub-μ-loop
 sub-enum-known-i2 t c = search needs
@@ -144,7 +136,7 @@ sub-enum-told-4 : (t : ℕ) → sub-lts.Need-enum-told-4 (sub-calls t) (sub-at t
 sub-enum-told-4 t c = search needs
 
 sub-returns-3 : (t : ℕ) → sub-lts.Need-returns-3 (sub-calls t) (sub-at t) sub-reads.Post sub-Inv-loop sub-μ-loop
-sub-returns-3 t c = new-full (sub-started t (c .before .before .before .before .before .before .before .before .before .before)) (c .before .before .before .before .before .before .before .before .before .loop .inv) (c .before .before .sub .ensures .keeps) (answer-full (c .before .before .before .before .before .before .before .before .before .loop .inv) (c .before .before .before .before .before .before .before .before .loop-test .taken) (c .before .before .before .before .before .before .before .slot-at .ensures .0) (c .before .before .before .before .before .before .before .slot-at .ensures .1) (c .before .before .before .before .before .l2 .given .1) (c .before .before .sub .ensures) (c .enum-told4 .given .1))
+sub-returns-3 t c = new-full (sub-started t (c .before .before .before .before .before .before .before .before .before .before .before)) (c .before .before .before .before .before .before .before .before .before .loop .inv) (c .before .before .sub .ensures .keeps) (answer-full (c .before .before .before .before .before .before .before .before .before .loop .inv) (c .before .before .before .before .before .before .before .before .loop-test .taken) (c .before .before .before .before .before .before .before .slot-at .ensures .0) (c .before .before .before .before .before .before .before .slot-at .ensures .1) (c .before .before .before .before .before .l2 .given .1) (c .before .before .sub .ensures) (c .enum-told4 .given .1))
 
 sub-add-narrow : (t : ℕ) → sub-lts.Need-add-narrow (sub-calls t) (sub-at t) sub-reads.Post sub-Inv-loop sub-μ-loop
 sub-add-narrow t c = let h = answer-low (c .before .before .before .before .before .before .before .before .before .before .loop .inv) (c .before .before .before .before .before .before .before .before .before .loop-test .taken) (c .before .before .before .before .before .before .before .before .slot-at .ensures .0) (c .before .before .before .before .before .before .before .before .slot-at .ensures .1) (c .before .before .before .before .before .before .l2 .given .1) (c .before .before .before .sub .ensures) (c .before .i2 .given .1) in omega arith
@@ -153,7 +145,7 @@ sub-narrow-requires-2 : (t : ℕ) → sub-lts.Need-narrow-requires-2 (sub-calls 
 sub-narrow-requires-2 t c κs = let h = answer-low (c .before .before .before .before .before .before .before .before .before .before .loop .inv) (c .before .before .before .before .before .before .before .before .before .loop-test .taken) (c .before .before .before .before .before .before .before .before .slot-at .ensures .0) (c .before .before .before .before .before .before .before .before .slot-at .ensures .1) (c .before .before .before .before .before .before .l2 .given .1) (c .before .before .before .sub .ensures) (c .before .i2 .given .1) in omega arith
 
 sub-array-write-bytes-2 : (t : ℕ) → sub-lts.Need-array-write-bytes-2 (sub-calls t) (sub-at t) sub-reads.Post sub-Inv-loop sub-μ-loop
-sub-array-write-bytes-2 t c = omega (arith, c .before .before .before .before .before .before .before .before .before .before .loop-test .taken, c .before .before .before .before .before .before .before .before .before .before .before .loop .inv .edge, c .before .before .before .before .before .before .before .before .before .before .before .loop .inv .few, c .before .before .before .before .before .before .before .before .before .before .before .loop .inv .wide)
+sub-array-write-bytes-2 t c = omega (arith, c .before .before .before .before .before .before .before .before .before .before .loop-test .taken, c .before .before .before .before .before .before .before .before .before .before .before .loop .inv .edge, c .before .before .before .before .before .before .before .before .before .before .before .loop .inv .limits .methods, c .before .before .before .before .before .before .before .before .before .before .before .loop .inv .wide)
 
 sub-add-k-3 : (t : ℕ) → sub-lts.Need-add-k-3 (sub-calls t) (sub-at t) sub-reads.Post sub-Inv-loop sub-μ-loop
 sub-add-k-3 t c = search needs
@@ -165,26 +157,26 @@ sub-loop-again-3 : (t : ℕ) → sub-lts.Need-loop-again-3 (sub-calls t) (sub-at
 sub-loop-again-3 t c = answer-turn (c .before .before .before .before .before .before .before .before .before .before .before .loop .inv) (c .before .before .before .before .before .before .before .before .before .before .loop-test .taken) (c .before .before .before .before .before .before .before .before .before .slot-at .ensures .0) (c .before .before .before .before .before .before .before .before .before .slot-at .ensures .1) (c .before .before .before .before .before .before .before .l2 .given .1) (c .before .before .before .before .sub .ensures) (c .before .before .i2 .given .1) (c .narrow2 .ensures)
 
 sub-finish-requires : (t : ℕ) → sub-lts.Need-finish-requires (sub-calls t) (sub-at t) sub-reads.Post sub-Inv-loop sub-μ-loop
-sub-finish-requires t c κs = let p = (c .before .before .before .before .before .before .before .before .before .before .before .before .before .pre .1) in (c .before .before .loop .inv .room, c .before .before .loop .inv .long, omega arith, p .left, p .right, p .methods)
+sub-finish-requires t c κs = finish-ready (sub-started t (c .before .before .before .before)) (c .before .before .before .before .before .before .before .before .before .before .pre .1) (c .before .before .loop .inv)
 
 sub-returns-4 : (t : ℕ) → sub-lts.Need-returns-4 (sub-calls t) (sub-at t) sub-reads.Post sub-Inv-loop sub-μ-loop
-sub-returns-4 t c = new-at (sub-started t (c .before .before .before .before)) (c .before .before .before .loop .inv) (c .before .before .loop-test .left) (c .finish .ensures)
+sub-returns-4 t c = new-at (sub-started t (c .before .before .before .before .before)) (c .before .before .before .loop .inv) (c .before .before .loop-test .left) (c .finish .ensures)
 
 abbrev sup-calls : ℕ → sup-lts.Claims
-sup-calls t = (begin-reads.Asked, begin-reads.Learnt, get-type-reads.Asked, get-type-reads.Learnt, start-reads.Asked, start-reads.Learnt, slot-at-reads.Asked, slot-at-reads.Learnt, sub-below t, sub-reads.Post, narrow-reads.Asked, narrow-reads.Learnt, sup-below t, sup-reads.Post, finish-reads.Asked, finish-reads.Learnt)
+sup-calls t = (begin-reads.Asked, begin-reads.Learnt, start-reads.Asked, start-reads.Learnt, slot-at-reads.Asked, slot-at-reads.Learnt, sub-below t, sub-reads.Post, narrow-reads.Asked, narrow-reads.Learnt, sup-below t, sup-reads.Post, finish-reads.Asked, finish-reads.Learnt)
 
 abbrev sup-Inv-loop : sup-lts.InvT-loop
-sup-Inv-loop b₀ methods sheet n t s x y end bytes₀ m₀ k₀ b bytes m k = Loop sup methods sheet n x y b₀ b end bytes m k
+sup-Inv-loop b₀ c n t s w end bytes₀ m₀ k₀ b bytes m k = Loop sup c n w b₀ b end bytes m k
 
 abbrev sup-μ-loop : sup-lts.MeasureT-loop
-sup-μ-loop b₀ methods sheet n t s x y end bytes₀ m₀ k₀ b bytes m k = end - k
+sup-μ-loop b₀ c n t s w end bytes₀ m₀ k₀ b bytes m k = end - k
 
 -- Sup, when the type at work has been stored.
-sup-started : (t : ℕ) (c : sup-lts.After-start (sup-calls t) (sup-at t) sup-reads.Post sup-Inv-loop sup-μ-loop) → let a = c .before .before .before .before .before .before .before .before .before .before .args in Started sup (c .before .before .get-type2 .result .cat) 1 (a .methods) (a .sheet) (a .n) (a .t) (a .s) (c .before .before .before .before .get-type .result) (c .before .before .get-type2 .result) (a .b .now) (c .start .last .0)
-sup-started t c = started (c .before .before .before .before .before .before .before .before .before .before .pre .1) refl (omega arith) (c .before .before .before .before .before .before .enum-told .given .1) (c .before .before .before .before .before .before .before .before .begin .ensures) (c .before .before .before .before .get-type .ensures .0) (c .before .before .get-type2 .ensures .0) (ap (λ (r : RawType). r .cat) (c .before .before .get-type2 .ensures .0)) (c .start .ensures .0) (c .start .ensures .1)
+sup-started : (t : ℕ) (c : sup-lts.After-start (sup-calls t) (sup-at t) sup-reads.Post sup-Inv-loop sup-μ-loop) → let a = c .before .before .before .before .before .before .args in Started sup (a .c) (a .n) (a .t) (a .s) (c .start .result) (a .b .now) (c .start .last .0)
+sup-started t c = started (c .before .before .before .before .before .before .pre .1) refl (omega arith) (c .before .before .enum-told .given .1) (c .before .before .before .before .begin .ensures) (c .start .ensures)
 
 sup-begin-requires : (t : ℕ) → sup-lts.Need-begin-requires (sup-calls t) (sup-at t) sup-reads.Post sup-Inv-loop sup-μ-loop
-sup-begin-requires t c κs = let p = (c .before .pre .1) in (omega arith, p .sheet, p .types, refl)
+sup-begin-requires t c κs = (omega arith, c .before .pre .1 .limits)
 
 sup-enum-known-begun : (t : ℕ) → sup-lts.Need-enum-known-begun (sup-calls t) (sup-at t) sup-reads.Post sup-Inv-loop sup-μ-loop
 sup-enum-known-begun t c = search needs
@@ -195,26 +187,20 @@ sup-returns t c = settled sup (c .before .before .before .before .before .pre .1
 sup-enum-told : (t : ℕ) → sup-lts.Need-enum-told (sup-calls t) (sup-at t) sup-reads.Post sup-Inv-loop sup-μ-loop
 sup-enum-told t c = search needs
 
-sup-get-type-requires : (t : ℕ) → sup-lts.Need-get-type-requires (sup-calls t) (sup-at t) sup-reads.Post sup-Inv-loop sup-μ-loop
-sup-get-type-requires t c κs = new-left sup (c .before .before .before .before .before .pre .1) (c .before .enum-told .given .1) (c .before .before .before .begin .ensures)
-
-sup-get-type-requires-2 : (t : ℕ) → sup-lts.Need-get-type-requires-2 (sup-calls t) (sup-at t) sup-reads.Post sup-Inv-loop sup-μ-loop
-sup-get-type-requires-2 t c κs = new-right sup (c .before .before .before .before .before .before .before .pre .1) (c .before .before .before .enum-told .given .1) (c .before .before .before .before .before .begin .ensures)
-
 sup-start-requires : (t : ℕ) → sup-lts.Need-start-requires (sup-calls t) (sup-at t) sup-reads.Post sup-Inv-loop sup-μ-loop
-sup-start-requires t c κs = let p = (c .before .before .before .before .before .before .before .before .before .pre .1) in (new-room sup p (c .before .before .before .before .before .enum-told .given .1) (c .before .before .before .before .before .before .before .begin .ensures), p .left, p .right, p .long)
+sup-start-requires t c κs = new-ready sup (c .before .before .before .before .before .pre .1) (c .before .enum-told .given .1) (c .before .before .before .begin .ensures)
 
 sup-mul-end : (t : ℕ) → sup-lts.Need-mul-end (sup-calls t) (sup-at t) sup-reads.Post sup-Inv-loop sup-μ-loop
-sup-mul-end t c = let p = (c .before .before .before .before .before .before .before .before .before .before .pre .1) in let h = p .methods in omega arith
+sup-mul-end t c = let h = c .before .before .before .before .before .before .before .pre .1 .limits .methods in omega arith
 
 sup-add-m : (t : ℕ) → sup-lts.Need-add-m (sup-calls t) (sup-at t) sup-reads.Post sup-Inv-loop sup-μ-loop
-sup-add-m t c = let p = (c .before .before .before .before .before .before .before .before .before .before .pre .1) in let h = p .types in omega arith
+sup-add-m t c = let h = c .before .before .before .before .before .before .before .pre .1 .limits .types in omega arith
 
 sup-loop-holds : (t : ℕ) → sup-lts.Need-loop-holds (sup-calls t) (sup-at t) sup-reads.Post sup-Inv-loop sup-μ-loop
-sup-loop-holds t c = start-loop (sup-started t c)
+sup-loop-holds t c = start-loop (sup-started t (c .before))
 
 sup-slot-at-requires : (t : ℕ) → sup-lts.Need-slot-at-requires (sup-calls t) (sup-at t) sup-reads.Post sup-Inv-loop sup-μ-loop
-sup-slot-at-requires t c κs = (omega arith, omega (arith, c .loop-test .taken, c .before .loop .inv .edge, c .before .loop .inv .few))
+sup-slot-at-requires t c κs = (sup-started t (c .before .before .before) .known, omega (arith, c .loop-test .taken, c .before .loop .inv .edge, c .before .loop .inv .limits .methods))
 
 sup-enum-told-2 : (t : ℕ) → sup-lts.Need-enum-told-2 (sup-calls t) (sup-at t) sup-reads.Post sup-Inv-loop sup-μ-loop
 sup-enum-told-2 t c = search needs
@@ -232,7 +218,7 @@ sup-enum-known-l1 : (t : ℕ) → sup-lts.Need-enum-known-l1 (sup-calls t) (sup-
 sup-enum-known-l1 t c = search needs
 
 sup-sub-requires : (t : ℕ) → sup-lts.Need-sub-requires (sup-calls t) (sup-at t) sup-reads.Post sup-Inv-loop sup-μ-loop
-sup-sub-requires t c κs = (omega (arith, c .before .before .before .before .before .before .loop .inv .more, c .before .before .before .before .before .before .loop .inv .most, c .before .before .before .before .before .before .loop .inv .room, c .before .before .before .before .before .before .before .before .before .before .before .before .before .before .before .before .before .pre .0), argument-ready (c .before .before .before .before .before .before .loop .inv) (c .before .before .before .before .before .loop-test .taken) (c .before .before .before .before .slot-at .ensures .0) (c .before .before .before .before .slot-at .ensures .1) (c .before .before .l1 .given .1))
+sup-sub-requires t c κs = (omega (arith, c .before .before .before .before .before .before .loop .inv .more, c .before .before .before .before .before .before .loop .inv .most, c .before .before .before .before .before .before .loop .inv .room, c .before .before .before .before .before .before .before .before .before .before .before .before .before .before .pre .0), argument-ready (c .before .before .before .before .before .before .loop .inv) (c .before .before .before .before .before .loop-test .taken) (c .before .before .before .before .slot-at .ensures .0) (c .before .before .before .before .slot-at .ensures .1) (c .before .before .l1 .given .1))
 
 sup-enum-known-i1 : (t : ℕ) → sup-lts.Need-enum-known-i1 (sup-calls t) (sup-at t) sup-reads.Post sup-Inv-loop sup-μ-loop
 sup-enum-known-i1 t c = search needs
@@ -241,13 +227,13 @@ sup-enum-told-3 : (t : ℕ) → sup-lts.Need-enum-told-3 (sup-calls t) (sup-at t
 sup-enum-told-3 t c = search needs
 
 sup-returns-2 : (t : ℕ) → sup-lts.Need-returns-2 (sup-calls t) (sup-at t) sup-reads.Post sup-Inv-loop sup-μ-loop
-sup-returns-2 t c = new-full (sup-started t (c .before .before .before .before .before .before .before .before .before .before)) (c .before .before .before .before .before .before .before .before .before .loop .inv) (c .before .before .sub .ensures .keeps) (argument-full (c .before .before .before .before .before .before .before .before .before .loop .inv) (c .before .before .before .before .before .before .before .before .loop-test .taken) (c .before .before .before .before .before .before .before .slot-at .ensures .0) (c .before .before .before .before .before .before .before .slot-at .ensures .1) (c .before .before .before .before .before .l1 .given .1) (c .before .before .sub .ensures) (c .enum-told3 .given .1))
+sup-returns-2 t c = new-full (sup-started t (c .before .before .before .before .before .before .before .before .before .before .before)) (c .before .before .before .before .before .before .before .before .before .loop .inv) (c .before .before .sub .ensures .keeps) (argument-full (c .before .before .before .before .before .before .before .before .before .loop .inv) (c .before .before .before .before .before .before .before .before .loop-test .taken) (c .before .before .before .before .before .before .before .slot-at .ensures .0) (c .before .before .before .before .before .before .before .slot-at .ensures .1) (c .before .before .before .before .before .l1 .given .1) (c .before .before .sub .ensures) (c .enum-told3 .given .1))
 
 sup-narrow-requires : (t : ℕ) → sup-lts.Need-narrow-requires (sup-calls t) (sup-at t) sup-reads.Post sup-Inv-loop sup-μ-loop
 sup-narrow-requires t c κs = argument-low (c .before .before .before .before .before .before .before .before .before .before .loop .inv) (c .before .before .before .before .before .before .before .before .before .loop-test .taken) (c .before .before .before .before .before .before .before .before .slot-at .ensures .0) (c .before .before .before .before .before .before .before .before .slot-at .ensures .1) (c .before .before .before .before .before .before .l1 .given .1) (c .before .before .before .sub .ensures) (c .before .i1 .given .1)
 
 sup-array-write-bytes : (t : ℕ) → sup-lts.Need-array-write-bytes (sup-calls t) (sup-at t) sup-reads.Post sup-Inv-loop sup-μ-loop
-sup-array-write-bytes t c = omega (arith, c .before .before .before .before .before .before .before .before .before .before .loop-test .taken, c .before .before .before .before .before .before .before .before .before .before .before .loop .inv .edge, c .before .before .before .before .before .before .before .before .before .before .before .loop .inv .few, c .before .before .before .before .before .before .before .before .before .before .before .loop .inv .wide)
+sup-array-write-bytes t c = omega (arith, c .before .before .before .before .before .before .before .before .before .before .loop-test .taken, c .before .before .before .before .before .before .before .before .before .before .before .loop .inv .edge, c .before .before .before .before .before .before .before .before .before .before .before .loop .inv .limits .methods, c .before .before .before .before .before .before .before .before .before .before .before .loop .inv .wide)
 
 sup-add-k-2 : (t : ℕ) → sup-lts.Need-add-k-2 (sup-calls t) (sup-at t) sup-reads.Post sup-Inv-loop sup-μ-loop
 sup-add-k-2 t c = search needs
@@ -262,7 +248,7 @@ sup-enum-known-l2 : (t : ℕ) → sup-lts.Need-enum-known-l2 (sup-calls t) (sup-
 sup-enum-known-l2 t c = search needs
 
 sup-sup-requires : (t : ℕ) → sup-lts.Need-sup-requires (sup-calls t) (sup-at t) sup-reads.Post sup-Inv-loop sup-μ-loop
-sup-sup-requires t c κs = (omega (arith, c .before .before .before .before .before .before .loop .inv .more, c .before .before .before .before .before .before .loop .inv .most, c .before .before .before .before .before .before .loop .inv .room, c .before .before .before .before .before .before .before .before .before .before .before .before .before .before .before .before .before .pre .0), answer-ready (c .before .before .before .before .before .before .loop .inv) (c .before .before .before .before .before .loop-test .taken) (c .before .before .before .before .slot-at .ensures .0) (c .before .before .before .before .slot-at .ensures .1) (c .before .before .l2 .given .1))
+sup-sup-requires t c κs = (omega (arith, c .before .before .before .before .before .before .loop .inv .more, c .before .before .before .before .before .before .loop .inv .most, c .before .before .before .before .before .before .loop .inv .room, c .before .before .before .before .before .before .before .before .before .before .before .before .before .before .pre .0), answer-ready (c .before .before .before .before .before .before .loop .inv) (c .before .before .before .before .before .loop-test .taken) (c .before .before .before .before .slot-at .ensures .0) (c .before .before .before .before .slot-at .ensures .1) (c .before .before .l2 .given .1))
 
 sup-enum-known-i2 : (t : ℕ) → sup-lts.Need-enum-known-i2 (sup-calls t) (sup-at t) sup-reads.Post sup-Inv-loop sup-μ-loop
 sup-enum-known-i2 t c = search needs
@@ -271,7 +257,7 @@ sup-enum-told-4 : (t : ℕ) → sup-lts.Need-enum-told-4 (sup-calls t) (sup-at t
 sup-enum-told-4 t c = search needs
 
 sup-returns-3 : (t : ℕ) → sup-lts.Need-returns-3 (sup-calls t) (sup-at t) sup-reads.Post sup-Inv-loop sup-μ-loop
-sup-returns-3 t c = new-full (sup-started t (c .before .before .before .before .before .before .before .before .before .before)) (c .before .before .before .before .before .before .before .before .before .loop .inv) (c .before .before .sup .ensures .keeps) (answer-full (c .before .before .before .before .before .before .before .before .before .loop .inv) (c .before .before .before .before .before .before .before .before .loop-test .taken) (c .before .before .before .before .before .before .before .slot-at .ensures .0) (c .before .before .before .before .before .before .before .slot-at .ensures .1) (c .before .before .before .before .before .l2 .given .1) (c .before .before .sup .ensures) (c .enum-told4 .given .1))
+sup-returns-3 t c = new-full (sup-started t (c .before .before .before .before .before .before .before .before .before .before .before)) (c .before .before .before .before .before .before .before .before .before .loop .inv) (c .before .before .sup .ensures .keeps) (answer-full (c .before .before .before .before .before .before .before .before .before .loop .inv) (c .before .before .before .before .before .before .before .before .loop-test .taken) (c .before .before .before .before .before .before .before .slot-at .ensures .0) (c .before .before .before .before .before .before .before .slot-at .ensures .1) (c .before .before .before .before .before .l2 .given .1) (c .before .before .sup .ensures) (c .enum-told4 .given .1))
 
 sup-add-narrow : (t : ℕ) → sup-lts.Need-add-narrow (sup-calls t) (sup-at t) sup-reads.Post sup-Inv-loop sup-μ-loop
 sup-add-narrow t c = let h = answer-low (c .before .before .before .before .before .before .before .before .before .before .loop .inv) (c .before .before .before .before .before .before .before .before .before .loop-test .taken) (c .before .before .before .before .before .before .before .before .slot-at .ensures .0) (c .before .before .before .before .before .before .before .before .slot-at .ensures .1) (c .before .before .before .before .before .before .l2 .given .1) (c .before .before .before .sup .ensures) (c .before .i2 .given .1) in omega arith
@@ -280,7 +266,7 @@ sup-narrow-requires-2 : (t : ℕ) → sup-lts.Need-narrow-requires-2 (sup-calls 
 sup-narrow-requires-2 t c κs = let h = answer-low (c .before .before .before .before .before .before .before .before .before .before .loop .inv) (c .before .before .before .before .before .before .before .before .before .loop-test .taken) (c .before .before .before .before .before .before .before .before .slot-at .ensures .0) (c .before .before .before .before .before .before .before .before .slot-at .ensures .1) (c .before .before .before .before .before .before .l2 .given .1) (c .before .before .before .sup .ensures) (c .before .i2 .given .1) in omega arith
 
 sup-array-write-bytes-2 : (t : ℕ) → sup-lts.Need-array-write-bytes-2 (sup-calls t) (sup-at t) sup-reads.Post sup-Inv-loop sup-μ-loop
-sup-array-write-bytes-2 t c = omega (arith, c .before .before .before .before .before .before .before .before .before .before .loop-test .taken, c .before .before .before .before .before .before .before .before .before .before .before .loop .inv .edge, c .before .before .before .before .before .before .before .before .before .before .before .loop .inv .few, c .before .before .before .before .before .before .before .before .before .before .before .loop .inv .wide)
+sup-array-write-bytes-2 t c = omega (arith, c .before .before .before .before .before .before .before .before .before .before .loop-test .taken, c .before .before .before .before .before .before .before .before .before .before .before .loop .inv .edge, c .before .before .before .before .before .before .before .before .before .before .before .loop .inv .limits .methods, c .before .before .before .before .before .before .before .before .before .before .before .loop .inv .wide)
 
 sup-add-k-3 : (t : ℕ) → sup-lts.Need-add-k-3 (sup-calls t) (sup-at t) sup-reads.Post sup-Inv-loop sup-μ-loop
 sup-add-k-3 t c = search needs
@@ -292,17 +278,15 @@ sup-loop-again-3 : (t : ℕ) → sup-lts.Need-loop-again-3 (sup-calls t) (sup-at
 sup-loop-again-3 t c = answer-turn (c .before .before .before .before .before .before .before .before .before .before .before .loop .inv) (c .before .before .before .before .before .before .before .before .before .before .loop-test .taken) (c .before .before .before .before .before .before .before .before .before .slot-at .ensures .0) (c .before .before .before .before .before .before .before .before .before .slot-at .ensures .1) (c .before .before .before .before .before .before .before .l2 .given .1) (c .before .before .before .before .sup .ensures) (c .before .before .i2 .given .1) (c .narrow2 .ensures)
 
 sup-finish-requires : (t : ℕ) → sup-lts.Need-finish-requires (sup-calls t) (sup-at t) sup-reads.Post sup-Inv-loop sup-μ-loop
-sup-finish-requires t c κs = let p = (c .before .before .before .before .before .before .before .before .before .before .before .before .before .pre .1) in (c .before .before .loop .inv .room, c .before .before .loop .inv .long, omega arith, p .left, p .right, p .methods)
+sup-finish-requires t c κs = finish-ready (sup-started t (c .before .before .before .before)) (c .before .before .before .before .before .before .before .before .before .before .pre .1) (c .before .before .loop .inv)
 
 sup-returns-4 : (t : ℕ) → sup-lts.Need-returns-4 (sup-calls t) (sup-at t) sup-reads.Post sup-Inv-loop sup-μ-loop
-sup-returns-4 t c = new-at (sup-started t (c .before .before .before .before)) (c .before .before .before .loop .inv) (c .before .before .loop-test .left) (c .finish .ensures)
+sup-returns-4 t c = new-at (sup-started t (c .before .before .before .before .before)) (c .before .before .before .loop .inv) (c .before .before .loop-test .left) (c .finish .ensures)
 
 pub +sub+sup-spec : {M : Type 1} → statement M
 +sub+sup-spec = close μ-sub μ-sup (λ t. sub-lts.spec (
   begin-reads.Asked,
   begin-reads.Learnt,
-  get-type-reads.Asked,
-  get-type-reads.Learnt,
   start-reads.Asked,
   start-reads.Learnt,
   slot-at-reads.Asked,
@@ -324,8 +308,6 @@ pub +sub+sup-spec : {M : Type 1} → statement M
     (sub-enum-known-begun t)
     (sub-returns t)
     (sub-enum-told t)
-    (sub-get-type-requires t)
-    (sub-get-type-requires-2 t)
     (sub-start-requires t)
     (sub-mul-end t)
     (sub-add-m t)
@@ -361,8 +343,6 @@ pub +sub+sup-spec : {M : Type 1} → statement M
     λ t. sup-lts.spec (
       begin-reads.Asked,
       begin-reads.Learnt,
-      get-type-reads.Asked,
-      get-type-reads.Learnt,
       start-reads.Asked,
       start-reads.Learnt,
       slot-at-reads.Asked,
@@ -384,8 +364,6 @@ pub +sub+sup-spec : {M : Type 1} → statement M
     (sup-enum-known-begun t)
     (sup-returns t)
     (sup-enum-told t)
-    (sup-get-type-requires t)
-    (sup-get-type-requires-2 t)
     (sup-start-requires t)
     (sup-mul-end t)
     (sup-add-m t)

@@ -1,15 +1,13 @@
 -- Closed derives its signatures as Sub does. The invariant is `Loop`, as for Sub and Sup; rests on Turns and Ends.
-use mathlib.Core.Path.{refl, ap}
+use mathlib.Core.Path.{refl}
 use Prim.Native.Nat.{_-_}
 use native.Mathlib.Omega.{arith}
 use borrow.Author.Needs.{needs}
 use Rattle.model.specs.Table.{closed}
-use Rattle.model.specs.Check.{RawType}
-use Rattle.table.proofs.get_type.Reads as get-type-reads
 use Rattle.numbers.proofs.narrow.Reads as narrow-reads
 use Rattle.slots.proofs.slot_at.Reads as slot-at-reads
 use Rattle.restrict.proofs.Begins.{closed-begins}
-use Rattle.restrict.proofs.Ends.{Started, started, settled, new-left, new-right, new-room, start-loop, new-full, new-at}
+use Rattle.restrict.proofs.Ends.{Started, started, settled, new-ready, start-loop, finish-ready, new-full, new-at}
 use Rattle.restrict.proofs.Turns.{Loop, turn-empty, argument-ready, argument-full, argument-low, argument-turn, answer-ready, answer-full, answer-low, answer-turn}
 use Rattle.restrict.proofs.closed.Tie as tie
 use Rattle.restrict.proofs.closed.Reads as reads
@@ -22,50 +20,44 @@ use Rattle.restrict.proofs.sup.Reads as sup-reads
 use Rattle.restrict.proofs.closed.Statement.{statement}
 
 abbrev Inv-loop : tie.InvT-loop
-Inv-loop b₀ methods sheet n r v x y end bytes₀ m₀ k₀ b bytes m k = Loop closed methods sheet n x y b₀ b end bytes m k
+Inv-loop b₀ c r v n w end bytes₀ m₀ k₀ b bytes m k = Loop closed c (c .types) w b₀ b end bytes m k
 
 abbrev μ-loop : tie.MeasureT-loop
-μ-loop b₀ methods sheet n r v x y end bytes₀ m₀ k₀ b bytes m k = end - k
+μ-loop b₀ c r v n w end bytes₀ m₀ k₀ b bytes m k = end - k
 
 abbrev calls : lts.Claims
-calls = (search-reads.Asked, search-reads.Learnt, get-type-reads.Asked, get-type-reads.Learnt, start-reads.Asked, start-reads.Learnt, slot-at-reads.Asked, slot-at-reads.Learnt, sup-reads.Asked, sup-reads.Learnt, narrow-reads.Asked, narrow-reads.Learnt, sub-reads.Asked, sub-reads.Learnt, finish-reads.Asked, finish-reads.Learnt)
+calls = (search-reads.Asked, search-reads.Learnt, start-reads.Asked, start-reads.Learnt, slot-at-reads.Asked, slot-at-reads.Learnt, sup-reads.Asked, sup-reads.Learnt, narrow-reads.Asked, narrow-reads.Learnt, sub-reads.Asked, sub-reads.Learnt, finish-reads.Asked, finish-reads.Learnt)
 
 -- when the type at work has been stored
-begun : (c : lts.After-start calls reads.Pre reads.Post Inv-loop μ-loop) → let a = c .before .before .before .before .before .before .before .before .before .before .args in Started closed (c .before .before .before .before .get-type .result .cat) 2 (a .methods) (a .sheet) (a .n) (a .r) (a .v) (c .before .before .before .before .get-type .result) (c .before .before .get-type2 .result) (a .b .now) (c .start .last .0)
-begun c = started (c .before .before .before .before .before .before .before .before .before .before .pre .0) refl (omega arith) (c .before .before .before .before .before .before .enum-told .given .1) (closed-begins (c .before .before .before .before .before .before .before .before .before .before .args .sheet) (c .before .before .before .before .before .before .before .before .before .before .args .n) (c .before .before .before .before .before .before .before .before .before .before .args .r) (c .before .before .before .before .before .before .before .before .before .before .args .v) (c .before .before .before .before .before .before .before .before .before .before .args .b .now) (c .before .before .before .before .before .before .before .before .search .result) (c .before .before .before .before .before .before .before .before .search .ensures)) (c .before .before .before .before .get-type .ensures .0) (c .before .before .get-type2 .ensures .0) (ap (λ (r : RawType). r .cat) (c .before .before .before .before .get-type .ensures .0)) (c .start .ensures .0) (c .start .ensures .1)
+begun : (c : lts.After-start calls reads.Pre reads.Post Inv-loop μ-loop) → let a = c .before .before .before .before .before .before .args in Started closed (a .c) (a .c .types) (a .r) (a .v) (c .start .result) (a .b .now) (c .start .last .0)
+begun c = started (c .before .before .before .before .before .before .pre .0) refl (omega arith) (c .before .before .enum-told .given .1) (closed-begins (c .before .before .before .before .before .before .args .c) (c .before .before .before .before .before .before .args .c .types) (c .before .before .before .before .before .before .args .r) (c .before .before .before .before .before .before .args .v) (c .before .before .before .before .before .before .args .b .now) (c .before .before .before .before .search .result) (c .before .before .before .before .search .ensures)) (c .start .ensures)
 
 search-requires : tie.Need-search-requires Inv-loop μ-loop
-search-requires c κs = let p = c .before .pre .0 in (omega arith, p .sheet, p .types, c .before .pre .1, c .before .pre .2)
+search-requires c κs = (omega arith, c .before .pre .0 .limits, c .before .pre .1, c .before .pre .2)
 
 enum-known-begun : tie.Need-enum-known-begun Inv-loop μ-loop
 enum-known-begun c = search needs
 
 returns : tie.Need-returns Inv-loop μ-loop
-returns c = settled closed (c .before .before .before .before .before .pre .0) (c .before .begun .given .1) (closed-begins (c .before .before .before .before .before .args .sheet) (c .before .before .before .before .before .args .n) (c .before .before .before .before .before .args .r) (c .before .before .before .before .before .args .v) (c .before .before .before .before .before .args .b .now) (c .before .before .before .search .result) (c .before .before .before .search .ensures))
+returns c = settled closed (c .before .before .before .before .before .pre .0) (c .before .begun .given .1) (closed-begins (c .before .before .before .before .before .args .c) (c .before .before .before .before .before .args .c .types) (c .before .before .before .before .before .args .r) (c .before .before .before .before .before .args .v) (c .before .before .before .before .before .args .b .now) (c .before .before .before .search .result) (c .before .before .before .search .ensures))
 
 enum-told : tie.Need-enum-told Inv-loop μ-loop
 enum-told c = search needs
 
-get-type-requires : tie.Need-get-type-requires Inv-loop μ-loop
-get-type-requires c κs = new-left closed (c .before .before .before .before .before .pre .0) (c .before .enum-told .given .1) (closed-begins (c .before .before .before .before .before .args .sheet) (c .before .before .before .before .before .args .n) (c .before .before .before .before .before .args .r) (c .before .before .before .before .before .args .v) (c .before .before .before .before .before .args .b .now) (c .before .before .before .search .result) (c .before .before .before .search .ensures))
-
-get-type-requires-2 : tie.Need-get-type-requires-2 Inv-loop μ-loop
-get-type-requires-2 c κs = new-right closed (c .before .before .before .before .before .before .before .pre .0) (c .before .before .before .enum-told .given .1) (closed-begins (c .before .before .before .before .before .before .before .args .sheet) (c .before .before .before .before .before .before .before .args .n) (c .before .before .before .before .before .before .before .args .r) (c .before .before .before .before .before .before .before .args .v) (c .before .before .before .before .before .before .before .args .b .now) (c .before .before .before .before .before .search .result) (c .before .before .before .before .before .search .ensures))
-
 start-requires : tie.Need-start-requires Inv-loop μ-loop
-start-requires c κs = let p = (c .before .before .before .before .before .before .before .before .before .pre .0) in (new-room closed p (c .before .before .before .before .before .enum-told .given .1) (closed-begins (c .before .before .before .before .before .before .before .before .before .args .sheet) (c .before .before .before .before .before .before .before .before .before .args .n) (c .before .before .before .before .before .before .before .before .before .args .r) (c .before .before .before .before .before .before .before .before .before .args .v) (c .before .before .before .before .before .before .before .before .before .args .b .now) (c .before .before .before .before .before .before .before .search .result) (c .before .before .before .before .before .before .before .search .ensures)), p .left, p .right, p .long)
+start-requires c κs = new-ready closed (c .before .before .before .before .before .pre .0) (c .before .enum-told .given .1) (closed-begins (c .before .before .before .before .before .args .c) (c .before .before .before .before .before .args .c .types) (c .before .before .before .before .before .args .r) (c .before .before .before .before .before .args .v) (c .before .before .before .before .before .args .b .now) (c .before .before .before .search .result) (c .before .before .before .search .ensures))
 
 mul-end : tie.Need-mul-end Inv-loop μ-loop
-mul-end c = let p = (c .before .before .before .before .before .before .before .before .before .before .pre .0) in let h = p .methods in omega arith
+mul-end c = let h = c .before .before .before .before .before .before .before .pre .0 .limits .methods in omega arith
 
 add-m : tie.Need-add-m Inv-loop μ-loop
-add-m c = let p = (c .before .before .before .before .before .before .before .before .before .before .pre .0) in let h = p .types in omega arith
+add-m c = let h = c .before .before .before .before .before .before .before .pre .0 .limits .types in omega arith
 
 loop-holds : tie.Need-loop-holds Inv-loop μ-loop
-loop-holds c = start-loop (begun c)
+loop-holds c = start-loop (begun (c .before))
 
 slot-at-requires : tie.Need-slot-at-requires Inv-loop μ-loop
-slot-at-requires c κs = (omega arith, omega (arith, c .loop-test .taken, c .before .loop .inv .edge, c .before .loop .inv .few))
+slot-at-requires c κs = (begun (c .before .before .before) .known, omega (arith, c .loop-test .taken, c .before .loop .inv .edge, c .before .loop .inv .limits .methods))
 
 enum-told-2 : tie.Need-enum-told-2 Inv-loop μ-loop
 enum-told-2 c = search needs
@@ -92,13 +84,13 @@ enum-told-3 : tie.Need-enum-told-3 Inv-loop μ-loop
 enum-told-3 c = search needs
 
 returns-2 : tie.Need-returns-2 Inv-loop μ-loop
-returns-2 c = new-full (begun (c .before .before .before .before .before .before .before .before .before .before)) (c .before .before .before .before .before .before .before .before .before .loop .inv) (c .before .before .sup .ensures .keeps) (argument-full (c .before .before .before .before .before .before .before .before .before .loop .inv) (c .before .before .before .before .before .before .before .before .loop-test .taken) (c .before .before .before .before .before .before .before .slot-at .ensures .0) (c .before .before .before .before .before .before .before .slot-at .ensures .1) (c .before .before .before .before .before .l3 .given .1) (c .before .before .sup .ensures) (c .enum-told3 .given .1))
+returns-2 c = new-full (begun (c .before .before .before .before .before .before .before .before .before .before .before)) (c .before .before .before .before .before .before .before .before .before .loop .inv) (c .before .before .sup .ensures .keeps) (argument-full (c .before .before .before .before .before .before .before .before .before .loop .inv) (c .before .before .before .before .before .before .before .before .loop-test .taken) (c .before .before .before .before .before .before .before .slot-at .ensures .0) (c .before .before .before .before .before .before .before .slot-at .ensures .1) (c .before .before .before .before .before .l3 .given .1) (c .before .before .sup .ensures) (c .enum-told3 .given .1))
 
 narrow-requires : tie.Need-narrow-requires Inv-loop μ-loop
 narrow-requires c κs = argument-low (c .before .before .before .before .before .before .before .before .before .before .loop .inv) (c .before .before .before .before .before .before .before .before .before .loop-test .taken) (c .before .before .before .before .before .before .before .before .slot-at .ensures .0) (c .before .before .before .before .before .before .before .before .slot-at .ensures .1) (c .before .before .before .before .before .before .l3 .given .1) (c .before .before .before .sup .ensures) (c .before .i3 .given .1)
 
 array-write-bytes : tie.Need-array-write-bytes Inv-loop μ-loop
-array-write-bytes c = omega (arith, c .before .before .before .before .before .before .before .before .before .before .loop-test .taken, c .before .before .before .before .before .before .before .before .before .before .before .loop .inv .edge, c .before .before .before .before .before .before .before .before .before .before .before .loop .inv .few, c .before .before .before .before .before .before .before .before .before .before .before .loop .inv .wide)
+array-write-bytes c = omega (arith, c .before .before .before .before .before .before .before .before .before .before .loop-test .taken, c .before .before .before .before .before .before .before .before .before .before .before .loop .inv .edge, c .before .before .before .before .before .before .before .before .before .before .before .loop .inv .limits .methods, c .before .before .before .before .before .before .before .before .before .before .before .loop .inv .wide)
 
 add-k-2 : tie.Need-add-k-2 Inv-loop μ-loop
 add-k-2 c = search needs
@@ -122,7 +114,7 @@ enum-told-4 : tie.Need-enum-told-4 Inv-loop μ-loop
 enum-told-4 c = search needs
 
 returns-3 : tie.Need-returns-3 Inv-loop μ-loop
-returns-3 c = new-full (begun (c .before .before .before .before .before .before .before .before .before .before)) (c .before .before .before .before .before .before .before .before .before .loop .inv) (c .before .before .sub .ensures .keeps) (answer-full (c .before .before .before .before .before .before .before .before .before .loop .inv) (c .before .before .before .before .before .before .before .before .loop-test .taken) (c .before .before .before .before .before .before .before .slot-at .ensures .0) (c .before .before .before .before .before .before .before .slot-at .ensures .1) (c .before .before .before .before .before .l4 .given .1) (c .before .before .sub .ensures) (c .enum-told4 .given .1))
+returns-3 c = new-full (begun (c .before .before .before .before .before .before .before .before .before .before .before)) (c .before .before .before .before .before .before .before .before .before .loop .inv) (c .before .before .sub .ensures .keeps) (answer-full (c .before .before .before .before .before .before .before .before .before .loop .inv) (c .before .before .before .before .before .before .before .before .loop-test .taken) (c .before .before .before .before .before .before .before .slot-at .ensures .0) (c .before .before .before .before .before .before .before .slot-at .ensures .1) (c .before .before .before .before .before .l4 .given .1) (c .before .before .sub .ensures) (c .enum-told4 .given .1))
 
 add-narrow : tie.Need-add-narrow Inv-loop μ-loop
 add-narrow c = let h = answer-low (c .before .before .before .before .before .before .before .before .before .before .loop .inv) (c .before .before .before .before .before .before .before .before .before .loop-test .taken) (c .before .before .before .before .before .before .before .before .slot-at .ensures .0) (c .before .before .before .before .before .before .before .before .slot-at .ensures .1) (c .before .before .before .before .before .before .l4 .given .1) (c .before .before .before .sub .ensures) (c .before .i4 .given .1) in omega arith
@@ -131,7 +123,7 @@ narrow-requires-2 : tie.Need-narrow-requires-2 Inv-loop μ-loop
 narrow-requires-2 c κs = let h = answer-low (c .before .before .before .before .before .before .before .before .before .before .loop .inv) (c .before .before .before .before .before .before .before .before .before .loop-test .taken) (c .before .before .before .before .before .before .before .before .slot-at .ensures .0) (c .before .before .before .before .before .before .before .before .slot-at .ensures .1) (c .before .before .before .before .before .before .l4 .given .1) (c .before .before .before .sub .ensures) (c .before .i4 .given .1) in omega arith
 
 array-write-bytes-2 : tie.Need-array-write-bytes-2 Inv-loop μ-loop
-array-write-bytes-2 c = omega (arith, c .before .before .before .before .before .before .before .before .before .before .loop-test .taken, c .before .before .before .before .before .before .before .before .before .before .before .loop .inv .edge, c .before .before .before .before .before .before .before .before .before .before .before .loop .inv .few, c .before .before .before .before .before .before .before .before .before .before .before .loop .inv .wide)
+array-write-bytes-2 c = omega (arith, c .before .before .before .before .before .before .before .before .before .before .loop-test .taken, c .before .before .before .before .before .before .before .before .before .before .before .loop .inv .edge, c .before .before .before .before .before .before .before .before .before .before .before .loop .inv .limits .methods, c .before .before .before .before .before .before .before .before .before .before .before .loop .inv .wide)
 
 add-k-3 : tie.Need-add-k-3 Inv-loop μ-loop
 add-k-3 c = search needs
@@ -143,10 +135,10 @@ loop-again-3 : tie.Need-loop-again-3 Inv-loop μ-loop
 loop-again-3 c = answer-turn (c .before .before .before .before .before .before .before .before .before .before .before .loop .inv) (c .before .before .before .before .before .before .before .before .before .before .loop-test .taken) (c .before .before .before .before .before .before .before .before .before .slot-at .ensures .0) (c .before .before .before .before .before .before .before .before .before .slot-at .ensures .1) (c .before .before .before .before .before .before .before .l4 .given .1) (c .before .before .before .before .sub .ensures) (c .before .before .i4 .given .1) (c .narrow2 .ensures)
 
 finish-requires : tie.Need-finish-requires Inv-loop μ-loop
-finish-requires c κs = let p = (c .before .before .before .before .before .before .before .before .before .before .before .before .before .pre .0) in (c .before .before .loop .inv .room, c .before .before .loop .inv .long, omega arith, p .left, p .right, p .methods)
+finish-requires c κs = finish-ready (begun (c .before .before .before .before)) (c .before .before .before .before .before .before .before .before .before .before .pre .0) (c .before .before .loop .inv)
 
 returns-4 : tie.Need-returns-4 Inv-loop μ-loop
-returns-4 c = new-at (begun (c .before .before .before .before)) (c .before .before .before .loop .inv) (c .before .before .loop-test .left) (c .finish .ensures)
+returns-4 c = new-at (begun (c .before .before .before .before .before)) (c .before .before .before .loop .inv) (c .before .before .loop-test .left) (c .finish .ensures)
 
 pub closed-spec : {M : Type 1} → statement M
 closed-spec =
@@ -158,8 +150,6 @@ closed-spec =
     enum-known-begun
     returns
     enum-told
-    get-type-requires
-    get-type-requires-2
     start-requires
     mul-end
     add-m

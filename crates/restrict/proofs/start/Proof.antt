@@ -1,29 +1,32 @@
--- The type stored has every method denied: what `new_type`, `TypeRec::empty` and `put_type` ensure.
-use mathlib.Core.Path.{ap, _∙_}
-use mathlib.Core.List.{List, map}
-use lib.ListN.{set}
+-- What `get_type`, `pending` and `put_type` ensure.
+use mathlib.Core.Path.{refl, subst}
+use Rattle.model.specs.Check.{RawType}
+use Rattle.table.specs.Store.{Put}
 use borrow.Author.Needs.{needs}
-use Rattle.table.specs.declared.Method.{Method}
-use Rattle.table.specs.declared.TypeRec.{TypeRec}
-use Rattle.table.specs.Store.{typesIn, rawMethod}
-use Rattle.slots.specs.Slots.{newRecord}
-use Rattle.restrict.proofs.start.Tie as tie
 use Rattle.restrict.proofs.start.Statement.{statement}
+use Rattle.restrict.proofs.start.Tie as tie
 
-empty-requires : tie.Need-empty-requires
-empty-requires c κs = search needs
+get-type-requires : tie.Need-get-type-requires
+get-type-requires c κs = search needs
 
-new-type-requires : tie.Need-new-type-requires
-new-type-requires c κs = search needs
+get-type-requires-2 : tie.Need-get-type-requires-2
+get-type-requires-2 c κs = search needs
+
+pending-requires : tie.Need-pending-requires
+pending-requires c κs = search needs
 
 put-type-requires : tie.Need-put-type-requires
 put-type-requires c κs = search needs
 
 returns : tie.Need-returns
-returns c = let a = c .before .before .before .before .before .args in (
-  c .put-type .ensures .0 ∙ ap (set (typesIn (a .b .now)) (a .n)) (c .before .before .new-type .ensures .0 ∙ ap (λ (ms : List Method). newRecord (a .cat) (a .kind) (a .t) (a .s) (map rawMethod ms)) (c .before .before .new-type .ensures .1 ∙ ap (λ (z : TypeRec). z .methods) (c .before .before .before .before .empty .ensures))),
-  c .put-type .ensures .1,
-)
+returns c = let a = c .before .before .before .before .before .before .before .args in record {
+  key = refl;
+  left = c .before .before .before .before .before .get-type .ensures .0;
+  right = c .before .before .before .get-type2 .ensures .0;
+  put = subst (λ (x : RawType). Put (a .b .now) (a .n) x (c .put-type .last .0)) (c .before .before .pending .ensures) (c .put-type .ensures);
+}
 
 pub start-spec : {M : Type 1} → statement M
-start-spec = tie.close (tie.spec empty-requires new-type-requires put-type-requires returns)
+start-spec =
+    tie.close
+    (tie.spec get-type-requires get-type-requires-2 pending-requires put-type-requires returns)

@@ -1,33 +1,53 @@
--- Rests on `filled-is`: both sides have four argument places.
+-- Rests on `bare-made` and `signed-made`: both sides have four argument places.
 use mathlib.Core.Path.{_≡_, sym, ap, _∙_, subst}
 use Prim.Native.Nat.{ℕ}
-use native.Mathlib.Omega.{arith}
 use lib.ListN.{length}
-use borrow.Author.Needs.{needs}
+use borrow.Author.Tests.{not-true, not-false}
 use Rattle.model.specs.Check.{RawMethod, kindOf, methodOf}
 use Rattle.table.specs.Store.{rawMethod}
-use Rattle.slots.specs.Slots.{MethodCoded}
-use Rattle.slots.proofs.Laws.{filled-is, filled-coded}
-use Rattle.slots.proofs.filled.Tie as tie
+use Rattle.slots.specs.Slots.{bareMethod, signedMethod}
+use Rattle.slots.proofs.Laws.{Made, bare-made, signed-made}
+use borrow.Author.Needs.{needs}
 use Rattle.slots.proofs.filled.Statement.{statement}
+use Rattle.slots.proofs.filled.Tie as tie
 
 state-of-requires : tie.Need-state-of-requires
 state-of-requires c κs = search needs
 
-least-requires : tie.Need-least-requires
-least-requires c κs = search needs
+permits-requires : tie.Need-permits-requires
+permits-requires c κs = search needs
+
+unsigned-requires : tie.Need-unsigned-requires
+unsigned-requires c κs = search needs
 
 returns : tie.Need-returns
-returns c = let a = c .before .before .args in
-    let four : length (a .args) ≡ 4 = search needs in
-    let left : length (a .p .args) ≡ 4 = search needs in
-    let right : length (a .q .args) ≡ 4 = search needs in
-    let state = c .before .state-of .ensures in
-    let made : ℕ → RawMethod = λ n. record { state = c .before .state-of .result; count = n; args = a .args; answer = a .answer } in (
-      ap (λ (n : ℕ). methodOf (made n)) (c .least .ensures)
-          ∙ filled-is (kindOf (a .kind)) (rawMethod (a .p)) (rawMethod (a .q)) (c .before .state-of .result) (a .args) (a .answer) (state .0) (omega arith) (omega arith),
-      λ h k. subst (λ (n : ℕ). MethodCoded (made n)) (sym (c .least .ensures)) (filled-coded (kindOf (a .kind)) (rawMethod (a .p)) (rawMethod (a .q)) (c .before .state-of .result) (a .args) (a .answer) (state .0) (state .1) h k),
-    )
+returns c = let a = c .before .before .before .before .args in let s = c .before .before .before .state-of in
+    subst (Made (kindOf (a .kind)) (rawMethod (a .p)) (rawMethod (a .q)) (s .result) (s .ensures .0) (s .ensures .1) (a .args) (a .answer)) (sym (c .unsigned .ensures))
+    (bare-made (kindOf (a .kind)) (rawMethod (a .p)) (rawMethod (a .q)) (s .result) (s .ensures .0) (s .ensures .1) (a .args) (a .answer) (sym (c .before .before .permits .ensures) ∙ not-true (c .before .before .permits .result) (c .before .if1 .taken)))
+
+shared-count-requires : tie.Need-shared-count-requires
+shared-count-requires c κs = search needs
+
+signed-requires : tie.Need-signed-requires
+signed-requires c κs = search needs
+
+returns-2 : tie.Need-returns-2
+returns-2 c = let a = c .before .before .before .before .before .args in let s = c .before .before .before .before .state-of in
+    let l : length (a .args) ≡ 4 = search needs in
+    let lp : length (a .p .args) ≡ 4 = search needs in
+    let lq : length (a .q .args) ≡ 4 = search needs in
+    subst (Made (kindOf (a .kind)) (rawMethod (a .p)) (rawMethod (a .q)) (s .result) (s .ensures .0) (s .ensures .1) (a .args) (a .answer))
+    (ap (λ (n : ℕ). signedMethod (s .result) n (a .args) (a .answer)) (sym (c .before .shared-count .ensures)) ∙ sym (c .signed .ensures))
+    (signed-made (kindOf (a .kind)) (rawMethod (a .p)) (rawMethod (a .q)) (s .result) (s .ensures .0) (s .ensures .1) (a .args) (a .answer) (sym (c .before .before .before .permits .ensures) ∙ not-false (c .before .before .before .permits .result) (c .before .before .if1 .left)) l lp lq)
 
 pub filled-spec : {M : Type 1} → statement M
-filled-spec = tie.close (tie.spec state-of-requires least-requires returns)
+filled-spec =
+    tie.close
+    (tie.spec
+    state-of-requires
+    permits-requires
+    unsigned-requires
+    returns
+    shared-count-requires
+    signed-requires
+    returns-2)

@@ -1,32 +1,21 @@
--- The invariant: the methods so far are those that their slots make. Rests on `filled-here`.
-use mathlib.Core.Path.{_≡_, refl, sym, ap, _∙_, subst}
-use mathlib.Core.List.{List}
-use Prim.Native.Nat.{ℕ, _-_, _≤_, _<_}
-use native.Mathlib.Nat.{not-suc-le-zero}
-use native.Mathlib.Omega.{arith}
-use lib.ListN.{length, getD, length-set}
+-- The invariant is `Filling`: the methods so far are those that their slots make. Rests on `filling-starts`, `filling-next` and `filling-ends`.
+use Prim.Native.Nat.{_-_}
+use Rattle.slots.proofs.Laws.{Filling, filling-starts, filling-next, filling-ends}
 use borrow.Author.Needs.{needs}
-use Rattle.model.specs.Check.{kindOf, methodOf}
-use Rattle.table.specs.declared.Method.{Method}
-use Rattle.table.specs.Store.{rawMethod}
-use Rattle.table.proofs.Laws.{absent}
-use Rattle.table.proofs.Lists.{set-next}
-use Rattle.slots.specs.Slots.{fillAt, methodIn, rawIn, MethodCoded}
-use Rattle.slots.proofs.Laws.{raw-methods, in-methods, filled-here}
-use Rattle.slots.proofs.finished.Tie as tie
 use Rattle.slots.proofs.finished.Statement.{statement}
+use Rattle.slots.proofs.finished.Tie as tie
 
 abbrev Inv-loop : tie.InvT-loop
-Inv-loop x y cat kind t s methods slots all₀ j₀ all j = (j ≤ methods) × (length all ≡ 16) × ((i : ℕ) → i < j → methodOf (rawMethod (getD all i absent)) ≡ fillAt (kindOf kind) (methodIn x) (methodIn y) slots i) × ((i : ℕ) → i < j → MethodCoded (rawIn x i) → MethodCoded (rawIn y i) → MethodCoded (rawMethod (getD all i absent)))
+Inv-loop w methods slots all₀ j₀ all j = Filling w slots methods all j
 
 abbrev μ-loop : tie.MeasureT-loop
-μ-loop x y cat kind t s methods slots all₀ j₀ all j = methods - j
+μ-loop w methods slots all₀ j₀ all j = methods - j
 
 empty-requires : tie.Need-empty-requires Inv-loop μ-loop
 empty-requires c κs = search needs
 
 loop-holds : tie.Need-loop-holds Inv-loop μ-loop
-loop-holds c = (omega arith, refl, λ i h. absurd (not-suc-le-zero h), λ i h. absurd (not-suc-le-zero h))
+loop-holds c = filling-starts (c .before .args .w) (c .before .args .t3) (c .before .args .methods) (c .empty .result) (c .empty .ensures)
 
 method-at-requires : tie.Need-method-at-requires Inv-loop μ-loop
 method-at-requires c κs = search needs
@@ -40,23 +29,23 @@ mul-k c = search needs
 array-read-filled : tie.Need-array-read-filled Inv-loop μ-loop
 array-read-filled c = search needs
 
-add-t22 : tie.Need-add-t22 Inv-loop μ-loop
-add-t22 c = search needs
+add-t17 : tie.Need-add-t17 Inv-loop μ-loop
+add-t17 c = search needs
 
-array-read-t25 : tie.Need-array-read-t25 Inv-loop μ-loop
-array-read-t25 c = search needs
+array-read-t20 : tie.Need-array-read-t20 Inv-loop μ-loop
+array-read-t20 c = search needs
 
-add-t26 : tie.Need-add-t26 Inv-loop μ-loop
-add-t26 c = search needs
+add-t21 : tie.Need-add-t21 Inv-loop μ-loop
+add-t21 c = search needs
 
-array-read-t29 : tie.Need-array-read-t29 Inv-loop μ-loop
-array-read-t29 c = search needs
+array-read-t24 : tie.Need-array-read-t24 Inv-loop μ-loop
+array-read-t24 c = search needs
 
-add-t30 : tie.Need-add-t30 Inv-loop μ-loop
-add-t30 c = search needs
+add-t25 : tie.Need-add-t25 Inv-loop μ-loop
+add-t25 c = search needs
 
-array-read-t33 : tie.Need-array-read-t33 Inv-loop μ-loop
-array-read-t33 c = search needs
+array-read-t28 : tie.Need-array-read-t28 Inv-loop μ-loop
+array-read-t28 c = search needs
 
 add-filled : tie.Need-add-filled Inv-loop μ-loop
 add-filled c = search needs
@@ -81,24 +70,13 @@ loop-less c = search needs
 
 loop-again : tie.Need-loop-again Inv-loop μ-loop
 loop-again c = let a = c .before .before .before .before .before .before .args in let l = c .before .before .before .before .loop in
-    let h : l .j < length (l .all) = omega (arith, c .before .before .before .loop-test .taken, c .before .before .before .before .before .before .pre .3, l .inv .1) in (
-      omega (arith, c .before .before .before .loop-test .taken),
-      length-set (l .all) (l .j) (c .filled .result) ∙ l .inv .1,
-      set-next (λ i m. methodOf (rawMethod m) ≡ fillAt (kindOf (a .kind)) (methodIn (a .x)) (methodIn (a .y)) (a .t8) i) (l .all) (l .j) (c .filled .result) absent h (l .inv .2)
-          (filled-here (kindOf (a .kind)) (a .x) (a .y) (a .t8) (l .j) (c .before .before .method-at .result) (c .before .method-at2 .result) (c .filled .result) (c .before .before .method-at .ensures) (c .before .method-at2 .ensures) (c .filled .ensures .0)),
-      set-next (λ i m. MethodCoded (rawIn (a .x) i) → MethodCoded (rawIn (a .y) i) → MethodCoded (rawMethod m)) (l .all) (l .j) (c .filled .result) absent h (l .inv .3)
-          (λ p q. c .filled .ensures .1 (subst MethodCoded (sym (c .before .before .method-at .ensures)) p) (subst MethodCoded (sym (c .before .method-at2 .ensures)) q)),
-    )
+    filling-next (a .w) (a .t3) (l .inv) (c .before .before .before .loop-test .taken) (c .before .before .before .before .before .before .pre .3) (c .before .before .method-at .result) (c .before .method-at2 .result) (c .filled .result) (c .before .before .method-at .ensures) (c .before .method-at2 .ensures) (c .filled .ensures)
 
 new-type-requires : tie.Need-new-type-requires Inv-loop μ-loop
 new-type-requires c κs = search needs
 
 returns : tie.Need-returns Inv-loop μ-loop
-returns c = let l = c .before .before .loop in record {
-  head = c .new-type .ensures .0;
-  filled = λ j h. sym (in-methods (c .new-type .result .methods) j) ∙ ap (λ (ms : List Method). methodOf (rawMethod (getD ms j absent))) (c .new-type .ensures .1) ∙ l .inv .2 j (omega (arith, c .before .loop-test .left));
-  coded = λ j h p q. subst MethodCoded (ap (λ (ms : List Method). rawMethod (getD ms j absent)) (sym (c .new-type .ensures .1)) ∙ raw-methods (c .new-type .result .methods) j) (l .inv .3 j (omega (arith, c .before .loop-test .left)) p q);
-}
+returns c = let a = c .before .before .before .before .args in filling-ends (a .w) (a .t3) (c .before .before .loop .inv) (c .before .loop-test .left) (c .before .before .before .before .pre .0) (c .new-type .result) (c .new-type .ensures .0) (c .new-type .ensures .1)
 
 pub finished-spec : {M : Type 1} → statement M
 finished-spec =
@@ -112,12 +90,12 @@ finished-spec =
     method-at-requires-2
     mul-k
     array-read-filled
-    add-t22
-    array-read-t25
-    add-t26
-    array-read-t29
-    add-t30
-    array-read-t33
+    add-t17
+    array-read-t20
+    add-t21
+    array-read-t24
+    add-t25
+    array-read-t28
     add-filled
     array-read-filled-2
     filled-requires

@@ -1,27 +1,45 @@
 -- Rests on `kept-not`, `kept-both` and `kept-lost`: whether each side permits the method.
-use mathlib.Core.Path.{sym, _∙_}
+use mathlib.Core.Path.{sym, ap, _∙_}
 use borrow.Author.Tests.{not-true, not-false}
-use borrow.Author.Needs.{needs}
+use Rattle.model.specs.Table.{State}
 use Rattle.model.specs.Check.{stateOf}
+use Rattle.slots.specs.Slots.{keptState}
 use Rattle.slots.proofs.Laws.{kept-not, kept-both, kept-lost}
-use Rattle.slots.proofs.kept_state.Tie as tie
+use borrow.Author.Needs.{needs}
 use Rattle.slots.proofs.kept_state.Statement.{statement}
+use Rattle.slots.proofs.kept_state.Tie as tie
+
+state-code-requires : tie.Need-state-code-requires
+state-code-requires c κs = search needs
 
 permits-requires : tie.Need-permits-requires
 permits-requires c κs = search needs
 
 returns : tie.Need-returns
-returns c = let a = c .before .before .args in (kept-not (stateOf (a .main)) (stateOf (a .other)) (stateOf (a .lost)) (sym (c .before .permits .ensures) ∙ not-true (c .before .permits .result) (c .if1 .taken)), λ h k. h)
+returns c = let a = c .before .before .before .args in let o = c .before .before .state-code in (
+  kept-not (stateOf (o .result)) (stateOf (a .other)) (stateOf (a .lost)) (sym (c .before .permits .ensures) ∙ not-true (c .before .permits .result) (c .if1 .taken))
+      ∙ ap (λ (z : State). keptState z (stateOf (a .other)) (stateOf (a .lost))) (o .ensures .0),
+  o .ensures .1,
+)
 
 permits-requires-2 : tie.Need-permits-requires-2
 permits-requires-2 c κs = search needs
 
 returns-2 : tie.Need-returns-2
-returns-2 c = let a = c .before .before .before .before .args in (kept-both (stateOf (a .main)) (stateOf (a .other)) (stateOf (a .lost)) (sym (c .before .before .before .permits .ensures) ∙ not-false (c .before .before .before .permits .result) (c .before .before .if1 .left)) (sym (c .before .permits2 .ensures) ∙ c .if2 .taken), λ h k. h)
+returns-2 c = let a = c .before .before .before .before .before .args in let o = c .before .before .before .before .state-code in (
+  kept-both (stateOf (o .result)) (stateOf (a .other)) (stateOf (a .lost)) (sym (c .before .before .before .permits .ensures) ∙ not-false (c .before .before .before .permits .result) (c .before .before .if1 .left)) (sym (c .before .permits2 .ensures) ∙ c .if2 .taken)
+      ∙ ap (λ (z : State). keptState z (stateOf (a .other)) (stateOf (a .lost))) (o .ensures .0),
+  o .ensures .1,
+)
 
 returns-3 : tie.Need-returns-3
-returns-3 c = let a = c .before .before .before .before .args in (kept-lost (stateOf (a .main)) (stateOf (a .other)) (stateOf (a .lost)) (sym (c .before .before .before .permits .ensures) ∙ not-false (c .before .before .before .permits .result) (c .before .before .if1 .left)) (sym (c .before .permits2 .ensures) ∙ c .if2 .left), λ h k. k)
+returns-3 c = let a = c .before .before .before .before .before .args in let o = c .before .before .before .before .state-code in (
+  kept-lost (stateOf (o .result)) (stateOf (a .other)) (stateOf (a .lost)) (sym (c .before .before .before .permits .ensures) ∙ not-false (c .before .before .before .permits .result) (c .before .before .if1 .left)) (sym (c .before .permits2 .ensures) ∙ c .if2 .left)
+      ∙ ap (λ (z : State). keptState z (stateOf (a .other)) (stateOf (a .lost))) (o .ensures .0),
+  c .before .before .before .before .before .pre,
+)
 
 pub kept-state-spec : {M : Type 1} → statement M
 kept-state-spec =
-    tie.close (tie.spec permits-requires returns permits-requires-2 returns-2 returns-3)
+    tie.close
+    (tie.spec state-code-requires permits-requires returns permits-requires-2 returns-2 returns-3)

@@ -1,13 +1,13 @@
--- Rests on what `method_at` and `slot_of` ensure.
+-- The slot of the two methods that it stands in.
 use mathlib.Core.Path.{ap, _∙_}
 use Prim.Native.Nat.{_/_, _%_}
-use borrow.Author.Needs.{needs}
 use Rattle.model.specs.Table.{Method}
-use Rattle.model.specs.Check.{kindOf, methodOf}
+use Rattle.model.specs.Check.{methodOf}
 use Rattle.table.specs.Store.{rawMethod}
-use Rattle.slots.specs.Slots.{slotOf, methodIn}
-use Rattle.slots.proofs.slot_at.Tie as tie
+use Rattle.slots.specs.Slots.{slotOf, methodIn, kindIn}
+use borrow.Author.Needs.{needs}
 use Rattle.slots.proofs.slot_at.Statement.{statement}
+use Rattle.slots.proofs.slot_at.Tie as tie
 
 method-at-requires : tie.Need-method-at-requires
 method-at-requires c κs = search needs
@@ -20,8 +20,8 @@ slot-of-requires c κs = search needs
 
 returns : tie.Need-returns
 returns c = let a = c .before .before .before .args in (
-  c .slot-of .ensures .0 ∙ ap (λ (m : Method). slotOf (kindOf (a .kind)) m (methodOf (rawMethod (c .before .method-at2 .result))) (a .k % 5)) (ap methodOf (c .before .before .method-at .ensures))
-      ∙ ap (λ (m : Method). slotOf (kindOf (a .kind)) (methodIn (a .x) (a .k / 5)) m (a .k % 5)) (ap methodOf (c .before .method-at2 .ensures)),
+  c .slot-of .ensures .0 ∙ ap (λ (m : Method). slotOf (kindIn (a .w)) m (methodOf (rawMethod (c .before .method-at2 .result))) (a .k % 5)) (ap methodOf (c .before .before .method-at .ensures))
+      ∙ ap (λ (m : Method). slotOf (kindIn (a .w)) (methodIn (a .w .left) (a .k / 5)) m (a .k % 5)) (ap methodOf (c .before .method-at2 .ensures)),
   c .slot-of .ensures .1,
 )
 

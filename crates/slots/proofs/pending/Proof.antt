@@ -1,0 +1,22 @@
+-- Every method is that of `TypeRec::empty`.
+use mathlib.Core.Path.{ap, _∙_}
+use mathlib.Core.List.{List, map}
+use Rattle.table.specs.declared.Method.{Method}
+use Rattle.table.specs.declared.TypeRec.{TypeRec}
+use Rattle.table.specs.Store.{rawMethod}
+use Rattle.slots.specs.Slots.{newRecord}
+use borrow.Author.Needs.{needs}
+use Rattle.slots.proofs.pending.Statement.{statement}
+use Rattle.slots.proofs.pending.Tie as tie
+
+empty-requires : tie.Need-empty-requires
+empty-requires c κs = search needs
+
+new-type-requires : tie.Need-new-type-requires
+new-type-requires c κs = search needs
+
+returns : tie.Need-returns
+returns c = c .new-type .ensures .0 ∙ ap (λ (ms : List Method). newRecord (c .before .before .before .args .w) (map rawMethod ms)) (c .new-type .ensures .1 ∙ ap (λ (z : TypeRec). z .methods) (c .before .before .empty .ensures))
+
+pub pending-spec : {M : Type 1} → statement M
+pending-spec = tie.close (tie.spec empty-requires new-type-requires returns)
