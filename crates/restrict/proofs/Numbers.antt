@@ -83,7 +83,8 @@ module _ {c : Counts} {r v : ℕ} {b : List ℕ} (asked : Ready c (c .types) r v
   numbers-full h l = settled closed asked {g = Settled Full} refl (closed-begins c n r v b (Settled Full) (found-full Found n r v b i (λ T. is) h l))
 
   -- A new one: x is its record, h the head of R.
-  module _ (none-known : n ≤ i) (room : n < 128) (left : NumberIn n b r) (right : NumberIn n b v) (h : Head) (read : h ≡ headOf (getD (typesIn b) r noRawType)) (x : RawType) (number : NumberType h r v x) (b′ : List ℕ) (put : Put b n x b′) where
+  module _ (none-known : n ≤ i) (room : n < 128) (left : NumberIn n b r) (right : NumberIn n b v) (h : Head) (read : h ≡ headOf (getD (typesIn b) r noRawType)) (x : RawType)
+      (number : NumberType h r v x) (b′ : List ℕ) (put : Put b n x b′) where
     abbrev ms : ℕ
     ms = c .methods
 
@@ -119,7 +120,8 @@ module _ {c : Counts} {r v : ℕ} {b : List ℕ} (asked : Ready c (c .types) r v
     coded : Coded c n b → Coded c (n + 1) b′
     coded q j l = ⊎-elim
         (λ (p : j < n). subst (λ (y : RawType). So (rawTypeFits ms sh j y)) (sym (record-same b b′ j (omega arith) (kept j p))) (q j p))
-        (λ (p : n ≤ j). let e : j ≡ n = omega arith in subst (λ (k : ℕ). So (rawTypeFits ms sh k (getD (typesIn b′) k noRawType))) (sym e) (subst (λ (y : RawType). So (rawTypeFits ms sh n y)) (sym stored) x-coded))
+        (λ (p : n ≤ j). let e : j ≡ n = omega arith in subst (λ (k : ℕ). So (rawTypeFits ms sh k (getD (typesIn b′) k noRawType))) (sym e)
+        (subst (λ (y : RawType). So (rawTypeFits ms sh n y)) (sym stored) x-coded))
         (lt-or-ge j n)
 
     exact : Exact c n (n + 1) b′
@@ -138,7 +140,16 @@ module _ {c : Counts} {r v : ℕ} {b : List ℕ} (asked : Ready c (c .types) r v
       entry-is : typeOf ms sh n x ≡ entry Tb closed r v []
       entry-is =
           ap (typeOf ms sh n) (number .is)
-          ∙ rw (new-number, le-ltb n sh (asked .limits .counted), number .rep .is is-number, ap (λ (y : Head). y .cat) read, ap (λ (y : Head). y .rep) read, ap (λ (y : Ty). y .rep) (number-at r left), ap (λ (y : Ty). y .cat) (number-at r left))
+          ∙ rw (
+            new-number,
+            le-ltb n sh (asked .limits .counted),
+            number .rep .is is-number,
+            ap (λ (y : Head). y .cat) read,
+            ap (λ (y : Head). y .rep) read,
+            ap (λ (y : Ty). y .rep)
+                (number-at r left),
+            ap (λ (y : Ty). y .cat) (number-at r left),
+          )
 
       abbrev Last : ℕ → Option (Table × List Method) → Option (Table × ℕ)
       Last k o = then o λ p. some (withTypes (p .0) (set (p .0 .types) k (entry Tb closed r v (p .1))), k)

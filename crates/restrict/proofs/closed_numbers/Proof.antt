@@ -26,7 +26,11 @@ add-t15 : tie.Need-add-t15
 add-t15 c = omega (arith, c .before .before .before .before .before .if2 .left)
 
 returns-3 : tie.Need-returns-3
-returns-3 c = numbers-new (c .before .before .before .before .before .before .before .before .before .pre .0) _ (c .before .before .before .before .before .before .before .lookup .ensures) (c .before .before .before .before .before .before .if1 .left) (c .before .before .before .before .before .if2 .left) (c .before .before .before .before .before .before .before .before .before .pre .1) (c .before .before .before .before .before .before .before .before .before .pre .2) _ (c .before .before .before .get-head .ensures) _ (c .before .before .number-type .ensures) _ (c .put-type .ensures)
+returns-3 c =
+    numbers-new (c .before .before .before .before .before .before .before .before .before .pre .0) _ (c .before .before .before .before .before .before .before .lookup .ensures)
+    (c .before .before .before .before .before .before .if1 .left) (c .before .before .before .before .before .if2 .left)
+    (c .before .before .before .before .before .before .before .before .before .pre .1) (c .before .before .before .before .before .before .before .before .before .pre .2) _
+    (c .before .before .before .get-head .ensures) _ (c .before .before .number-type .ensures) _ (c .put-type .ensures)
 
 pub closed-numbers-spec : {M : Type 1} → statement M
 closed-numbers-spec =

@@ -17,7 +17,9 @@ narrow-requires-2 : tie.Need-narrow-requires-2
 narrow-requires-2 c κs = search needs
 
 returns : tie.Need-returns
-returns c = number-made (c .before .before .before .before .before .args .h) (c .before .before .before .before .before .args .r) (c .before .before .before .before .before .args .v) _ _ _ _ (c .before .before .before .before .empty .ensures) (c .before .before .number-rep .ensures) (c .before .narrow .ensures) (c .narrow2 .ensures)
+returns c =
+    number-made (c .before .before .before .before .before .args .h) (c .before .before .before .before .before .args .r) (c .before .before .before .before .before .args .v) _ _ _ _
+    (c .before .before .before .before .empty .ensures) (c .before .before .number-rep .ensures) (c .before .narrow .ensures) (c .narrow2 .ensures)
 
 pub number-type-spec : {M : Type 1} → statement M
 number-type-spec =
