@@ -44,7 +44,7 @@ module _ (T : Table) where
   by-known : (i : ℕ) (rest : Option (Table × ℕ)) (o : Option ℕ) → o ≡ some i → _≡_ {A = Option (Table × ℕ)} (some (T, i)) (elim o [ some i ↦ some (T, i) | none ↦ rest ])
   by-known i rest o e = sym (ap (λ (z : Option ℕ). elim z as (λ _. Option (Table × ℕ)) [ some i ↦ some (T, i) | none ↦ rest ]) e)
 
-  by-new : (rest : Option (Table × ℕ)) (o : Option ℕ) → o ≡ none → _≡_ {A = Option (Table × ℕ)} (elim o [ some i ↦ some (T, i) | none ↦ rest ]) rest
+  pub by-new : (rest : Option (Table × ℕ)) (o : Option ℕ) → o ≡ none → _≡_ {A = Option (Table × ℕ)} (elim o [ some i ↦ some (T, i) | none ↦ rest ]) rest
   by-new rest o e = ap (λ (z : Option ℕ). elim z as (λ _. Option (Table × ℕ)) [ some i ↦ some (T, i) | none ↦ rest ]) e
 
 by-room : (rest : Option (Table × ℕ)) (b : Bool) → b ≡ false → _≡_ {A = Option (Table × ℕ)} (elim b [ false ↦ none | true ↦ rest ]) none
@@ -61,7 +61,7 @@ module _ (T : Table) (d : Kind) (t s : ℕ) where
   derive-full zero e h = sym (by-new T none (withoutNew T d t s) e)
   derive-full (suc f) e h = sym (by-new T _ (withoutNew T d t s) e ∙ by-room _ (ltb (size T) 128) (le-ltb (size T) 128 h))
 
-size-tabled : (T : Table) (c : Counts) (n : ℕ) (b : List ℕ) → size (tabled T c n b) ≡ n
+pub size-tabled : (T : Table) (c : Counts) (n : ℕ) (b : List ℕ) → size (tabled T c n b) ≡ n
 size-tabled T c n b = types-to-length (c .methods) (c .sheet) (typesIn b) n
 
 abbrev Without : Kind → Counts → ℕ → ℕ → ℕ → List ℕ → Table → Option ℕ
