@@ -32,11 +32,11 @@ use Rattle.restrict.specs.declared.Begun.{Begun}
 use Rattle.restrict.specs.declared.Begun.the-variants.{Settled, New}
 use Rattle.slots.specs.declared.Work.{Work}
 use Rattle.slots.specs.Slots.{shared, fillAt, methodIn, kindIn, catIn, mainOf, newRecord, pendingRecord, Finished}
-use Rattle.restrict.specs.Link.{Ready, Writes, recordAt, Kept, ExactAt, Exact, ExactTo, Sized, Leaves, Coded, Gives, Begins, Opened, Stored, refIn, tabled, derivedIn, derivationIn}
+use Rattle.restrict.specs.Link.{Ready, Writes, recordAt, Kept, ExactAt, Exact, ExactTo, Sized, Leaves, Coded, Derives, Gives, Begins, Opened, Stored, refIn, tabled, derivedIn, derivationIn}
 use Rattle.slots.proofs.Runs.{Row, methods-run}
 use Rattle.restrict.proofs.Begins.{ref-below, ref-rep, ref-type}
 use Rattle.restrict.proofs.Bytes.{record-same, exact-same, put-below, put-above, put-exact, kept-take, exact-take}
-use Rattle.restrict.proofs.Codes.{denied-coded, methods-coded, new-coded}
+use Rattle.restrict.proofs.Codes.{denied-coded, methods-coded, new-coded, codes-stay}
 use Rattle.restrict.proofs.Turns.{zeros, Whole, Comes, Loop, loop-starts, loop-ends}
 
 -- What needs no new type.
@@ -366,28 +366,33 @@ module _ {d : Kind} {c : Counts} {n t s : ℕ} {w : Work} {b b₀ : List ℕ} (f
           (from-same (methodIn (put .z)) (fillAt d (methodIn x) (methodIn y) ns) ms 0
           (λ j p q. put .finished .filled j (omega arith) ∙ ap (λ (k : Kind). fillAt k (methodIn x) (methodIn y) ns j) (from-start .kinds))))
 
--- What the public functions say: the answer is the model's, and every counted byte.
-module _ {d : Kind} {t s : ℕ} {b b′ : List ℕ} (c : Counts) {r : Derived} (g : Gives d c (c .types) t s b b′ r) (l : List ℕ) where
+-- What the public functions promise.
+module _ {d : Kind} {t s : ℕ} {b b′ : List ℕ} (c : Counts) {r : Derived} (g : Gives d c (c .types) t s b b′ r) where
   abbrev answer : Option (Table × ℕ) → Res (Table × ℕ)
   answer o = elim o [ none ↦ refuse 11 | some p ↦ ok p ]
 
-  answered : (r : Derived) → derivationIn b′ l c r ≡ answer (derivedIn (tableIn b l c) c r b′)
+  answered : (l : List ℕ) (r : Derived) → derivationIn b′ l c r ≡ answer (derivedIn (tableIn b l c) c r b′)
   unfolding tableIn tableOf typesTo
-  answered Full = refl
-  answered (At i m) = refl
+  answered l Full = refl
+  answered l (At i m) = refl
 
-  pub derivation-is : derivationIn b′ l c r ≡ derived (tableIn b l c) d t s
+  derivation-is : (l : List ℕ) → derivationIn b′ l c r ≡ derived (tableIn b l c) d t s
   unfolding derived tableIn tableOf typesTo
-  derivation-is = answered r ∙ ap answer (g .is (tableIn b l c) refl 128 (omega arith))
+  derivation-is l = answered l r ∙ ap answer (g .is (tableIn b l c) refl 128 (omega arith))
 
-  pub derivation-writes : Writes (c .types) b b′ (derived (tableIn b l c) d t s)
-  derivation-writes = subst (Writes (c .types) b b′) derivation-is (go r (g .keeps .sized) (g .exact))
-    where
-      go : (r : Derived) → Sized (c .types) t s r → ExactTo c (c .types) b′ r → Writes (c .types) b b′ (derivationIn b′ l c r)
-      go Full z x = kept-take (c .types) b b′ (g .keeps .kept)
-      go (At i m) z x =
-          ap (λ (k : ℕ). take (k * 128) b′) (size-is b′ l (withCount c m)) ∙ exact-take c (c .types) m b b′ (z .0) (g .keeps .kept) x
-          ∙ ap (λ (ts : List Ty). take (c .types * 128) b ++ flatten (map bytesOf (drop (c .types) ts))) (sym (types-of b′ l (withCount c m)))
+  written : (l : List ℕ) (r : Derived) → Sized (c .types) t s r → ExactTo c (c .types) b′ r → Writes (c .types) b b′ (derivationIn b′ l c r)
+  written l Full z x = kept-take (c .types) b b′ (g .keeps .kept)
+  written l (At i m) z x =
+      ap (λ (k : ℕ). take (k * 128) b′) (size-is b′ l (withCount c m)) ∙ exact-take c (c .types) m b b′ (z .0) (g .keeps .kept) x
+      ∙ ap (λ (ts : List Ty). take (c .types * 128) b ++ flatten (map bytesOf (drop (c .types) ts))) (sym (types-of b′ l (withCount c m)))
+
+  pub derives : Derives d c t s b b′ r
+  derives = record {
+    is = derivation-is;
+    writes = λ l. subst (Writes (c .types) b b′) (derivation-is l) (written l r (g .keeps .sized) (g .exact));
+    keeps = g .keeps;
+    codes = codes-stay b b′ c r (g .coded);
+  }
 
 -- For callers: what `refIn` asks, of the table that the bytes mean.
 pub ref-table : (b l : List ℕ) (c : Counts) (t : ℕ) → isRef (typeAt (tableIn b l c) t .rep) ≡ refIn (c .types) b t

@@ -8,7 +8,7 @@ use lib.Dec.{ltb}
 use lib.ListN.{length, getD, take, drop}
 use Rattle.model.specs.Basics.{Res, refuse, ok}
 use Rattle.model.specs.Table.{Kind, Table, size, withTypes, isRef}
-use Rattle.model.specs.Restriction.{derive}
+use Rattle.model.specs.Restriction.{derive, derived}
 use Rattle.model.specs.Check.{RawType, noRawType, repOf, typeOf, rawTypeFits, codesFit}
 use Rattle.table.specs.declared.Counts.{Counts}
 use Rattle.table.specs.declared.Head.{Head}
@@ -113,6 +113,14 @@ CodesIn b l c (At i m) = So (codesFit (rawTable b l (withCount c m)))
 
 abbrev pub CodesStay : Counts → List ℕ → List ℕ → Derived → Type 0
 CodesStay c b b′ r = (l : List ℕ) → So (codesFit (rawTable b l c)) → CodesIn b′ l c r
+
+-- What the public functions promise: the answer is the model's, whatever the links are; every counted byte; what else the caller goes on with; and that codes
+-- go on naming something.
+pub record Derives (d : Kind) (c : Counts) (t s : ℕ) (b b′ : List ℕ) (r : Derived) : Type 0 where
+  pub is : (l : List ℕ) → derivationIn b′ l c r ≡ derived (tableIn b l c) d t s
+  pub writes : (l : List ℕ) → Writes (c .types) b b′ (derived (tableIn b l c) d t s)
+  pub keeps : Leaves (c .types) t s b b′ r
+  pub codes : CodesStay c b b′ r
 
 -- The table whose types are the first n of the bytes, and what the answer and the bytes left say of it.
 abbrev pub tabled : Table → Counts → ℕ → List ℕ → Table

@@ -4,15 +4,14 @@
 // byte is as before. What the answers mean is in specs/Link.antt, the order in which signatures are derived in crate `slots`.
 ghost use mathlib.Core.Path.{_≡_};
 ghost use mathlib.Core.Bool.{true};
-ghost use mathlib.Core.List.{List};
-ghost use Prim.Native.Nat.{ℕ, _≤_, _<_};
+ghost use Prim.Native.Nat.{_≤_, _<_};
 ghost use lib.ListN.{length};
 ghost use Rattle.model.specs.Table.{sub, sup, closed};
-ghost use Rattle.model.specs.Restriction.{find, withoutNew, mainSide, derived};
+ghost use Rattle.model.specs.Restriction.{find, withoutNew, mainSide};
 ghost use Rattle.model.specs.Check.{kindOf};
-ghost use Rattle.table.specs.Store.{rawOf, typesIn, typesTo, tableIn, withCount};
+ghost use Rattle.table.specs.Store.{rawOf, typesIn, typesTo, withCount};
 ghost use Rattle.table.specs.Limits.{Limits};
-ghost use Rattle.restrict.specs.Link.{Alike, NumberIn, NumberRep, NumberType, Ready, Writes, CodesStay, Gives, Begins, Opened, Stored, derivationIn, foundOf, refIn, tabled};
+ghost use Rattle.restrict.specs.Link.{Alike, NumberIn, NumberRep, NumberType, Ready, Derives, Gives, Begins, Opened, Stored, foundOf, refIn, tabled};
 use numbers::narrow;
 use slots::Slot;
 use slots::Work;
@@ -326,9 +325,7 @@ pub fn closed_any(b: &mut [u8; TYPE_BYTES], c: Counts, r: usize, v: usize) -> De
 // Sub(T,S), in the table of these bytes and counts.
 pub fn sub_type(b: &mut [u8; TYPE_BYTES], c: Counts, t: usize, s: usize) -> Derived
     requires { ⌜ Ready c (c .types) t s (now b) ⌝ }
-    ensures is { λ r. ⌜ ((l : List ℕ) → derivationIn (now (b .exit)) l c r ≡ derived (tableIn (now (b .entry)) l c) sub t s) ⌝ }
-    ensures writes { λ _. ⌜ ((l : List ℕ) → Writes (c .types) (now (b .entry)) (now (b .exit)) (derived (tableIn (now (b .entry)) l c) sub t s)) ⌝ }
-    ensures codes { λ r. ⌜ CodesStay c (now (b .entry)) (now (b .exit)) r ⌝ }
+    ensures { λ r. ⌜ Derives sub c t s (now (b .entry)) (now (b .exit)) r ⌝ }
 {
     sub(b, c, c.types, t, s)
 }
@@ -336,9 +333,7 @@ pub fn sub_type(b: &mut [u8; TYPE_BYTES], c: Counts, t: usize, s: usize) -> Deri
 // Sup(T,S).
 pub fn sup_type(b: &mut [u8; TYPE_BYTES], c: Counts, t: usize, s: usize) -> Derived
     requires { ⌜ Ready c (c .types) t s (now b) ⌝ }
-    ensures is { λ r. ⌜ ((l : List ℕ) → derivationIn (now (b .exit)) l c r ≡ derived (tableIn (now (b .entry)) l c) sup t s) ⌝ }
-    ensures writes { λ _. ⌜ ((l : List ℕ) → Writes (c .types) (now (b .entry)) (now (b .exit)) (derived (tableIn (now (b .entry)) l c) sup t s)) ⌝ }
-    ensures codes { λ r. ⌜ CodesStay c (now (b .entry)) (now (b .exit)) r ⌝ }
+    ensures { λ r. ⌜ Derives sup c t s (now (b .entry)) (now (b .exit)) r ⌝ }
 {
     sup(b, c, c.types, t, s)
 }
@@ -346,9 +341,7 @@ pub fn sup_type(b: &mut [u8; TYPE_BYTES], c: Counts, t: usize, s: usize) -> Deri
 // Closed(R,V).
 pub fn closed_type(b: &mut [u8; TYPE_BYTES], c: Counts, r: usize, v: usize) -> Derived
     requires { ⌜ Ready c (c .types) r v (now b) × (refIn (c .types) (now b) r ≡ true) × (refIn (c .types) (now b) v ≡ true) ⌝ }
-    ensures is { λ d. ⌜ ((l : List ℕ) → derivationIn (now (b .exit)) l c d ≡ derived (tableIn (now (b .entry)) l c) closed r v) ⌝ }
-    ensures writes { λ _. ⌜ ((l : List ℕ) → Writes (c .types) (now (b .entry)) (now (b .exit)) (derived (tableIn (now (b .entry)) l c) closed r v)) ⌝ }
-    ensures codes { λ d. ⌜ CodesStay c (now (b .entry)) (now (b .exit)) d ⌝ }
+    ensures { λ d. ⌜ Derives closed c r v (now (b .entry)) (now (b .exit)) d ⌝ }
 {
     closed(b, c, r, v)
 }

@@ -1,32 +1,30 @@
 -- The definition by its refusals, in their order, and what a checked table gives to the derivation.
 use mathlib.Core.Path.{_≡_, refl, sym, ap, _∙_, subst}
-use mathlib.Core.Bool.{Bool, true, false, _&&_}
+use mathlib.Core.Bool.{Bool, true, false, _&&_, cond}
 use mathlib.Core.List.{List}
 use Prim.Native.Nat.{ℕ, zero, suc, _≤_, _<_}
 use native.Mathlib.Omega.{arith}
 use lib.Dec.{eqb}
 use lib.IntN.{ℤ}
-use lib.ListN.{length, getD}
-use Rattle.model.specs.Basics.{Res, refuse, need, names, named}
+use lib.ListN.{length}
+use Rattle.model.specs.Basics.{Res, refuse, ok, need, names, named}
 use Rattle.model.specs.Table.{Kind, Table, size}
 use Rattle.model.specs.Restriction.{derived}
-use Rattle.model.specs.Check.{noRawType, kindOf, tableAccepted}
-use Rattle.model.proofs.Rules.{never, first}
+use Rattle.model.specs.Check.{kindOf, tableAccepted}
+use Rattle.model.proofs.Rules.{never}
 use Rattle.table.specs.declared.Counts.{Counts}
-use Rattle.table.specs.Store.{typesIn, rawTable, tableIn}
+use Rattle.table.specs.Store.{rawTable, tableIn}
+use Rattle.table.specs.Limits.{Limits}
 use Rattle.table.proofs.Tables.{size-is}
-use Rattle.tablecheck.specs.Parts.{Limited, countsAccepted}
-use Rattle.tablecheck.proofs.Steps.{counts-limited}
-use Rattle.tablecheck.proofs.Laws.{accepted-is}
 use Rattle.operand.specs.Index.{indexOf}
 use Rattle.operand.proofs.Laws.{index-unknown, index-known}
 use Rattle.restrict.specs.declared.Derived.{Derived}
 use Rattle.restrict.specs.declared.Derived.the-variants.{Full, At}
-use Rattle.restrict.specs.Link.{Ready, refIn, outcome, CodesIn, Kept, CodesStay}
+use Rattle.restrict.specs.Link.{Ready, Derives, refIn, derivationIn, CodesIn}
 use Rattle.restrict.proofs.Ends.{ref-table}
 use Rattle.restrict_entry.specs.declared.Derivation.{Derivation}
 use Rattle.restrict_entry.specs.Handed.{kindAsked, isRefType, deriveNamed, deriveHanded}
-use Rattle.restrict_entry.specs.Answer.{derivationOf, refusal, Stays}
+use Rattle.restrict_entry.specs.Answer.{derivationOf, refusedWith, Answered}
 
 -- The kinds by their codes.
 pub asked-both : (k : ℕ) (refs : Bool) → k < 2 → true ≡ kindAsked k refs
@@ -50,33 +48,31 @@ closed-asked (suc zero) refs p q h = absurd (q refl)
 closed-asked (suc (suc zero)) refs p q h = h
 closed-asked (suc (suc (suc k))) refs p q h = let z : _≡_ {A = Bool} false true = h in let e : _≡_ {A = ℕ} 0 1 = cc in absurd (omega arith)
 
-pub kind-is : (b b′ : List ℕ) (c : Counts) (k t s : ℕ) (d : Kind) (r : Derived) → kindOf k ≡ d → ((l : List ℕ) → outcome b′ l c r ≡ derived (tableIn b l c) d t s) → (l : List ℕ) → outcome b′ l c r ≡ derived (tableIn b l c) (kindOf k) t s
-kind-is b b′ c k t s d r e h l = h l ∙ ap (λ (z : Kind). derived (tableIn b l c) z t s) (sym e)
+-- The answer is the model's by another name.
+pub answered-as : {b l : List ℕ} {c : Counts} {a a′ : Res (Table × ℕ)} {r : Derivation} → Answered b l c a r → a ≡ a′ → Answered b l c a′ r
+answered-as {b} {l} {c} {r = r} h e = subst (λ a. Answered b l c a r) e h
 
 -- A refusal.
-module _ (b l : List ℕ) (c : Counts) {n : ℕ} {r : Derivation} (e : r ≡ refusal n b c) where
-  pub refusal-answer : (d : Res (Table × ℕ)) → eqb n 0 ≡ false → refuse n ≡ d → derivationOf l c r ≡ d
-  refusal-answer d h w = ap (derivationOf l c) e ∙ rw h w
-
-  pub refusal-same : (r .no ≡ 0 → ⊥) → r ≡ refusal (r .no) b c
-  refusal-same h = e ∙ ap (λ (k : ℕ). refusal k b c) (sym (ap (λ (z : Derivation). z .no) e))
-
-  pub refusal-stays : eqb n 0 ≡ false → Stays b c r
-  refusal-stays h = record {
-    kept = λ i p. ap (λ (d : Derivation). getD (typesIn (d .types)) i noRawType) e;
-    codes = λ z. never (sym (ap (λ (k : ℕ). eqb k 0) (sym z ∙ ap (λ (d : Derivation). d .no) e) ∙ h));
-  }
+pub refused-answers : (b l : List ℕ) (c : Counts) {n : ℕ} {r : Derivation} → r ≡ refusedWith n b c → eqb n 0 ≡ false → {a : Res (Table × ℕ)} → refuse n ≡ a → Answered b l c a r
+refused-answers b l c {n} {r} e h w = answered-as (subst (Answered b l c (refuse n)) (sym e) record {
+  is = ap (λ (z : Bool). cond z (ok (tableIn b l c, 0)) (refuse n)) h;
+  refused = λ _. refl;
+  writes = refl;
+  codes = λ z. never (sym (ap (λ (k : ℕ). eqb k 0) (sym z) ∙ h));
+}) w
 
 -- What a derivation over lent bytes answered.
-module _ (b b′ : List ℕ) (c : Counts) (k : Kind) (t s : ℕ) {d : Derived} (is : (l : List ℕ) → outcome b′ l c d ≡ derived (tableIn b l c) k t s) where
-  pub full-is : d ≡ Full → (l : List ℕ) → refuse 11 ≡ derived (tableIn b l c) k t s
-  full-is e l = sym (ap (outcome b′ l c) e) ∙ is l
+module _ (b b′ : List ℕ) (c : Counts) (k : Kind) (t s : ℕ) {d : Derived} (does : Derives k c t s b b′ d) (l : List ℕ) where
+  pub full-is : d ≡ Full → refuse 11 ≡ derived (tableIn b l c) k t s
+  full-is e = sym (ap (derivationIn b′ l c) e) ∙ does .is l
 
-  pub at-is : {i m : ℕ} → d ≡ At i m → (l : List ℕ) → outcome b′ l c (At i m) ≡ derived (tableIn b l c) k t s
-  at-is e l = sym (ap (outcome b′ l c) e) ∙ is l
-
-pub at-stays : (b b′ : List ℕ) (c : Counts) {d : Derived} {i m : ℕ} → d ≡ At i m → CodesStay c b b′ d → Kept (c .types) b b′ → Stays b c (record { no = 0; number = i; count = m; types = b′ })
-at-stays b b′ c e h k = record { kept = k; codes = λ z l q. subst (CodesIn b′ l c) e (h l q) }
+  pub at-answers : {i m : ℕ} → d ≡ At i m → Answered b l c (derived (tableIn b l c) k t s) (record { refusal = 0; number = i; count = m; types = b′ })
+  at-answers e = record {
+    is = sym (ap (derivationIn b′ l c) e) ∙ does .is l;
+    refused = λ h. absurd (h refl);
+    writes = does .writes l;
+    codes = λ z j q. subst (CodesIn b′ j c) e (does .codes j q);
+  }
 
 -- By the numbers of the types: x and y are the indices of the numbers handed in.
 module _ (b l : List ℕ) (c : Counts) (kind : ℕ) (t s : ℤ) where
@@ -124,8 +120,5 @@ module _ (b l : List ℕ) (c : Counts) (kind : ℕ) (t s : ℤ) where
   handed-fit e = rw e
 
 -- What a checked table gives to the derivation.
-pub limits : (b l : List ℕ) (c : Counts) → tableAccepted (rawTable b l c) ≡ true → Limited c
-limits b l c e = counts-limited c (first (countsAccepted c) _ (sym (accepted-is b l c) ∙ e))
-
-pub ready : (b : List ℕ) (c : Counts) {t s : ℕ} → Limited c → length b ≡ 16384 → t < c .types → s < c .types → Ready (c .methods) (c .sheet) (c .types) t s b
-ready b c h long p q = let n = h .types in record { methods = h .methods; sheet = h .sheet; types = n; left = omega arith; right = omega arith; long = long }
+pub ready : (b : List ℕ) (c : Counts) {t s : ℕ} → Limits c → length b ≡ 16384 → t < c .types → s < c .types → Ready c (c .types) t s b
+ready b c h long p q = let n = h .types in record { limits = h; left = omega arith; right = omega arith; long = long }

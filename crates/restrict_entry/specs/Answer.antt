@@ -8,18 +8,21 @@ use Rattle.model.specs.Basics.{Res, refuse, ok}
 use Rattle.model.specs.Table.{Table}
 use Rattle.model.specs.Check.{codesFit}
 use Rattle.table.specs.declared.Counts.{Counts}
-use Rattle.table.specs.Store.{rawTable, tableIn}
-use Rattle.restrict.specs.Link.{withCount, Kept}
+use Rattle.table.specs.Store.{rawTable, tableIn, withCount}
+use Rattle.restrict.specs.Link.{Writes}
 use Rattle.restrict_entry.specs.declared.Derivation.{Derivation}
 
 abbrev pub derivationOf : List ℕ → Counts → Derivation → Res (Table × ℕ)
-derivationOf l c r = cond (eqb (r .no) 0) (ok (tableIn (r .types) l (withCount c (r .count)), r .number)) (refuse (r .no))
-
--- What stays: the counted records handed in, as they are stored; and where every code of the table names something before, every code does after.
-pub record Stays (b : List ℕ) (c : Counts) (r : Derivation) : Type 0 where
-  pub kept : Kept (c .types) b (r .types)
-  pub codes : r .no ≡ 0 → (l : List ℕ) → So (codesFit (rawTable b l c)) → So (codesFit (rawTable (r .types) l (withCount c (r .count))))
+derivationOf l c r = cond (eqb (r .refusal) 0) (ok (tableIn (r .types) l (withCount c (r .count)), r .number)) (refuse (r .refusal))
 
 -- A refusal has the bytes and the count that were handed in.
-abbrev pub refusal : ℕ → List ℕ → Counts → Derivation
-refusal n b c = record { no = n; number = 0; count = c .types; types = b }
+abbrev pub refusedWith : ℕ → List ℕ → Counts → Derivation
+refusedWith n b c = record { refusal = n; number = 0; count = c .types; types = b }
+
+-- The code's answer r to bytes and counts handed in, where the model's is `a`: every counted byte is determined, a refusal hands back what was handed in,
+-- and where every code of the table names something before, every code does after, whatever the links are.
+pub record Answered (b l : List ℕ) (c : Counts) (a : Res (Table × ℕ)) (r : Derivation) : Type 0 where
+  pub is : derivationOf l c r ≡ a
+  pub refused : (r .refusal ≡ 0 → ⊥) → r ≡ refusedWith (r .refusal) b c
+  pub writes : Writes (c .types) b (r .types) a
+  pub codes : r .refusal ≡ 0 → (k : List ℕ) → So (codesFit (rawTable b k c)) → So (codesFit (rawTable (r .types) k (withCount c (r .count))))

@@ -1,4 +1,4 @@
--- Sub, Sup or Closed of two types of a table handed in. A derivation is no request of document 01: these numbers serve tests and integrators.
+-- Sub, Sup or Closed of two types of a table handed in. A derivation is no request: these numbers serve tests and integrators.
 use mathlib.Core.Bool.{Bool, true, false, _&&_}
 use Prim.Native.Nat.{ℕ, zero, suc}
 use lib.IntN.{ℤ}

@@ -1,5 +1,5 @@
-// Sub, Sup and Closed (document 01, "Restriction") on any table handed in, by the codes of the three kinds and signed numbers of types. A derivation is no
-// request of document 01: the requests derive types as they cross. What this answers is the definition `deriveHanded` in specs/Handed.antt.
+// Sub, Sup and Closed on any table handed in, by the codes of the three kinds and signed numbers of types. A derivation is no request: the requests derive
+// types as they cross. What this answers is the definition `deriveHanded` in specs/Handed.antt.
 ghost use mathlib.Core.Path.{_≡_};
 ghost use mathlib.Core.Bool.{true, _&&_};
 ghost use mathlib.Core.List.{List};
@@ -7,10 +7,10 @@ ghost use Prim.Native.Nat.{ℕ, _≤_, _<_};
 ghost use Rattle.model.specs.Restriction.{derived};
 ghost use Rattle.model.specs.Check.{kindOf};
 ghost use Rattle.table.specs.Store.{rawTable, tableIn};
-ghost use Rattle.tablecheck.specs.Parts.{Limited};
-ghost use Rattle.restrict.specs.Link.{Ready, refIn, outcome, Kept, CodesStay};
+ghost use Rattle.table.specs.Limits.{Limits};
+ghost use Rattle.restrict.specs.Link.{Ready, Derives, refIn};
 ghost use Rattle.restrict_entry.specs.Handed.{kindAsked, deriveNamed, deriveHanded};
-ghost use Rattle.restrict_entry.specs.Answer.{derivationOf, refusal, Stays};
+ghost use Rattle.restrict_entry.specs.Answer.{Answered, refusedWith};
 use restrict::Derived;
 use table::Counts;
 use table::LINK_BYTES;
@@ -18,17 +18,17 @@ use table::TYPE_BYTES;
 
 // 0, the derived type's number, how many types there are now and their bytes; or the number of a refusal, with the count and the bytes handed in.
 pub struct Derivation {
-    pub no: usize,
+    pub refusal: usize,
     pub number: usize,
     pub count: usize,
     pub types: [u8; TYPE_BYTES],
 }
 
-fn refused(no: usize, b: [u8; TYPE_BYTES], c: Counts) -> Derivation
-    ensures { λ r. ⌜ r ≡ refusal no b c ⌝ }
+fn refused(refusal: usize, b: [u8; TYPE_BYTES], c: Counts) -> Derivation
+    ensures { λ r. ⌜ r ≡ refusedWith refusal b c ⌝ }
 {
     Derivation {
-        no,
+        refusal,
         number: 0,
         count: c.types,
         types: b,
@@ -54,10 +54,8 @@ fn is_asked(b: &[u8; TYPE_BYTES], n: usize, kind: usize, t: usize, s: usize) -> 
 
 // One of the three, over lent bytes.
 fn derive_kind(b: &mut [u8; TYPE_BYTES], c: Counts, kind: usize, t: usize, s: usize) -> Derived
-    requires { ⌜ Ready (c .methods) (c .sheet) (c .types) t s (now b) × (kindAsked kind (refIn (c .types) (now b) t && refIn (c .types) (now b) s) ≡ true) ⌝ }
-    ensures { λ r. ⌜ ((l : List ℕ) → outcome (now (b .exit)) l c r ≡ derived (tableIn (now (b .entry)) l c) (kindOf kind) t s) ⌝ }
-    ensures codes { λ r. ⌜ CodesStay c (now (b .entry)) (now (b .exit)) r ⌝ }
-    ensures kept { λ _. ⌜ Kept (c .types) (now (b .entry)) (now (b .exit)) ⌝ }
+    requires { ⌜ Ready c (c .types) t s (now b) × (kindAsked kind (refIn (c .types) (now b) t && refIn (c .types) (now b) s) ≡ true) ⌝ }
+    ensures { λ r. ⌜ Derives (kindOf kind) c t s (now (b .entry)) (now (b .exit)) r ⌝ }
 {
     if kind == 0 {
         return restrict::sub_type(b, c, t, s);
@@ -70,10 +68,8 @@ fn derive_kind(b: &mut [u8; TYPE_BYTES], c: Counts, kind: usize, t: usize, s: us
 
 // The bytes are put back where the table is full.
 fn derive_checked(b: [u8; TYPE_BYTES], c: Counts, kind: usize, t: usize, s: usize) -> Derivation
-    requires { ⌜ Ready (c .methods) (c .sheet) (c .types) t s b × (kindAsked kind (refIn (c .types) b t && refIn (c .types) b s) ≡ true) ⌝ }
-    ensures is { λ r. ⌜ ((l : List ℕ) → derivationOf l c r ≡ derived (tableIn b l c) (kindOf kind) t s) ⌝ }
-    ensures refused { λ r. ⌜ ((r .no ≡ 0 → ⊥) → r ≡ refusal (r .no) b c) ⌝ }
-    ensures stays { λ r. ⌜ Stays b c r ⌝ }
+    requires { ⌜ Ready c (c .types) t s b × (kindAsked kind (refIn (c .types) b t && refIn (c .types) b s) ≡ true) ⌝ }
+    ensures { λ r. ⌜ ((l : List ℕ) → Answered b l c (derived (tableIn b l c) (kindOf kind) t s) r) ⌝ }
 {
     let mut types = b;
     let d = derive_kind(&mut types, c, kind, t, s);
@@ -81,7 +77,7 @@ fn derive_checked(b: [u8; TYPE_BYTES], c: Counts, kind: usize, t: usize, s: usiz
         return refused(11, b, c);
     };
     Derivation {
-        no: 0,
+        refusal: 0,
         number,
         count,
         types,
@@ -90,10 +86,8 @@ fn derive_checked(b: [u8; TYPE_BYTES], c: Counts, kind: usize, t: usize, s: usiz
 
 // By the numbers of the types, in a table that is checked.
 fn derive_named(b: [u8; TYPE_BYTES], c: Counts, kind: usize, t: i64, s: i64) -> Derivation
-    requires { ⌜ Limited c ⌝ }
-    ensures is { λ r. ⌜ ((l : List ℕ) → derivationOf l c r ≡ deriveNamed (tableIn b l c) kind t s) ⌝ }
-    ensures refused { λ r. ⌜ ((r .no ≡ 0 → ⊥) → r ≡ refusal (r .no) b c) ⌝ }
-    ensures stays { λ r. ⌜ Stays b c r ⌝ }
+    requires { ⌜ Limits c ⌝ }
+    ensures { λ r. ⌜ ((l : List ℕ) → Answered b l c (deriveNamed (tableIn b l c) kind t s) r) ⌝ }
 {
     let x = operand::index_of(t, c.types);
     if c.types <= x {
@@ -118,9 +112,7 @@ pub fn derive(
     t: i64,
     s: i64,
 ) -> Derivation
-    ensures is { λ r. ⌜ derivationOf (now (l .entry)) c r ≡ deriveHanded (rawTable b (now (l .entry)) c) kind t s ⌝ }
-    ensures refused { λ r. ⌜ ((r .no ≡ 0 → ⊥) → r ≡ refusal (r .no) b c) ⌝ }
-    ensures stays { λ r. ⌜ Stays b c r ⌝ }
+    ensures { λ r. ⌜ Answered b (now (l .entry)) c (deriveHanded (rawTable b (now (l .entry)) c) kind t s) r ⌝ }
 {
     if tablecheck::table_fits(&b, l, c) {
         return derive_named(b, c, kind, t, s);

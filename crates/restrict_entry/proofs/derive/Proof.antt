@@ -2,7 +2,8 @@
 use mathlib.Core.Path.{refl, sym, _∙_}
 use mir.Facts.{toZ-ofZ}
 use borrow.Author.Needs.{needs}
-use Rattle.restrict_entry.proofs.Laws.{refusal-answer, refusal-same, refusal-stays, handed-unfit, handed-fit, limits}
+use Rattle.tablecheck.proofs.Accepted.{accepted-limits}
+use Rattle.restrict_entry.proofs.Laws.{answered-as, refused-answers, handed-unfit, handed-fit}
 use Rattle.restrict_entry.proofs.derive.Statement.{statement}
 use Rattle.restrict_entry.proofs.derive.Tie as tie
 
@@ -12,15 +13,15 @@ table-fits-requires c κs = search needs
 derive-named-requires : tie.Need-derive-named-requires
 derive-named-requires c κs =
     let a = c .before .before .before .args in
-    limits (a .t1) (a .l .now) (a .c) (sym (c .before .table-fits .ensures) ∙ c .if1 .taken)
+    accepted-limits (a .t1) (a .l .now) (a .c) (sym (c .before .table-fits .ensures) ∙ c .if1 .taken)
 
 returns : tie.Need-returns
 returns c =
     let s = c .before .before .before .before in
     let a = s .args in
-    let d = rw (toZ-ofZ (s .fits .t), toZ-ofZ (s .fits .s)) at (c .derive-named .ensures .0) in
+    let d = rw (toZ-ofZ (s .fits .t), toZ-ofZ (s .fits .s)) at (c .derive-named .ensures) in
     let fit = sym (c .before .before .table-fits .ensures) ∙ c .before .if1 .taken in
-    (d (a .l .now) ∙ handed-fit (a .t1) (a .l .now) (a .c) (a .kind) (a .t) (a .s) fit, c .derive-named .ensures .1)
+    answered-as (d (a .l .now)) (handed-fit (a .t1) (a .l .now) (a .c) (a .kind) (a .t) (a .s) fit)
 
 refused-requires : tie.Need-refused-requires
 refused-requires c κs = search needs
@@ -30,7 +31,7 @@ returns-2 c =
     let a = c .before .before .before .before .args in
     let e = c .refused .ensures in
     let unfit = sym (c .before .before .table-fits .ensures) ∙ c .before .if1 .left in
-    (refusal-answer (a .t1) (a .l .now) (a .c) e _ refl (handed-unfit (a .t1) (a .l .now) (a .c) (a .kind) (a .t) (a .s) unfit), (refusal-same (a .t1) (a .l .now) (a .c) e, refusal-stays (a .t1) (a .l .now) (a .c) e refl))
+    refused-answers (a .t1) (a .l .now) (a .c) e refl (handed-unfit (a .t1) (a .l .now) (a .c) (a .kind) (a .t) (a .s) unfit)
 
 pub derive-spec : {M : Type 1} → statement M
 derive-spec =

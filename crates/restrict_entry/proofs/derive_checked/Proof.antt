@@ -1,9 +1,8 @@
 -- Rests on what the derivation answered, full or not.
 use mathlib.Core.Path.{refl}
-use mathlib.Core.List.{[]}
 use borrow.Author.Needs.{needs}
 use Rattle.model.specs.Check.{kindOf}
-use Rattle.restrict_entry.proofs.Laws.{refusal-answer, refusal-same, refusal-stays, full-is, at-is, at-stays}
+use Rattle.restrict_entry.proofs.Laws.{refused-answers, full-is, at-answers}
 use Rattle.restrict_entry.proofs.derive_checked.Statement.{statement}
 use Rattle.restrict_entry.proofs.derive_checked.Tie as tie
 
@@ -20,18 +19,16 @@ refused-requires : tie.Need-refused-requires
 refused-requires c κs = search needs
 
 returns : tie.Need-returns
-returns c =
+returns c = λ l.
     let a = c .before .before .before .before .before .args in
     let d = c .before .before .before .derive-kind in
-    let e = c .refused .ensures in
-    let full = full-is (a .b) (d .last .0) (a .c) (kindOf (a .kind)) (a .t) (a .s) (d .ensures .0) (c .before .enum-told .given .1) in
-    (λ l. refusal-answer (a .b) l (a .c) e _ refl (full l), (refusal-same (a .b) [] (a .c) e, refusal-stays (a .b) [] (a .c) e refl))
+    refused-answers (a .b) l (a .c) (c .refused .ensures) refl (full-is (a .b) (d .last .0) (a .c) (kindOf (a .kind)) (a .t) (a .s) (d .ensures) l (c .before .enum-told .given .1))
 
 returns-2 : tie.Need-returns-2
-returns-2 c =
+returns-2 c = λ l.
     let a = c .before .before .before .before .before .args in
     let d = c .before .before .before .derive-kind in
-    (at-is (a .b) (d .last .0) (a .c) (kindOf (a .kind)) (a .t) (a .s) (d .ensures .0) (c .before .d .given .1), (λ h. absurd (h refl), at-stays (a .b) (d .last .0) (a .c) (c .before .d .given .1) (d .ensures .1 .0) (d .ensures .1 .1)))
+    at-answers (a .b) (d .last .0) (a .c) (kindOf (a .kind)) (a .t) (a .s) (d .ensures) l (c .before .d .given .1)
 
 pub derive-checked-spec : {M : Type 1} → statement M
 derive-checked-spec =

@@ -1,15 +1,15 @@
 -- Each kind by its function.
-use mathlib.Core.Path.{ap}
+use mathlib.Core.Path.{sym, ap, subst}
 use mathlib.Core.Bool.{_&&_}
 use borrow.Author.Needs.{needs}
-use Rattle.model.specs.Table.{sub, sup, closed}
+use Rattle.model.specs.Table.{Kind}
 use Rattle.model.specs.Check.{kindOf}
 use Rattle.model.proofs.Rules.{first, second}
-use Rattle.restrict.specs.Link.{refIn}
-use Rattle.restrict_entry.proofs.Laws.{closed-asked, kind-is}
+use Rattle.table.proofs.Codes.{closed-kind}
+use Rattle.restrict.specs.Link.{refIn, Derives}
+use Rattle.restrict_entry.proofs.Laws.{closed-asked}
 use Rattle.restrict_entry.proofs.derive_kind.Statement.{statement}
 use Rattle.restrict_entry.proofs.derive_kind.Tie as tie
-use Rattle.table.proofs.Codes.{closed-kind}
 
 sub-type-requires : tie.Need-sub-type-requires
 sub-type-requires c κs = search needs
@@ -17,7 +17,8 @@ sub-type-requires c κs = search needs
 returns : tie.Need-returns
 returns c =
     let a = c .before .before .before .args in
-    (kind-is (a .b .now) (c .sub-type .last .0) (a .c) (a .kind) (a .t) (a .s) sub (c .sub-type .result) (ap kindOf (c .before .before .if1 .taken)) (c .sub-type .ensures .0), (c .sub-type .ensures .1 .1, c .sub-type .ensures .1 .0 .kept))
+    let d = c .sub-type in
+    subst (λ (k : Kind). Derives k (a .c) (a .t) (a .s) (a .b .now) (d .last .0) (d .result)) (sym (ap kindOf (c .before .before .if1 .taken))) (d .ensures)
 
 sup-type-requires : tie.Need-sup-type-requires
 sup-type-requires c κs = search needs
@@ -25,7 +26,8 @@ sup-type-requires c κs = search needs
 returns-2 : tie.Need-returns-2
 returns-2 c =
     let a = c .before .before .before .before .args in
-    (kind-is (a .b .now) (c .sup-type .last .0) (a .c) (a .kind) (a .t) (a .s) sup (c .sup-type .result) (ap kindOf (c .before .before .if2 .taken)) (c .sup-type .ensures .0), (c .sup-type .ensures .1 .1, c .sup-type .ensures .1 .0 .kept))
+    let d = c .sup-type in
+    subst (λ (k : Kind). Derives k (a .c) (a .t) (a .s) (a .b .now) (d .last .0) (d .result)) (sym (ap kindOf (c .before .before .if2 .taken))) (d .ensures)
 
 closed-type-requires : tie.Need-closed-type-requires
 closed-type-requires c κs =
@@ -38,7 +40,8 @@ closed-type-requires c κs =
 returns-3 : tie.Need-returns-3
 returns-3 c =
     let a = c .before .before .before .before .args in
-    (kind-is (a .b .now) (c .closed-type .last .0) (a .c) (a .kind) (a .t) (a .s) closed (c .closed-type .result) (closed-kind (a .kind) (c .before .before .before .if1 .left) (c .before .before .if2 .left)) (c .closed-type .ensures .0), (c .closed-type .ensures .1 .1, c .closed-type .ensures .1 .0 .kept))
+    let d = c .closed-type in
+    subst (λ (k : Kind). Derives k (a .c) (a .t) (a .s) (a .b .now) (d .last .0) (d .result)) (sym (closed-kind (a .kind) (c .before .before .before .if1 .left) (c .before .before .if2 .left))) (d .ensures)
 
 pub derive-kind-spec : {M : Type 1} → statement M
 derive-kind-spec =

@@ -1,10 +1,9 @@
 -- One law for each way in which it returns; a signed local is kept as 64 bits, from which `toZ-ofZ` reads it back.
 use mathlib.Core.Path.{_≡_, refl, sym, _∙_}
-use mathlib.Core.List.{[]}
 use lib.ListN.{length}
 use mir.Facts.{toZ-ofZ}
 use borrow.Author.Needs.{needs}
-use Rattle.restrict_entry.proofs.Laws.{refusal-answer, refusal-same, refusal-stays, no-left, no-right, no-kind, named-derived, ready}
+use Rattle.restrict_entry.proofs.Laws.{answered-as, refused-answers, no-left, no-right, no-kind, named-derived, ready}
 use Rattle.restrict_entry.proofs.derive_named.Statement.{statement}
 use Rattle.restrict_entry.proofs.derive_named.Tie as tie
 
@@ -21,7 +20,7 @@ returns c =
     let x = c .before .before .before .index-of in
     let e = c .refused .ensures in
     let ex = rw (toZ-ofZ (s .fits .t)) at (x .ensures) in
-    (λ l. refusal-answer (a .t1) l (a .c) e _ refl (no-left (a .t1) l (a .c) (a .kind) (a .t) (a .s) (x .result) ex (c .before .if1 .taken)), (refusal-same (a .t1) [] (a .c) e, refusal-stays (a .t1) [] (a .c) e refl))
+    λ l. refused-answers (a .t1) l (a .c) e refl (no-left (a .t1) l (a .c) (a .kind) (a .t) (a .s) (x .result) ex (c .before .if1 .taken))
 
 index-of-requires-2 : tie.Need-index-of-requires-2
 index-of-requires-2 c κs = search needs
@@ -39,7 +38,7 @@ returns-2 c =
     let e = c .refused2 .ensures in
     let ex = rw (toZ-ofZ (s .fits .t)) at (x .ensures) in
     let ey = rw (toZ-ofZ (s .fits .s)) at (y .ensures) in
-    (λ l. refusal-answer (a .t1) l (a .c) e _ refl (no-right (a .t1) l (a .c) (a .kind) (a .t) (a .s) (x .result) ex (b1 .if1 .left) (y .result) ey (c .before .if2 .taken)), (refusal-same (a .t1) [] (a .c) e, refusal-stays (a .t1) [] (a .c) e refl))
+    λ l. refused-answers (a .t1) l (a .c) e refl (no-right (a .t1) l (a .c) (a .kind) (a .t) (a .s) (x .result) ex (b1 .if1 .left) (y .result) ey (c .before .if2 .taken))
 
 is-asked-requires : tie.Need-is-asked-requires
 is-asked-requires c κs = search needs
@@ -65,7 +64,7 @@ returns-3 c =
     let d = c .derive-checked .ensures in
     let ex = rw (toZ-ofZ (s .fits .t)) at (x .ensures) in
     let ey = rw (toZ-ofZ (s .fits .s)) at (y .ensures) in
-    (λ l. d .0 l ∙ named-derived (a .t1) l (a .c) (a .kind) (a .t) (a .s) (x .result) ex (b1 .if1 .left) (y .result) ey (b2 .if2 .left) (k .result) (k .ensures) (c .before .if3 .taken), d .1)
+    λ l. answered-as (d l) (named-derived (a .t1) l (a .c) (a .kind) (a .t) (a .s) (x .result) ex (b1 .if1 .left) (y .result) ey (b2 .if2 .left) (k .result) (k .ensures) (c .before .if3 .taken))
 
 refused-requires-3 : tie.Need-refused-requires-3
 refused-requires-3 c κs = search needs
@@ -82,7 +81,7 @@ returns-4 c =
     let e = c .refused3 .ensures in
     let ex = rw (toZ-ofZ (s .fits .t)) at (x .ensures) in
     let ey = rw (toZ-ofZ (s .fits .s)) at (y .ensures) in
-    (λ l. refusal-answer (a .t1) l (a .c) e _ refl (no-kind (a .t1) l (a .c) (a .kind) (a .t) (a .s) (x .result) ex (b1 .if1 .left) (y .result) ey (b2 .if2 .left) (k .result) (k .ensures) (c .before .if3 .left)), (refusal-same (a .t1) [] (a .c) e, refusal-stays (a .t1) [] (a .c) e refl))
+    λ l. refused-answers (a .t1) l (a .c) e refl (no-kind (a .t1) l (a .c) (a .kind) (a .t) (a .s) (x .result) ex (b1 .if1 .left) (y .result) ey (b2 .if2 .left) (k .result) (k .ensures) (c .before .if3 .left))
 
 pub derive-named-spec : {M : Type 1} → statement M
 derive-named-spec =
