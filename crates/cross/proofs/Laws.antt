@@ -25,10 +25,9 @@ use Rattle.table.proofs.Lists.{lt-or-ge}
 use Rattle.table.proofs.Tables.{size-is, type-is, type-out}
 use Rattle.restrict.specs.declared.Derived.{Derived}
 use Rattle.restrict.specs.declared.Derived.the-variants.{Full, At}
-use Rattle.restrict.specs.Link.{derivationIn, Kept, ExactAt, ExactTo, Sized, Alike, Gives}
-use Rattle.restrict.specs.Link.{Leaves as Derives, Ready as Derivable}
+use Rattle.restrict.specs.Link.{derivationIn, Kept, ExactAt, ExactTo, Sized, Alike, Derives}
+use Rattle.restrict.specs.Link.{Leaves as Left, Ready as Derivable}
 use Rattle.restrict.proofs.Bytes.{exact-same}
-use Rattle.restrict.proofs.Ends.{derivation-is}
 use Rattle.state.specs.declared.Places.{Places}
 use Rattle.state.specs.declared.Place.the-variants.{Adapter}
 use Rattle.state.specs.declared.PlaceRec.{PlaceRec}
@@ -152,10 +151,10 @@ grew-on c m n b b′ g k h = record {
 kept-led : (c : Counts) (ps : Places) (b : List ℕ) (q : Crossed) → length b ≡ 16384 → Types c b q → Lands ps q → Leaves c ps b b q
 kept-led c ps b q long h k = record { long = long; kept = same-kept (c .types) b; types = h; lands = k }
 
-derives-sized : (n t s : ℕ) {b b′ : List ℕ} {d : Derived} {i m : ℕ} → d ≡ At i m → Derives n t s b b′ d → Sized n t s (At i m)
+derives-sized : (n t s : ℕ) {b b′ : List ℕ} {d : Derived} {i m : ℕ} → d ≡ At i m → Left n t s b b′ d → Sized n t s (At i m)
 derives-sized n t s e k = subst (Sized n t s) e (k .sized)
 
-derives-grew : (c : Counts) (t s : ℕ) {k : Kind} {b b′ : List ℕ} {d : Derived} {i m : ℕ} → d ≡ At i m → Gives k c (c .types) t s b b′ d → Grew c m b′
+derives-grew : (c : Counts) (t s : ℕ) {k : Kind} {b b′ : List ℕ} {d : Derived} {i m : ℕ} → d ≡ At i m → Derives k c t s b b′ d → Grew c m b′
 derives-grew c t s {b′ = b′} e g = let z = derives-sized (c .types) t s e (g .keeps) in record { more = z .0; room = z .1; exact = subst (ExactTo c (c .types) b′) e (g .exact) }
 
 differ : {m n : ℕ} → (m ≡ n → ⊥) → eqb m n ≡ false
@@ -198,9 +197,9 @@ module _ (b l : List ℕ) (c : Counts) (h : Ready l c b) (ps : Places) (s p to r
       pub restrict-stays : true ≡ related subtype T to s → Leads l c ps s p to r b b led.Stays
       restrict-stays e = stays _ (other-stays T (placesIn ps) s p to r (own-table b l c to ∙ own) (sym met) (sym e)) tt
 
-      module _ (less : false ≡ related subtype T to s) (b′ : List ℕ) (d : Derived) (g : Gives sub c (c .types) to s b b′ d) where
+      module _ (less : false ≡ related subtype T to s) (b′ : List ℕ) (d : Derived) (g : Derives sub c to s b b′ d) where
         answer : (x : Derived) → d ≡ x → derivationIn b′ l c x ≡ derived T sub to s
-        answer x e = sym (ap (derivationIn b′ l c) e) ∙ derivation-is c g l
+        answer x e = sym (ap (derivationIn b′ l c) e) ∙ g .is l
 
         pub restrict-11 : d ≡ Full → Leads l c ps s p to r b b′ (led.Refused 11)
         restrict-11 e = record {
@@ -264,9 +263,9 @@ module _ (b l : List ℕ) (c : Counts) (h : Ready l c b) (ps : Places) (r p : �
             },
           )
 
-      module _ (b′ : List ℕ) (d : Derived) (g : Gives closed c (c .types) r v b b′ d) where
+      module _ (b′ : List ℕ) (d : Derived) (g : Derives closed c r v b b′ d) where
         gives : (x : Derived) → d ≡ x → derivationIn b′ l c x ≡ derived U closed r v
-        gives x e = sym (ap (derivationIn b′ l c) e) ∙ derivation-is c g l
+        gives x e = sym (ap (derivationIn b′ l c) e) ∙ g .is l
 
         pub meets-11 : d ≡ Full → Comes b′ (Refused 11)
         meets-11 e = (λ to. meet-11 U (placesIn ps) to r p v is (sym less) (sym met) (gives Full e), record { long = g .keeps .long; kept = g .keeps .kept; types = tt; lands = omega arith })

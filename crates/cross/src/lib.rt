@@ -138,7 +138,7 @@ fn restrict_to(
     if asked(types, links, c, Relation::Subtype, to, s) {
         return Led::Stays;
     }
-    let Derived::At(right, count) = restrict::sub(types, c, c.types, to, s) else {
+    let Derived::At(right, count) = restrict::sub_type(types, c, to, s) else {
         return Led::Refused(11);
     };
     Led::Meets {

@@ -92,7 +92,8 @@ rep-code (suc zero) = refl
 rep-code (suc (suc k)) = ne-eqb (suc (suc k)) 0 (λ e. let w : suc (suc k) ≡ 0 = e in omega arith)
 
 pub ref-code : (n t : ℕ) (b : List ℕ) (h : Head) → t < n → h ≡ headOf (getD (typesIn b) t noRawType) → eqb (h .rep) 0 ≡ refIn n b t
-ref-code n t b h l e = ap (λ (x : Head). eqb (x .rep) 0) e ∙ rep-code (getD (typesIn b) t noRawType .rep) ∙ sym (ap (λ (a : Bool). a && isRef (repOf (getD (typesIn b) t noRawType .rep))) (lt-ltb t n l))
+ref-code n t b h l e = ap (λ (x : Head). eqb (x .rep) 0) e ∙ rep-code (getD (typesIn b) t noRawType .rep) ∙ sym
+    (ap (λ (a : Bool). a && isRef (repOf (getD (typesIn b) t noRawType .rep))) (lt-ltb t n l))
 
 pub ref-below : (n t : ℕ) (b : List ℕ) → refIn n b t ≡ true → t < n
 ref-below n t b e = ltb-true t n (first (ltb t n) _ e)
@@ -167,7 +168,8 @@ module _ (kind t s : ℕ) (l : kind < 2) where
 
     pub begins-number : (own : ℕ) → own ≡ mainSide (kindOf kind) t s → (t ≡ s → ⊥) → (refIn n b t && refIn n b s) ≡ false → Begins Without n t s b (Settled (At own n))
     begins-number own e ne off = (
-      λ T. without T ∙ ap (λ (a : Bool). Plain (tabled T c n b) a (refIn n b t && refIn n b s) kind) (ne-eqb t s ne) ∙ ap (λ (a : Bool). Plain (tabled T c n b) false a kind) off ∙ ap some (sym e),
+      λ T. without T ∙ ap (λ (a : Bool). Plain (tabled T c n b) a (refIn n b t && refIn n b s) kind) (ne-eqb t s ne) ∙ ap (λ (a : Bool). Plain (tabled T c n b) false a kind) off ∙ ap some
+          (sym e),
       refl,
       λ z p q r. main-below kind own z e q r,
     )
@@ -187,6 +189,7 @@ not-right true b e = e
 not-right false b e = refl
 
 -- Closed has only the search.
-pub closed-begins : (c : Counts) (n t s : ℕ) (b : List ℕ) (g : Begun) → Begins (λ T. find closed t s 0 (typesTo (c .methods) (c .sheet) n (typesIn b))) n t s b g → Begins (λ T. withoutNew (tabled T c n b) closed t s) n t s b g
+pub closed-begins : (c : Counts) (n t s : ℕ) (b : List ℕ) (g : Begun) → Begins (λ T. find closed t s 0 (typesTo (c .methods) (c .sheet) n (typesIn b))) n t s b g → Begins
+    (λ T. withoutNew (tabled T c n b) closed t s) n t s b g
 unfolding withoutNew
 closed-begins c n t s b g h = h

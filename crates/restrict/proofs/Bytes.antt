@@ -41,7 +41,8 @@ mkT-eq p₀ p₁ p₂ p₃ p₄ p₅ p₆ = cc
 module _ (b : List ℕ) (i : ℕ) where
   method-there : (j : ℕ) → j < 16 → rawMethodAt b (i * 128 + 16 + j * 7) ≡ rawMethodAt (recordAt b i) (16 + j * 7)
   unfolding mk
-  method-there j h = mk-eq (sym (zeroth b (i * 128 + 16 + j * 7)) ∙ byte 0 (omega arith) ∙ zeroth (recordAt b i) (16 + j * 7)) (byte 1 (omega arith)) (byte 2 (omega arith)) (byte 3 (omega arith)) (byte 4 (omega arith)) (byte 5 (omega arith)) (byte 6 (omega arith))
+  method-there j h = mk-eq (sym (zeroth b (i * 128 + 16 + j * 7)) ∙ byte 0 (omega arith) ∙ zeroth (recordAt b i) (16 + j * 7)) (byte 1 (omega arith)) (byte 2 (omega arith))
+      (byte 3 (omega arith)) (byte 4 (omega arith)) (byte 5 (omega arith)) (byte 6 (omega arith))
     where
       byte : (p : ℕ) → p < 7 → getD b (i * 128 + 16 + j * 7 + p) 0 ≡ getD (recordAt b i) (16 + j * 7 + p) 0
       byte p l = let e : i * 128 + 16 + j * 7 + p ≡ i * 128 + (16 + j * 7 + p) = omega arith in ap (λ (k : ℕ). getD b k 0) e ∙ sym (at b i (16 + j * 7 + p) (omega arith))
@@ -100,7 +101,8 @@ next b n = let e : suc n * 128 ≡ n * 128 + 128 = omega arith in ap (λ (k : �
 
 pub kept-take : (n : ℕ) (b b′ : List ℕ) → Kept n b b′ → take (n * 128) b′ ≡ take (n * 128) b
 kept-take zero b b′ h = refl
-kept-take (suc n) b b′ h = next b′ n ∙ ap (λ (x : List ℕ). x ++ recordAt b′ n) (kept-take n b b′ (λ i l. h i (omega arith))) ∙ ap (λ (x : List ℕ). take (n * 128) b ++ x) (h n (omega arith)) ∙ sym (next b n)
+kept-take (suc n) b b′ h = next b′ n ∙ ap (λ (x : List ℕ). x ++ recordAt b′ n) (kept-take n b b′ (λ i l. h i (omega arith))) ∙ ap (λ (x : List ℕ). take (n * 128) b ++ x) (h n (omega arith))
+    ∙ sym (next b n)
 
 rows : (b : List ℕ) (k n : ℕ) → take ((n + k) * 128) b ≡ take (n * 128) b ++ flatten (from k n (recordAt b))
 unfolding flatten from

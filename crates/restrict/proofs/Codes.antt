@@ -49,12 +49,14 @@ denied-coded (suc n) (suc j) = denied-coded n j
 pub methods-coded : (ms sh i : ℕ) (x : RawType) → So (isRef (repOf (x .rep))) → So (rawTypeFits ms sh i x) → (j : ℕ) → j < ms → So (rawMethodFits (getD (x .methods) j noRawMethod))
 methods-coded ms sh i x r h j l =
     let f : ℕ → RawMethod = λ j. getD (x .methods) j noRawMethod in
-    every-from (λ _. rawMethodFits) f ms 0 (subst So (all-every rawMethodFits 0 (from ms 0 f)) (second (ltb (x .own) 2) _ (applied (first (isRef (repOf (x .rep)) ⇒ _) _ (second (ltb (x .rep) 3) _ h)) r))) j (omega arith) (omega arith)
+    every-from (λ _. rawMethodFits) f ms 0 (subst So (all-every rawMethodFits 0 (from ms 0 f))
+    (second (ltb (x .own) 2) _ (applied (first (isRef (repOf (x .rep)) ⇒ _) _ (second (ltb (x .rep) 3) _ h)) r))) j (omega arith) (omega arith)
 
 -- a derived type
 pub new-coded : (ms sh n : ℕ) (w : Work) (zs : List RawMethod) → w .key .kind < 3 → ((j : ℕ) → j < ms → So (rawMethodFits (getD zs j noRawMethod))) → So (rawTypeFits ms sh n (newRecord w zs))
 new-coded ms sh n w zs k h =
-    both (subst So (sym (all-every rawMethodFits 0 (from ms 0 (λ j. getD zs j noRawMethod)))) (from-every (λ _. rawMethodFits) (λ j. getD zs j noRawMethod) ms 0 (λ j p q. h j (omega arith)))) (go (ltb n sh))
+    both (subst So (sym (all-every rawMethodFits 0 (from ms 0 (λ j. getD zs j noRawMethod))))
+    (from-every (λ _. rawMethodFits) (λ j. getD zs j noRawMethod) ms 0 (λ j p q. h j (omega arith)))) (go (ltb n sh))
   where
     go : (b : Bool) → So (b || ltb (w .key .kind) 3)
     go true = refl
@@ -64,11 +66,13 @@ new-coded ms sh n w zs k h =
 module _ (b l : List ℕ) (c : Counts) where
   pub codes-coded : So (codesFit (rawTable b l c)) → Coded c (c .types) b
   unfolding codesFit
-  codes-coded h i p = every-from (rawTypeFits (c .methods) (c .sheet)) (λ i. getD (typesIn b) i noRawType) (c .types) 0 (second (all (λ x. between 1 2 (x .count)) (from (c .cats) 1 (λ k. getD (linksIn l) k noRawLinks))) _ h) i (omega arith) (omega arith)
+  codes-coded h i p = every-from (rawTypeFits (c .methods) (c .sheet)) (λ i. getD (typesIn b) i noRawType) (c .types) 0
+      (second (all (λ x. between 1 2 (x .count)) (from (c .cats) 1 (λ k. getD (linksIn l) k noRawLinks))) _ h) i (omega arith) (omega arith)
 
 pub coded-codes : (b b′ l : List ℕ) (c : Counts) (m : ℕ) → So (codesFit (rawTable b l c)) → Coded c m b′ → So (codesFit (rawTable b′ l (withCount c m)))
 unfolding codesFit
-coded-codes b b′ l c m h k = both (first (all (λ x. between 1 2 (x .count)) (from (c .cats) 1 (λ k. getD (linksIn l) k noRawLinks))) _ h) (from-every (rawTypeFits (c .methods) (c .sheet)) (λ i. getD (typesIn b′) i noRawType) m 0 (λ i p q. k i (omega arith)))
+coded-codes b b′ l c m h k = both (first (all (λ x. between 1 2 (x .count)) (from (c .cats) 1 (λ k. getD (linksIn l) k noRawLinks))) _ h)
+    (from-every (rawTypeFits (c .methods) (c .sheet)) (λ i. getD (typesIn b′) i noRawType) m 0 (λ i p q. k i (omega arith)))
 
 pub codes-stay : (b b′ : List ℕ) (c : Counts) (r : Derived) → (Coded c (c .types) b → CodedTo c b′ r) → CodesStay c b b′ r
 codes-stay b b′ c Full h l k = tt

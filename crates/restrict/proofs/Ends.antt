@@ -111,7 +111,8 @@ pub record Started (d : Kind) (c : Counts) (n t s : ℕ) (w : Work) (b b₀ : Li
   pub put : Put b n (pendingRecord w) b₀
   pub long : length b ≡ 16384
 
-pub started : {d : Kind} {kind : ℕ} {c : Counts} {n t s : ℕ} {w : Work} {b b₀ : List ℕ} {g : Begun} → Ready c n t s b → kindOf kind ≡ d → kind < 3 → g ≡ New → Begins (Without d c n t s b) n t s b g → Opened kind t s n w b b₀ → Started d c n t s w b b₀
+pub started : {d : Kind} {kind : ℕ} {c : Counts} {n t s : ℕ} {w : Work} {b b₀ : List ℕ} {g : Begun} → Ready c n t s b → kindOf kind ≡ d → kind < 3 → g ≡ New → Begins
+    (Without d c n t s b) n t s b g → Opened kind t s n w b b₀ → Started d c n t s w b b₀
 started {d} {kind} asked kinds known told begun o = let h = new-begins d asked told begun in record {
   limits = asked .limits;
   room = h .1;
@@ -143,7 +144,8 @@ raw-four : (b : List ℕ) (t j : ℕ) → t < 128 → length (getD (getD (typesI
 raw-four b t j h = ⊎-elim
     (λ (l : j < 16). let e : length (getD (getD (typesIn b) t noRawType .methods) j noRawMethod .args) ≡ 4 = ap (λ (m : RawMethod). length (m .args)) (method-in b t j h l) in omega arith)
     (λ (l : 16 ≤ j). let g = methods-length b t h in
-    let e : length (getD (getD (typesIn b) t noRawType .methods) j noRawMethod .args) ≡ 0 = ap (λ (m : RawMethod). length (m .args)) (List·getD-eq-default (getD (typesIn b) t noRawType .methods) noRawMethod {n = j} (omega arith)) in omega arith)
+    let e : length (getD (getD (typesIn b) t noRawType .methods) j noRawMethod .args) ≡ 0 = ap (λ (m : RawMethod). length (m .args))
+    (List·getD-eq-default (getD (typesIn b) t noRawType .methods) noRawMethod {n = j} (omega arith)) in omega arith)
     (lt-or-ge j 16)
 
 method-four : (m : RawMethod) → length (m .args) ≤ 4 → length (methodOf m .args) ≤ 4
@@ -215,7 +217,8 @@ module _ {d : Kind} {c : Counts} {n t s : ℕ} {w : Work} {b b₀ : List ℕ} (f
   few-args i =
       let p = ref-below n t b (from-start .left) in let q = from-start .room in
       let e = shared-left (methodIn x i .args) (methodIn y i .args) in
-      let h : length (getD (rawOf x .methods) i noRawMethod .args) ≤ 4 = subst (λ (r : RawType). length (getD (r .methods) i noRawMethod .args) ≤ 4) (sym (from-start .leftRecord)) (raw-four b t i (omega arith)) in
+      let h : length (getD (rawOf x .methods) i noRawMethod .args) ≤ 4 = subst (λ (r : RawType). length (getD (r .methods) i noRawMethod .args) ≤ 4) (sym (from-start .leftRecord))
+      (raw-four b t i (omega arith)) in
       let g = method-four (getD (rawOf x .methods) i noRawMethod) h in omega arith
 
   -- nothing below the count was written
@@ -232,18 +235,21 @@ module _ {d : Kind} {c : Counts} {n t s : ℕ} {w : Work} {b b₀ : List ℕ} (f
       (λ (p : i < n). subst (λ (r : RawType). So (rawTypeFits ms sh i r)) (sym (record-same b b₀ i (let r = from-start .room in omega arith) (start-kept i p))) (h i p))
       (λ (p : n ≤ i). let e : i ≡ n = omega arith in
       subst (λ (k : ℕ). So (rawTypeFits ms sh k (getD (typesIn b₀) k noRawType))) (sym e)
-      (subst (λ (r : RawType). So (rawTypeFits ms sh n r)) (sym (ap (λ (rs : List RawType). getD rs n noRawType) stored ∙ getD-set-same (typesIn b) n (pendingRecord w) noRawType (let z = types-length b in let r = from-start .room in omega arith)))
+      (subst (λ (r : RawType). So (rawTypeFits ms sh n r)) (sym
+      (ap (λ (rs : List RawType). getD rs n noRawType) stored ∙ getD-set-same (typesIn b) n (pendingRecord w) noRawType (let z = types-length b in let r = from-start .room in omega arith)))
       (new-coded ms sh n w (map rawMethod (replicate 16 emptyMethod)) (from-start .known) (λ j l. denied-coded 16 j))))
       (lt-or-ge i n)
 
   finished-coded : Coded c n b → (z : TypeRec) {ns : List ℕ} → Finished w ms ns z → So (rawTypeFits ms sh n (rawOf z))
-  finished-coded h z fin = subst (λ (r : RawType). So (rawTypeFits ms sh n r)) (sym (fin .head)) (new-coded ms sh n w (rawOf z .methods) (from-start .known) (λ j l. fin .coded j l (side-coded h j l)))
+  finished-coded h z fin = subst (λ (r : RawType). So (rawTypeFits ms sh n r)) (sym (fin .head))
+      (new-coded ms sh n w (rawOf z .methods) (from-start .known) (λ j l. fin .coded j l (side-coded h j l)))
 
   pub start-loop : Loop d c n w b₀ b₀ (ms * 5) zeros (n + 1) 0
   start-loop = loop-starts d c n w b₀ (from-start .limits) (from-start .kinds) (from-start .room) (put-length (from-start .put) ∙ from-start .long)
 
   -- what `finish` asks
-  pub finish-ready : {b₁ : List ℕ} {end : ℕ} {ns : List ℕ} {m k : ℕ} → Ready c n t s b → Loop d c n w b₀ b₁ end ns m k → (n < 128) × (length b₁ ≡ 16384) × (w .key .kind < 3) × (w .key .left < 256) × (w .key .right < 256) × (ms ≤ 16)
+  pub finish-ready : {b₁ : List ℕ} {end : ℕ} {ns : List ℕ} {m k : ℕ} → Ready c n t s b → Loop d c n w b₀ b₁ end ns m k → (n < 128) × (length b₁ ≡ 16384) × (w .key .kind < 3) ×
+      (w .key .left < 256) × (w .key .right < 256) × (ms ≤ 16)
   finish-ready asked now = (
     from-start .room,
     now .long,
@@ -265,7 +271,8 @@ module _ {d : Kind} {c : Counts} {n t s : ℕ} {w : Work} {b b₀ : List ℕ} (f
 
     -- the record that is stored is the model's entry
     entry-is : (zs : List RawMethod) (ws : List Method) → from ms 0 (λ j. methodOf (getD zs j noRawMethod)) ≡ ws → typeOf ms sh n (newRecord w zs) ≡ entry Tb d t s ws
-    entry-is zs ws e = ty-eq (sym (main-is d .0)) (ap (λ (k : Kind). mainOf k x y .head .cat) (from-start .kinds) ∙ sym (main-is d .1)) e (key-eq n sh (from-start .limits .counted) (from-start .kinds) (from-start .keyLeft) (from-start .keyRight))
+    entry-is zs ws e = ty-eq (sym (main-is d .0)) (ap (λ (k : Kind). mainOf k x y .head .cat) (from-start .kinds) ∙ sym (main-is d .1)) e
+        (key-eq n sh (from-start .limits .counted) (from-start .kinds) (from-start .keyLeft) (from-start .keyRight))
 
     pending-is : typeOf ms sh n (pendingRecord w) ≡ pending Tb d t s
     pending-is =
@@ -316,7 +323,8 @@ module _ {d : Kind} {c : Counts} {n t s : ℕ} {w : Work} {b b₀ : List ℕ} (f
     derive-runs (suc f) h o all = (f, make-runs f ∙ ap After (all T et f (omega arith)))
 
   -- The table is full somewhere inside.
-  pub new-full : {b₁ b′ : List ℕ} {end : ℕ} {ns : List ℕ} {m k l r : ℕ} {g : Derived} → Loop d c n w b₀ b₁ end ns m k → Leaves m l r b₁ b′ g → Comes d c n w b₀ (λ T f. none) → Gives d c n t s b b′ Full
+  pub new-full : {b₁ b′ : List ℕ} {end : ℕ} {ns : List ℕ} {m k l r : ℕ} {g : Derived} → Loop d c n w b₀ b₁ end ns m k → Leaves m l r b₁ b′ g → Comes d c n w b₀ (λ T f. none)
+      → Gives d c n t s b b′ Full
   new-full now keeps all = record {
     keeps = record { long = keeps .long; kept = λ i l. keeps .kept i (let p = now .more in omega arith) ∙ now .kept i (omega arith) ∙ start-kept i l; sized = tt };
     is = λ T et f h. sym (derive-runs T et f h (λ T f. none) all .1);
@@ -342,22 +350,26 @@ module _ {d : Kind} {c : Counts} {n t s : ℕ} {w : Work} {b b₀ : List ℕ} (f
       exact : Exact c n m b′
       exact i p q = ⊎-elim
           (λ (l : n < i). exact-same c b₁ b′ i (let o = now .most in omega arith) (above i l q) (now .exact i (omega arith) q))
-          (λ (l : i ≤ n). let e : i ≡ n = omega arith in subst (ExactAt c b′) (sym e) (put-exact (put .put) (now .long) (from-start .room) c (put .finished .exact sh n (from-start .limits .counted))))
+          (λ (l : i ≤ n). let e : i ≡ n = omega arith in subst (ExactAt c b′) (sym e)
+          (put-exact (put .put) (now .long) (from-start .room) c (put .finished .exact sh n (from-start .limits .counted))))
           (lt-or-ge n i)
 
       coded : Coded c n b → Coded c m b′
       coded h i l = ⊎-elim
           (λ (e : i ≡ n). subst (λ (k : ℕ). So (rawTypeFits ms sh k (getD (typesIn b′) k noRawType))) (sym e)
           (subst (λ (r : RawType). So (rawTypeFits ms sh n r))
-          (sym (ap (λ (rs : List RawType). getD rs n noRawType) placed ∙ getD-set-same (typesIn b₁) n (rawOf (put .z)) noRawType (let z = types-length b₁ in let r = from-start .room in omega arith)))
+          (sym (ap (λ (rs : List RawType). getD rs n noRawType) placed ∙ getD-set-same (typesIn b₁) n (rawOf (put .z)) noRawType
+          (let z = types-length b₁ in let r = from-start .room in omega arith)))
           (finished-coded h (put .z) (put .finished))))
-          (λ (e : i ≡ n → ⊥). subst (λ (r : RawType). So (rawTypeFits ms sh i r)) (sym (ap (λ (rs : List RawType). getD rs i noRawType) placed ∙ getD-set-other (typesIn b₁) n i (rawOf (put .z)) noRawType e)) (now .coded (start-coded h) i l))
+          (λ (e : i ≡ n → ⊥). subst (λ (r : RawType). So (rawTypeFits ms sh i r))
+          (sym (ap (λ (rs : List RawType). getD rs i noRawType) placed ∙ getD-set-other (typesIn b₁) n i (rawOf (put .z)) noRawType e)) (now .coded (start-coded h) i l))
           (same-or i n)
 
       kept : Kept n b b′
       kept i l = put-below (put .put) (now .long) (from-start .room) i (let r = from-start .room in omega arith) l ∙ now .kept i (omega arith) ∙ start-kept i l
 
-      types : (T : Table) (et : T .methods ≡ ms) → typesTo ms sh m (typesIn b′) ≡ set (typesTo ms sh m (typesIn b₁)) n (entry (tabled T c n b) d t s (from ms 0 (fillAt d (methodIn x) (methodIn y) ns)))
+      types : (T : Table) (et : T .methods ≡ ms) → typesTo ms sh m (typesIn b′) ≡ set (typesTo ms sh m (typesIn b₁)) n
+          (entry (tabled T c n b) d t s (from ms 0 (fillAt d (methodIn x) (methodIn y) ns)))
       types T et =
           ap (typesTo ms sh m) placed ∙ types-put ms sh (typesIn b₁) m n (rawOf (put .z)) (now .more) (let l = types-length b₁ in let p = now .most in omega arith)
           ∙ ap (set (typesTo ms sh m (typesIn b₁)) n)
@@ -391,6 +403,7 @@ module _ {d : Kind} {t s : ℕ} {b b′ : List ℕ} (c : Counts) {r : Derived} (
     is = derivation-is;
     writes = λ l. subst (Writes (c .types) b b′) (derivation-is l) (written l r (g .keeps .sized) (g .exact));
     keeps = g .keeps;
+    exact = g .exact;
     codes = codes-stay b b′ c r (g .coded);
   }
 

@@ -121,7 +121,8 @@ module _ {d : Kind} {c : Counts} {n : ℕ} {w : Work} {b₀ b : List ℕ} {end :
     }
 
     -- a slot whose type is derived by `e` and kept as `byte`
-    module _ (e : Kind) (byte : ℕ → ℕ) {l r : ℕ} (by : (rec : Derivation) (t : Table) → step rec d slot k t ns ≡ then (rec t e l r) λ p. some (p .0, set ns k (byte (p .1)))) {g : Derived} {b₁ : List ℕ} (does : Gives e c m l r b b₁ g) where
+    module _ (e : Kind) (byte : ℕ → ℕ) {l r : ℕ} (by : (rec : Derivation) (t : Table) → step rec d slot k t ns ≡ then (rec t e l r) λ p. some
+        (p .0, set ns k (byte (p .1)))) {g : Derived} {b₁ : List ℕ} (does : Gives e c m l r b b₁ g) where
       abbrev after : ℕ → Table × ℕ → Option Row
       after f p = runs (derive f) d S (end - (k + 1)) (k + 1) (p .0) (set ns k (byte (p .1)))
 
@@ -155,7 +156,8 @@ module _ {d : Kind} {c : Counts} {n : ℕ} {w : Work} {b₀ b : List ℕ} {end :
                 (λ (l : m ≤ j). subst (ExactTo c m b₁) eg (does .exact) j l q)
                 (lt-or-ge j m);
             coded = λ h. subst (CodedTo c b₁) eg (does .coded (now .coded h));
-            same = λ T et f h. stepped T et f h ∙ ap (λ (o : Derived). then (derivedIn T c o b₁) (after f)) eg ∙ ap (λ (v : ℕ). runs (derive f) d S (end - (k + 1)) (k + 1) (tabled T c m₁ b₁) (set ns k v)) (sym ev);
+            same = λ T et f h. stepped T et f h ∙ ap (λ (o : Derived). then (derivedIn T c o b₁) (after f)) eg ∙ ap
+                (λ (v : ℕ). runs (derive f) d S (end - (k + 1)) (k + 1) (tabled T c m₁ b₁) (set ns k v)) (sym ev);
           }
 
     module _ (low : Low slot) {l r : ℕ} where

@@ -120,6 +120,7 @@ pub record Derives (d : Kind) (c : Counts) (t s : ℕ) (b b′ : List ℕ) (r : 
   pub is : (l : List ℕ) → derivationIn b′ l c r ≡ derived (tableIn b l c) d t s
   pub writes : (l : List ℕ) → Writes (c .types) b b′ (derived (tableIn b l c) d t s)
   pub keeps : Leaves (c .types) t s b b′ r
+  pub exact : ExactTo c (c .types) b′ r
   pub codes : CodesStay c b b′ r
 
 -- The table whose types are the first n of the bytes, and what the answer and the bytes left say of it.

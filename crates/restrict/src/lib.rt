@@ -1,7 +1,7 @@
-// Restriction: Sub, Sup and Closed over the lent bytes of a type table.
+// Derivation (D): Sub, Sup and Closed over the lent bytes of a type table.
 // A new type takes the next number and stands there with every method denied until its signatures are derived; then it is stored once, whole.
 // Both sides are read before anything is derived, and nothing below the count is ever written: what a refusal leaves past the count is open, every counted
-// byte is as before. What the answers mean is in specs/Link.antt, the order in which signatures are derived in crate `slots`.
+// byte is as before (B22, B23). What the answers mean is in specs/Link.antt, the order in which signatures are derived in crate `slots`.
 ghost use mathlib.Core.Path.{_≡_};
 ghost use mathlib.Core.Bool.{true};
 ghost use Prim.Native.Nat.{_≤_, _<_};
@@ -33,7 +33,7 @@ enum Begun {
     New,
 }
 
-// The lowest of n types with this key, or n. Sheet types are not searched.
+// The lowest of n types with this key, or n. Sheet types are not searched (D14).
 fn lookup(b: &[u8; TYPE_BYTES], c: Counts, n: usize, key: Key) -> usize
     requires { ⌜ (key .kind < 3) × Limits (withCount c n) ⌝ }
     ensures { λ r. ⌜ foundOf n r ≡ find (kindOf (key .kind)) (key .left) (key .right) 0 (typesTo (c .methods) (c .sheet) n (typesIn (now (b .entry)))) ⌝ }
@@ -61,7 +61,7 @@ pub fn is_ref(b: &[u8; TYPE_BYTES], n: usize, t: usize) -> bool
     h.rep == Head::REF
 }
 
-// Of two reference types: the known type, or whether there is room for a new one.
+// Of two reference types: the known type, or whether there is room for a new one (D14, D15).
 fn search(b: &[u8; TYPE_BYTES], c: Counts, n: usize, kind: u8, t: usize, s: usize) -> Begun
     requires { ⌜ (kind < 3) × Limits (withCount c n) × (refIn n (now b) t ≡ true) × (refIn n (now b) s ≡ true) ⌝ }
     ensures { λ r. ⌜ Begins (λ T. find (kindOf kind) t s 0 (typesTo (c .methods) (c .sheet) n (typesIn (now (b .entry))))) n t s (now (b .entry)) r ⌝ }
@@ -81,7 +81,7 @@ fn search(b: &[u8; TYPE_BYTES], c: Counts, n: usize, kind: u8, t: usize, s: usiz
     Begun::New
 }
 
-// The side that Sub or Sup keeps.
+// The side that Sub or Sup keeps (D13).
 fn main_side(kind: u8, t: usize, s: usize) -> usize
     ensures { λ r. ⌜ r ≡ mainSide (kindOf kind) t s ⌝ }
 {
@@ -91,7 +91,7 @@ fn main_side(kind: u8, t: usize, s: usize) -> usize
     t
 }
 
-// Sub or Sup of a type with itself is that type, and of numbers the main side.
+// Sub or Sup of a type with itself is that type, and of numbers the main side (D12, D13).
 fn begin(b: &[u8; TYPE_BYTES], c: Counts, n: usize, kind: u8, t: usize, s: usize) -> Begun
     requires { ⌜ (kind < 2) × Limits (withCount c n) ⌝ }
     ensures { λ r. ⌜ Begins (λ T. withoutNew (tabled T c n (now (b .entry))) (kindOf kind) t s) n t s (now (b .entry)) r ⌝ }
@@ -111,7 +111,7 @@ fn begin(b: &[u8; TYPE_BYTES], c: Counts, n: usize, kind: u8, t: usize, s: usize
     search(b, c, n, kind, t, s)
 }
 
-// Both sides are read. The new type takes the next number before its signatures are derived; until then every method of it is denied.
+// Both sides are read. The new type takes the next number before its signatures are derived (D16); until then every method of it is denied.
 fn start(b: &mut [u8; TYPE_BYTES], n: usize, kind: u8, t: usize, s: usize) -> Work
     requires { ⌜ (n < 128) × (t < 128) × (s < 128) × (length (now b) ≡ 16384) ⌝ }
     ensures { λ w. ⌜ Opened kind t s n w (now (b .entry)) (now (b .exit)) ⌝ }
@@ -129,7 +129,7 @@ fn start(b: &mut [u8; TYPE_BYTES], n: usize, kind: u8, t: usize, s: usize) -> Wo
     w
 }
 
-// The type at work is stored, whole.
+// The type at work is stored, whole (B13).
 fn finish(b: &mut [u8; TYPE_BYTES], n: usize, w: Work, methods: usize, bytes: [u8; 80])
     requires { ⌜ (n < 128) × (length (now b) ≡ 16384) × (w .key .kind < 3) × (w .key .left < 256) × (w .key .right < 256) × (methods ≤ 16) ⌝ }
     ensures { λ _. ⌜ Stored w methods n bytes (now (b .entry)) (now (b .exit)) ⌝ }
@@ -138,8 +138,8 @@ fn finish(b: &mut [u8; TYPE_BYTES], n: usize, w: Work, methods: usize, bytes: [u
     table::put_type(b, n, z);
 }
 
-// Sub(T,S), n being the types so far: arguments by Sup, answers by Sub.
-pub fn sub(b: &mut [u8; TYPE_BYTES], c: Counts, n: usize, t: usize, s: usize) -> Derived
+// Sub(T,S), n being the types so far: arguments by Sup, answers by Sub (D5, D17).
+fn sub(b: &mut [u8; TYPE_BYTES], c: Counts, n: usize, t: usize, s: usize) -> Derived
     requires { ⌜ Ready c n t s (now b) ⌝ }
     ensures { λ r. ⌜ Gives sub c n t s (now (b .entry)) (now (b .exit)) r ⌝ }
 {
@@ -177,7 +177,7 @@ pub fn sub(b: &mut [u8; TYPE_BYTES], c: Counts, n: usize, t: usize, s: usize) ->
     Derived::At(n, m)
 }
 
-// Sup(T,S): arguments by Sub, answers by Sup.
+// Sup(T,S): arguments by Sub, answers by Sup (D6, D17).
 fn sup(b: &mut [u8; TYPE_BYTES], c: Counts, n: usize, t: usize, s: usize) -> Derived
     requires { ⌜ Ready c n t s (now b) ⌝ }
     ensures { λ r. ⌜ Gives sup c n t s (now (b .entry)) (now (b .exit)) r ⌝ }
@@ -216,7 +216,7 @@ fn sup(b: &mut [u8; TYPE_BYTES], c: Counts, n: usize, t: usize, s: usize) -> Der
     Derived::At(n, m)
 }
 
-// Closed(R,V) of two reference types, with the signatures of Sub(R,V), which takes no number itself.
+// Closed(R,V) of two reference types, with the signatures of Sub(R,V), which takes no number itself (D9, D10).
 fn closed(b: &mut [u8; TYPE_BYTES], c: Counts, r: usize, v: usize) -> Derived
     requires { ⌜ Ready c (c .types) r v (now b) × (refIn (c .types) (now b) r ≡ true) × (refIn (c .types) (now b) v ≡ true) ⌝ }
     ensures { λ d. ⌜ Gives closed c (c .types) r v (now (b .entry)) (now (b .exit)) d ⌝ }
@@ -314,7 +314,7 @@ fn closed_numbers(b: &mut [u8; TYPE_BYTES], c: Counts, r: usize, v: usize) -> De
 // Closed(R,V) of two reference types or of two number types, as a crossing asks for it.
 pub fn closed_any(b: &mut [u8; TYPE_BYTES], c: Counts, r: usize, v: usize) -> Derived
     requires { ⌜ Ready c (c .types) r v (now b) × Alike (c .types) (now b) r v ⌝ }
-    ensures { λ d. ⌜ Gives closed c (c .types) r v (now (b .entry)) (now (b .exit)) d ⌝ }
+    ensures { λ d. ⌜ Derives closed c r v (now (b .entry)) (now (b .exit)) d ⌝ }
 {
     if is_ref(b, c.types, r) {
         return closed(b, c, r, v);

@@ -66,7 +66,7 @@ fn derive_kind(b: &mut [u8; TYPE_BYTES], c: Counts, kind: usize, t: usize, s: us
     restrict::closed_type(b, c, t, s)
 }
 
-// The bytes are put back where the table is full.
+// The bytes are put back where the table is full (B23).
 fn derive_checked(b: [u8; TYPE_BYTES], c: Counts, kind: usize, t: usize, s: usize) -> Derivation
     requires { ⌜ Ready c (c .types) t s b × (kindAsked kind (refIn (c .types) b t && refIn (c .types) b s) ≡ true) ⌝ }
     ensures { λ r. ⌜ ((l : List ℕ) → Answered b l c (derived (tableIn b l c) (kindOf kind) t s) r) ⌝ }

@@ -93,7 +93,8 @@ module _ (kind x y : ℕ) (a : kind ≡ 0 → ⊥) (b : kind ≡ 1 → ⊥) wher
   closed-on h e = shut-on (stateOf x) e ∙ ap (λ (k : Kind). restricted k (stateOf x) avail) (sym (closed-kind kind a b)) ∙ ap (λ (z : ℕ). restricted (kindOf kind) (stateOf x) (stateOf z)) (sym h)
 
   pub closed-none : y ≡ 2 → permit (stateOf x) ≡ false → unavail ≡ restricted (kindOf kind) (stateOf x) (stateOf y)
-  closed-none h e = shut-none (stateOf x) e ∙ ap (λ (k : Kind). restricted k (stateOf x) avail) (sym (closed-kind kind a b)) ∙ ap (λ (z : ℕ). restricted (kindOf kind) (stateOf x) (stateOf z)) (sym h)
+  closed-none h e = shut-none (stateOf x) e ∙ ap (λ (k : Kind). restricted k (stateOf x) avail) (sym (closed-kind kind a b)) ∙ ap
+      (λ (z : ℕ). restricted (kindOf kind) (stateOf x) (stateOf z)) (sym h)
 
 -- a method stays permitted only where both sides permit it
 left-permits : (d : Kind) (a b : State) → So (permit (restricted d a b)) → So (permit a)
@@ -221,7 +222,8 @@ module _ (d : Kind) (p q : RawMethod) where
         s : stays ≡ true
         s = sym (ap permit es) ∙ e
 
-        same : take count (slotByte count args 0 ∷ slotByte count args 1 ∷ slotByte count args 2 ∷ slotByte count args 3 ∷ []) ≡ take (shared (take (p .count) (p .args)) (take (q .count) (q .args))) args
+        same : take count (slotByte count args 0 ∷ slotByte count args 1 ∷ slotByte count args 2 ∷ slotByte count args 3 ∷ []) ≡ take
+            (shared (take (p .count) (p .args)) (take (q .count) (q .args))) args
         same =
             take-slots count (getD args 0 0) (getD args 1 0) (getD args 2 0) (getD args 3 0) shared-low ∙ ap (take count) (four args l)
             ∙ ap (λ (n : ℕ). take (min (min (p .count) (q .count)) n) args) (sym l) ∙ take-capped (min (p .count) (q .count)) args
@@ -234,7 +236,8 @@ module _ (d : Kind) (p q : RawMethod) where
             let v = min-le-left (p .count) (q .count) in omega arith
 
 -- A method's bytes, and a type's head, put together from their parts.
-pub signed-bytes : (st count : ℕ) (args : List ℕ) (a : ℕ) {n x₀ x₁ x₂ x₃ : ℕ} → n ≡ count → x₀ ≡ slotByte count args 0 → x₁ ≡ slotByte count args 1 → x₂ ≡ slotByte count args 2 → x₃ ≡ slotByte count args 3
+pub signed-bytes : (st count : ℕ) (args : List ℕ) (a : ℕ) {n x₀ x₁ x₂ x₃ : ℕ} → n ≡ count → x₀ ≡ slotByte count args 0 → x₁ ≡ slotByte count args 1 → x₂ ≡ slotByte count args 2
+    → x₃ ≡ slotByte count args 3
     → _≡_ {A = RawMethod} (record { state = st; count = n; args = x₀ ∷ x₁ ∷ x₂ ∷ x₃ ∷ []; answer = a }) (signedMethod st count args a)
 signed-bytes st count args a e e₀ e₁ e₂ e₃ = rw (e, e₀, e₁, e₂, e₃)
 
@@ -269,16 +272,19 @@ pub raw-methods : (ms : List Method) (j : ℕ) → rawMethod (getD ms j absent) 
 raw-methods ms j = sym (List·getD-map rawMethod ms j absent)
 
 filled-here : (d : Kind) (x y : TypeRec) (ns : List ℕ) (j : ℕ) (p q m : Method) → rawMethod p ≡ rawIn x j → rawMethod q ≡ rawIn y j
-    → methodOf (rawMethod m) ≡ fill d (methodOf (rawMethod p)) (methodOf (rawMethod q)) (getD ns (j * 5) 0 ∷ getD ns (j * 5 + 1) 0 ∷ getD ns (j * 5 + 2) 0 ∷ getD ns (j * 5 + 3) 0 ∷ []) (getD ns (j * 5 + 4) 0)
+    → methodOf (rawMethod m) ≡ fill d (methodOf (rawMethod p)) (methodOf (rawMethod q)) (getD ns (j * 5) 0 ∷ getD ns (j * 5 + 1) 0 ∷ getD ns (j * 5 + 2) 0 ∷ getD ns (j * 5 + 3) 0 ∷ [])
+    (getD ns (j * 5 + 4) 0)
     → methodOf (rawMethod m) ≡ fillAt d (methodIn x) (methodIn y) ns j
 filled-here d x y ns j p q m ep eq em =
-    em ∙ ap (λ (z : model.Method). fill d z (methodOf (rawMethod q)) (getD ns (j * 5) 0 ∷ getD ns (j * 5 + 1) 0 ∷ getD ns (j * 5 + 2) 0 ∷ getD ns (j * 5 + 3) 0 ∷ []) (getD ns (j * 5 + 4) 0)) (ap methodOf ep)
+    em ∙ ap (λ (z : model.Method). fill d z (methodOf (rawMethod q)) (getD ns (j * 5) 0 ∷ getD ns (j * 5 + 1) 0 ∷ getD ns (j * 5 + 2) 0 ∷ getD ns (j * 5 + 3) 0 ∷ [])
+    (getD ns (j * 5 + 4) 0)) (ap methodOf ep)
     ∙ ap (λ (z : model.Method). fill d (methodIn x j) z (getD ns (j * 5) 0 ∷ getD ns (j * 5 + 1) 0 ∷ getD ns (j * 5 + 2) 0 ∷ getD ns (j * 5 + 3) 0 ∷ []) (getD ns (j * 5 + 4) 0)) (ap methodOf eq)
 
 -- The loop over the methods: those before j are made from their slots, the others are blank.
 module _ (w : Work) (ns : List ℕ) where
   abbrev Well : ℕ → Method → Type 0
-  Well j m = (methodOf (rawMethod m) ≡ fillAt (kindIn w) (methodIn (w .left)) (methodIn (w .right)) ns j) × (MethodExact (rawMethod m) × (MethodCoded (rawIn (w .left) j) → MethodCoded (rawMethod m)))
+  Well j m = (methodOf (rawMethod m) ≡ fillAt (kindIn w) (methodIn (w .left)) (methodIn (w .right)) ns j) ×
+      (MethodExact (rawMethod m) × (MethodCoded (rawIn (w .left) j) → MethodCoded (rawMethod m)))
 
   pub record Filling (ms : ℕ) (all : List Method) (j : ℕ) : Type 0 where
     pub low : j ≤ ms
@@ -287,7 +293,8 @@ module _ (w : Work) (ns : List ℕ) where
     pub rest : (i : ℕ) → j ≤ i → i < 16 → rawMethod (getD all i absent) ≡ blank
 
   pub filling-starts : (ms : ℕ) (m : Method) → m ≡ emptyMethod → Filling ms (replicate 16 m) 0
-  filling-starts ms m e = subst (λ (m : Method). Filling ms (replicate 16 m) 0) (sym e) record { low = omega arith; long = refl; made = λ i h. absurd (not-suc-le-zero h); rest = λ i h l. blank-at 16 i l }
+  filling-starts ms m e = subst (λ (m : Method). Filling ms (replicate 16 m) 0)
+      (sym e) record { low = omega arith; long = refl; made = λ i h. absurd (not-suc-le-zero h); rest = λ i h l. blank-at 16 i l }
     where
       blank-at : (n i : ℕ) → i < n → rawMethod (getD (replicate n emptyMethod) i absent) ≡ blank
       blank-at zero i h = absurd (not-suc-le-zero h)
@@ -295,7 +302,8 @@ module _ (w : Work) (ns : List ℕ) where
       blank-at (suc n) (suc i) h = blank-at n i (le-of-suc-le-suc h)
 
   pub filling-next : {ms : ℕ} {all : List Method} {j : ℕ} → Filling ms all j → j < ms → ms ≤ 16 → (p q m : Method) → rawMethod p ≡ rawIn (w .left) j → rawMethod q ≡ rawIn (w .right) j
-      → (methodOf (rawMethod m) ≡ fill (kindIn w) (methodOf (rawMethod p)) (methodOf (rawMethod q)) (getD ns (j * 5) 0 ∷ getD ns (j * 5 + 1) 0 ∷ getD ns (j * 5 + 2) 0 ∷ getD ns (j * 5 + 3) 0 ∷ []) (getD ns (j * 5 + 4) 0))
+      → (methodOf (rawMethod m) ≡ fill (kindIn w) (methodOf (rawMethod p)) (methodOf (rawMethod q))
+      (getD ns (j * 5) 0 ∷ getD ns (j * 5 + 1) 0 ∷ getD ns (j * 5 + 2) 0 ∷ getD ns (j * 5 + 3) 0 ∷ []) (getD ns (j * 5 + 4) 0))
       × (MethodExact (rawMethod m) × (MethodCoded (rawMethod p) → MethodCoded (rawMethod m))) → Filling ms (set all j m) (j + 1)
   filling-next {ms} {all} {j} so h few p q m ep eq em = let l = so .long in record {
     low = omega arith;
@@ -306,12 +314,14 @@ module _ (w : Work) (ns : List ℕ) where
   }
 
   -- the type that they make
-  pub filling-ends : {ms : ℕ} {all : List Method} {j : ℕ} → Filling ms all j → ms ≤ j → w .key .kind < 3 → (z : TypeRec) → rawOf z ≡ newRecord w (rawOf z .methods) → z .methods ≡ all → Finished w ms ns z
+  pub filling-ends : {ms : ℕ} {all : List Method} {j : ℕ} → Filling ms all j → ms ≤ j → w .key .kind < 3 → (z : TypeRec) → rawOf z ≡ newRecord w (rawOf z .methods) → z .methods ≡ all
+      → Finished w ms ns z
   filling-ends {ms} {all} {j} so done k z e em = record {
     head = e;
     filled = λ i h. ap methodOf (at i) ∙ so .made i (omega arith) .0;
     exact = λ sh i h. subst (TypeExact ms sh i) (sym e)
-        (ref-exact ms sh i (newRecord w (rawOf z .methods)) (length-map (z .methods) rawMethod ∙ ap length em ∙ so .long) (derived-key sh i (newRecord w (rawOf z .methods)) h k) refl (omega arith)
+        (ref-exact ms sh i (newRecord w (rawOf z .methods)) (length-map (z .methods) rawMethod ∙ ap length em ∙ so .long) (derived-key sh i (newRecord w (rawOf z .methods)) h k) refl
+        (omega arith)
         (λ n l. subst MethodExact (sym (at n)) (so .made n (omega arith) .1 .0)) (λ n l r. at n ∙ so .rest n (let g = so .low in omega arith) r));
     coded = λ i h c. subst MethodCoded (sym (at i)) (so .made i (omega arith) .1 .1 c);
   }

@@ -76,7 +76,8 @@ signed s zs z = record { state = s; args = zs; answer = z }
 
 module _ (rec : Derivation) (d : Kind) where
   -- what follows a slot, or a run of them, may count on the other bytes
-  step-same : {B : Type 0} (s : Slot) (k : ℕ) (t : Table) (ns : List ℕ) (F G : Row → Option B) → ((q : Row) → Beside k 1 ns (q .1) → F q ≡ G q) → then (step rec d s k t ns) F ≡ then (step rec d s k t ns) G
+  step-same : {B : Type 0} (s : Slot) (k : ℕ) (t : Table) (ns : List ℕ) (F G : Row → Option B) → ((q : Row) → Beside k 1 ns (q .1) → F q ≡ G q) → then (step rec d s k t ns) F ≡ then
+      (step rec d s k t ns) G
   step-same Empty k t ns F G h = h (t, ns) (refl, λ i l. refl)
   step-same {B} (Argument l r) k t ns F G h = go (rec t (argKind d) l r)
     where
@@ -138,17 +139,20 @@ module _ (rec : Derivation) (d : Kind) where
         put : Table × ℕ → Row
         put p = (p .0, set (q .1) k (p .1))
 
-        go : (o : Option (Table × ℕ)) → _≡_ {A = Option B} (then {A = Table × List ℕ} (then o λ v. then (deriveArgs rec d (v .0) xs ys) λ p. some (p .0, v .1 ∷ p .1)) (λ p. A (p .0) (p .1))) (then {A = Row} (then {A = Row} (then o λ p. some (put p)) (Run w (suc k))) after)
+        go : (o : Option (Table × ℕ)) → _≡_ {A = Option B} (then {A = Table × List ℕ} (then o λ v. then (deriveArgs rec d (v .0) xs ys) λ p. some (p .0, v .1 ∷ p .1))
+            (λ p. A (p .0) (p .1))) (then {A = Row} (then {A = Row} (then o λ p. some (put p)) (Run w (suc k))) after)
         go none = refl
         go (some v) =
             bind (deriveArgs rec d (v .0) xs ys) (λ p. some (p .0, v .1 ∷ p .1)) (λ p. A (p .0) (p .1)) ∙ more v
             ∙ runs-same w (suc k) (put v) (λ p. A (p .0) (v .1 ∷ take (shared xs ys) (bytes w (suc k) (p .1)))) after
             (λ p b. ap (λ (n : ℕ). A (p .0) (n ∷ take (shared xs ys) (bytes w (suc k) (p .1)))) (sym (b .1 k (inl (omega arith)) ∙ getD-set-same (q .1) k (v .1) 0 l)))
 
-    args-none : {B : Type 0} (w k : ℕ) (q : Row) (A : Table → List ℕ → Option B) → ((i : ℕ) → i < w → f (k + i) ≡ Empty) → A (q .0) [] ≡ then (Run w k q) (λ p. A (p .0) (take 0 (bytes w k (p .1))))
+    args-none : {B : Type 0} (w k : ℕ) (q : Row) (A : Table → List ℕ → Option B) → ((i : ℕ) → i < w → f (k + i) ≡ Empty) → A (q .0) [] ≡ then (Run w k q)
+        (λ p. A (p .0) (take 0 (bytes w k (p .1))))
     args-none w k q A e = sym (ap (λ (o : Option Row). then o λ p. A (p .0) (take 0 (bytes w k (p .1)))) (runs-empty w k q e))
 
-    args-run : {B : Type 0} (w k : ℕ) (xs ys : List ℕ) (q : Row) (A : Table → List ℕ → Option B) → shared xs ys ≤ w → k + w ≤ length (q .1) → ((i : ℕ) → i < w → f (k + i) ≡ argumentSlot i xs ys) → Args w k xs ys q A
+    args-run : {B : Type 0} (w k : ℕ) (xs ys : List ℕ) (q : Row) (A : Table → List ℕ → Option B) → shared xs ys ≤ w → k + w ≤ length (q .1) →
+        ((i : ℕ) → i < w → f (k + i) ≡ argumentSlot i xs ys) → Args w k xs ys q A
     unfolding deriveArgs
     args-run w k [] ys q A h l e = args-none w k q A e
     args-run w k (x ∷ xs) [] q A h l e = args-none w k q A e
@@ -167,7 +171,8 @@ module _ (rec : Derivation) (d : Kind) where
     answer-run k (some x) none q A h e = rw e
     answer-run {B} k (some x) (some y) q A h e = go (rec (q .0) (answerKind d) x y)
       where
-        go : (o : Option (Table × ℕ)) → _≡_ {A = Option B} (then {A = Table × Option ℕ} (then o λ p. some (p .0, some (p .1))) (λ p. A (p .0) (p .1))) (then {A = Row} (then o λ p. some (p .0, set (q .1) k (suc (p .1)))) (λ p. A (p .0) (answerOf (getD (p .1) k 0))))
+        go : (o : Option (Table × ℕ)) → _≡_ {A = Option B} (then {A = Table × Option ℕ} (then o λ p. some (p .0, some (p .1))) (λ p. A (p .0) (p .1)))
+            (then {A = Row} (then o λ p. some (p .0, set (q .1) k (suc (p .1)))) (λ p. A (p .0) (answerOf (getD (p .1) k 0))))
         go none = refl
         go (some v) = rw (getD-set-same (q .1) k (suc (v .1)) 0 h)
 
@@ -194,7 +199,8 @@ module _ (rec : Derivation) (d : Kind) where
         (λ p b. bind (deriveAnswer rec d (p .0) (x .answer) (y .answer)) (λ z. some (z .0, signed s (zs p) (z .1))) (λ p. go (p .0) (p .1))
         ∙ answer-run (k + 4) (x .answer) (y .answer) p (λ t z. go t (signed s (zs p) z)) (let l = b .0 in omega arith) (b .1 (k + 4) (inr (omega arith)) ∙ blank)
         ∙ step-same (answerSlot (x .answer) (y .answer)) (k + 4) (p .0) (p .1) (λ r. go (r .0) (signed s (zs p) (answerOf (getD (r .1) (k + 4) 0)))) end
-        (λ r g. ap (λ (l : List ℕ). go (r .0) (signed s (take (shared (x .args) (y .args)) l) (answerOf (getD (r .1) (k + 4) 0)))) (four-bytes k (p .1) ∙ four-same k (p .1) (r .1) (λ i l. g .1 i (inl l))))
+        (λ r g. ap (λ (l : List ℕ). go (r .0) (signed s (take (shared (x .args) (y .args)) l) (answerOf (getD (r .1) (k + 4) 0))))
+        (four-bytes k (p .1) ∙ four-same k (p .1) (r .1) (λ i l. g .1 i (inl l))))
         ∙ ap (λ (u : Slot). then (step rec d u (k + 4) (p .0) (p .1)) end) (sym ans) ∙ sym (last-one (k + 4) p end))
         ∙ sym (bind (Run 4 k q) (Run 1 (k + 4)) end) ∙ sym (ap (λ (o : Option Row). then o end) (runs-parts 4 1 k q))
       where
@@ -204,7 +210,8 @@ module _ (rec : Derivation) (d : Kind) where
         end : Row → Option B
         end p = go (p .0) (signed s (take (shared (x .args) (y .args)) (four k (p .1))) (answerOf (getD (p .1) (k + 4) 0)))
 
-    method-run : {B : Type 0} (x y : Method) (k : ℕ) (q : Row) (go : Table → Method → Option B) → shared (x .args) (y .args) ≤ 4 → k + 5 ≤ length (q .1) → getD (q .1) (k + 4) 0 ≡ 0 → ((i : ℕ) → i < 5 → f (k + i) ≡ slotOf d x y i)
+    method-run : {B : Type 0} (x y : Method) (k : ℕ) (q : Row) (go : Table → Method → Option B) → shared (x .args) (y .args) ≤ 4 → k + 5 ≤ length (q .1) → getD (q .1) (k + 4) 0 ≡ 0 →
+        ((i : ℕ) → i < 5 → f (k + i) ≡ slotOf d x y i)
         → then (deriveMethod rec d (q .0) x y) (λ p. go (p .0) (p .1)) ≡ then (Run 5 k q) λ p. go (p .0) (fill d x y (four k (p .1)) (getD (p .1) (k + 4) 0))
     unfolding deriveMethod
     method-run {B} x y k q go few room blank slots = by (permit s) refl
@@ -255,8 +262,10 @@ module _ (rec : Derivation) (d : Kind) where
     unfolding deriveMethods from runs
     methods-from zero j q room blank = refl
     methods-from (suc c) j q room blank =
-        method-run (slotAt d x y) (x j) (y j) (j * 5) q (λ t m. then (deriveMethods rec d t (from c (suc j) x) (from c (suc j) y)) λ z. some (z .0, m ∷ z .1)) (few j) (omega arith) (blank (j * 5 + 4) (omega arith)) (slot-in j)
-        ∙ runs-same (slotAt d x y) 5 (j * 5) q (λ p. then (deriveMethods rec d (p .0) (from c (suc j) x) (from c (suc j) y)) λ z. some (z .0, fillAt d x y (p .1) j ∷ z .1)) (λ p. then (Rest c (suc j) p) (After c j))
+        method-run (slotAt d x y) (x j) (y j) (j * 5) q (λ t m. then (deriveMethods rec d t (from c (suc j) x) (from c (suc j) y)) λ z. some (z .0, m ∷ z .1)) (few j) (omega arith)
+        (blank (j * 5 + 4) (omega arith)) (slot-in j)
+        ∙ runs-same (slotAt d x y) 5 (j * 5) q (λ p. then (deriveMethods rec d (p .0) (from c (suc j) x) (from c (suc j) y)) λ z. some (z .0, fillAt d x y (p .1) j ∷ z .1))
+        (λ p. then (Rest c (suc j) p) (After c j))
         (λ p b. ap (λ (o : Option (Table × List Method)). then o λ z. some (z .0, fillAt d x y (p .1) j ∷ z .1))
         (methods-from c (suc j) p (let l = b .0 in omega arith) (λ i l. b .1 i (inr (omega arith)) ∙ blank i (omega arith)))
         ∙ bind (Rest c (suc j) p) (All c (suc j)) (λ z. some (z .0, fillAt d x y (p .1) j ∷ z .1))
@@ -265,6 +274,7 @@ module _ (rec : Derivation) (d : Kind) where
         ∙ sym (rest-parts c j q)
 
 -- The methods of a derived type come from its slots, run in order over bytes that are 0.
-pub methods-run : (rec : Derivation) (d : Kind) (x y : ℕ → Method) (c : ℕ) (t : Table) (ns : List ℕ) → ((i : ℕ) → shared (x i .args) (y i .args) ≤ 4) → c * 5 ≤ length ns → ((i : ℕ) → getD ns i 0 ≡ 0)
+pub methods-run : (rec : Derivation) (d : Kind) (x y : ℕ → Method) (c : ℕ) (t : Table) (ns : List ℕ) → ((i : ℕ) → shared (x i .args) (y i .args) ≤ 4) → c * 5 ≤ length ns →
+    ((i : ℕ) → getD ns i 0 ≡ 0)
     → deriveMethods rec d t (from c 0 x) (from c 0 y) ≡ then (runs rec d (slotAt d x y) (c * 5) 0 t ns) λ q. some (q .0, from c 0 (fillAt d x y (q .1)))
 methods-run rec d x y c t ns few room blank = methods-from rec d x y few c 0 (t, ns) (omega arith) (λ i l. blank i)

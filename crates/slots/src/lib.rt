@@ -1,5 +1,5 @@
-// Restriction: the parts of a derived type, from its two sides as they were read: its key, the states of its methods, and its signatures slot by slot.
-// What is derived for a slot is said here, not derived; crate `restrict` does that. Five slots to a method, four arguments and the answer.
+// Derivation (D): the parts of a derived type, from its two sides as they were read: its key, the states of its methods, and its signatures slot by slot.
+// What is derived for a slot is said here, not derived; crate `restrict` does that. Five slots to a method, four arguments and the answer (D17).
 ghost use mathlib.Core.Path.{_≡_};
 ghost use mathlib.Core.Bool.{cond};
 ghost use Prim.Native.Nat.{_≤_, _<_, min};
@@ -33,7 +33,7 @@ pub enum Slot {
     Answer(usize, usize),
 }
 
-// A code past the last kind is read as Closed.
+// A code past the last kind is read as Closed (B5).
 fn same_kind(kind: u8, k: u8) -> bool
     requires { ⌜ kind < 3 ⌝ }
     ensures { λ r. ⌜ r ≡ sameKind (kindOf kind) (kindOf k) ⌝ }
@@ -44,7 +44,7 @@ fn same_kind(kind: u8, k: u8) -> bool
     k == kind
 }
 
-// Whether a derived type's head has this key.
+// Whether a derived type's head has this key (D14).
 pub fn is_key(h: Head, key: Key) -> bool
     requires { ⌜ key .kind < 3 ⌝ }
     ensures { λ r. ⌜ r ≡ isKey (kindOf (key .kind)) (key .left) (key .right) (keyIn h) ⌝ }
@@ -61,7 +61,7 @@ pub fn is_key(h: Head, key: Key) -> bool
     key.right == r
 }
 
-// A code past the last state is read as unavail, and stored as unavail's.
+// A code past the last state is read as unavail, and stored as unavail's (B8).
 fn state_code(x: u8) -> u8
     ensures { λ r. ⌜ (stateOf r ≡ stateOf x) × (r < 4) ⌝ }
 {
@@ -71,7 +71,7 @@ fn state_code(x: u8) -> u8
     Method::UNAVAIL
 }
 
-// The main side's state, except that a method it permits and the other doesn't is lost.
+// The main side's state, except that a method it permits and the other doesn't is lost (D2, D4).
 fn kept_state(main: u8, other: u8, lost: u8) -> u8
     requires { ⌜ lost < 4 ⌝ }
     ensures { λ r. ⌜ (stateOf r ≡ keptState (stateOf main) (stateOf other) (stateOf lost)) × (r < 4) ⌝ }
@@ -88,7 +88,7 @@ fn kept_state(main: u8, other: u8, lost: u8) -> u8
     lost
 }
 
-// The state of a method in the derived type, from its states on the left and on the right.
+// The state of a method in the derived type, from its states on the left and on the right (D2, D4, D8).
 fn state_of(kind: u8, x: u8, y: u8) -> u8
     requires { ⌜ kind < 3 ⌝ }
     ensures { λ r. ⌜ (stateOf r ≡ restricted (kindOf kind) (stateOf x) (stateOf y)) × (r < 4) ⌝ }
@@ -134,7 +134,7 @@ fn argument(m: Method, i: usize) -> usize
     wide(args[i])
 }
 
-// Argument slot i: the sides are exchanged, the right side's argument on the left.
+// Argument slot i: the sides are exchanged, the right side's argument on the left (D5, D6).
 fn argument_slot(p: Method, q: Method, i: usize) -> Slot
     requires { ⌜ i < 4 ⌝ }
     ensures { λ r. ⌜ (r ≡ argumentSlot i (take (p .count) (p .args)) (take (q .count) (q .args))) × Low r ⌝ }
@@ -185,7 +185,7 @@ pub fn slot_at(w: Work, k: usize) -> Slot
     slot_of(w.key.kind, p, q, k % 5)
 }
 
-// How many arguments both signatures have, at most the four that a record has room for.
+// How many arguments both signatures have (D20), at most the four that a record has room for.
 fn shared_count(x: u8, y: u8) -> usize
     ensures { λ r. ⌜ r ≡ min (min x y) 4 ⌝ }
 {
@@ -195,7 +195,7 @@ fn shared_count(x: u8, y: u8) -> usize
     least(both, 4)
 }
 
-// The byte of argument i of so many: 0 past the last.
+// The byte of argument i of so many: 0 past the last (B17).
 fn argument_byte(x: u8, i: usize, count: usize) -> u8
     ensures { λ r. ⌜ r ≡ cond (ltb i count) x 0 ⌝ }
 {
@@ -205,7 +205,7 @@ fn argument_byte(x: u8, i: usize, count: usize) -> u8
     0
 }
 
-// A method that isn't permitted has no signature, and no byte of one.
+// A method that isn't permitted has no signature, and no byte of one (B16).
 fn unsigned(state: u8) -> Method
     ensures { λ r. ⌜ rawMethod r ≡ bareMethod state ⌝ }
 {
@@ -234,7 +234,7 @@ fn signed(state: u8, count: usize, args: [u8; 4], answer: u8) -> Method
     }
 }
 
-// A method of the derived type, from the bytes of its slots: the record that stands for what it means.
+// A method of the derived type, from the bytes of its slots: the record that stands for what it means (B13).
 fn filled(kind: u8, p: Method, q: Method, args: [u8; 4], answer: u8) -> Method
     requires { ⌜ kind < 3 ⌝ }
     ensures is { λ r. ⌜ methodOf (rawMethod r) ≡ fill (kindOf kind) (methodOf (rawMethod p)) (methodOf (rawMethod q)) args answer ⌝ }
@@ -250,7 +250,7 @@ fn filled(kind: u8, p: Method, q: Method, args: [u8; 4], answer: u8) -> Method
     signed(state, count, args, answer)
 }
 
-// The category of the side that the derived type keeps: the right one for Sup.
+// The category of the side that the derived type keeps: the right one for Sup (D1, D3, D7).
 fn category(w: Work) -> u8
     ensures { λ r. ⌜ r ≡ catIn w ⌝ }
 {
@@ -260,7 +260,7 @@ fn category(w: Work) -> u8
     w.left.head.cat
 }
 
-// A derived type is a reference type with own=no, known by its key.
+// A derived type is a reference type with own=no, known by its key (D11).
 fn new_type(w: Work, methods: [Method; 16]) -> TypeRec
     requires { ⌜ (w .key .left < 256) × (w .key .right < 256) ⌝ }
     ensures { λ r. ⌜ (rawOf r ≡ newRecord w (rawOf r .methods)) × (r .methods ≡ methods) ⌝ }
@@ -279,7 +279,7 @@ fn new_type(w: Work, methods: [Method; 16]) -> TypeRec
     TypeRec { head, methods }
 }
 
-// The type as it stands until its signatures are derived: every method is denied.
+// The type as it stands until its signatures are derived: every method is denied (D16).
 pub fn pending(w: Work) -> TypeRec
     requires { ⌜ (w .key .left < 256) × (w .key .right < 256) ⌝ }
     ensures { λ r. ⌜ rawOf r ≡ pendingRecord w ⌝ }

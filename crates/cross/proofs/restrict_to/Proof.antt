@@ -27,8 +27,8 @@ returns-2 c =
     let subtype = sym (c .if2 .taken) ∙ c .before .asked2 .ensures in
     λ ps r place. restrict-stays (a .types .now) (a .links .now) (a .c) (h .0) ps (a .s) (a .p) (a .to) r place (h .1) loose subtype
 
-sub-requires : tie.Need-sub-requires
-sub-requires c κs =
+sub-type-requires : tie.Need-sub-type-requires
+sub-type-requires c κs =
     let a = c .before .before .before .before .before .before .before .args in
     sub-asked (a .types .now) (a .links .now) (a .c) (c .before .before .before .before .before .before .before .pre .0) (a .to) (a .s)
     (sym (not-false (c .before .before .before .before .before .asked .result) (c .before .before .before .before .if1 .left)) ∙ c .before .before .before .before .before .asked .ensures)
@@ -43,7 +43,7 @@ returns-3 : tie.Need-returns-3
 returns-3 c =
     let a = c .before .before .before .before .before .before .before .before .before .before .args in
     let h = c .before .before .before .before .before .before .before .before .before .before .pre in
-    let d = c .before .before .sub in
+    let d = c .before .before .sub-type in
     let loose = sym (not-false (c .before .before .before .before .before .before .before .before .asked .result) (c .before .before .before .before .before .before .before .if1 .left))
     ∙ c .before .before .before .before .before .before .before .before .asked .ensures in
     let less = sym (c .before .before .before .before .if2 .left) ∙ c .before .before .before .before .before .asked2 .ensures in
@@ -53,7 +53,7 @@ returns-4 : tie.Need-returns-4
 returns-4 c =
     let a = c .before .before .before .before .before .before .before .before .before .before .before .args in
     let h = c .before .before .before .before .before .before .before .before .before .before .before .pre in
-    let d = c .before .before .before .sub in
+    let d = c .before .before .before .sub-type in
     let loose = sym (not-false (c .before .before .before .before .before .before .before .before .before .asked .result)
     (c .before .before .before .before .before .before .before .before .if1 .left)) ∙ c .before .before .before .before .before .before .before .before .before .asked .ensures in
     let less = sym (c .before .before .before .before .before .if2 .left) ∙ c .before .before .before .before .before .before .asked2 .ensures in
@@ -68,7 +68,7 @@ restrict-to-spec =
     returns
     asked-requires-2
     returns-2
-    sub-requires
+    sub-type-requires
     enum-known-right
     enum-told
     returns-3

@@ -42,7 +42,22 @@ abbrev sup-below : ℕ → In 1 sup-kinds.ps
 sup-below t = and 1 sup-kinds.ps (falls 1 sup-kinds.ps _<_ μ-sup t) sup-reads.Pre
 
 abbrev sub-calls : ℕ → sub-lts.Claims
-sub-calls t = (begin-reads.Asked, begin-reads.Learnt, start-reads.Asked, start-reads.Learnt, slot-at-reads.Asked, slot-at-reads.Learnt, sup-below t, sup-reads.Post, narrow-reads.Asked, narrow-reads.Learnt, sub-below t, sub-reads.Post, finish-reads.Asked, finish-reads.Learnt)
+sub-calls t = (
+  begin-reads.Asked,
+  begin-reads.Learnt,
+  start-reads.Asked,
+  start-reads.Learnt,
+  slot-at-reads.Asked,
+  slot-at-reads.Learnt,
+  sup-below t,
+  sup-reads.Post,
+  narrow-reads.Asked,
+  narrow-reads.Learnt,
+  sub-below t,
+  sub-reads.Post,
+  finish-reads.Asked,
+  finish-reads.Learnt,
+)
 
 abbrev sub-Inv-loop : sub-lts.InvT-loop
 sub-Inv-loop b₀ c n t s w end bytes₀ m₀ k₀ b bytes m k = Loop sub c n w b₀ b end bytes m k
@@ -51,8 +66,10 @@ abbrev sub-μ-loop : sub-lts.MeasureT-loop
 sub-μ-loop b₀ c n t s w end bytes₀ m₀ k₀ b bytes m k = end - k
 
 -- Sub, when the type at work has been stored.
-sub-started : (t : ℕ) (c : sub-lts.After-start (sub-calls t) (sub-at t) sub-reads.Post sub-Inv-loop sub-μ-loop) → let a = c .before .before .before .before .before .before .args in Started sub (a .c) (a .n) (a .t) (a .s) (c .start .result) (a .b .now) (c .start .last .0)
-sub-started t c = started (c .before .before .before .before .before .before .pre .1) refl (omega arith) (c .before .before .enum-told .given .1) (c .before .before .before .before .begin .ensures) (c .start .ensures)
+sub-started : (t : ℕ) (c : sub-lts.After-start (sub-calls t) (sub-at t) sub-reads.Post sub-Inv-loop sub-μ-loop)
+    → let a = c .before .before .before .before .before .before .args in Started sub (a .c) (a .n) (a .t) (a .s) (c .start .result) (a .b .now) (c .start .last .0)
+sub-started t c = started (c .before .before .before .before .before .before .pre .1) refl (omega arith) (c .before .before .enum-told .given .1)
+    (c .before .before .before .before .begin .ensures) (c .start .ensures)
 
 sub-begin-requires : (t : ℕ) → sub-lts.Need-begin-requires (sub-calls t) (sub-at t) sub-reads.Post sub-Inv-loop sub-μ-loop
 sub-begin-requires t c κs = (omega arith, c .before .pre .1 .limits)
@@ -97,7 +114,18 @@ sub-enum-known-l1 : (t : ℕ) → sub-lts.Need-enum-known-l1 (sub-calls t) (sub-
 sub-enum-known-l1 t c = search needs
 
 sub-sup-requires : (t : ℕ) → sub-lts.Need-sup-requires (sub-calls t) (sub-at t) sub-reads.Post sub-Inv-loop sub-μ-loop
-sub-sup-requires t c κs = (omega (arith, c .before .before .before .before .before .before .loop .inv .more, c .before .before .before .before .before .before .loop .inv .most, c .before .before .before .before .before .before .loop .inv .room, c .before .before .before .before .before .before .before .before .before .before .before .before .before .before .pre .0), argument-ready (c .before .before .before .before .before .before .loop .inv) (c .before .before .before .before .before .loop-test .taken) (c .before .before .before .before .slot-at .ensures .0) (c .before .before .before .before .slot-at .ensures .1) (c .before .before .l1 .given .1))
+sub-sup-requires t c κs = (
+  omega (
+    arith,
+    c .before .before .before .before .before .before .loop .inv .more,
+    c .before .before .before .before .before .before .loop .inv .most,
+    c .before .before .before .before .before .before .loop .inv .room,
+    c .before .before .before .before .before .before .before .before .before .before .before .before .before .before .pre .0,
+  ),
+  argument-ready
+      (c .before .before .before .before .before .before .loop .inv) (c .before .before .before .before .before .loop-test .taken) (c .before .before .before .before .slot-at .ensures .0)
+      (c .before .before .before .before .slot-at .ensures .1) (c .before .before .l1 .given .1),
+)
 
 sub-enum-known-i1 : (t : ℕ) → sub-lts.Need-enum-known-i1 (sub-calls t) (sub-at t) sub-reads.Post sub-Inv-loop sub-μ-loop
 sub-enum-known-i1 t c = search needs
@@ -106,13 +134,27 @@ sub-enum-told-3 : (t : ℕ) → sub-lts.Need-enum-told-3 (sub-calls t) (sub-at t
 sub-enum-told-3 t c = search needs
 
 sub-returns-2 : (t : ℕ) → sub-lts.Need-returns-2 (sub-calls t) (sub-at t) sub-reads.Post sub-Inv-loop sub-μ-loop
-sub-returns-2 t c = new-full (sub-started t (c .before .before .before .before .before .before .before .before .before .before .before)) (c .before .before .before .before .before .before .before .before .before .loop .inv) (c .before .before .sup .ensures .keeps) (argument-full (c .before .before .before .before .before .before .before .before .before .loop .inv) (c .before .before .before .before .before .before .before .before .loop-test .taken) (c .before .before .before .before .before .before .before .slot-at .ensures .0) (c .before .before .before .before .before .before .before .slot-at .ensures .1) (c .before .before .before .before .before .l1 .given .1) (c .before .before .sup .ensures) (c .enum-told3 .given .1))
+sub-returns-2 t c = new-full (sub-started t (c .before .before .before .before .before .before .before .before .before .before .before))
+    (c .before .before .before .before .before .before .before .before .before .loop .inv) (c .before .before .sup .ensures .keeps)
+    (argument-full (c .before .before .before .before .before .before .before .before .before .loop .inv)
+    (c .before .before .before .before .before .before .before .before .loop-test .taken) (c .before .before .before .before .before .before .before .slot-at .ensures .0)
+    (c .before .before .before .before .before .before .before .slot-at .ensures .1) (c .before .before .before .before .before .l1 .given .1) (c .before .before .sup .ensures)
+    (c .enum-told3 .given .1))
 
 sub-narrow-requires : (t : ℕ) → sub-lts.Need-narrow-requires (sub-calls t) (sub-at t) sub-reads.Post sub-Inv-loop sub-μ-loop
-sub-narrow-requires t c κs = argument-low (c .before .before .before .before .before .before .before .before .before .before .loop .inv) (c .before .before .before .before .before .before .before .before .before .loop-test .taken) (c .before .before .before .before .before .before .before .before .slot-at .ensures .0) (c .before .before .before .before .before .before .before .before .slot-at .ensures .1) (c .before .before .before .before .before .before .l1 .given .1) (c .before .before .before .sup .ensures) (c .before .i1 .given .1)
+sub-narrow-requires t c κs = argument-low (c .before .before .before .before .before .before .before .before .before .before .loop .inv)
+    (c .before .before .before .before .before .before .before .before .before .loop-test .taken) (c .before .before .before .before .before .before .before .before .slot-at .ensures .0)
+    (c .before .before .before .before .before .before .before .before .slot-at .ensures .1) (c .before .before .before .before .before .before .l1 .given .1)
+    (c .before .before .before .sup .ensures) (c .before .i1 .given .1)
 
 sub-array-write-bytes : (t : ℕ) → sub-lts.Need-array-write-bytes (sub-calls t) (sub-at t) sub-reads.Post sub-Inv-loop sub-μ-loop
-sub-array-write-bytes t c = omega (arith, c .before .before .before .before .before .before .before .before .before .before .loop-test .taken, c .before .before .before .before .before .before .before .before .before .before .before .loop .inv .edge, c .before .before .before .before .before .before .before .before .before .before .before .loop .inv .limits .methods, c .before .before .before .before .before .before .before .before .before .before .before .loop .inv .wide)
+sub-array-write-bytes t c = omega (
+  arith,
+  c .before .before .before .before .before .before .before .before .before .before .loop-test .taken,
+  c .before .before .before .before .before .before .before .before .before .before .before .loop .inv .edge,
+  c .before .before .before .before .before .before .before .before .before .before .before .loop .inv .limits .methods,
+  c .before .before .before .before .before .before .before .before .before .before .before .loop .inv .wide,
+)
 
 sub-add-k-2 : (t : ℕ) → sub-lts.Need-add-k-2 (sub-calls t) (sub-at t) sub-reads.Post sub-Inv-loop sub-μ-loop
 sub-add-k-2 t c = search needs
@@ -121,13 +163,28 @@ sub-loop-less-2 : (t : ℕ) → sub-lts.Need-loop-less-2 (sub-calls t) (sub-at t
 sub-loop-less-2 t c = search needs
 
 sub-loop-again-2 : (t : ℕ) → sub-lts.Need-loop-again-2 (sub-calls t) (sub-at t) sub-reads.Post sub-Inv-loop sub-μ-loop
-sub-loop-again-2 t c = argument-turn (c .before .before .before .before .before .before .before .before .before .before .before .loop .inv) (c .before .before .before .before .before .before .before .before .before .before .loop-test .taken) (c .before .before .before .before .before .before .before .before .before .slot-at .ensures .0) (c .before .before .before .before .before .before .before .before .before .slot-at .ensures .1) (c .before .before .before .before .before .before .before .l1 .given .1) (c .before .before .before .before .sup .ensures) (c .before .before .i1 .given .1) (c .narrow .ensures)
+sub-loop-again-2 t c = argument-turn (c .before .before .before .before .before .before .before .before .before .before .before .loop .inv)
+    (c .before .before .before .before .before .before .before .before .before .before .loop-test .taken)
+    (c .before .before .before .before .before .before .before .before .before .slot-at .ensures .0)
+    (c .before .before .before .before .before .before .before .before .before .slot-at .ensures .1) (c .before .before .before .before .before .before .before .l1 .given .1)
+    (c .before .before .before .before .sup .ensures) (c .before .before .i1 .given .1) (c .narrow .ensures)
 
 sub-enum-known-l2 : (t : ℕ) → sub-lts.Need-enum-known-l2 (sub-calls t) (sub-at t) sub-reads.Post sub-Inv-loop sub-μ-loop
 sub-enum-known-l2 t c = search needs
 
 sub-sub-requires : (t : ℕ) → sub-lts.Need-sub-requires (sub-calls t) (sub-at t) sub-reads.Post sub-Inv-loop sub-μ-loop
-sub-sub-requires t c κs = (omega (arith, c .before .before .before .before .before .before .loop .inv .more, c .before .before .before .before .before .before .loop .inv .most, c .before .before .before .before .before .before .loop .inv .room, c .before .before .before .before .before .before .before .before .before .before .before .before .before .before .pre .0), answer-ready (c .before .before .before .before .before .before .loop .inv) (c .before .before .before .before .before .loop-test .taken) (c .before .before .before .before .slot-at .ensures .0) (c .before .before .before .before .slot-at .ensures .1) (c .before .before .l2 .given .1))
+sub-sub-requires t c κs = (
+  omega (
+    arith,
+    c .before .before .before .before .before .before .loop .inv .more,
+    c .before .before .before .before .before .before .loop .inv .most,
+    c .before .before .before .before .before .before .loop .inv .room,
+    c .before .before .before .before .before .before .before .before .before .before .before .before .before .before .pre .0,
+  ),
+  answer-ready
+      (c .before .before .before .before .before .before .loop .inv) (c .before .before .before .before .before .loop-test .taken) (c .before .before .before .before .slot-at .ensures .0)
+      (c .before .before .before .before .slot-at .ensures .1) (c .before .before .l2 .given .1),
+)
 
 sub-enum-known-i2 : (t : ℕ) → sub-lts.Need-enum-known-i2 (sub-calls t) (sub-at t) sub-reads.Post sub-Inv-loop sub-μ-loop
 sub-enum-known-i2 t c = search needs
@@ -136,16 +193,32 @@ sub-enum-told-4 : (t : ℕ) → sub-lts.Need-enum-told-4 (sub-calls t) (sub-at t
 sub-enum-told-4 t c = search needs
 
 sub-returns-3 : (t : ℕ) → sub-lts.Need-returns-3 (sub-calls t) (sub-at t) sub-reads.Post sub-Inv-loop sub-μ-loop
-sub-returns-3 t c = new-full (sub-started t (c .before .before .before .before .before .before .before .before .before .before .before)) (c .before .before .before .before .before .before .before .before .before .loop .inv) (c .before .before .sub .ensures .keeps) (answer-full (c .before .before .before .before .before .before .before .before .before .loop .inv) (c .before .before .before .before .before .before .before .before .loop-test .taken) (c .before .before .before .before .before .before .before .slot-at .ensures .0) (c .before .before .before .before .before .before .before .slot-at .ensures .1) (c .before .before .before .before .before .l2 .given .1) (c .before .before .sub .ensures) (c .enum-told4 .given .1))
+sub-returns-3 t c = new-full (sub-started t (c .before .before .before .before .before .before .before .before .before .before .before))
+    (c .before .before .before .before .before .before .before .before .before .loop .inv) (c .before .before .sub .ensures .keeps)
+    (answer-full (c .before .before .before .before .before .before .before .before .before .loop .inv) (c .before .before .before .before .before .before .before .before .loop-test .taken)
+    (c .before .before .before .before .before .before .before .slot-at .ensures .0) (c .before .before .before .before .before .before .before .slot-at .ensures .1)
+    (c .before .before .before .before .before .l2 .given .1) (c .before .before .sub .ensures) (c .enum-told4 .given .1))
 
 sub-add-narrow : (t : ℕ) → sub-lts.Need-add-narrow (sub-calls t) (sub-at t) sub-reads.Post sub-Inv-loop sub-μ-loop
-sub-add-narrow t c = let h = answer-low (c .before .before .before .before .before .before .before .before .before .before .loop .inv) (c .before .before .before .before .before .before .before .before .before .loop-test .taken) (c .before .before .before .before .before .before .before .before .slot-at .ensures .0) (c .before .before .before .before .before .before .before .before .slot-at .ensures .1) (c .before .before .before .before .before .before .l2 .given .1) (c .before .before .before .sub .ensures) (c .before .i2 .given .1) in omega arith
+sub-add-narrow t c = let h = answer-low (c .before .before .before .before .before .before .before .before .before .before .loop .inv)
+    (c .before .before .before .before .before .before .before .before .before .loop-test .taken) (c .before .before .before .before .before .before .before .before .slot-at .ensures .0)
+    (c .before .before .before .before .before .before .before .before .slot-at .ensures .1) (c .before .before .before .before .before .before .l2 .given .1)
+    (c .before .before .before .sub .ensures) (c .before .i2 .given .1) in omega arith
 
 sub-narrow-requires-2 : (t : ℕ) → sub-lts.Need-narrow-requires-2 (sub-calls t) (sub-at t) sub-reads.Post sub-Inv-loop sub-μ-loop
-sub-narrow-requires-2 t c κs = let h = answer-low (c .before .before .before .before .before .before .before .before .before .before .loop .inv) (c .before .before .before .before .before .before .before .before .before .loop-test .taken) (c .before .before .before .before .before .before .before .before .slot-at .ensures .0) (c .before .before .before .before .before .before .before .before .slot-at .ensures .1) (c .before .before .before .before .before .before .l2 .given .1) (c .before .before .before .sub .ensures) (c .before .i2 .given .1) in omega arith
+sub-narrow-requires-2 t c κs = let h = answer-low (c .before .before .before .before .before .before .before .before .before .before .loop .inv)
+    (c .before .before .before .before .before .before .before .before .before .loop-test .taken) (c .before .before .before .before .before .before .before .before .slot-at .ensures .0)
+    (c .before .before .before .before .before .before .before .before .slot-at .ensures .1) (c .before .before .before .before .before .before .l2 .given .1)
+    (c .before .before .before .sub .ensures) (c .before .i2 .given .1) in omega arith
 
 sub-array-write-bytes-2 : (t : ℕ) → sub-lts.Need-array-write-bytes-2 (sub-calls t) (sub-at t) sub-reads.Post sub-Inv-loop sub-μ-loop
-sub-array-write-bytes-2 t c = omega (arith, c .before .before .before .before .before .before .before .before .before .before .loop-test .taken, c .before .before .before .before .before .before .before .before .before .before .before .loop .inv .edge, c .before .before .before .before .before .before .before .before .before .before .before .loop .inv .limits .methods, c .before .before .before .before .before .before .before .before .before .before .before .loop .inv .wide)
+sub-array-write-bytes-2 t c = omega (
+  arith,
+  c .before .before .before .before .before .before .before .before .before .before .loop-test .taken,
+  c .before .before .before .before .before .before .before .before .before .before .before .loop .inv .edge,
+  c .before .before .before .before .before .before .before .before .before .before .before .loop .inv .limits .methods,
+  c .before .before .before .before .before .before .before .before .before .before .before .loop .inv .wide,
+)
 
 sub-add-k-3 : (t : ℕ) → sub-lts.Need-add-k-3 (sub-calls t) (sub-at t) sub-reads.Post sub-Inv-loop sub-μ-loop
 sub-add-k-3 t c = search needs
@@ -154,16 +227,36 @@ sub-loop-less-3 : (t : ℕ) → sub-lts.Need-loop-less-3 (sub-calls t) (sub-at t
 sub-loop-less-3 t c = search needs
 
 sub-loop-again-3 : (t : ℕ) → sub-lts.Need-loop-again-3 (sub-calls t) (sub-at t) sub-reads.Post sub-Inv-loop sub-μ-loop
-sub-loop-again-3 t c = answer-turn (c .before .before .before .before .before .before .before .before .before .before .before .loop .inv) (c .before .before .before .before .before .before .before .before .before .before .loop-test .taken) (c .before .before .before .before .before .before .before .before .before .slot-at .ensures .0) (c .before .before .before .before .before .before .before .before .before .slot-at .ensures .1) (c .before .before .before .before .before .before .before .l2 .given .1) (c .before .before .before .before .sub .ensures) (c .before .before .i2 .given .1) (c .narrow2 .ensures)
+sub-loop-again-3 t c = answer-turn (c .before .before .before .before .before .before .before .before .before .before .before .loop .inv)
+    (c .before .before .before .before .before .before .before .before .before .before .loop-test .taken)
+    (c .before .before .before .before .before .before .before .before .before .slot-at .ensures .0)
+    (c .before .before .before .before .before .before .before .before .before .slot-at .ensures .1) (c .before .before .before .before .before .before .before .l2 .given .1)
+    (c .before .before .before .before .sub .ensures) (c .before .before .i2 .given .1) (c .narrow2 .ensures)
 
 sub-finish-requires : (t : ℕ) → sub-lts.Need-finish-requires (sub-calls t) (sub-at t) sub-reads.Post sub-Inv-loop sub-μ-loop
-sub-finish-requires t c κs = finish-ready (sub-started t (c .before .before .before .before)) (c .before .before .before .before .before .before .before .before .before .before .pre .1) (c .before .before .loop .inv)
+sub-finish-requires t c κs = finish-ready (sub-started t (c .before .before .before .before)) (c .before .before .before .before .before .before .before .before .before .before .pre .1)
+    (c .before .before .loop .inv)
 
 sub-returns-4 : (t : ℕ) → sub-lts.Need-returns-4 (sub-calls t) (sub-at t) sub-reads.Post sub-Inv-loop sub-μ-loop
 sub-returns-4 t c = new-at (sub-started t (c .before .before .before .before .before)) (c .before .before .before .loop .inv) (c .before .before .loop-test .left) (c .finish .ensures)
 
 abbrev sup-calls : ℕ → sup-lts.Claims
-sup-calls t = (begin-reads.Asked, begin-reads.Learnt, start-reads.Asked, start-reads.Learnt, slot-at-reads.Asked, slot-at-reads.Learnt, sub-below t, sub-reads.Post, narrow-reads.Asked, narrow-reads.Learnt, sup-below t, sup-reads.Post, finish-reads.Asked, finish-reads.Learnt)
+sup-calls t = (
+  begin-reads.Asked,
+  begin-reads.Learnt,
+  start-reads.Asked,
+  start-reads.Learnt,
+  slot-at-reads.Asked,
+  slot-at-reads.Learnt,
+  sub-below t,
+  sub-reads.Post,
+  narrow-reads.Asked,
+  narrow-reads.Learnt,
+  sup-below t,
+  sup-reads.Post,
+  finish-reads.Asked,
+  finish-reads.Learnt,
+)
 
 abbrev sup-Inv-loop : sup-lts.InvT-loop
 sup-Inv-loop b₀ c n t s w end bytes₀ m₀ k₀ b bytes m k = Loop sup c n w b₀ b end bytes m k
@@ -172,8 +265,10 @@ abbrev sup-μ-loop : sup-lts.MeasureT-loop
 sup-μ-loop b₀ c n t s w end bytes₀ m₀ k₀ b bytes m k = end - k
 
 -- Sup, when the type at work has been stored.
-sup-started : (t : ℕ) (c : sup-lts.After-start (sup-calls t) (sup-at t) sup-reads.Post sup-Inv-loop sup-μ-loop) → let a = c .before .before .before .before .before .before .args in Started sup (a .c) (a .n) (a .t) (a .s) (c .start .result) (a .b .now) (c .start .last .0)
-sup-started t c = started (c .before .before .before .before .before .before .pre .1) refl (omega arith) (c .before .before .enum-told .given .1) (c .before .before .before .before .begin .ensures) (c .start .ensures)
+sup-started : (t : ℕ) (c : sup-lts.After-start (sup-calls t) (sup-at t) sup-reads.Post sup-Inv-loop sup-μ-loop)
+    → let a = c .before .before .before .before .before .before .args in Started sup (a .c) (a .n) (a .t) (a .s) (c .start .result) (a .b .now) (c .start .last .0)
+sup-started t c = started (c .before .before .before .before .before .before .pre .1) refl (omega arith) (c .before .before .enum-told .given .1)
+    (c .before .before .before .before .begin .ensures) (c .start .ensures)
 
 sup-begin-requires : (t : ℕ) → sup-lts.Need-begin-requires (sup-calls t) (sup-at t) sup-reads.Post sup-Inv-loop sup-μ-loop
 sup-begin-requires t c κs = (omega arith, c .before .pre .1 .limits)
@@ -218,7 +313,18 @@ sup-enum-known-l1 : (t : ℕ) → sup-lts.Need-enum-known-l1 (sup-calls t) (sup-
 sup-enum-known-l1 t c = search needs
 
 sup-sub-requires : (t : ℕ) → sup-lts.Need-sub-requires (sup-calls t) (sup-at t) sup-reads.Post sup-Inv-loop sup-μ-loop
-sup-sub-requires t c κs = (omega (arith, c .before .before .before .before .before .before .loop .inv .more, c .before .before .before .before .before .before .loop .inv .most, c .before .before .before .before .before .before .loop .inv .room, c .before .before .before .before .before .before .before .before .before .before .before .before .before .before .pre .0), argument-ready (c .before .before .before .before .before .before .loop .inv) (c .before .before .before .before .before .loop-test .taken) (c .before .before .before .before .slot-at .ensures .0) (c .before .before .before .before .slot-at .ensures .1) (c .before .before .l1 .given .1))
+sup-sub-requires t c κs = (
+  omega (
+    arith,
+    c .before .before .before .before .before .before .loop .inv .more,
+    c .before .before .before .before .before .before .loop .inv .most,
+    c .before .before .before .before .before .before .loop .inv .room,
+    c .before .before .before .before .before .before .before .before .before .before .before .before .before .before .pre .0,
+  ),
+  argument-ready
+      (c .before .before .before .before .before .before .loop .inv) (c .before .before .before .before .before .loop-test .taken) (c .before .before .before .before .slot-at .ensures .0)
+      (c .before .before .before .before .slot-at .ensures .1) (c .before .before .l1 .given .1),
+)
 
 sup-enum-known-i1 : (t : ℕ) → sup-lts.Need-enum-known-i1 (sup-calls t) (sup-at t) sup-reads.Post sup-Inv-loop sup-μ-loop
 sup-enum-known-i1 t c = search needs
@@ -227,13 +333,27 @@ sup-enum-told-3 : (t : ℕ) → sup-lts.Need-enum-told-3 (sup-calls t) (sup-at t
 sup-enum-told-3 t c = search needs
 
 sup-returns-2 : (t : ℕ) → sup-lts.Need-returns-2 (sup-calls t) (sup-at t) sup-reads.Post sup-Inv-loop sup-μ-loop
-sup-returns-2 t c = new-full (sup-started t (c .before .before .before .before .before .before .before .before .before .before .before)) (c .before .before .before .before .before .before .before .before .before .loop .inv) (c .before .before .sub .ensures .keeps) (argument-full (c .before .before .before .before .before .before .before .before .before .loop .inv) (c .before .before .before .before .before .before .before .before .loop-test .taken) (c .before .before .before .before .before .before .before .slot-at .ensures .0) (c .before .before .before .before .before .before .before .slot-at .ensures .1) (c .before .before .before .before .before .l1 .given .1) (c .before .before .sub .ensures) (c .enum-told3 .given .1))
+sup-returns-2 t c = new-full (sup-started t (c .before .before .before .before .before .before .before .before .before .before .before))
+    (c .before .before .before .before .before .before .before .before .before .loop .inv) (c .before .before .sub .ensures .keeps)
+    (argument-full (c .before .before .before .before .before .before .before .before .before .loop .inv)
+    (c .before .before .before .before .before .before .before .before .loop-test .taken) (c .before .before .before .before .before .before .before .slot-at .ensures .0)
+    (c .before .before .before .before .before .before .before .slot-at .ensures .1) (c .before .before .before .before .before .l1 .given .1) (c .before .before .sub .ensures)
+    (c .enum-told3 .given .1))
 
 sup-narrow-requires : (t : ℕ) → sup-lts.Need-narrow-requires (sup-calls t) (sup-at t) sup-reads.Post sup-Inv-loop sup-μ-loop
-sup-narrow-requires t c κs = argument-low (c .before .before .before .before .before .before .before .before .before .before .loop .inv) (c .before .before .before .before .before .before .before .before .before .loop-test .taken) (c .before .before .before .before .before .before .before .before .slot-at .ensures .0) (c .before .before .before .before .before .before .before .before .slot-at .ensures .1) (c .before .before .before .before .before .before .l1 .given .1) (c .before .before .before .sub .ensures) (c .before .i1 .given .1)
+sup-narrow-requires t c κs = argument-low (c .before .before .before .before .before .before .before .before .before .before .loop .inv)
+    (c .before .before .before .before .before .before .before .before .before .loop-test .taken) (c .before .before .before .before .before .before .before .before .slot-at .ensures .0)
+    (c .before .before .before .before .before .before .before .before .slot-at .ensures .1) (c .before .before .before .before .before .before .l1 .given .1)
+    (c .before .before .before .sub .ensures) (c .before .i1 .given .1)
 
 sup-array-write-bytes : (t : ℕ) → sup-lts.Need-array-write-bytes (sup-calls t) (sup-at t) sup-reads.Post sup-Inv-loop sup-μ-loop
-sup-array-write-bytes t c = omega (arith, c .before .before .before .before .before .before .before .before .before .before .loop-test .taken, c .before .before .before .before .before .before .before .before .before .before .before .loop .inv .edge, c .before .before .before .before .before .before .before .before .before .before .before .loop .inv .limits .methods, c .before .before .before .before .before .before .before .before .before .before .before .loop .inv .wide)
+sup-array-write-bytes t c = omega (
+  arith,
+  c .before .before .before .before .before .before .before .before .before .before .loop-test .taken,
+  c .before .before .before .before .before .before .before .before .before .before .before .loop .inv .edge,
+  c .before .before .before .before .before .before .before .before .before .before .before .loop .inv .limits .methods,
+  c .before .before .before .before .before .before .before .before .before .before .before .loop .inv .wide,
+)
 
 sup-add-k-2 : (t : ℕ) → sup-lts.Need-add-k-2 (sup-calls t) (sup-at t) sup-reads.Post sup-Inv-loop sup-μ-loop
 sup-add-k-2 t c = search needs
@@ -242,13 +362,28 @@ sup-loop-less-2 : (t : ℕ) → sup-lts.Need-loop-less-2 (sup-calls t) (sup-at t
 sup-loop-less-2 t c = search needs
 
 sup-loop-again-2 : (t : ℕ) → sup-lts.Need-loop-again-2 (sup-calls t) (sup-at t) sup-reads.Post sup-Inv-loop sup-μ-loop
-sup-loop-again-2 t c = argument-turn (c .before .before .before .before .before .before .before .before .before .before .before .loop .inv) (c .before .before .before .before .before .before .before .before .before .before .loop-test .taken) (c .before .before .before .before .before .before .before .before .before .slot-at .ensures .0) (c .before .before .before .before .before .before .before .before .before .slot-at .ensures .1) (c .before .before .before .before .before .before .before .l1 .given .1) (c .before .before .before .before .sub .ensures) (c .before .before .i1 .given .1) (c .narrow .ensures)
+sup-loop-again-2 t c = argument-turn (c .before .before .before .before .before .before .before .before .before .before .before .loop .inv)
+    (c .before .before .before .before .before .before .before .before .before .before .loop-test .taken)
+    (c .before .before .before .before .before .before .before .before .before .slot-at .ensures .0)
+    (c .before .before .before .before .before .before .before .before .before .slot-at .ensures .1) (c .before .before .before .before .before .before .before .l1 .given .1)
+    (c .before .before .before .before .sub .ensures) (c .before .before .i1 .given .1) (c .narrow .ensures)
 
 sup-enum-known-l2 : (t : ℕ) → sup-lts.Need-enum-known-l2 (sup-calls t) (sup-at t) sup-reads.Post sup-Inv-loop sup-μ-loop
 sup-enum-known-l2 t c = search needs
 
 sup-sup-requires : (t : ℕ) → sup-lts.Need-sup-requires (sup-calls t) (sup-at t) sup-reads.Post sup-Inv-loop sup-μ-loop
-sup-sup-requires t c κs = (omega (arith, c .before .before .before .before .before .before .loop .inv .more, c .before .before .before .before .before .before .loop .inv .most, c .before .before .before .before .before .before .loop .inv .room, c .before .before .before .before .before .before .before .before .before .before .before .before .before .before .pre .0), answer-ready (c .before .before .before .before .before .before .loop .inv) (c .before .before .before .before .before .loop-test .taken) (c .before .before .before .before .slot-at .ensures .0) (c .before .before .before .before .slot-at .ensures .1) (c .before .before .l2 .given .1))
+sup-sup-requires t c κs = (
+  omega (
+    arith,
+    c .before .before .before .before .before .before .loop .inv .more,
+    c .before .before .before .before .before .before .loop .inv .most,
+    c .before .before .before .before .before .before .loop .inv .room,
+    c .before .before .before .before .before .before .before .before .before .before .before .before .before .before .pre .0,
+  ),
+  answer-ready
+      (c .before .before .before .before .before .before .loop .inv) (c .before .before .before .before .before .loop-test .taken) (c .before .before .before .before .slot-at .ensures .0)
+      (c .before .before .before .before .slot-at .ensures .1) (c .before .before .l2 .given .1),
+)
 
 sup-enum-known-i2 : (t : ℕ) → sup-lts.Need-enum-known-i2 (sup-calls t) (sup-at t) sup-reads.Post sup-Inv-loop sup-μ-loop
 sup-enum-known-i2 t c = search needs
@@ -257,16 +392,32 @@ sup-enum-told-4 : (t : ℕ) → sup-lts.Need-enum-told-4 (sup-calls t) (sup-at t
 sup-enum-told-4 t c = search needs
 
 sup-returns-3 : (t : ℕ) → sup-lts.Need-returns-3 (sup-calls t) (sup-at t) sup-reads.Post sup-Inv-loop sup-μ-loop
-sup-returns-3 t c = new-full (sup-started t (c .before .before .before .before .before .before .before .before .before .before .before)) (c .before .before .before .before .before .before .before .before .before .loop .inv) (c .before .before .sup .ensures .keeps) (answer-full (c .before .before .before .before .before .before .before .before .before .loop .inv) (c .before .before .before .before .before .before .before .before .loop-test .taken) (c .before .before .before .before .before .before .before .slot-at .ensures .0) (c .before .before .before .before .before .before .before .slot-at .ensures .1) (c .before .before .before .before .before .l2 .given .1) (c .before .before .sup .ensures) (c .enum-told4 .given .1))
+sup-returns-3 t c = new-full (sup-started t (c .before .before .before .before .before .before .before .before .before .before .before))
+    (c .before .before .before .before .before .before .before .before .before .loop .inv) (c .before .before .sup .ensures .keeps)
+    (answer-full (c .before .before .before .before .before .before .before .before .before .loop .inv) (c .before .before .before .before .before .before .before .before .loop-test .taken)
+    (c .before .before .before .before .before .before .before .slot-at .ensures .0) (c .before .before .before .before .before .before .before .slot-at .ensures .1)
+    (c .before .before .before .before .before .l2 .given .1) (c .before .before .sup .ensures) (c .enum-told4 .given .1))
 
 sup-add-narrow : (t : ℕ) → sup-lts.Need-add-narrow (sup-calls t) (sup-at t) sup-reads.Post sup-Inv-loop sup-μ-loop
-sup-add-narrow t c = let h = answer-low (c .before .before .before .before .before .before .before .before .before .before .loop .inv) (c .before .before .before .before .before .before .before .before .before .loop-test .taken) (c .before .before .before .before .before .before .before .before .slot-at .ensures .0) (c .before .before .before .before .before .before .before .before .slot-at .ensures .1) (c .before .before .before .before .before .before .l2 .given .1) (c .before .before .before .sup .ensures) (c .before .i2 .given .1) in omega arith
+sup-add-narrow t c = let h = answer-low (c .before .before .before .before .before .before .before .before .before .before .loop .inv)
+    (c .before .before .before .before .before .before .before .before .before .loop-test .taken) (c .before .before .before .before .before .before .before .before .slot-at .ensures .0)
+    (c .before .before .before .before .before .before .before .before .slot-at .ensures .1) (c .before .before .before .before .before .before .l2 .given .1)
+    (c .before .before .before .sup .ensures) (c .before .i2 .given .1) in omega arith
 
 sup-narrow-requires-2 : (t : ℕ) → sup-lts.Need-narrow-requires-2 (sup-calls t) (sup-at t) sup-reads.Post sup-Inv-loop sup-μ-loop
-sup-narrow-requires-2 t c κs = let h = answer-low (c .before .before .before .before .before .before .before .before .before .before .loop .inv) (c .before .before .before .before .before .before .before .before .before .loop-test .taken) (c .before .before .before .before .before .before .before .before .slot-at .ensures .0) (c .before .before .before .before .before .before .before .before .slot-at .ensures .1) (c .before .before .before .before .before .before .l2 .given .1) (c .before .before .before .sup .ensures) (c .before .i2 .given .1) in omega arith
+sup-narrow-requires-2 t c κs = let h = answer-low (c .before .before .before .before .before .before .before .before .before .before .loop .inv)
+    (c .before .before .before .before .before .before .before .before .before .loop-test .taken) (c .before .before .before .before .before .before .before .before .slot-at .ensures .0)
+    (c .before .before .before .before .before .before .before .before .slot-at .ensures .1) (c .before .before .before .before .before .before .l2 .given .1)
+    (c .before .before .before .sup .ensures) (c .before .i2 .given .1) in omega arith
 
 sup-array-write-bytes-2 : (t : ℕ) → sup-lts.Need-array-write-bytes-2 (sup-calls t) (sup-at t) sup-reads.Post sup-Inv-loop sup-μ-loop
-sup-array-write-bytes-2 t c = omega (arith, c .before .before .before .before .before .before .before .before .before .before .loop-test .taken, c .before .before .before .before .before .before .before .before .before .before .before .loop .inv .edge, c .before .before .before .before .before .before .before .before .before .before .before .loop .inv .limits .methods, c .before .before .before .before .before .before .before .before .before .before .before .loop .inv .wide)
+sup-array-write-bytes-2 t c = omega (
+  arith,
+  c .before .before .before .before .before .before .before .before .before .before .loop-test .taken,
+  c .before .before .before .before .before .before .before .before .before .before .before .loop .inv .edge,
+  c .before .before .before .before .before .before .before .before .before .before .before .loop .inv .limits .methods,
+  c .before .before .before .before .before .before .before .before .before .before .before .loop .inv .wide,
+)
 
 sup-add-k-3 : (t : ℕ) → sup-lts.Need-add-k-3 (sup-calls t) (sup-at t) sup-reads.Post sup-Inv-loop sup-μ-loop
 sup-add-k-3 t c = search needs
@@ -275,10 +426,15 @@ sup-loop-less-3 : (t : ℕ) → sup-lts.Need-loop-less-3 (sup-calls t) (sup-at t
 sup-loop-less-3 t c = search needs
 
 sup-loop-again-3 : (t : ℕ) → sup-lts.Need-loop-again-3 (sup-calls t) (sup-at t) sup-reads.Post sup-Inv-loop sup-μ-loop
-sup-loop-again-3 t c = answer-turn (c .before .before .before .before .before .before .before .before .before .before .before .loop .inv) (c .before .before .before .before .before .before .before .before .before .before .loop-test .taken) (c .before .before .before .before .before .before .before .before .before .slot-at .ensures .0) (c .before .before .before .before .before .before .before .before .before .slot-at .ensures .1) (c .before .before .before .before .before .before .before .l2 .given .1) (c .before .before .before .before .sup .ensures) (c .before .before .i2 .given .1) (c .narrow2 .ensures)
+sup-loop-again-3 t c = answer-turn (c .before .before .before .before .before .before .before .before .before .before .before .loop .inv)
+    (c .before .before .before .before .before .before .before .before .before .before .loop-test .taken)
+    (c .before .before .before .before .before .before .before .before .before .slot-at .ensures .0)
+    (c .before .before .before .before .before .before .before .before .before .slot-at .ensures .1) (c .before .before .before .before .before .before .before .l2 .given .1)
+    (c .before .before .before .before .sup .ensures) (c .before .before .i2 .given .1) (c .narrow2 .ensures)
 
 sup-finish-requires : (t : ℕ) → sup-lts.Need-finish-requires (sup-calls t) (sup-at t) sup-reads.Post sup-Inv-loop sup-μ-loop
-sup-finish-requires t c κs = finish-ready (sup-started t (c .before .before .before .before)) (c .before .before .before .before .before .before .before .before .before .before .pre .1) (c .before .before .loop .inv)
+sup-finish-requires t c κs = finish-ready (sup-started t (c .before .before .before .before)) (c .before .before .before .before .before .before .before .before .before .before .pre .1)
+    (c .before .before .loop .inv)
 
 sup-returns-4 : (t : ℕ) → sup-lts.Need-returns-4 (sup-calls t) (sup-at t) sup-reads.Post sup-Inv-loop sup-μ-loop
 sup-returns-4 t c = new-at (sup-started t (c .before .before .before .before .before)) (c .before .before .before .loop .inv) (c .before .before .loop-test .left) (c .finish .ensures)

@@ -26,11 +26,30 @@ abbrev μ-loop : tie.MeasureT-loop
 μ-loop b₀ c r v n w end bytes₀ m₀ k₀ b bytes m k = end - k
 
 abbrev calls : lts.Claims
-calls = (search-reads.Asked, search-reads.Learnt, start-reads.Asked, start-reads.Learnt, slot-at-reads.Asked, slot-at-reads.Learnt, sup-reads.Asked, sup-reads.Learnt, narrow-reads.Asked, narrow-reads.Learnt, sub-reads.Asked, sub-reads.Learnt, finish-reads.Asked, finish-reads.Learnt)
+calls = (
+  search-reads.Asked,
+  search-reads.Learnt,
+  start-reads.Asked,
+  start-reads.Learnt,
+  slot-at-reads.Asked,
+  slot-at-reads.Learnt,
+  sup-reads.Asked,
+  sup-reads.Learnt,
+  narrow-reads.Asked,
+  narrow-reads.Learnt,
+  sub-reads.Asked,
+  sub-reads.Learnt,
+  finish-reads.Asked,
+  finish-reads.Learnt,
+)
 
 -- when the type at work has been stored
-begun : (c : lts.After-start calls reads.Pre reads.Post Inv-loop μ-loop) → let a = c .before .before .before .before .before .before .args in Started closed (a .c) (a .c .types) (a .r) (a .v) (c .start .result) (a .b .now) (c .start .last .0)
-begun c = started (c .before .before .before .before .before .before .pre .0) refl (omega arith) (c .before .before .enum-told .given .1) (closed-begins (c .before .before .before .before .before .before .args .c) (c .before .before .before .before .before .before .args .c .types) (c .before .before .before .before .before .before .args .r) (c .before .before .before .before .before .before .args .v) (c .before .before .before .before .before .before .args .b .now) (c .before .before .before .before .search .result) (c .before .before .before .before .search .ensures)) (c .start .ensures)
+begun : (c : lts.After-start calls reads.Pre reads.Post Inv-loop μ-loop) → let a = c .before .before .before .before .before .before .args in Started closed (a .c) (a .c .types) (a .r)
+    (a .v) (c .start .result) (a .b .now) (c .start .last .0)
+begun c = started (c .before .before .before .before .before .before .pre .0) refl (omega arith) (c .before .before .enum-told .given .1)
+    (closed-begins (c .before .before .before .before .before .before .args .c) (c .before .before .before .before .before .before .args .c .types)
+    (c .before .before .before .before .before .before .args .r) (c .before .before .before .before .before .before .args .v)
+    (c .before .before .before .before .before .before .args .b .now) (c .before .before .before .before .search .result) (c .before .before .before .before .search .ensures)) (c .start .ensures)
 
 search-requires : tie.Need-search-requires Inv-loop μ-loop
 search-requires c κs = (omega arith, c .before .pre .0 .limits, c .before .pre .1, c .before .pre .2)
@@ -39,13 +58,19 @@ enum-known-begun : tie.Need-enum-known-begun Inv-loop μ-loop
 enum-known-begun c = search needs
 
 returns : tie.Need-returns Inv-loop μ-loop
-returns c = settled closed (c .before .before .before .before .before .pre .0) (c .before .begun .given .1) (closed-begins (c .before .before .before .before .before .args .c) (c .before .before .before .before .before .args .c .types) (c .before .before .before .before .before .args .r) (c .before .before .before .before .before .args .v) (c .before .before .before .before .before .args .b .now) (c .before .before .before .search .result) (c .before .before .before .search .ensures))
+returns c = settled closed (c .before .before .before .before .before .pre .0) (c .before .begun .given .1)
+    (closed-begins (c .before .before .before .before .before .args .c) (c .before .before .before .before .before .args .c .types) (c .before .before .before .before .before .args .r)
+    (c .before .before .before .before .before .args .v) (c .before .before .before .before .before .args .b .now) (c .before .before .before .search .result)
+    (c .before .before .before .search .ensures))
 
 enum-told : tie.Need-enum-told Inv-loop μ-loop
 enum-told c = search needs
 
 start-requires : tie.Need-start-requires Inv-loop μ-loop
-start-requires c κs = new-ready closed (c .before .before .before .before .before .pre .0) (c .before .enum-told .given .1) (closed-begins (c .before .before .before .before .before .args .c) (c .before .before .before .before .before .args .c .types) (c .before .before .before .before .before .args .r) (c .before .before .before .before .before .args .v) (c .before .before .before .before .before .args .b .now) (c .before .before .before .search .result) (c .before .before .before .search .ensures))
+start-requires c κs = new-ready closed (c .before .before .before .before .before .pre .0) (c .before .enum-told .given .1)
+    (closed-begins (c .before .before .before .before .before .args .c) (c .before .before .before .before .before .args .c .types) (c .before .before .before .before .before .args .r)
+    (c .before .before .before .before .before .args .v) (c .before .before .before .before .before .args .b .now) (c .before .before .before .search .result)
+    (c .before .before .before .search .ensures))
 
 mul-end : tie.Need-mul-end Inv-loop μ-loop
 mul-end c = let h = c .before .before .before .before .before .before .before .pre .0 .limits .methods in omega arith
@@ -75,7 +100,8 @@ enum-known-l3 : tie.Need-enum-known-l3 Inv-loop μ-loop
 enum-known-l3 c = search needs
 
 sup-requires : tie.Need-sup-requires Inv-loop μ-loop
-sup-requires c κs = argument-ready (c .before .before .before .before .before .before .loop .inv) (c .before .before .before .before .before .loop-test .taken) (c .before .before .before .before .slot-at .ensures .0) (c .before .before .before .before .slot-at .ensures .1) (c .before .before .l3 .given .1)
+sup-requires c κs = argument-ready (c .before .before .before .before .before .before .loop .inv) (c .before .before .before .before .before .loop-test .taken)
+    (c .before .before .before .before .slot-at .ensures .0) (c .before .before .before .before .slot-at .ensures .1) (c .before .before .l3 .given .1)
 
 enum-known-i3 : tie.Need-enum-known-i3 Inv-loop μ-loop
 enum-known-i3 c = search needs
@@ -84,13 +110,27 @@ enum-told-3 : tie.Need-enum-told-3 Inv-loop μ-loop
 enum-told-3 c = search needs
 
 returns-2 : tie.Need-returns-2 Inv-loop μ-loop
-returns-2 c = new-full (begun (c .before .before .before .before .before .before .before .before .before .before .before)) (c .before .before .before .before .before .before .before .before .before .loop .inv) (c .before .before .sup .ensures .keeps) (argument-full (c .before .before .before .before .before .before .before .before .before .loop .inv) (c .before .before .before .before .before .before .before .before .loop-test .taken) (c .before .before .before .before .before .before .before .slot-at .ensures .0) (c .before .before .before .before .before .before .before .slot-at .ensures .1) (c .before .before .before .before .before .l3 .given .1) (c .before .before .sup .ensures) (c .enum-told3 .given .1))
+returns-2 c = new-full (begun (c .before .before .before .before .before .before .before .before .before .before .before))
+    (c .before .before .before .before .before .before .before .before .before .loop .inv) (c .before .before .sup .ensures .keeps)
+    (argument-full (c .before .before .before .before .before .before .before .before .before .loop .inv)
+    (c .before .before .before .before .before .before .before .before .loop-test .taken) (c .before .before .before .before .before .before .before .slot-at .ensures .0)
+    (c .before .before .before .before .before .before .before .slot-at .ensures .1) (c .before .before .before .before .before .l3 .given .1) (c .before .before .sup .ensures)
+    (c .enum-told3 .given .1))
 
 narrow-requires : tie.Need-narrow-requires Inv-loop μ-loop
-narrow-requires c κs = argument-low (c .before .before .before .before .before .before .before .before .before .before .loop .inv) (c .before .before .before .before .before .before .before .before .before .loop-test .taken) (c .before .before .before .before .before .before .before .before .slot-at .ensures .0) (c .before .before .before .before .before .before .before .before .slot-at .ensures .1) (c .before .before .before .before .before .before .l3 .given .1) (c .before .before .before .sup .ensures) (c .before .i3 .given .1)
+narrow-requires c κs = argument-low (c .before .before .before .before .before .before .before .before .before .before .loop .inv)
+    (c .before .before .before .before .before .before .before .before .before .loop-test .taken) (c .before .before .before .before .before .before .before .before .slot-at .ensures .0)
+    (c .before .before .before .before .before .before .before .before .slot-at .ensures .1) (c .before .before .before .before .before .before .l3 .given .1)
+    (c .before .before .before .sup .ensures) (c .before .i3 .given .1)
 
 array-write-bytes : tie.Need-array-write-bytes Inv-loop μ-loop
-array-write-bytes c = omega (arith, c .before .before .before .before .before .before .before .before .before .before .loop-test .taken, c .before .before .before .before .before .before .before .before .before .before .before .loop .inv .edge, c .before .before .before .before .before .before .before .before .before .before .before .loop .inv .limits .methods, c .before .before .before .before .before .before .before .before .before .before .before .loop .inv .wide)
+array-write-bytes c = omega (
+  arith,
+  c .before .before .before .before .before .before .before .before .before .before .loop-test .taken,
+  c .before .before .before .before .before .before .before .before .before .before .before .loop .inv .edge,
+  c .before .before .before .before .before .before .before .before .before .before .before .loop .inv .limits .methods,
+  c .before .before .before .before .before .before .before .before .before .before .before .loop .inv .wide,
+)
 
 add-k-2 : tie.Need-add-k-2 Inv-loop μ-loop
 add-k-2 c = search needs
@@ -99,13 +139,18 @@ loop-less-2 : tie.Need-loop-less-2 Inv-loop μ-loop
 loop-less-2 c = search needs
 
 loop-again-2 : tie.Need-loop-again-2 Inv-loop μ-loop
-loop-again-2 c = argument-turn (c .before .before .before .before .before .before .before .before .before .before .before .loop .inv) (c .before .before .before .before .before .before .before .before .before .before .loop-test .taken) (c .before .before .before .before .before .before .before .before .before .slot-at .ensures .0) (c .before .before .before .before .before .before .before .before .before .slot-at .ensures .1) (c .before .before .before .before .before .before .before .l3 .given .1) (c .before .before .before .before .sup .ensures) (c .before .before .i3 .given .1) (c .narrow .ensures)
+loop-again-2 c = argument-turn (c .before .before .before .before .before .before .before .before .before .before .before .loop .inv)
+    (c .before .before .before .before .before .before .before .before .before .before .loop-test .taken)
+    (c .before .before .before .before .before .before .before .before .before .slot-at .ensures .0)
+    (c .before .before .before .before .before .before .before .before .before .slot-at .ensures .1) (c .before .before .before .before .before .before .before .l3 .given .1)
+    (c .before .before .before .before .sup .ensures) (c .before .before .i3 .given .1) (c .narrow .ensures)
 
 enum-known-l4 : tie.Need-enum-known-l4 Inv-loop μ-loop
 enum-known-l4 c = search needs
 
 sub-requires : tie.Need-sub-requires Inv-loop μ-loop
-sub-requires c κs = answer-ready (c .before .before .before .before .before .before .loop .inv) (c .before .before .before .before .before .loop-test .taken) (c .before .before .before .before .slot-at .ensures .0) (c .before .before .before .before .slot-at .ensures .1) (c .before .before .l4 .given .1)
+sub-requires c κs = answer-ready (c .before .before .before .before .before .before .loop .inv) (c .before .before .before .before .before .loop-test .taken)
+    (c .before .before .before .before .slot-at .ensures .0) (c .before .before .before .before .slot-at .ensures .1) (c .before .before .l4 .given .1)
 
 enum-known-i4 : tie.Need-enum-known-i4 Inv-loop μ-loop
 enum-known-i4 c = search needs
@@ -114,16 +159,32 @@ enum-told-4 : tie.Need-enum-told-4 Inv-loop μ-loop
 enum-told-4 c = search needs
 
 returns-3 : tie.Need-returns-3 Inv-loop μ-loop
-returns-3 c = new-full (begun (c .before .before .before .before .before .before .before .before .before .before .before)) (c .before .before .before .before .before .before .before .before .before .loop .inv) (c .before .before .sub .ensures .keeps) (answer-full (c .before .before .before .before .before .before .before .before .before .loop .inv) (c .before .before .before .before .before .before .before .before .loop-test .taken) (c .before .before .before .before .before .before .before .slot-at .ensures .0) (c .before .before .before .before .before .before .before .slot-at .ensures .1) (c .before .before .before .before .before .l4 .given .1) (c .before .before .sub .ensures) (c .enum-told4 .given .1))
+returns-3 c = new-full (begun (c .before .before .before .before .before .before .before .before .before .before .before))
+    (c .before .before .before .before .before .before .before .before .before .loop .inv) (c .before .before .sub .ensures .keeps)
+    (answer-full (c .before .before .before .before .before .before .before .before .before .loop .inv) (c .before .before .before .before .before .before .before .before .loop-test .taken)
+    (c .before .before .before .before .before .before .before .slot-at .ensures .0) (c .before .before .before .before .before .before .before .slot-at .ensures .1)
+    (c .before .before .before .before .before .l4 .given .1) (c .before .before .sub .ensures) (c .enum-told4 .given .1))
 
 add-narrow : tie.Need-add-narrow Inv-loop μ-loop
-add-narrow c = let h = answer-low (c .before .before .before .before .before .before .before .before .before .before .loop .inv) (c .before .before .before .before .before .before .before .before .before .loop-test .taken) (c .before .before .before .before .before .before .before .before .slot-at .ensures .0) (c .before .before .before .before .before .before .before .before .slot-at .ensures .1) (c .before .before .before .before .before .before .l4 .given .1) (c .before .before .before .sub .ensures) (c .before .i4 .given .1) in omega arith
+add-narrow c = let h = answer-low (c .before .before .before .before .before .before .before .before .before .before .loop .inv)
+    (c .before .before .before .before .before .before .before .before .before .loop-test .taken) (c .before .before .before .before .before .before .before .before .slot-at .ensures .0)
+    (c .before .before .before .before .before .before .before .before .slot-at .ensures .1) (c .before .before .before .before .before .before .l4 .given .1)
+    (c .before .before .before .sub .ensures) (c .before .i4 .given .1) in omega arith
 
 narrow-requires-2 : tie.Need-narrow-requires-2 Inv-loop μ-loop
-narrow-requires-2 c κs = let h = answer-low (c .before .before .before .before .before .before .before .before .before .before .loop .inv) (c .before .before .before .before .before .before .before .before .before .loop-test .taken) (c .before .before .before .before .before .before .before .before .slot-at .ensures .0) (c .before .before .before .before .before .before .before .before .slot-at .ensures .1) (c .before .before .before .before .before .before .l4 .given .1) (c .before .before .before .sub .ensures) (c .before .i4 .given .1) in omega arith
+narrow-requires-2 c κs = let h = answer-low (c .before .before .before .before .before .before .before .before .before .before .loop .inv)
+    (c .before .before .before .before .before .before .before .before .before .loop-test .taken) (c .before .before .before .before .before .before .before .before .slot-at .ensures .0)
+    (c .before .before .before .before .before .before .before .before .slot-at .ensures .1) (c .before .before .before .before .before .before .l4 .given .1)
+    (c .before .before .before .sub .ensures) (c .before .i4 .given .1) in omega arith
 
 array-write-bytes-2 : tie.Need-array-write-bytes-2 Inv-loop μ-loop
-array-write-bytes-2 c = omega (arith, c .before .before .before .before .before .before .before .before .before .before .loop-test .taken, c .before .before .before .before .before .before .before .before .before .before .before .loop .inv .edge, c .before .before .before .before .before .before .before .before .before .before .before .loop .inv .limits .methods, c .before .before .before .before .before .before .before .before .before .before .before .loop .inv .wide)
+array-write-bytes-2 c = omega (
+  arith,
+  c .before .before .before .before .before .before .before .before .before .before .loop-test .taken,
+  c .before .before .before .before .before .before .before .before .before .before .before .loop .inv .edge,
+  c .before .before .before .before .before .before .before .before .before .before .before .loop .inv .limits .methods,
+  c .before .before .before .before .before .before .before .before .before .before .before .loop .inv .wide,
+)
 
 add-k-3 : tie.Need-add-k-3 Inv-loop μ-loop
 add-k-3 c = search needs
@@ -132,10 +193,15 @@ loop-less-3 : tie.Need-loop-less-3 Inv-loop μ-loop
 loop-less-3 c = search needs
 
 loop-again-3 : tie.Need-loop-again-3 Inv-loop μ-loop
-loop-again-3 c = answer-turn (c .before .before .before .before .before .before .before .before .before .before .before .loop .inv) (c .before .before .before .before .before .before .before .before .before .before .loop-test .taken) (c .before .before .before .before .before .before .before .before .before .slot-at .ensures .0) (c .before .before .before .before .before .before .before .before .before .slot-at .ensures .1) (c .before .before .before .before .before .before .before .l4 .given .1) (c .before .before .before .before .sub .ensures) (c .before .before .i4 .given .1) (c .narrow2 .ensures)
+loop-again-3 c = answer-turn (c .before .before .before .before .before .before .before .before .before .before .before .loop .inv)
+    (c .before .before .before .before .before .before .before .before .before .before .loop-test .taken)
+    (c .before .before .before .before .before .before .before .before .before .slot-at .ensures .0)
+    (c .before .before .before .before .before .before .before .before .before .slot-at .ensures .1) (c .before .before .before .before .before .before .before .l4 .given .1)
+    (c .before .before .before .before .sub .ensures) (c .before .before .i4 .given .1) (c .narrow2 .ensures)
 
 finish-requires : tie.Need-finish-requires Inv-loop μ-loop
-finish-requires c κs = finish-ready (begun (c .before .before .before .before)) (c .before .before .before .before .before .before .before .before .before .before .pre .0) (c .before .before .loop .inv)
+finish-requires c κs = finish-ready (begun (c .before .before .before .before)) (c .before .before .before .before .before .before .before .before .before .before .pre .0)
+    (c .before .before .loop .inv)
 
 returns-4 : tie.Need-returns-4 Inv-loop μ-loop
 returns-4 c = new-at (begun (c .before .before .before .before .before)) (c .before .before .before .loop .inv) (c .before .before .loop-test .left) (c .finish .ensures)

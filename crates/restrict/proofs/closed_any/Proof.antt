@@ -1,6 +1,7 @@
 -- By the sort of R, which is that of V.
 use mathlib.Core.Path.{sym, _∙_}
 use Rattle.restrict.proofs.Numbers.{alike-ref, alike-number}
+use Rattle.restrict.proofs.Ends.{derives}
 use Rattle.restrict.proofs.closed_any.Statement.{statement}
 use Rattle.restrict.proofs.closed_any.Tie as tie
 
@@ -14,7 +15,7 @@ closed-requires c κs =
     (c .before .before .before .before .pre .0, e, alike-ref (a .c .types) (a .b .now) (a .r) (a .v) (c .before .before .before .before .pre .1) e)
 
 returns : tie.Need-returns
-returns c = c .closed .ensures
+returns c = derives (c .before .before .before .before .before .args .c) (c .closed .ensures)
 
 closed-numbers-requires : tie.Need-closed-numbers-requires
 closed-numbers-requires c κs =
@@ -23,7 +24,7 @@ closed-numbers-requires c κs =
     (c .before .before .before .before .pre .0, w .0, w .1)
 
 returns-2 : tie.Need-returns-2
-returns-2 c = c .closed-numbers .ensures
+returns-2 c = derives (c .before .before .before .before .before .args .c) (c .closed-numbers .ensures)
 
 pub closed-any-spec : {M : Type 1} → statement M
 closed-any-spec =

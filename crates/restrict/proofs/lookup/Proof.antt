@@ -13,13 +13,19 @@ use Rattle.restrict.proofs.lookup.Statement.{statement}
 use Rattle.restrict.proofs.lookup.Tie as tie
 
 abbrev Inv-loop : tie.InvT-loop
-Inv-loop b n key i₀ i = (i₀ ≤ i) × (i ≤ n) × ((ms : ℕ) → find (kindOf (key .kind)) (key .left) (key .right) 0 (typesTo ms i₀ n (typesIn b)) ≡ Rest (kindOf (key .kind)) (key .left) (key .right) ms i₀ n (typesIn b) i)
+Inv-loop b n key i₀ i = (i₀ ≤ i) × (i ≤ n) × ((ms : ℕ) → find (kindOf (key .kind)) (key .left) (key .right) 0 (typesTo ms i₀ n (typesIn b)) ≡ Rest (kindOf (key .kind)) (key .left)
+    (key .right) ms i₀ n (typesIn b) i)
 
 abbrev μ-loop : tie.MeasureT-loop
 μ-loop b n key i₀ i = n - i
 
 loop-holds : tie.Need-loop-holds Inv-loop μ-loop
-loop-holds c = let a = c .args in let k = a .key in (omega arith, c .pre .1 .counted, λ ms. search-starts (kindOf (k .kind)) (k .left) (k .right) ms (a .c .sheet) (a .n) (typesIn (a .b .now)) (c .pre .1 .counted))
+loop-holds c = let a = c .args in let k = a .key in (
+  omega arith,
+  c .pre .1 .counted,
+  λ ms. search-starts (kindOf (k .kind)) (k .left) (k .right) ms (a .c .sheet) (a .n)
+      (typesIn (a .b .now)) (c .pre .1 .counted),
+)
 
 get-head-requires : tie.Need-get-head-requires Inv-loop μ-loop
 get-head-requires c κs = omega (arith, c .loop-test .taken, c .before .before .pre .1 .types)
@@ -29,7 +35,8 @@ is-key-requires c κs = search needs
 
 returns : tie.Need-returns Inv-loop μ-loop
 returns c = let a = c .before .before .before .before .before .args in let k = a .key in let l = c .before .before .before .before .loop in
-    search-hit (kindOf (k .kind)) (k .left) (k .right) (a .c .methods) (a .c .sheet) (a .n) (typesIn (a .b .now)) (l .i) (l .inv .0) (l .inv .2 (a .c .methods)) (c .before .before .before .loop-test .taken)
+    search-hit (kindOf (k .kind)) (k .left) (k .right) (a .c .methods) (a .c .sheet) (a .n) (typesIn (a .b .now)) (l .i) (l .inv .0) (l .inv .2 (a .c .methods))
+    (c .before .before .before .loop-test .taken)
     (sym (c .if1 .taken) ∙ c .before .is-key .ensures ∙ ap (λ (h : Head). isKey (kindOf (k .kind)) (k .left) (k .right) (keyIn h)) (c .before .before .get-head .ensures))
 
 add-i : tie.Need-add-i Inv-loop μ-loop
@@ -47,7 +54,8 @@ loop-again c = let a = c .before .before .before .before .before .args in let k 
 )
 
 returns-2 : tie.Need-returns-2 Inv-loop μ-loop
-returns-2 c = let a = c .before .before .args in let k = a .key in let l = c .before .loop in search-end (kindOf (k .kind)) (k .left) (k .right) (a .c .methods) (a .c .sheet) (a .n) (typesIn (a .b .now)) (l .i) (l .inv .0) (l .inv .2 (a .c .methods)) (c .loop-test .left)
+returns-2 c = let a = c .before .before .args in let k = a .key in let l = c .before .loop in search-end (kindOf (k .kind)) (k .left) (k .right) (a .c .methods) (a .c .sheet) (a .n)
+    (typesIn (a .b .now)) (l .i) (l .inv .0) (l .inv .2 (a .c .methods)) (c .loop-test .left)
 
 pub lookup-spec : {M : Type 1} → statement M
 lookup-spec =

@@ -41,7 +41,8 @@ returns-3 : tie.Need-returns-3
 returns-3 c =
     let a = c .before .before .before .before .args in
     let d = c .closed-type in
-    subst (λ (k : Kind). Derives k (a .c) (a .t) (a .s) (a .b .now) (d .last .0) (d .result)) (sym (closed-kind (a .kind) (c .before .before .before .if1 .left) (c .before .before .if2 .left))) (d .ensures)
+    subst (λ (k : Kind). Derives k (a .c) (a .t) (a .s) (a .b .now) (d .last .0) (d .result))
+    (sym (closed-kind (a .kind) (c .before .before .before .if1 .left) (c .before .before .if2 .left))) (d .ensures)
 
 pub derive-kind-spec : {M : Type 1} → statement M
 derive-kind-spec =

@@ -81,7 +81,8 @@ returns-4 c =
     let e = c .refused3 .ensures in
     let ex = rw (toZ-ofZ (s .fits .t)) at (x .ensures) in
     let ey = rw (toZ-ofZ (s .fits .s)) at (y .ensures) in
-    λ l. refused-answers (a .t1) l (a .c) e refl (no-kind (a .t1) l (a .c) (a .kind) (a .t) (a .s) (x .result) ex (b1 .if1 .left) (y .result) ey (b2 .if2 .left) (k .result) (k .ensures) (c .before .if3 .left))
+    λ l. refused-answers (a .t1) l (a .c) e refl (no-kind (a .t1) l (a .c) (a .kind) (a .t) (a .s) (x .result) ex (b1 .if1 .left) (y .result) ey (b2 .if2 .left) (k .result) (k .ensures)
+    (c .before .if3 .left))
 
 pub derive-named-spec : {M : Type 1} → statement M
 derive-named-spec =

@@ -29,7 +29,8 @@ sub-right c = search needs
 
 returns-3 : tie.Need-returns-3
 returns-3 c = (
-  both-answer (c .before .before .before .wide .result) (c .before .before .wide2 .result) (c .before .if1 .left) (c .if2 .left) ∙ ap (λ (z : ℕ). answerSlot (answerOf z) (answerOf (c .before .before .wide2 .result))) (c .before .before .before .wide .ensures .0)
+  both-answer (c .before .before .before .wide .result) (c .before .before .wide2 .result) (c .before .if1 .left) (c .if2 .left) ∙ ap
+      (λ (z : ℕ). answerSlot (answerOf z) (answerOf (c .before .before .wide2 .result))) (c .before .before .before .wide .ensures .0)
       ∙ ap (λ (z : ℕ). answerSlot (answerOf (c .before .before .before .before .args .x)) (answerOf z)) (c .before .before .wide2 .ensures .0),
   (omega (arith, c .before .before .before .wide .ensures .1), omega (arith, c .before .before .wide2 .ensures .1)),
 )

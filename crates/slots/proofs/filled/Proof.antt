@@ -23,7 +23,8 @@ unsigned-requires c κs = search needs
 returns : tie.Need-returns
 returns c = let a = c .before .before .before .before .args in let s = c .before .before .before .state-of in
     subst (Made (kindOf (a .kind)) (rawMethod (a .p)) (rawMethod (a .q)) (s .result) (s .ensures .0) (s .ensures .1) (a .args) (a .answer)) (sym (c .unsigned .ensures))
-    (bare-made (kindOf (a .kind)) (rawMethod (a .p)) (rawMethod (a .q)) (s .result) (s .ensures .0) (s .ensures .1) (a .args) (a .answer) (sym (c .before .before .permits .ensures) ∙ not-true (c .before .before .permits .result) (c .before .if1 .taken)))
+    (bare-made (kindOf (a .kind)) (rawMethod (a .p)) (rawMethod (a .q)) (s .result) (s .ensures .0) (s .ensures .1) (a .args) (a .answer)
+    (sym (c .before .before .permits .ensures) ∙ not-true (c .before .before .permits .result) (c .before .if1 .taken)))
 
 shared-count-requires : tie.Need-shared-count-requires
 shared-count-requires c κs = search needs
@@ -38,7 +39,8 @@ returns-2 c = let a = c .before .before .before .before .before .args in let s =
     let lq : length (a .q .args) ≡ 4 = search needs in
     subst (Made (kindOf (a .kind)) (rawMethod (a .p)) (rawMethod (a .q)) (s .result) (s .ensures .0) (s .ensures .1) (a .args) (a .answer))
     (ap (λ (n : ℕ). signedMethod (s .result) n (a .args) (a .answer)) (sym (c .before .shared-count .ensures)) ∙ sym (c .signed .ensures))
-    (signed-made (kindOf (a .kind)) (rawMethod (a .p)) (rawMethod (a .q)) (s .result) (s .ensures .0) (s .ensures .1) (a .args) (a .answer) (sym (c .before .before .before .permits .ensures) ∙ not-false (c .before .before .before .permits .result) (c .before .before .if1 .left)) l lp lq)
+    (signed-made (kindOf (a .kind)) (rawMethod (a .p)) (rawMethod (a .q)) (s .result) (s .ensures .0) (s .ensures .1) (a .args) (a .answer)
+    (sym (c .before .before .before .permits .ensures) ∙ not-false (c .before .before .before .permits .result) (c .before .before .if1 .left)) l lp lq)
 
 pub filled-spec : {M : Type 1} → statement M
 filled-spec =

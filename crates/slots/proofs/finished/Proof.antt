@@ -70,13 +70,15 @@ loop-less c = search needs
 
 loop-again : tie.Need-loop-again Inv-loop μ-loop
 loop-again c = let a = c .before .before .before .before .before .before .args in let l = c .before .before .before .before .loop in
-    filling-next (a .w) (a .t3) (l .inv) (c .before .before .before .loop-test .taken) (c .before .before .before .before .before .before .pre .3) (c .before .before .method-at .result) (c .before .method-at2 .result) (c .filled .result) (c .before .before .method-at .ensures) (c .before .method-at2 .ensures) (c .filled .ensures)
+    filling-next (a .w) (a .t3) (l .inv) (c .before .before .before .loop-test .taken) (c .before .before .before .before .before .before .pre .3) (c .before .before .method-at .result)
+    (c .before .method-at2 .result) (c .filled .result) (c .before .before .method-at .ensures) (c .before .method-at2 .ensures) (c .filled .ensures)
 
 new-type-requires : tie.Need-new-type-requires Inv-loop μ-loop
 new-type-requires c κs = search needs
 
 returns : tie.Need-returns Inv-loop μ-loop
-returns c = let a = c .before .before .before .before .args in filling-ends (a .w) (a .t3) (c .before .before .loop .inv) (c .before .loop-test .left) (c .before .before .before .before .pre .0) (c .new-type .result) (c .new-type .ensures .0) (c .new-type .ensures .1)
+returns c = let a = c .before .before .before .before .args in filling-ends (a .w) (a .t3) (c .before .before .loop .inv) (c .before .loop-test .left)
+    (c .before .before .before .before .pre .0) (c .new-type .result) (c .new-type .ensures .0) (c .new-type .ensures .1)
 
 pub finished-spec : {M : Type 1} → statement M
 finished-spec =

@@ -27,14 +27,18 @@ permits-requires-2 c κs = search needs
 
 returns-2 : tie.Need-returns-2
 returns-2 c = let a = c .before .before .before .before .before .args in let o = c .before .before .before .before .state-code in (
-  kept-both (stateOf (o .result)) (stateOf (a .other)) (stateOf (a .lost)) (sym (c .before .before .before .permits .ensures) ∙ not-false (c .before .before .before .permits .result) (c .before .before .if1 .left)) (sym (c .before .permits2 .ensures) ∙ c .if2 .taken)
+  kept-both (stateOf (o .result)) (stateOf (a .other)) (stateOf (a .lost))
+      (sym (c .before .before .before .permits .ensures) ∙ not-false (c .before .before .before .permits .result) (c .before .before .if1 .left))
+      (sym (c .before .permits2 .ensures) ∙ c .if2 .taken)
       ∙ ap (λ (z : State). keptState z (stateOf (a .other)) (stateOf (a .lost))) (o .ensures .0),
   o .ensures .1,
 )
 
 returns-3 : tie.Need-returns-3
 returns-3 c = let a = c .before .before .before .before .before .args in let o = c .before .before .before .before .state-code in (
-  kept-lost (stateOf (o .result)) (stateOf (a .other)) (stateOf (a .lost)) (sym (c .before .before .before .permits .ensures) ∙ not-false (c .before .before .before .permits .result) (c .before .before .if1 .left)) (sym (c .before .permits2 .ensures) ∙ c .if2 .left)
+  kept-lost (stateOf (o .result)) (stateOf (a .other)) (stateOf (a .lost))
+      (sym (c .before .before .before .permits .ensures) ∙ not-false (c .before .before .before .permits .result) (c .before .before .if1 .left))
+      (sym (c .before .permits2 .ensures) ∙ c .if2 .left)
       ∙ ap (λ (z : State). keptState z (stateOf (a .other)) (stateOf (a .lost))) (o .ensures .0),
   c .before .before .before .before .before .pre,
 )

@@ -16,7 +16,8 @@ new-type-requires : tie.Need-new-type-requires
 new-type-requires c κs = search needs
 
 returns : tie.Need-returns
-returns c = c .new-type .ensures .0 ∙ ap (λ (ms : List Method). newRecord (c .before .before .before .args .w) (map rawMethod ms)) (c .new-type .ensures .1 ∙ ap (λ (z : TypeRec). z .methods) (c .before .before .empty .ensures))
+returns c = c .new-type .ensures .0 ∙ ap (λ (ms : List Method). newRecord (c .before .before .before .args .w) (map rawMethod ms))
+    (c .new-type .ensures .1 ∙ ap (λ (z : TypeRec). z .methods) (c .before .before .empty .ensures))
 
 pub pending-spec : {M : Type 1} → statement M
 pending-spec = tie.close (tie.spec empty-requires new-type-requires returns)

@@ -32,7 +32,9 @@ narrow-requires : tie.Need-narrow-requires
 narrow-requires c κs = search needs
 
 returns : tie.Need-returns
-returns c = let a = c .before .before .before .before .before .args in signed-bytes (a .state) (a .count) (a .t3) (a .answer) (c .narrow .ensures) (c .before .before .before .before .argument-byte .ensures) (c .before .before .before .argument-byte2 .ensures) (c .before .before .argument-byte3 .ensures) (c .before .argument-byte4 .ensures)
+returns c = let a = c .before .before .before .before .before .args in signed-bytes (a .state) (a .count) (a .t3) (a .answer) (c .narrow .ensures)
+    (c .before .before .before .before .argument-byte .ensures) (c .before .before .before .argument-byte2 .ensures) (c .before .before .argument-byte3 .ensures)
+    (c .before .argument-byte4 .ensures)
 
 pub signed-spec : {M : Type 1} → statement M
 signed-spec =

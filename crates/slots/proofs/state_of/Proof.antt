@@ -13,13 +13,21 @@ kept-state-requires : tie.Need-kept-state-requires
 kept-state-requires c κs = search needs
 
 returns : tie.Need-returns
-returns c = let a = c .before .before .args in (c .kept-state .ensures .0 ∙ ap (λ (k : ℕ). restricted (kindOf k) (stateOf (a .x)) (stateOf (a .y))) (sym (c .before .if1 .taken)), c .kept-state .ensures .1)
+returns c = let a = c .before .before .args in (
+  c .kept-state .ensures .0 ∙ ap (λ (k : ℕ). restricted (kindOf k) (stateOf (a .x)) (stateOf (a .y)))
+      (sym (c .before .if1 .taken)),
+  c .kept-state .ensures .1,
+)
 
 kept-state-requires-2 : tie.Need-kept-state-requires-2
 kept-state-requires-2 c κs = search needs
 
 returns-2 : tie.Need-returns-2
-returns-2 c = let a = c .before .before .before .args in (c .kept-state2 .ensures .0 ∙ ap (λ (k : ℕ). restricted (kindOf k) (stateOf (a .x)) (stateOf (a .y))) (sym (c .before .if2 .taken)), c .kept-state2 .ensures .1)
+returns-2 c = let a = c .before .before .before .args in (
+  c .kept-state2 .ensures .0 ∙ ap (λ (k : ℕ). restricted (kindOf k) (stateOf (a .x)) (stateOf (a .y)))
+      (sym (c .before .if2 .taken)),
+  c .kept-state2 .ensures .1,
+)
 
 returns-3 : tie.Need-returns-3
 returns-3 c = let a = c .before .before .before .args in (closed-off (a .kind) (a .x) (a .y) (c .before .before .if1 .left) (c .before .if2 .left) (c .if3 .taken), omega arith)
@@ -28,10 +36,18 @@ permits-requires : tie.Need-permits-requires
 permits-requires c κs = search needs
 
 returns-4 : tie.Need-returns-4
-returns-4 c = let a = c .before .before .before .before .before .args in (closed-on (a .kind) (a .x) (a .y) (c .before .before .before .before .if1 .left) (c .before .before .before .if2 .left) (c .before .before .if3 .left) (sym (c .before .permits .ensures) ∙ c .if4 .taken), omega arith)
+returns-4 c = let a = c .before .before .before .before .before .args in (
+  closed-on (a .kind) (a .x) (a .y) (c .before .before .before .before .if1 .left) (c .before .before .before .if2 .left) (c .before .before .if3 .left)
+      (sym (c .before .permits .ensures) ∙ c .if4 .taken),
+  omega arith,
+)
 
 returns-5 : tie.Need-returns-5
-returns-5 c = let a = c .before .before .before .before .before .args in (closed-none (a .kind) (a .x) (a .y) (c .before .before .before .before .if1 .left) (c .before .before .before .if2 .left) (c .before .before .if3 .left) (sym (c .before .permits .ensures) ∙ c .if4 .left), omega arith)
+returns-5 c = let a = c .before .before .before .before .before .args in (
+  closed-none (a .kind) (a .x) (a .y) (c .before .before .before .before .if1 .left) (c .before .before .before .if2 .left) (c .before .before .if3 .left)
+      (sym (c .before .permits .ensures) ∙ c .if4 .left),
+  omega arith,
+)
 
 pub state-of-spec : {M : Type 1} → statement M
 state-of-spec =
