@@ -1,5 +1,5 @@
--- Compare and the pair table, from the four relations at a pair.
-use mathlib.Core.Path.{_≡_, _∙_}
+-- Compare and the pair table, from the answers at a pair.
+use mathlib.Core.Path.{_≡_, ap, _∙_}
 use mathlib.Core.Bool.{true, false, _&&_}
 use mathlib.Core.List.{List}
 use Prim.Native.Nat.{ℕ, _+_, _*_, _/_, _%_, _≤_, _<_}
@@ -8,19 +8,21 @@ use lib.Dec.{ltb}
 use lib.IntN.{ℤ}
 use lib.ListN.{length, getD}
 use borrow.Author.Tests.{lt-ltb, le-ltb}
+use Rattle.model.specs.Basics.{ok}
 use Rattle.model.specs.Table.{Table, size}
-use Rattle.model.specs.Relations.{subtype, strict, loose, free, related, compare}
+use Rattle.model.specs.Relations.{compare}
 use Rattle.model.specs.Check.{tableOf, tableAccepted, compareHanded}
 use Rattle.table.specs.declared.Counts.{Counts}
 use Rattle.table.specs.Store.{rawTable, tableIn}
 use Rattle.table.proofs.Lists.{is-from, from-first}
+use Rattle.relation.specs.declared.Answers.{Answers}
+use Rattle.relation.specs.Answered.{answersOf, answersAt}
 use Rattle.operand.specs.Index.{indexOf}
 use Rattle.operand.proofs.Laws.{index-unknown, index-known}
 use Rattle.compare.specs.declared.Compared.{Compared}
-use Rattle.compare.specs.declared.Compared.the-variants.{Unfit, Unknown, Answers}
-use Rattle.compare.specs.declared.Four.{Four}
+use Rattle.compare.specs.declared.Compared.the-variants.{Unfit, Unknown, Answers as Given}
 use Rattle.compare.specs.declared.Pairs.{Pairs}
-use Rattle.compare.specs.Answered.{FourAt, comparedOf, pairsGiven}
+use Rattle.compare.specs.Answered.{comparedOf, pairsGiven}
 use Rattle.compare.specs.Pairs.{pairCode, pairEntry, pairTable, noPairs, pairsHanded}
 
 -- Compare, where x and y are the indices of the numbers handed in.
@@ -34,12 +36,12 @@ module _ (T : Table) (a b : ℤ) (x : ℕ) (ex : x ≡ indexOf a (size T)) where
     unfolding compare
     compare-right l = rw (index-known a (size T) x ex p .0, index-unknown b (size T) y ey l)
 
-    pub compare-all : y < size T → (f : Four) → FourAt T x y f → comparedOf (Answers (f .subtype) (f .strict) (f .loose) (f .free)) ≡ compare T a b
-    unfolding compare related
-    compare-all q f h =
+    pub compare-all : y < size T → (r : Answers) → answersOf r ≡ answersAt T x y → comparedOf (Given r) ≡ compare T a b
+    unfolding compare
+    compare-all q r h =
         let k = index-known a (size T) x ex p in
         let m = index-known b (size T) y ey q in
-        rw (k .0, m .0, k .1, m .1, h .subtypeIs, h .strictIs, h .looseIs, h .freeIs)
+        ap ok h ∙ rw (k .0, m .0, k .1, m .1)
 
 -- An entry of the pair table.
 module _ (b l : List ℕ) (c : Counts) (t s : ℕ) where
@@ -55,8 +57,8 @@ module _ (b l : List ℕ) (c : Counts) (t s : ℕ) where
   unfolding tableIn tableOf
   both-sheet p q = rw (lt-ltb t (c .sheet) p, lt-ltb s (c .sheet) q)
 
-  pub entry-all : (f : Four) (r : ℕ) → t < c .sheet → s < c .sheet → FourAt (tableIn b l c) t s f → r ≡ pairCode (f .subtype) (f .strict) (f .loose) (f .free) → r ≡ pairEntry (tableIn b l c) t s
-  entry-all f r p q h e = e ∙ rw (both-sheet p q, h .subtypeIs, h .strictIs, h .looseIs, h .freeIs)
+  pub entry-all : (a : Answers) (r : ℕ) → t < c .sheet → s < c .sheet → answersOf a ≡ answersAt (tableIn b l c) t s → r ≡ pairCode (answersOf a) → r ≡ pairEntry (tableIn b l c) t s
+  entry-all a r p q h e = e ∙ ap pairCode h ∙ rw (both-sheet p q)
 
 -- The table, entry by entry.
 pub pairs-all : (T : Table) (out : List ℕ) → length out ≡ 2304 → ((k : ℕ) → k < 2304 → getD out k 0 ≡ pairEntry T (k / 48) (k % 48)) → out ≡ pairTable T

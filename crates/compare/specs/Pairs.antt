@@ -1,19 +1,20 @@
--- The pair table of a sheet: for each pair of sheet types one byte, in which subtype counts 1, strict 2, loose 4 and free 8. (T, S) stands at T * 48 + S.
-use mathlib.Core.Bool.{Bool, _&&_, cond}
+-- The pair table of a sheet (B24): for each pair of sheet types one byte, in which subtype counts 1, strict 2, loose 4 and free 8. (T, S) stands at T * 48 + S.
+use mathlib.Core.Bool.{_&&_, cond}
 use mathlib.Core.List.{List}
 use Prim.Native.Nat.{ℕ, _+_, _*_, _/_, _%_}
 use lib.Dec.{ltb}
 use lib.ListN.{replicate}
 use Rattle.model.specs.Basics.{Res, ok, need, from}
 use Rattle.model.specs.Table.{Table}
-use Rattle.model.specs.Relations.{subtype, strict, loose, free, bit, related}
+use Rattle.model.specs.Relations.{Answers, bit}
 use Rattle.model.specs.Check.{RawTable, tableOf, tableAccepted}
+use Rattle.relation.specs.Answered.{answersAt}
 
-abbrev pub pairCode : Bool → Bool → Bool → Bool → ℕ
-pairCode w x y z = bit w + 2 * bit x + 4 * bit y + 8 * bit z
+abbrev pub pairCode : Answers → ℕ
+pairCode a = bit (a .subtype) + 2 * bit (a .strict) + 4 * bit (a .loose) + 8 * bit (a .free)
 
 abbrev pub pairEntry : Table → ℕ → ℕ → ℕ
-pairEntry t a b = cond (ltb a (t .sheet) && ltb b (t .sheet)) (pairCode (related subtype t a b) (related strict t a b) (related loose t a b) (related free t a b)) 0
+pairEntry t a b = cond (ltb a (t .sheet) && ltb b (t .sheet)) (pairCode (answersAt t a b)) 0
 
 unfoldable pub pairTable : Table → List ℕ
 unfolding from

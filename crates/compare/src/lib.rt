@@ -1,51 +1,23 @@
-// Document 01: "Compare (T, S): 7 if either number isn't in the table, else the four answers", and the same four for every pair of a sheet's types.
+// Compare at two numbers that are handed in, and the pair table of a sheet: the same answers for every pair of its types.
 ghost use mathlib.Core.Path.{_≡_};
 ghost use Prim.Native.Nat.{_+_, _*_, _≤_};
 ghost use Rattle.model.specs.Relations.{bit, compare};
 ghost use Rattle.model.specs.Check.{compareHanded};
 ghost use Rattle.table.specs.Store.{rawTable, tableIn};
-ghost use Rattle.search.specs.Checked.{Checked};
-ghost use Rattle.compare.specs.Answered.{FourAt, comparedOf, pairsGiven};
+ghost use Rattle.table.specs.Limits.{Checked};
+ghost use Rattle.relation.specs.Answered.{answersOf};
+ghost use Rattle.compare.specs.Answered.{comparedOf, pairsGiven};
 ghost use Rattle.compare.specs.Pairs.{pairCode, pairEntry, pairTable, noPairs, pairsHanded};
-use rules::Relation;
+use relation::Answers;
 use table::Counts;
 use table::LINK_BYTES;
 use table::TYPE_BYTES;
 
-// What Compare answers: 2 for a table that is not fit, 7 for a number that names no type, or the four answers.
+// What Compare answers (R14): 2 for a table that is not fit, 7 for a number that names no type, or the answers.
 pub enum Compared {
     Unfit,
     Unknown,
-    Answers {
-        subtype: bool,
-        strict: bool,
-        loose: bool,
-        free: bool,
-    },
-}
-
-// The four answers at a pair of types.
-struct Four {
-    subtype: bool,
-    strict: bool,
-    loose: bool,
-    free: bool,
-}
-
-fn answers_at(b: &[u8; TYPE_BYTES], l: &[u8; LINK_BYTES], c: Counts, t: usize, s: usize) -> Four
-    requires { ⌜ Checked (now l) c ⌝ }
-    ensures { λ r. ⌜ FourAt (tableIn (now (b .entry)) (now (l .entry)) c) t s r ⌝ }
-{
-    let subtype = relation::related_at(b, l, c, Relation::Subtype, t, s);
-    let strict = relation::related_at(b, l, c, Relation::Strict, t, s);
-    let loose = relation::related_at(b, l, c, Relation::Loose, t, s);
-    let free = relation::related_at(b, l, c, Relation::Free, t, s);
-    Four {
-        subtype,
-        strict,
-        loose,
-        free,
-    }
+    Answers(Answers),
 }
 
 // Compare, in a table that is checked.
@@ -67,13 +39,8 @@ fn compare_checked(
     if c.types <= y {
         return Compared::Unknown;
     }
-    let a = answers_at(b, l, c, x, y);
-    Compared::Answers {
-        subtype: a.subtype,
-        strict: a.strict,
-        loose: a.loose,
-        free: a.free,
-    }
+    let a = relation::answers_at(b, l, c, x, y);
+    Compared::Answers(a)
 }
 
 // Compare, on any table handed in: 2 before all else.
@@ -101,18 +68,18 @@ fn bit_of(x: bool) -> u8
     0
 }
 
-// The four answers in one byte.
-pub fn pair_code(subtype: bool, strict: bool, loose: bool, free: bool) -> u8
-    ensures { λ r. ⌜ r ≡ pairCode subtype strict loose free ⌝ }
+// The answers in one byte.
+pub fn pair_code(a: Answers) -> u8
+    ensures { λ r. ⌜ r ≡ pairCode (answersOf a) ⌝ }
 {
-    let w = bit_of(subtype);
-    let x = bit_of(strict);
-    let y = bit_of(loose);
-    let z = bit_of(free);
+    let w = bit_of(a.subtype);
+    let x = bit_of(a.strict);
+    let y = bit_of(a.loose);
+    let z = bit_of(a.free);
     w + 2 * x + 4 * y + 8 * z
 }
 
-// The four answers at a pair of sheet types; 0 where one is no sheet type.
+// The answers at a pair of sheet types; 0 where one is no sheet type.
 fn pair_entry(b: &[u8; TYPE_BYTES], l: &[u8; LINK_BYTES], c: Counts, t: usize, s: usize) -> u8
     requires { ⌜ Checked (now l) c ⌝ }
     ensures { λ r. ⌜ r ≡ pairEntry (tableIn (now (b .entry)) (now (l .entry)) c) t s ⌝ }
@@ -123,11 +90,11 @@ fn pair_entry(b: &[u8; TYPE_BYTES], l: &[u8; LINK_BYTES], c: Counts, t: usize, s
     if c.sheet <= s {
         return 0;
     }
-    let a = answers_at(b, l, c, t, s);
-    pair_code(a.subtype, a.strict, a.loose, a.free)
+    let a = relation::answers_at(b, l, c, t, s);
+    pair_code(a)
 }
 
-// The four answers at every pair of sheet types, that of (T, S) at T * 48 + S.
+// The answers at every pair of sheet types, those of (T, S) at T * 48 + S (B24).
 pub fn pair_table(b: &[u8; TYPE_BYTES], l: &[u8; LINK_BYTES], c: Counts) -> [u8; 2304]
     requires { ⌜ Checked (now l) c ⌝ }
     ensures { λ r. ⌜ r ≡ pairTable (tableIn (now (b .entry)) (now (l .entry)) c) ⌝ }

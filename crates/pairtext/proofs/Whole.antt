@@ -4,20 +4,21 @@ use mathlib.Core.Bool.{Bool, true, false, cond}
 use mathlib.Core.List.{List, [], _∷_, flatten}
 use Prim.Native.Nat.{ℕ, _+_, _*_, _/_, _%_, _≤_, _<_}
 use native.Mathlib.Omega.{arith}
-use lib.Dec.{eqb, leb}
+use lib.Dec.{eqb}
 use lib.ListN.{length, getD, take, drop}
 use lib.Seq.{take-append-seam, length-take-le}
-use borrow.Author.Tests.{lt-ltb, le-ltb, leb-true, ne-eqb}
+use borrow.Author.Tests.{lt-ltb, le-ltb, ne-eqb}
 use Rattle.model.specs.Basics.{from}
-use Rattle.model.specs.Table.{Table, between, tableFits, validSheet, maxSubjects, maxMethods, maxCategories, maxSheetTypes}
-use Rattle.model.specs.Relations.{subtype, strict, loose, free, bit, related}
+use Rattle.model.specs.Table.{Table, tableFits, validSheet}
+use Rattle.model.specs.Relations.{Answers, bit}
 use Rattle.model.specs.Check.{tableOf}
-use Rattle.model.proofs.Rules.{first, second}
+use Rattle.model.proofs.Rules.{first}
 use Rattle.model.proofs.Fitting.{TableFitting, table-fitting}
 use Rattle.table.specs.Store.{tableIn}
 use Rattle.table.proofs.Lists.{from-same}
-use Rattle.search.specs.Checked.{Checked}
-use Rattle.search.proofs.Accepted.{fitting-checked}
+use Rattle.table.specs.Limits.{Checked}
+use Rattle.tablecheck.proofs.Accepted.{fitting-checked}
+use Rattle.relation.specs.Answered.{answersAt}
 use Rattle.compare.specs.Pairs.{pairCode, pairTable}
 use Rattle.compare.proofs.Laws.{pair-at}
 use Rattle.sheet.specs.Lines.{bytes, join}
@@ -26,7 +27,7 @@ use Rattle.sheet.proofs.Exact.{loaded-valid}
 use Rattle.sheetread.specs.declared.Sheet.{Sheet}
 use Rattle.sheetread.specs.View.{SheetIs}
 use Rattle.textwrite.specs.Fill.{Filled}
-use Rattle.pairtext.specs.Output.{maxInput, spaced, pairLine, pairLines, answerLines, pairsOutput}
+use Rattle.pairtext.specs.Output.{maxInput, spaced, answerBits, pairLine, pairLines, answerLines, pairsOutput}
 use Rattle.pairtext.specs.Parts.{answersIn, codeLine, rowLines, codeLines}
 
 -- ---- the pairs
@@ -37,32 +38,32 @@ bit-low false = omega arith
 low-bit : (b n : ℕ) → b ≤ 1 → (b + 2 * n) % 2 ≡ b
 low-bit b n h = omega arith
 
-answers-of : (w x y z : Bool) → answersIn (pairCode w x y z) ≡ bit w ∷ bit x ∷ bit y ∷ bit z ∷ []
-answers-of w x y z =
-    let p = bit-low w in
-    let q = bit-low x in
-    let r = bit-low y in
-    let s = bit-low z in
-    let k = pairCode w x y z in
-    let k₀ : k ≡ bit w + 2 * (bit x + 2 * (bit y + 2 * bit z)) = omega arith in
-    let k₁ : k / 2 ≡ bit x + 2 * (bit y + 2 * bit z) = omega arith in
-    let k₂ : k / 4 ≡ bit y + 2 * bit z = omega arith in
-    let k₃ : k / 8 ≡ bit z + 2 * 0 = omega arith in
-    ap (λ i. i ∷ k / 2 % 2 ∷ k / 4 % 2 ∷ k / 8 % 2 ∷ []) (ap (λ i. i % 2) k₀ ∙ low-bit (bit w) (bit x + 2 * (bit y + 2 * bit z)) p)
-    ∙ ap (λ i. bit w ∷ i ∷ k / 4 % 2 ∷ k / 8 % 2 ∷ []) (ap (λ i. i % 2) k₁ ∙ low-bit (bit x) (bit y + 2 * bit z) q)
-    ∙ ap (λ i. bit w ∷ bit x ∷ i ∷ k / 8 % 2 ∷ []) (ap (λ i. i % 2) k₂ ∙ low-bit (bit y) (bit z) r)
-    ∙ ap (λ i. bit w ∷ bit x ∷ bit y ∷ i ∷ []) (ap (λ i. i % 2) k₃ ∙ low-bit (bit z) 0 s)
+answers-of : (a : Answers) → answersIn (pairCode a) ≡ answerBits a
+answers-of a = go (a .subtype) (a .strict) (a .loose) (a .free)
+  where
+    go : (w x y z : Bool) → answersIn (bit w + 2 * bit x + 4 * bit y + 8 * bit z) ≡ bit w ∷ bit x ∷ bit y ∷ bit z ∷ []
+    go w x y z =
+        let p = bit-low w in
+        let q = bit-low x in
+        let r = bit-low y in
+        let s = bit-low z in
+        let k = bit w + 2 * bit x + 4 * bit y + 8 * bit z in
+        let k₀ : k ≡ bit w + 2 * (bit x + 2 * (bit y + 2 * bit z)) = omega arith in
+        let k₁ : k / 2 ≡ bit x + 2 * (bit y + 2 * bit z) = omega arith in
+        let k₂ : k / 4 ≡ bit y + 2 * bit z = omega arith in
+        let k₃ : k / 8 ≡ bit z + 2 * 0 = omega arith in
+        ap (λ i. i ∷ k / 2 % 2 ∷ k / 4 % 2 ∷ k / 8 % 2 ∷ []) (ap (λ i. i % 2) k₀ ∙ low-bit (bit w) (bit x + 2 * (bit y + 2 * bit z)) p)
+        ∙ ap (λ i. bit w ∷ i ∷ k / 4 % 2 ∷ k / 8 % 2 ∷ []) (ap (λ i. i % 2) k₁ ∙ low-bit (bit x) (bit y + 2 * bit z) q)
+        ∙ ap (λ i. bit w ∷ bit x ∷ i ∷ k / 8 % 2 ∷ []) (ap (λ i. i % 2) k₂ ∙ low-bit (bit y) (bit z) r)
+        ∙ ap (λ i. bit w ∷ bit x ∷ bit y ∷ i ∷ []) (ap (λ i. i % 2) k₃ ∙ low-bit (bit z) 0 s)
 
 module _ (T : Table) (h : T .sheet ≤ 48) where
-  abbrev codeAt : ℕ → ℕ → ℕ
-  codeAt t s = pairCode (related subtype T t s) (related strict T t s) (related loose T t s) (related free T t s)
-
-  entry-is : (t s : ℕ) → t < T .sheet → s < T .sheet → getD (pairTable T) (t * 48 + s) 0 ≡ codeAt t s
+  entry-is : (t s : ℕ) → t < T .sheet → s < T .sheet → getD (pairTable T) (t * 48 + s) 0 ≡ pairCode (answersAt T t s)
   entry-is t s p q = pair-at T t s (omega arith) (omega arith) ∙ rw (lt-ltb t (T .sheet) p, lt-ltb s (T .sheet) q)
 
   pair-is : (t s : ℕ) → t < T .sheet → s < T .sheet → codeLine t s (getD (pairTable T) (t * 48 + s) 0) ≡ pairLine T t s
   unfolding codeLine pairLine
-  pair-is t s p q = ap (codeLine t s) (entry-is t s p q) ∙ ap (λ z. spaced (t ∷ s ∷ z)) (answers-of (related subtype T t s) (related strict T t s) (related loose T t s) (related free T t s))
+  pair-is t s p q = ap (codeLine t s) (entry-is t s p q) ∙ ap (λ z. spaced (t ∷ s ∷ z)) (answers-of (answersAt T t s))
 
   pub pairs-are : codeLines (pairTable T) (T .sheet) (T .sheet) ≡ pairLines T
   unfolding codeLines rowLines pairLines
@@ -85,13 +86,7 @@ module _ (bs : List ℕ) (x : Sheet) (h : SheetIs x (read bs)) (z : x .no ≡ 0)
   sheet-checked = fitting-checked (x .types) (x .links) (x .counts) fitting
 
   pub sheet-few : x .counts .sheet ≤ 48
-  unfolding tableIn tableOf
-  sheet-few =
-      let t = tableOfSheet in
-      let k₁ = second (between 1 maxSubjects (t .subjects)) _ (fitting .counts) in
-      let k₂ = second (between 1 maxMethods (t .methods)) _ k₁ in
-      let k₃ = second (leb (length (t .cats)) maxCategories) _ k₂ in
-      leb-true (t .sheet) maxSheetTypes (second (leb 1 (t .sheet)) _ (first (between 1 maxSheetTypes (t .sheet)) _ k₃))
+  sheet-few = sheet-checked .limits .sheet
 
   pub accepted-prints : length bs ≤ maxInput → join (codeLines (pairTable tableOfSheet) (x .counts .sheet) (x .counts .sheet)) ≡ pairsOutput bs
   unfolding pairsOutput answerLines tableIn tableOf

@@ -6,7 +6,8 @@ use lib.Dec.{ltb}
 use lib.ListN.{length}
 use Rattle.model.specs.Basics.{from}
 use Rattle.model.specs.Table.{Table}
-use Rattle.model.specs.Relations.{subtype, strict, loose, free, bit, related}
+use Rattle.model.specs.Relations.{Answers, bit, related}
+use Rattle.relation.specs.Answered.{answersAt}
 use Rattle.sheet.specs.Lines.{bytes, join}
 use Rattle.sheet.specs.Numbers.{decimal, decimalIn}
 use Rattle.sheet.specs.Text.{numberText}
@@ -25,10 +26,13 @@ abbrev pub spaced : List ℕ → List ℕ
 spaced [] = []
 spaced (n ∷ r) = decimal n ++ spaces r
 
--- "Compare (T, S): .. the four answers", 1 or 0: S subtype of T, and strict, loose and free (T from S)
+-- the answers of Compare, 1 or 0, in the order in which they are printed
+abbrev pub answerBits : Answers → List ℕ
+answerBits a = bit (a .subtype) ∷ bit (a .strict) ∷ bit (a .loose) ∷ bit (a .free) ∷ []
+
 unfoldable pub pairLine : Table → ℕ → ℕ → List ℕ
 unfolding related numberText decimalIn
-pairLine x t s = spaced (t ∷ s ∷ bit (related subtype x t s) ∷ bit (related strict x t s) ∷ bit (related loose x t s) ∷ bit (related free x t s) ∷ [])
+pairLine x t s = spaced (t ∷ s ∷ answerBits (answersAt x t s))
 
 -- a line for every pair of sheet types, T rising and within it S rising
 unfoldable pub pairLines : Table → List (List ℕ)

@@ -1,5 +1,4 @@
-// Document 01, "Relations over all pairs": a relation at a pair of types. The pair is related unless a pair that breaks its rule can be reached from it through
-// signatures that both sides permit, so pairs are found in a queue, each once, and the rule of each is asked (specs of `search`). One array has the queue and says
+// A relation at a pair of types (R3). The pair is related unless a pair that breaks its rule can be reached from it through signatures that both sides permit, so pairs are found in a queue, each once, and the rule of each is asked (specs/Found.antt). One array has the queue and says
 // which pairs are found, so a relation at a pair takes time linear in the pairs that can be reached, no heap, and never visits a pair twice.
 ghost use mathlib.Core.Path.{_≡_};
 ghost use mathlib.Core.List.{List};
@@ -9,22 +8,20 @@ ghost use lib.ListN.{length, getD, take};
 ghost use Rattle.model.specs.Relations.{argsRule, answerRule, methodRule, rule, related};
 ghost use Rattle.model.specs.Check.{answerOf, methodOf};
 ghost use Rattle.table.specs.Store.{rawMethod, tableIn, methodIn};
-ghost use Rattle.search.specs.Checked.{Checked};
-ghost use Rattle.search.specs.Parts.{Says};
-ghost use Rattle.search.specs.Found.{upto, queueIn, Added, SoundIn, MetIn};
+ghost use Rattle.table.specs.Limits.{Checked};
 ghost use Rattle.rules.specs.Asked.{relationOf};
+ghost use Rattle.rules.specs.Parts.{Says};
+ghost use Rattle.relation.specs.Answered.{answersOf, answersAt};
+ghost use Rattle.relation.specs.Found.{eachBelow, queueIn, Added, ListedIn, MetIn};
+use numbers::least;
 use numbers::wide;
+use numbers::wide16;
 use rules::Relation;
 use table::Counts;
+use table::Head;
 use table::LINK_BYTES;
 use table::Method;
 use table::TYPE_BYTES;
-
-fn wide16(x: u16) -> usize
-    ensures { λ r. ⌜ (r ≡ x) × (r < 65536) ⌝ }
-{
-    x as usize
-}
 
 // Whether an entry of the array says that the pair of its number is found: its top bit.
 fn is_found(entry: u16) -> bool
@@ -46,7 +43,7 @@ fn add_pair(found: &mut [u16; 16384], tail: usize, p: usize) -> usize
 
 // The pair (x, y) joins those found, of which there are `tail`, unless it is one of them. 0 if x or y is not in the table.
 fn find_pair(found: &mut [u16; 16384], tail: usize, n: usize, x: usize, y: usize) -> usize
-    requires { ⌜ SoundIn n (now found) tail ⌝ }
+    requires { ⌜ ListedIn n (now found) tail ⌝ }
     ensures { λ r. ⌜ MetIn n (λ M. M x y) (now (found .entry)) tail (now (found .exit)) r ⌝ }
 {
     if n <= x {
@@ -66,16 +63,12 @@ fn find_pair(found: &mut [u16; 16384], tail: usize, n: usize, x: usize, y: usize
 fn slots_used(count: u8) -> usize
     ensures { λ r. ⌜ (r ≤ 4) × ((xs : List ℕ) → length xs ≡ 4 → take count xs ≡ take r xs) ⌝ }
 {
-    let w = wide(count);
-    if w < 4 {
-        return w;
-    }
-    4
+    least(wide(count), 4)
 }
 
-// "the argument counts are equal, [..] arguments with sides exchanged"
+// R4 and R6: as many arguments, and each related with the sides exchanged.
 fn find_arguments(found: &mut [u16; 16384], tail: usize, n: usize, x: Method, y: Method) -> usize
-    requires { ⌜ SoundIn n (now found) tail ⌝ }
+    requires { ⌜ ListedIn n (now found) tail ⌝ }
     ensures { λ r. ⌜ MetIn n (λ M. argsRule M (take (x .count) (x .args)) (take (y .count) (y .args))) (now (found .entry)) tail (now (found .exit)) r ⌝ }
 {
     let used = slots_used(x.count);
@@ -98,9 +91,9 @@ fn find_arguments(found: &mut [u16; 16384], tail: usize, n: usize, x: Method, y:
     t
 }
 
-// "answers are both present or both missing, answers are related in the same direction"
+// R4 and R5: both have an answer or neither, and then they are related in the direction of the pair.
 fn find_answer(found: &mut [u16; 16384], tail: usize, n: usize, x: u8, y: u8) -> usize
-    requires { ⌜ SoundIn n (now found) tail ⌝ }
+    requires { ⌜ ListedIn n (now found) tail ⌝ }
     ensures { λ r. ⌜ MetIn n (λ M. answerRule M (answerOf x) (answerOf y)) (now (found .entry)) tail (now (found .exit)) r ⌝ }
 {
     let a = wide(x);
@@ -127,7 +120,7 @@ fn find_method(
     x: Method,
     y: Method,
 ) -> usize
-    requires { ⌜ SoundIn n (now found) tail × Says (relationOf k) square ⌝ }
+    requires { ⌜ ListedIn n (now found) tail × Says (relationOf k) square ⌝ }
     ensures { λ r. ⌜ MetIn n (λ M. methodRule (relationOf k) M (methodOf (rawMethod x)) (methodOf (rawMethod y))) (now (found .entry)) tail (now (found .exit)) r ⌝ }
 {
     let fine = rules::state_rule(square, k, x.state, y.state);
@@ -151,18 +144,18 @@ fn find_methods(
     found: &mut [u16; 16384],
     tail: usize,
     n: usize,
-    count: usize,
+    methods: usize,
     k: Relation,
     square: [[bool; 4]; 4],
     a: usize,
     d: usize,
 ) -> usize
-    requires { ⌜ SoundIn n (now found) tail × Says (relationOf k) square × (a < 128) × (d < 128) × (count ≤ 16) ⌝ }
-    ensures { λ r. ⌜ MetIn n (λ M. upto count (λ j. methodRule (relationOf k) M (methodIn (now (b .entry)) a j) (methodIn (now (b .entry)) d j))) (now (found .entry)) tail (now (found .exit)) r ⌝ }
+    requires { ⌜ ListedIn n (now found) tail × Says (relationOf k) square × (a < 128) × (d < 128) × (methods ≤ 16) ⌝ }
+    ensures { λ r. ⌜ MetIn n (λ M. eachBelow methods (λ j. methodRule (relationOf k) M (methodIn (now (b .entry)) a j) (methodIn (now (b .entry)) d j))) (now (found .entry)) tail (now (found .exit)) r ⌝ }
 {
     let mut t = tail;
     let mut j: usize = 0;
-    while j < count {
+    while j < methods {
         let x = table::get_method(b, a, j);
         let y = table::get_method(b, d, j);
         let r = find_method(found, t, n, k, square, x, y);
@@ -187,7 +180,7 @@ fn find_types(
     a: usize,
     d: usize,
 ) -> usize
-    requires { ⌜ SoundIn (c .types) (now found) tail × Says (relationOf k) square × Checked (now l) c × (a < c .types) × (d < c .types) ⌝ }
+    requires { ⌜ ListedIn (c .types) (now found) tail × Says (relationOf k) square × Checked (now l) c × (a < c .types) × (d < c .types) ⌝ }
     ensures { λ r. ⌜ MetIn (c .types) (λ M. rule (relationOf k) (tableIn (now (b .entry)) (now (l .entry)) c) M a d) (now (found .entry)) tail (now (found .exit)) r ⌝ }
 {
     let x = table::get_head(b, a);
@@ -196,7 +189,7 @@ fn find_types(
     if !fine {
         return 0;
     }
-    if x.rep != 0 {
+    if x.rep != Head::REF {
         return tail;
     }
     find_methods(b, found, tail, c.types, c.methods, k, square, a, d)
@@ -213,7 +206,7 @@ fn find_next(
     k: Relation,
     square: [[bool; 4]; 4],
 ) -> usize
-    requires { ⌜ SoundIn (c .types) (now found) tail × Says (relationOf k) square × Checked (now l) c × (head < tail) ⌝ }
+    requires { ⌜ ListedIn (c .types) (now found) tail × Says (relationOf k) square × Checked (now l) c × (head < tail) ⌝ }
     ensures { λ r. ⌜ MetIn (c .types) (λ M. rule (relationOf k) (tableIn (now (b .entry)) (now (l .entry)) c) M (getD (queueIn (now (found .entry))) head 0 / 128) (getD (queueIn (now (found .entry))) head 0 % 128)) (now (found .entry)) tail (now (found .exit)) r ⌝ }
 {
     let p = wide16(found[head]) % 32768;
@@ -267,4 +260,34 @@ pub fn related_at(
     }
     let square = rules::state_square(k);
     search(b, l, c, k, square, t, s)
+}
+
+// What Compare answers at a pair of types (R14).
+pub struct Answers {
+    pub subtype: bool,
+    pub strict: bool,
+    pub loose: bool,
+    pub free: bool,
+}
+
+pub fn answers_at(
+    b: &[u8; TYPE_BYTES],
+    l: &[u8; LINK_BYTES],
+    c: Counts,
+    t: usize,
+    s: usize,
+) -> Answers
+    requires { ⌜ Checked (now l) c ⌝ }
+    ensures { λ r. ⌜ answersOf r ≡ answersAt (tableIn (now (b .entry)) (now (l .entry)) c) t s ⌝ }
+{
+    let subtype = related_at(b, l, c, Relation::Subtype, t, s);
+    let strict = related_at(b, l, c, Relation::Strict, t, s);
+    let loose = related_at(b, l, c, Relation::Loose, t, s);
+    let free = related_at(b, l, c, Relation::Free, t, s);
+    Answers {
+        subtype,
+        strict,
+        loose,
+        free,
+    }
 }

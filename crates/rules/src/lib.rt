@@ -1,4 +1,4 @@
-// Document 01, "Relations over all pairs": what a relation asks of a pair of types without their signatures. States of a method, representation, category, own.
+// What a relation asks of a pair of types (T, S) without their signatures (R8 to R12): the states of a method, representation, category, own.
 // The pairs that signatures lead to are found in `relation`.
 ghost use mathlib.Core.Path.{_≡_};
 ghost use mathlib.Core.Bool.{false, _&&_};
@@ -10,8 +10,8 @@ ghost use Rattle.model.specs.Table.{permit};
 ghost use Rattle.model.specs.Relations.{stateRule, sameRep, sameSort, catLe};
 ghost use Rattle.model.specs.Check.{stateOf, repOf};
 ghost use Rattle.table.specs.Store.{tableIn};
-ghost use Rattle.search.specs.Checked.{Checked, broaderIn};
-ghost use Rattle.search.specs.Parts.{exact, ordered, owned, repRule, ownOf, outerHeads, Says, catNext};
+ghost use Rattle.table.specs.Limits.{Checked};
+ghost use Rattle.rules.specs.Parts.{exact, ordered, owned, repRule, headOwns, outerHeads, Says, broaderIn, catNext};
 ghost use Rattle.rules.specs.Asked.{relationOf};
 use numbers::wide;
 use table::Counts;
@@ -20,7 +20,7 @@ use table::LINK_BYTES;
 use table::Method;
 use table::permits;
 
-// The four relations, and subtype with own not compared, which step 3 of a crossing asks for.
+// The four relations, and subtype with own not compared (R12), which a crossing asks for (X6).
 pub enum Relation {
     Subtype,
     Conforms,
@@ -29,7 +29,7 @@ pub enum Relation {
     Free,
 }
 
-// State order: "denied ≤ every state; optional ≤ optional, avail, unavail; avail ≤ avail; unavail ≤ unavail; no others". The row's state ≤ the column's.
+// R1: the row's state ≤ the column's. Rows and columns are the codes of states.
 pub const STATE_ORDER: [[bool; 4]; 4] = [
     [true, true, true, true],
     [false, true, true, true],
@@ -37,7 +37,7 @@ pub const STATE_ORDER: [[bool; 4]; 4] = [
     [false, false, false, true],
 ];
 
-// strict: "avail in T only where avail in S"
+// R9: T is avail (its row) only where S is avail
 pub const AVAIL_WHERE_AVAIL: [[bool; 4]; 4] = [
     [true, true, true, true],
     [true, true, true, true],
@@ -45,7 +45,7 @@ pub const AVAIL_WHERE_AVAIL: [[bool; 4]; 4] = [
     [true, true, true, true],
 ];
 
-// loose: "avail in T only where S permits"
+// R10: T is avail only where S permits
 pub const AVAIL_WHERE_PERMITTED: [[bool; 4]; 4] = [
     [true, true, true, true],
     [true, true, true, true],
@@ -53,7 +53,7 @@ pub const AVAIL_WHERE_PERMITTED: [[bool; 4]; 4] = [
     [true, true, true, true],
 ];
 
-// free: "as loose without the state rule"
+// R11: states are not compared
 pub const ANY_STATES: [[bool; 4]; 4] = [
     [true, true, true, true],
     [true, true, true, true],
@@ -142,7 +142,7 @@ fn category_next(l: &[u8; LINK_BYTES], done: &[bool; 32], c: Counts, a: usize, x
     false
 }
 
-// "a ≤ b if a is 0, a = b, or a is reached from b by broader links": the answer for each category below b, from 0 up, and then for b.
+// T7, category a ≤ b: the answer for each category below b, from 0 up, and then for b.
 fn category_le(l: &[u8; LINK_BYTES], c: Counts, a: usize, b: usize) -> bool
     requires { ⌜ Checked (now l) c ⌝ }
     ensures { λ r. ⌜ ((types : List ℕ) → r ≡ catLe (tableIn types (now (l .entry)) c) a b) ⌝ }
@@ -163,27 +163,27 @@ fn category_le(l: &[u8; LINK_BYTES], c: Counts, a: usize, b: usize) -> bool
     category_next(l, &done, c, a, b)
 }
 
-// subtype: "same representation"
+// The same representation. A code that names none is read as w64.
 fn same_rep(x: u8, y: u8) -> bool
     ensures { λ r. ⌜ r ≡ sameRep (repOf x) (repOf y) ⌝ }
 {
-    if x == 0 {
-        return y == 0;
+    if x == Head::REF {
+        return y == Head::REF;
     }
-    if x == 1 {
-        return y == 1;
+    if x == Head::W32 {
+        return y == Head::W32;
     }
-    2 <= y
+    Head::W64 <= y
 }
 
-// strict, loose, free: "both ref or both numbers"
+// Both ref or both numbers.
 fn same_sort(x: u8, y: u8) -> bool
     ensures { λ r. ⌜ r ≡ sameSort (repOf x) (repOf y) ⌝ }
 {
-    if x == 0 {
-        return y == 0;
+    if x == Head::REF {
+        return y == Head::REF;
     }
-    y != 0
+    y != Head::REF
 }
 
 // Which relations ask for the same representation.
@@ -250,16 +250,16 @@ fn category_rule(l: &[u8; LINK_BYTES], c: Counts, k: Relation, x: u8, y: u8) -> 
 
 // The own flag, which a number type has not.
 fn owns(x: Head) -> bool
-    ensures { λ r. ⌜ r ≡ ownOf x ⌝ }
+    ensures { λ r. ⌜ r ≡ headOwns x ⌝ }
 {
-    if x.rep == 0 {
-        return x.own == 1;
+    if x.rep == Head::REF {
+        return x.own == Head::OWN;
     }
     false
 }
 
 fn own_rule(k: Relation, x: Head, y: Head) -> bool
-    ensures { λ r. ⌜ r ≡ (owned (relationOf k) ⇒ (ownOf x ⇒ ownOf y)) ⌝ }
+    ensures { λ r. ⌜ r ≡ (owned (relationOf k) ⇒ (headOwns x ⇒ headOwns y)) ⌝ }
 {
     let asked = asks_own(k);
     if asked {

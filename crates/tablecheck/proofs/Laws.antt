@@ -10,15 +10,35 @@ use lib.Dec.{eqb, ltb, leb}
 use lib.ListN.{length, getD, take, length-take}
 use borrow.Author.Tests.{ltb-true, ltb-false, leb-true, le-leb, eq-eqb}
 use Rattle.model.specs.Basics.{_⇒_, all, every, from, unlessMissing}
-use Rattle.model.specs.Table.{Rep, ref, w32, w64, Key, Method, Ty, Table, size, isRef, permit, between, countsFit, linksFit, standsIn, isNil, isNone, signatureFits, methodCount, keyFits, typeFits, tableFits}
+use Rattle.model.specs.Table.{mayStand, maxSubjects, maxMethods, maxCategories, maxSheetTypes, maxTypes, Rep, ref, w32, w64, Key, Method, Ty, Table, size, isRef, permit, between, countsFit, linksFit, standsIn, isNil, isNone, signatureFits, methodCount, keyFits, typeFits, tableFits}
 use Rattle.model.specs.Check.{RawMethod, RawType, RawLinks, noRawType, noRawMethod, noRawLinks, stateOf, answerOf, kindOf, methodOf, typeOf, linksOf, tableOf, rawMethodFits, rawTypeFits, codesFit, tableAccepted}
 use Rattle.model.proofs.Rules.{first, second}
 use Rattle.table.specs.declared.Counts.{Counts}
 use Rattle.table.specs.Store.{typesIn, linksIn, rawTable, tableIn, headOf}
+use Rattle.table.specs.Limits.{Limits}
 use Rattle.table.proofs.Lists.{length-from}
 use Rattle.table.proofs.Tables.{size-is, type-is, cats-length}
-use Rattle.tablecheck.specs.Parts.{eachFrom, countsAccepted, mayStand, methodAccepted, keyAccepted, boundOf, methodsAccepted, typeAccepted, linksAccepted, typesAccepted}
+use Rattle.tablecheck.specs.Parts.{eachFrom, countsAccepted, standsAs, methodAccepted, keyAccepted, boundOf, methodsAccepted, typeAccepted, linksAccepted, typesAccepted}
 use Rattle.tablecheck.proofs.Each.{left-comm, interchange, under-and, all-each, every-each, each-and, each-same, all-same}
+
+-- Counts that pass are within the limits.
+pub counts-limits : (c : Counts) → countsAccepted c ≡ true → Limits c
+counts-limits c e =
+    let e₁ = second (between 1 maxSubjects (c .subjects)) _ e in
+    let e₂ = second (between 1 maxMethods (c .methods)) _ e₁ in
+    let e₃ = second (leb (c .cats) maxCategories) _ e₂ in
+    let e₄ = second (between 1 maxSheetTypes (c .sheet)) _ e₃ in
+    record {
+      subjects = upper maxSubjects (c .subjects) (first (between 1 maxSubjects (c .subjects)) _ e);
+      methods = upper maxMethods (c .methods) (first (between 1 maxMethods (c .methods)) _ e₁);
+      cats = leb-true (c .cats) maxCategories (first (leb (c .cats) maxCategories) _ e₂);
+      sheet = upper maxSheetTypes (c .sheet) (first (between 1 maxSheetTypes (c .sheet)) _ e₃);
+      counted = leb-true (c .sheet) (c .types) (first (leb (c .sheet) (c .types)) _ e₄);
+      types = leb-true (c .types) maxTypes (second (leb (c .sheet) (c .types)) _ e₄);
+    }
+  where
+    upper : (m n : ℕ) → between 1 m n ≡ true → n ≤ m
+    upper m n h = leb-true n m (second (leb 1 n) _ h)
 
 -- A method: the test of its codes and that of its signature. A test F of the table, and what the records say of it.
 module _ (F G : ℕ → Bool) (same : (a : ℕ) → F a ≡ G a) where
@@ -77,7 +97,7 @@ module _ (b l : List ℕ) (c : Counts) where
   abbrev rs : List RawType
   rs = typesIn b
 
-  counts-are : countsFit (tableIn b l c) ≡ countsAccepted c
+  pub counts-are : countsFit (tableIn b l c) ≡ countsAccepted c
   unfolding tableIn tableOf
   counts-are = rw (cats-length b l c, size-is b l c)
 
@@ -111,16 +131,18 @@ module _ (b l : List ℕ) (c : Counts) where
         go true = below
         go false = omega arith
 
-    stands-same : (n : ℕ) → n ≤ c .types → (a : ℕ) → standsIn (tableIn b l c) n a ≡ mayStand rs n a
-    stands-same n h a = under-and (ltb a n) _ _ (λ e. let lt : a < n = ltb-true a n e in ap (λ (x : Ty). not (x .own)) (type-is b l c a (omega arith)))
+    stands-same : (n : ℕ) → n ≤ c .types → (a : ℕ) → standsIn (tableIn b l c) n a ≡ standsAs rs n a
+    stands-same n h a = under-and (ltb a n) _ _ (λ e. let lt : a < n = ltb-true a n e in ap mayStand (type-is b l c a (omega arith)))
 
     method-is : (n : ℕ) → n ≤ c .types → (m : RawMethod) → (rawMethodFits m && signatureFits (tableIn b l c) n (methodOf m)) ≡ methodAccepted rs n m
     method-is n h m =
-        method-parts (standsIn (tableIn b l c) n) (mayStand rs n) (stands-same n h) (ltb (m .state) 4) (permit (stateOf (m .state))) (leb (m .count) 2) 2 (take (m .count) (m .args)) (methodOf m .args) (answerOf (m .answer)) (methodOf m .answer)
+        method-parts (standsIn (tableIn b l c) n) (standsAs rs n) (stands-same n h) (ltb (m .state) 4) (permit (stateOf (m .state))) (leb (m .count) 2) 2
+        (take (m .count) (m .args)) (methodOf m .args) (answerOf (m .answer)) (methodOf m .answer)
         (λ e. (rw e, rw e)) (λ e. (rw e, rw e)) (take-fits (m .count) 2 (m .args))
 
     methods-are : (n : ℕ) → n ≤ c .types → (x : RawType)
-        → (all rawMethodFits (from (c .methods) 0 (λ j. getD (x .methods) j noRawMethod)) && all (signatureFits (tableIn b l c) n) (from (c .methods) 0 (λ j. methodOf (getD (x .methods) j noRawMethod)))) ≡ methodsAccepted rs n (c .methods) x
+        → (all rawMethodFits (from (c .methods) 0 (λ j. getD (x .methods) j noRawMethod)) && all (signatureFits (tableIn b l c) n)
+        (from (c .methods) 0 (λ j. methodOf (getD (x .methods) j noRawMethod)))) ≡ methodsAccepted rs n (c .methods) x
     unfolding methodsAccepted
     methods-are n h x =
         let g : ℕ → RawMethod = λ j. getD (x .methods) j noRawMethod in
@@ -141,7 +163,8 @@ module _ (b l : List ℕ) (c : Counts) where
         let n : cond (ltb i (c .sheet)) (c .sheet) (size t) ≡ boundOf c i = ap (λ (z : ℕ). cond (ltb i (c .sheet)) (c .sheet) z) (size-is b l c) in
         type-parts (ltb (x .rep) 3) (ltb i (c .sheet) || ltb (x .kind) 3) (leb (x .cat) (c .cats)) _ _ _ _ (keyFits t i (y .key)) (isRef (y .rep)) (ltb (x .own) 2) _
         (all (signatureFits t (boundOf c i)) ms) _ _
-        (ap (leb (x .cat)) (cats-length b l c)) (own-fits (y .rep) (eqb (x .own) 1)) (count-fits (y .rep) ms (y .methods) on off (c .methods) (length-from (λ j. methodOf (getD (x .methods) j noRawMethod)) (c .methods) 0))
+        (ap (leb (x .cat)) (cats-length b l c)) (own-fits (y .rep) (eqb (x .own) 1))
+        (count-fits (y .rep) ms (y .methods) on off (c .methods) (length-from (λ j. methodOf (getD (x .methods) j noRawMethod)) (c .methods) 0))
         (only-ref (y .rep) ms (y .methods) on off (signatureFits t (cond (ltb i (c .sheet)) (c .sheet) (size t))) ∙ ap (λ (z : ℕ). isRef (y .rep) ⇒ all (signatureFits t z) ms) n)
         (key-is i x) (methods-are (boundOf c i) (bound-below i) x)
 
@@ -157,11 +180,6 @@ module _ (b l : List ℕ) (c : Counts) where
         ∙ each-and (λ i. p i (g i)) (λ i. q i (h i)) (c .types) 0
         ∙ each-same (λ i. p i (g i) && q i (h i)) (λ i. typeAccepted rs c i (g i)) (λ i. type-accepted i (g i)) (c .types) 0
 
-  sheet-below : countsAccepted c ≡ true → c .sheet ≤ c .types
-  sheet-below e =
-      leb-true (c .sheet) (c .types)
-      (first (leb (c .sheet) (c .types)) _ (second (between 1 48 (c .sheet)) _ (second (leb (c .cats) 31) _ (second (between 1 16 (c .methods)) _ (second (between 1 16 (c .subjects)) _ e)))))
-
   pub accepted-is : tableAccepted (rawTable b l c) ≡ (countsAccepted c && (linksAccepted (c .cats) (linksIn l) && typesAccepted rs c))
   unfolding tableAccepted codesFit tableFits tableIn
   accepted-is =
@@ -172,4 +190,5 @@ module _ (b l : List ℕ) (c : Counts) where
       let tt′ : Bool = every (typeFits t) 0 (t .types) in
       left-comm (cl && ct) (countsFit t) (tl && tt′)
       ∙ ap (λ (z : Bool). z && ((cl && ct) && (tl && tt′))) counts-are
-      ∙ under-and (countsAccepted c) _ _ (λ e. interchange cl ct tl tt′ ∙ ap (λ (z : Bool). z && (ct && tt′)) links-are ∙ ap (λ (z : Bool). linksAccepted (c .cats) (linksIn l) && z) (types-are (sheet-below e)))
+      ∙ under-and (countsAccepted c) _ _ (λ e. interchange cl ct tl tt′ ∙ ap (λ (z : Bool). z && (ct && tt′)) links-are ∙ ap
+      (λ (z : Bool). linksAccepted (c .cats) (linksIn l) && z) (types-are (counts-limits c e .counted)))

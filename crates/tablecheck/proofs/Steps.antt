@@ -13,9 +13,9 @@ use Rattle.model.specs.Check.{RawLinks, stateOf, repOf, answerOf, linksOf}
 use Rattle.model.proofs.Rules.{first, second}
 use Rattle.table.specs.declared.Counts.{Counts}
 use Rattle.table.specs.declared.Head.{Head}
-use Rattle.tablecheck.specs.Parts.{eachFrom, Limited, countsAccepted, linkAccepted, headAccepted, boundOf}
+use Rattle.tablecheck.specs.Parts.{eachFrom, countsAccepted, linkAccepted, headAccepted, boundOf}
 use Rattle.tablecheck.proofs.Each.{all-take}
-use Rattle.table.proofs.Codes.{number-rep}
+use Rattle.table.proofs.Codes.{number-rep, ref-rep}
 
 -- A test in an `if`, and the part of the check that it stands for.
 pub refused : (r x : Bool) → r ≡ x → not r ≡ true → x ≡ false
@@ -38,19 +38,6 @@ pub leaves : (a b r : Bool) → a ≡ false → r ≡ b → r ≡ (a || b)
 leaves a b r e f = rw e f
 
 -- Counts.
-pub counts-limited : (c : Counts) → countsAccepted c ≡ true → Limited c
-counts-limited c e =
-    let e₁ = second (between 1 16 (c .subjects)) _ e in
-    let e₂ = second (between 1 16 (c .methods)) _ e₁ in
-    let e₃ = second (leb (c .cats) 31) _ e₂ in
-    let e₄ = second (between 1 48 (c .sheet)) _ e₃ in
-    record {
-      methods = leb-true (c .methods) 16 (second (leb 1 (c .methods)) _ (first (between 1 16 (c .methods)) _ e₁));
-      cats = leb-true (c .cats) 31 (first (leb (c .cats) 31) _ e₂);
-      sheet = leb-true (c .sheet) (c .types) (first (leb (c .sheet) (c .types)) _ e₄);
-      types = leb-true (c .types) 128 (second (leb (c .sheet) (c .types)) _ e₄);
-    }
-
 pub bound-sheet : (c : Counts) (i : ℕ) → i < c .sheet → c .sheet ≡ boundOf c i
 bound-sheet c i h = rw (lt-ltb i (c .sheet) h)
 
@@ -83,22 +70,6 @@ module _ (k n a d : ℕ) where
     pub link-one : a < k → (n ≡ 2 → ⊥) → true ≡ linkAccepted k (linksBy n a d)
     link-one h f = goes (between 1 2 n) _ _ e (rw (ne-eqb n 2 f) (goes (ltb a k) _ _ (lt-ltb a k h) refl))
 
--- Representation.
-pub is-ref : (r : ℕ) → r ≡ 0 → isRef (repOf r) ≡ true
-is-ref r e = rw e
-
--- Type a, whose head is h, in a signature.
-module _ (n a : ℕ) (h : Head) where
-  abbrev pub Stands : Head → Bool
-  Stands g = ltb a n && not (isRef (repOf (g .rep)) && eqb (g .own) 1)
-
-  module _ (g : Head) (e : h ≡ g) (l : a < n) where
-    pub stands-number : (h .rep ≡ 0 → ⊥) → true ≡ Stands g
-    stands-number r = goes (ltb a n) _ _ (lt-ltb a n l) (rw (number-rep (h .rep) r)) ∙ ap Stands e
-
-    pub stands-ref : h .rep ≡ 0 → not (eqb (h .own) 1) ≡ Stands g
-    stands-ref r = goes (ltb a n) _ _ (lt-ltb a n l) (rw (is-ref (h .rep) r)) ∙ ap Stands e
-
 -- The arguments: as many as the count says.
 pub args-start : (p : ℕ → Bool) (n w : ℕ) (xs : List ℕ) → w ≡ n → n ≤ length xs → all p (take n xs) ≡ eachFrom (w - 0) 0 (λ k. p (getD xs k 0))
 args-start p n w xs e h = let z : n ≡ w - 0 = omega arith in all-take p n xs h ∙ ap (λ (m : ℕ). eachFrom m 0 (λ k. p (getD xs k 0))) z
@@ -118,21 +89,21 @@ module _ (q : Bool) where
   abbrev pub Stated : ℕ → Bool
   Stated s = ltb s 4 && (permit (stateOf s) ⇒ q)
 
-  pub stated-none : (s w : ℕ) → w ≡ s → 4 ≤ w → false ≡ Stated s
-  stated-none s w e h = ends (ltb s 4) _ (le-ltb s 4 (omega arith))
+  pub stated-none : (s : ℕ) → 4 ≤ s → false ≡ Stated s
+  stated-none s h = ends (ltb s 4) _ (le-ltb s 4 h)
 
-  pub stated-denied : (s w : ℕ) → w ≡ s → w ≡ 0 → true ≡ Stated s
-  stated-denied s w e f = let z : s ≡ 0 = omega arith in rw z
+  pub stated-denied : (s : ℕ) → s ≡ 0 → true ≡ Stated s
+  stated-denied s e = rw e
 
-  pub stated-unavail : (s w : ℕ) → w ≡ s → w ≡ 3 → true ≡ Stated s
-  stated-unavail s w e f = let z : s ≡ 3 = omega arith in rw z
+  pub stated-unavail : (s : ℕ) → s ≡ 3 → true ≡ Stated s
+  stated-unavail s e = rw e
 
-  pub stated-permit : (s w : ℕ) → w ≡ s → w < 4 → (w ≡ 0 → ⊥) → (w ≡ 3 → ⊥) → q ≡ Stated s
-  stated-permit zero w e l d u = absurd (d e)
-  stated-permit (suc zero) w e l d u = refl
-  stated-permit (suc (suc zero)) w e l d u = refl
-  stated-permit (suc (suc (suc zero))) w e l d u = absurd (u e)
-  stated-permit (suc (suc (suc (suc s)))) w e l d u = let z : ⊥ = omega arith in absurd z
+  pub stated-permit : (s : ℕ) → s < 4 → (s ≡ 0 → ⊥) → (s ≡ 3 → ⊥) → q ≡ Stated s
+  stated-permit zero l d u = absurd (d refl)
+  stated-permit (suc zero) l d u = refl
+  stated-permit (suc (suc zero)) l d u = refl
+  stated-permit (suc (suc (suc zero))) l d u = absurd (u refl)
+  stated-permit (suc (suc (suc (suc s)))) l d u = let z : ⊥ = omega arith in absurd z
 
 -- A type's head h, and the methods' test m.
 module _ (c : Counts) (i : ℕ) (h g : Head) (e : h ≡ g) (m : Bool) where
@@ -148,7 +119,7 @@ module _ (c : Counts) (i : ℕ) (h g : Head) (e : h ≡ g) (m : Bool) where
 
     module _ (r : h .rep ≡ 0) where
       pub typed-own : 2 ≤ h .own → false ≡ Typed g
-      typed-own o = goes (headAccepted c i h) _ _ f (rw (is-ref (h .rep) r, le-ltb (h .own) 2 o)) ∙ ap Typed e
+      typed-own o = goes (headAccepted c i h) _ _ f (rw (ref-rep (h .rep) r, le-ltb (h .own) 2 o)) ∙ ap Typed e
 
       pub typed-ref : h .own < 2 → m ≡ Typed g
-      typed-ref o = goes (headAccepted c i h) _ _ f (rw (is-ref (h .rep) r, lt-ltb (h .own) 2 o)) ∙ ap Typed e
+      typed-ref o = goes (headAccepted c i h) _ _ f (rw (ref-rep (h .rep) r, lt-ltb (h .own) 2 o)) ∙ ap Typed e

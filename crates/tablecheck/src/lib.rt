@@ -1,6 +1,5 @@
-// Document 01: "A state or table handed in gets 2 before all else if a count is outside its limits, a record names a number not below that number's
-// count (a category above the last), the table breaks a rule of the first section". This is that check, of any bytes and any counts: counts first, so
-// that every index is below its count, then the broader links, then each type with its signatures.
+// The check of a table that is handed in (H1 to H8, of the table's part), for any bytes and any counts: counts first, so that every index is below its count, then
+// the broader links, then each type with its signatures.
 ghost use mathlib.Core.Path.{_≡_};
 ghost use mathlib.Core.Bool.{true};
 ghost use Prim.Native.Nat.{_≤_, _<_};
@@ -8,9 +7,11 @@ ghost use lib.ListN.{getD};
 ghost use Rattle.model.specs.Table.{between};
 ghost use Rattle.model.specs.Check.{noRawType, noRawLinks, tableAccepted};
 ghost use Rattle.table.specs.Store.{typesIn, linksIn, rawTable, rawMethod};
-ghost use Rattle.tablecheck.specs.Parts.{Limited, countsAccepted, linkAccepted, linksAccepted, mayStand, signatureAccepted, methodAccepted, methodsAccepted, keyAccepted, headAccepted, boundOf, typeAccepted, typesAccepted, argsAccepted};
+ghost use Rattle.table.specs.Limits.{Limits};
+ghost use Rattle.tablecheck.specs.Parts.{countsAccepted, linkAccepted, linksAccepted, standsAs, signatureAccepted, methodAccepted, methodsAccepted, keyAccepted, headAccepted, boundOf, typeAccepted, typesAccepted, argsAccepted};
 use table::Counts;
 use table::Head;
+use table::Key;
 use table::LINK_BYTES;
 use table::Method;
 use table::TYPE_BYTES;
@@ -46,7 +47,7 @@ fn counts_fit(c: Counts) -> bool
     c.types <= Counts::TYPES
 }
 
-// "Category k, from 1, names one or two broader categories below k, 0 allowed."
+// T6: category k names one or two categories below it.
 fn link_fits(l: &[u8; LINK_BYTES], k: usize) -> bool
     requires { ⌜ k < 32 ⌝ }
     ensures { λ r. ⌜ r ≡ linkAccepted k (getD (linksIn (now (l .entry))) k noRawLinks) ⌝ }
@@ -81,19 +82,15 @@ fn links_fit(l: &[u8; LINK_BYTES], cats: usize) -> bool
     true
 }
 
-// Type a stands in a signature whose types are the first n. "A type with own=yes stands in no signature"
+// Whether type a may stand in a signature whose types are the first n (T14).
 fn stands_in(b: &[u8; TYPE_BYTES], n: usize, a: usize) -> bool
     requires { ⌜ n ≤ 128 ⌝ }
-    ensures { λ r. ⌜ r ≡ mayStand (typesIn (now (b .entry))) n a ⌝ }
+    ensures { λ r. ⌜ r ≡ standsAs (typesIn (now (b .entry))) n a ⌝ }
 {
     if n <= a {
         return false;
     }
-    let h = table::get_head(b, a);
-    if h.rep != 0 {
-        return true;
-    }
-    h.own != 1
+    table::may_stand(b, a)
 }
 
 // The argument types of a method.
@@ -113,7 +110,7 @@ fn args_fit(b: &[u8; TYPE_BYTES], n: usize, m: Method) -> bool
     true
 }
 
-// "a signature, 0 to 2 argument types and one answer type or none"
+// T13: the arguments and the answer of a signature whose types are the first n.
 fn signature_fits(b: &[u8; TYPE_BYTES], n: usize, m: Method) -> bool
     requires { ⌜ n ≤ 128 ⌝ }
     ensures { λ r. ⌜ r ≡ signatureAccepted (typesIn (now (b .entry))) n (rawMethod m) ⌝ }
@@ -132,19 +129,18 @@ fn signature_fits(b: &[u8; TYPE_BYTES], n: usize, m: Method) -> bool
     stands_in(b, n, answer - 1)
 }
 
-// "Optional and avail carry a signature", denied and unavail do not.
+// T12: only optional and avail have a signature. What stands beside another state is not looked at (H15).
 fn method_fits(b: &[u8; TYPE_BYTES], n: usize, m: Method) -> bool
     requires { ⌜ n ≤ 128 ⌝ }
     ensures { λ r. ⌜ r ≡ methodAccepted (typesIn (now (b .entry))) n (rawMethod m) ⌝ }
 {
-    let state = numbers::wide(m.state);
-    if 4 <= state {
+    if Method::UNAVAIL < m.state {
         return false;
     }
-    if state == 0 {
+    if m.state == Method::DENIED {
         return true;
     }
-    if state == 3 {
+    if m.state == Method::UNAVAIL {
         return true;
     }
     signature_fits(b, n, m)
@@ -165,14 +161,14 @@ fn methods_fit(b: &[u8; TYPE_BYTES], i: usize, n: usize, methods: usize) -> bool
     true
 }
 
-// Only a derived type has a kind, a left and a right.
+// T17: only a derived type has a kind, a left and a right.
 fn key_fits(h: Head, c: Counts, i: usize) -> bool
     ensures { λ r. ⌜ r ≡ keyAccepted c i h ⌝ }
 {
     if i < c.sheet {
         return true;
     }
-    if 3 <= h.kind {
+    if Key::CLOSED < h.kind {
         return false;
     }
     if c.types <= numbers::wide(h.left) {
@@ -184,7 +180,7 @@ fn key_fits(h: Head, c: Counts, i: usize) -> bool
 fn head_fits(h: Head, c: Counts, i: usize) -> bool
     ensures { λ r. ⌜ r ≡ headAccepted c i h ⌝ }
 {
-    if 3 <= h.rep {
+    if Head::W64 < h.rep {
         return false;
     }
     if c.cats < numbers::wide(h.cat) {
@@ -193,9 +189,9 @@ fn head_fits(h: Head, c: Counts, i: usize) -> bool
     key_fits(h, c, i)
 }
 
-// "a derived type [stands] in none of a sheet type": the types that may stand in the signatures of type i are the first so many.
+// T15: the types that may stand in the signatures of type i are the first so many.
 fn bound(c: Counts, i: usize) -> usize
-    requires { ⌜ Limited c ⌝ }
+    requires { ⌜ Limits c ⌝ }
     ensures { λ r. ⌜ (r ≡ boundOf c i) × (r ≤ 128) ⌝ }
 {
     if i < c.sheet {
@@ -204,26 +200,26 @@ fn bound(c: Counts, i: usize) -> usize
     c.types
 }
 
-// Type i: a number type has neither own flag nor methods.
+// Type i: a number type has neither own flag nor methods (T11).
 fn type_fits(b: &[u8; TYPE_BYTES], c: Counts, i: usize) -> bool
-    requires { ⌜ Limited c × (i < c .types) ⌝ }
+    requires { ⌜ Limits c × (i < c .types) ⌝ }
     ensures { λ r. ⌜ r ≡ typeAccepted (typesIn (now (b .entry))) c i (getD (typesIn (now (b .entry))) i noRawType) ⌝ }
 {
     let h = table::get_head(b, i);
     if !head_fits(h, c, i) {
         return false;
     }
-    if h.rep != 0 {
+    if h.rep != Head::REF {
         return true;
     }
-    if 2 <= h.own {
+    if Head::OWN < h.own {
         return false;
     }
     methods_fit(b, i, bound(c, i), c.methods)
 }
 
 fn types_fit(b: &[u8; TYPE_BYTES], c: Counts) -> bool
-    requires { ⌜ Limited c ⌝ }
+    requires { ⌜ Limits c ⌝ }
     ensures { λ r. ⌜ r ≡ typesAccepted (typesIn (now (b .entry))) c ⌝ }
 {
     let n = c.types;

@@ -31,7 +31,8 @@ returns-2 c =
     let index-of2 = c .before .before .index-of2 in
     let if2 = c .if2 in
     let e = size-is (a .b .now) (a .l .now) (a .c) in
-    compare-right (tableIn (a .b .now) (a .l .now) (a .c)) (a .t) (a .s) (index-of .result) (rw e (rw (toZ-ofZ (fits .t)) at (index-of .ensures))) (rw e (if1 .left)) (index-of2 .result) (rw e (rw (toZ-ofZ (fits .s)) at (index-of2 .ensures))) (rw e (if2 .taken))
+    compare-right (tableIn (a .b .now) (a .l .now) (a .c)) (a .t) (a .s) (index-of .result) (rw e (rw (toZ-ofZ (fits .t)) at (index-of .ensures))) (rw e (if1 .left))
+    (index-of2 .result) (rw e (rw (toZ-ofZ (fits .s)) at (index-of2 .ensures))) (rw e (if2 .taken))
 
 answers-at-requires : tie.Need-answers-at-requires
 answers-at-requires c κs = c .before .before .before .before .before .before .pre
@@ -46,7 +47,8 @@ returns-3 c =
     let f = c .answers-at in
     let if2 = c .before .if2 in
     let e = size-is (a .b .now) (a .l .now) (a .c) in
-    compare-all (tableIn (a .b .now) (a .l .now) (a .c)) (a .t) (a .s) (index-of .result) (rw e (rw (toZ-ofZ (fits .t)) at (index-of .ensures))) (rw e (if1 .left)) (index-of2 .result) (rw e (rw (toZ-ofZ (fits .s)) at (index-of2 .ensures))) (rw e (if2 .left)) (f .result) (f .ensures)
+    compare-all (tableIn (a .b .now) (a .l .now) (a .c)) (a .t) (a .s) (index-of .result) (rw e (rw (toZ-ofZ (fits .t)) at (index-of .ensures))) (rw e (if1 .left))
+    (index-of2 .result) (rw e (rw (toZ-ofZ (fits .s)) at (index-of2 .ensures))) (rw e (if2 .left)) (f .result) (f .ensures)
 
 pub compare-checked-spec : {M : Type 1} → statement M
 compare-checked-spec =

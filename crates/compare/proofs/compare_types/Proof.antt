@@ -2,7 +2,7 @@
 use mathlib.Core.Path.{sym, _∙_}
 use mir.Facts.{toZ-ofZ}
 use borrow.Author.Needs.{needs}
-use Rattle.search.proofs.Accepted.{accepted-checked}
+use Rattle.tablecheck.proofs.Accepted.{accepted-checked}
 use Rattle.compare.proofs.Laws.{compare-fit, compare-unfit}
 use Rattle.compare.proofs.compare_types.Statement.{statement}
 use Rattle.compare.proofs.compare_types.Tie as tie
@@ -19,7 +19,8 @@ returns : tie.Need-returns
 returns c =
     let a = c .before .before .before .args in
     let f = c .before .before .before .fits in
-    compare-fit (a .b .now) (a .l .now) (a .c) (a .t) (a .s) (c .compare-checked .result) (sym (c .before .before .table-fits .ensures) ∙ c .before .if1 .taken) (rw (toZ-ofZ (f .t), toZ-ofZ (f .s)) at (c .compare-checked .ensures))
+    compare-fit (a .b .now) (a .l .now) (a .c) (a .t) (a .s) (c .compare-checked .result) (sym (c .before .before .table-fits .ensures) ∙ c .before .if1 .taken)
+    (rw (toZ-ofZ (f .t), toZ-ofZ (f .s)) at (c .compare-checked .ensures))
 
 returns-2 : tie.Need-returns-2
 returns-2 c =

@@ -38,8 +38,13 @@ loop-again c =
     let a = c .before .before .before .args in
     let loop-test = c .before .loop-test in
     let pair-entry = c .pair-entry in
-    let loop = c .before .before .loop in
-    (omega (arith, loop-test .taken), length-set (loop .out) (loop .p) (pair-entry .result) ∙ loop .inv .1, set-next (λ k v. v ≡ pairEntry (tableIn (a .b .now) (a .l .now) (a .c)) (k / 48) (k % 48)) (loop .out) (loop .p) (pair-entry .result) 0 (omega (arith, loop .inv .1, loop-test .taken)) (loop .inv .2) (pair-entry .ensures))
+    let loop = c .before .before .loop in (
+      omega (arith, loop-test .taken),
+      length-set (loop .out) (loop .p) (pair-entry .result) ∙ loop .inv .1,
+      set-next
+          (λ k v. v ≡ pairEntry (tableIn (a .b .now) (a .l .now) (a .c)) (k / 48) (k % 48)) (loop .out) (loop .p) (pair-entry .result) 0
+          (omega (arith, loop .inv .1, loop-test .taken)) (loop .inv .2) (pair-entry .ensures),
+    )
 
 returns : tie.Need-returns Inv-loop μ-loop
 returns c =

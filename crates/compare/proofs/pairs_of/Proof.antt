@@ -1,7 +1,7 @@
 -- Rests on the check of the table, and on the pair table of a checked one.
 use mathlib.Core.Path.{sym, _∙_}
 use borrow.Author.Needs.{needs}
-use Rattle.search.proofs.Accepted.{accepted-checked}
+use Rattle.tablecheck.proofs.Accepted.{accepted-checked}
 use Rattle.compare.proofs.Laws.{pairs-fit, pairs-unfit}
 use Rattle.compare.proofs.pairs_of.Statement.{statement}
 use Rattle.compare.proofs.pairs_of.Tie as tie

@@ -2,7 +2,7 @@
 use mathlib.Core.Path.{refl}
 use native.Mathlib.Omega.{arith}
 use borrow.Author.Needs.{needs}
-use Rattle.search.proofs.Buffer.{added}
+use Rattle.relation.proofs.Buffer.{added}
 use Rattle.relation.proofs.add_pair.Statement.{statement}
 use Rattle.relation.proofs.add_pair.Tie as tie
 

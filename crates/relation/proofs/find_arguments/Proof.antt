@@ -5,13 +5,14 @@ use native.Mathlib.Omega.{arith}
 use lib.ListN.{length, take}
 use borrow.Author.Needs.{needs}
 use Rattle.model.specs.Relations.{argsRule}
-use Rattle.search.specs.Found.{Grew, seenIn, queueIn}
-use Rattle.search.proofs.Steps.{arguments-differ, arguments-start, arguments-broke, arguments-more, arguments-end}
+use Rattle.relation.specs.Found.{Grew, marksIn, queueIn}
+use Rattle.relation.proofs.Steps.{arguments-differ, arguments-start, arguments-broke, arguments-more, arguments-end}
 use Rattle.relation.proofs.find_arguments.Statement.{statement}
 use Rattle.relation.proofs.find_arguments.Tie as tie
 
 abbrev Inv-loop : tie.InvT-loop
-Inv-loop found₀ tail n x y used other t₀ i₀ found t i = (i ≤ used) × Grew n (λ M. argsRule M (take i (x .args)) (take i (y .args))) (seenIn found₀) (queueIn found₀) tail (seenIn found) (queueIn found) t
+Inv-loop found₀ tail n x y used other t₀ i₀ found t i = (i ≤ used) × Grew n (λ M. argsRule M (take i (x .args)) (take i (y .args))) (marksIn found₀) (queueIn found₀) tail
+    (marksIn found) (queueIn found) t
 
 abbrev μ-loop : tie.MeasureT-loop
 μ-loop found₀ tail n x y used other t₀ i₀ found t i = used - i
@@ -30,7 +31,9 @@ returns c =
     let slots-used = c .before .before .slots-used in
     let slots-used2 = c .before .slots-used2 in
     let if1 = c .if1 in
-    arguments-differ (a .n) (seenIn (a .found .now)) (queueIn (a .found .now)) (a .tail) (a .t4 .args) (a .t5 .args) lx ly (a .t4 .count) (a .t5 .count) (slots-used .result) (slots-used2 .result) (slots-used .ensures .0) (slots-used2 .ensures .0) (slots-used .ensures .1 (a .t4 .args) lx) (slots-used2 .ensures .1 (a .t5 .args) ly) (seenIn (a .found .now)) (queueIn (a .found .now)) (if1 .taken)
+    arguments-differ (a .n) (marksIn (a .found .now)) (queueIn (a .found .now)) (a .tail) (a .t4 .args) (a .t5 .args) lx ly (a .t4 .count) (a .t5 .count) (slots-used .result)
+    (slots-used2 .result) (slots-used .ensures .0) (slots-used2 .ensures .0) (slots-used .ensures .1 (a .t4 .args) lx) (slots-used2 .ensures .1 (a .t5 .args) ly)
+    (marksIn (a .found .now)) (queueIn (a .found .now)) (if1 .taken)
 
 loop-holds : tie.Need-loop-holds Inv-loop μ-loop
 loop-holds c =
@@ -39,8 +42,12 @@ loop-holds c =
     let ly : length (a .t5 .args) ≡ 4 = search needs in
     let slots-used = c .before .before .slots-used in
     let slots-used2 = c .before .slots-used2 in
-    let pre = c .before .before .before .pre in
-    (omega arith, arguments-start (a .n) (seenIn (a .found .now)) (queueIn (a .found .now)) (a .tail) (a .t4 .args) (a .t5 .args) lx ly (a .t4 .count) (a .t5 .count) (slots-used .result) (slots-used2 .result) (slots-used .ensures .0) (slots-used2 .ensures .0) (slots-used .ensures .1 (a .t4 .args) lx) (slots-used2 .ensures .1 (a .t5 .args) ly) pre)
+    let pre = c .before .before .before .pre in (
+      omega arith,
+      arguments-start (a .n) (marksIn (a .found .now)) (queueIn (a .found .now)) (a .tail) (a .t4 .args) (a .t5 .args) lx ly (a .t4 .count) (a .t5 .count)
+          (slots-used .result) (slots-used2 .result) (slots-used .ensures .0) (slots-used2 .ensures .0) (slots-used .ensures .1 (a .t4 .args) lx)
+          (slots-used2 .ensures .1 (a .t5 .args) ly) pre,
+    )
 
 element-copy-out-wide : tie.Need-element-copy-out-wide Inv-loop μ-loop
 element-copy-out-wide c = search needs
@@ -55,7 +62,7 @@ wide-requires-2 : tie.Need-wide-requires-2 Inv-loop μ-loop
 wide-requires-2 c κs = search needs
 
 find-pair-requires : tie.Need-find-pair-requires Inv-loop μ-loop
-find-pair-requires c κs = c .before .before .before .before .before .before .loop .inv .1 .sound
+find-pair-requires c κs = c .before .before .before .before .before .before .loop .inv .1 .listed
 
 returns-2 : tie.Need-returns-2 Inv-loop μ-loop
 returns-2 c =
@@ -71,7 +78,10 @@ returns-2 c =
     let wide2 = c .before .before .before .wide2 in
     let find-pair = c .before .find-pair in
     let if2 = c .if2 in
-    arguments-broke (a .n) (seenIn (a .found .now)) (queueIn (a .found .now)) (a .tail) (a .t4 .args) (a .t5 .args) lx ly (a .t4 .count) (a .t5 .count) (slots-used .result) (slots-used2 .result) (slots-used .ensures .0) (slots-used2 .ensures .0) (slots-used .ensures .1 (a .t4 .args) lx) (slots-used2 .ensures .1 (a .t5 .args) ly) (if1 .left) (loop .i) (seenIn (loop .found)) (queueIn (loop .found)) (loop .t) (loop .inv .1) (loop-test .taken) (wide .result) (wide2 .result) (wide .ensures .0) (wide2 .ensures .0) (seenIn (find-pair .last .0)) (queueIn (find-pair .last .0)) (find-pair .result) (find-pair .ensures) (if2 .taken)
+    arguments-broke (a .n) (marksIn (a .found .now)) (queueIn (a .found .now)) (a .tail) (a .t4 .args) (a .t5 .args) lx ly (a .t4 .count) (a .t5 .count) (slots-used .result)
+    (slots-used2 .result) (slots-used .ensures .0) (slots-used2 .ensures .0) (slots-used .ensures .1 (a .t4 .args) lx) (slots-used2 .ensures .1 (a .t5 .args) ly) (if1 .left)
+    (loop .i) (marksIn (loop .found)) (queueIn (loop .found)) (loop .t) (loop .inv .1) (loop-test .taken) (wide .result) (wide2 .result) (wide .ensures .0) (wide2 .ensures .0)
+    (marksIn (find-pair .last .0)) (queueIn (find-pair .last .0)) (find-pair .result) (find-pair .ensures) (if2 .taken)
 
 add-i : tie.Need-add-i Inv-loop μ-loop
 add-i c = search needs
@@ -92,8 +102,13 @@ loop-again c =
     let wide = c .before .before .before .before .before .wide in
     let wide2 = c .before .before .before .wide2 in
     let find-pair = c .before .find-pair in
-    let if2 = c .if2 in
-    (omega (arith, loop-test .taken), arguments-more (a .n) (seenIn (a .found .now)) (queueIn (a .found .now)) (a .tail) (a .t4 .args) (a .t5 .args) lx ly (a .t4 .count) (a .t5 .count) (slots-used .result) (slots-used2 .result) (slots-used .ensures .0) (slots-used2 .ensures .0) (slots-used .ensures .1 (a .t4 .args) lx) (slots-used2 .ensures .1 (a .t5 .args) ly) (if1 .left) (loop .i) (seenIn (loop .found)) (queueIn (loop .found)) (loop .t) (loop .inv .1) (loop-test .taken) (wide .result) (wide2 .result) (wide .ensures .0) (wide2 .ensures .0) (seenIn (find-pair .last .0)) (queueIn (find-pair .last .0)) (find-pair .result) (find-pair .ensures) (if2 .left))
+    let if2 = c .if2 in (
+      omega (arith, loop-test .taken),
+      arguments-more (a .n) (marksIn (a .found .now)) (queueIn (a .found .now)) (a .tail) (a .t4 .args) (a .t5 .args) lx ly (a .t4 .count)
+          (a .t5 .count) (slots-used .result) (slots-used2 .result) (slots-used .ensures .0) (slots-used2 .ensures .0) (slots-used .ensures .1 (a .t4 .args) lx)
+          (slots-used2 .ensures .1 (a .t5 .args) ly) (if1 .left) (loop .i) (marksIn (loop .found)) (queueIn (loop .found)) (loop .t) (loop .inv .1) (loop-test .taken) (wide .result)
+          (wide2 .result) (wide .ensures .0) (wide2 .ensures .0) (marksIn (find-pair .last .0)) (queueIn (find-pair .last .0)) (find-pair .result) (find-pair .ensures) (if2 .left),
+    )
 
 returns-3 : tie.Need-returns-3 Inv-loop μ-loop
 returns-3 c =
@@ -105,7 +120,9 @@ returns-3 c =
     let if1 = c .before .before .if1 in
     let loop = c .before .loop in
     let loop-test = c .loop-test in
-    arguments-end (a .n) (seenIn (a .found .now)) (queueIn (a .found .now)) (a .tail) (a .t4 .args) (a .t5 .args) lx ly (a .t4 .count) (a .t5 .count) (slots-used .result) (slots-used2 .result) (slots-used .ensures .0) (slots-used2 .ensures .0) (slots-used .ensures .1 (a .t4 .args) lx) (slots-used2 .ensures .1 (a .t5 .args) ly) (if1 .left) (loop .i) (seenIn (loop .found)) (queueIn (loop .found)) (loop .t) (loop .inv .1) (loop-test .left) (loop .inv .0)
+    arguments-end (a .n) (marksIn (a .found .now)) (queueIn (a .found .now)) (a .tail) (a .t4 .args) (a .t5 .args) lx ly (a .t4 .count) (a .t5 .count) (slots-used .result)
+    (slots-used2 .result) (slots-used .ensures .0) (slots-used2 .ensures .0) (slots-used .ensures .1 (a .t4 .args) lx) (slots-used2 .ensures .1 (a .t5 .args) ly) (if1 .left)
+    (loop .i) (marksIn (loop .found)) (queueIn (loop .found)) (loop .t) (loop .inv .1) (loop-test .left) (loop .inv .0)
 
 pub find-arguments-spec : {M : Type 1} → statement M
 find-arguments-spec =

@@ -2,8 +2,8 @@
 use borrow.Author.Tests.{not-true, not-false}
 use borrow.Author.Needs.{needs}
 use Rattle.table.specs.Store.{rawMethod}
-use Rattle.search.specs.Found.{seenIn, queueIn}
-use Rattle.search.proofs.Steps.{method-broke, method-bare, method-args, method-sound, method-answer}
+use Rattle.relation.specs.Found.{marksIn, queueIn}
+use Rattle.relation.proofs.Steps.{method-broke, method-bare, method-args, method-listed, method-answer}
 use Rattle.rules.specs.Asked.{relationOf}
 use Rattle.relation.proofs.find_method.Statement.{statement}
 use Rattle.relation.proofs.find_method.Tie as tie
@@ -16,7 +16,8 @@ returns c =
     let a = c .before .before .args in
     let state-rule = c .before .state-rule in
     let if1 = c .if1 in
-    method-broke (a .n) (seenIn (a .found .now)) (queueIn (a .found .now)) (a .tail) (relationOf (a .k)) (rawMethod (a .x)) (rawMethod (a .y)) (state-rule .result) (state-rule .ensures) (seenIn (a .found .now)) (queueIn (a .found .now)) (not-true (state-rule .result) (if1 .taken))
+    method-broke (a .n) (marksIn (a .found .now)) (queueIn (a .found .now)) (a .tail) (relationOf (a .k)) (rawMethod (a .x)) (rawMethod (a .y)) (state-rule .result)
+    (state-rule .ensures) (marksIn (a .found .now)) (queueIn (a .found .now)) (not-true (state-rule .result) (if1 .taken))
 
 both-permit-requires : tie.Need-both-permit-requires
 both-permit-requires c κs = search needs
@@ -29,7 +30,8 @@ returns-2 c =
     let both-permit = c .before .both-permit in
     let pre = c .before .before .before .before .pre in
     let if2 = c .if2 in
-    method-bare (a .n) (seenIn (a .found .now)) (queueIn (a .found .now)) (a .tail) (relationOf (a .k)) (rawMethod (a .x)) (rawMethod (a .y)) (state-rule .result) (state-rule .ensures) (not-false (state-rule .result) (if1 .left)) (both-permit .result) (both-permit .ensures) (pre .0) (not-true (both-permit .result) (if2 .taken))
+    method-bare (a .n) (marksIn (a .found .now)) (queueIn (a .found .now)) (a .tail) (relationOf (a .k)) (rawMethod (a .x)) (rawMethod (a .y)) (state-rule .result)
+    (state-rule .ensures) (not-false (state-rule .result) (if1 .left)) (both-permit .result) (both-permit .ensures) (pre .0) (not-true (both-permit .result) (if2 .taken))
 
 find-arguments-requires : tie.Need-find-arguments-requires
 find-arguments-requires c κs = c .before .before .before .before .before .pre .0
@@ -43,7 +45,9 @@ returns-3 c =
     let if2 = c .before .before .before .if2 in
     let find-arguments = c .before .find-arguments in
     let if3 = c .if3 in
-    method-args (a .n) (seenIn (a .found .now)) (queueIn (a .found .now)) (a .tail) (relationOf (a .k)) (rawMethod (a .x)) (rawMethod (a .y)) (state-rule .result) (state-rule .ensures) (not-false (state-rule .result) (if1 .left)) (both-permit .result) (both-permit .ensures) (not-false (both-permit .result) (if2 .left)) (seenIn (find-arguments .last .0)) (queueIn (find-arguments .last .0)) (find-arguments .result) (find-arguments .ensures) (if3 .taken)
+    method-args (a .n) (marksIn (a .found .now)) (queueIn (a .found .now)) (a .tail) (relationOf (a .k)) (rawMethod (a .x)) (rawMethod (a .y)) (state-rule .result)
+    (state-rule .ensures) (not-false (state-rule .result) (if1 .left)) (both-permit .result) (both-permit .ensures) (not-false (both-permit .result) (if2 .left))
+    (marksIn (find-arguments .last .0)) (queueIn (find-arguments .last .0)) (find-arguments .result) (find-arguments .ensures) (if3 .taken)
 
 find-answer-requires : tie.Need-find-answer-requires
 find-answer-requires c κs =
@@ -54,7 +58,9 @@ find-answer-requires c κs =
     let if2 = c .before .before .before .before .if2 in
     let find-arguments = c .before .before .find-arguments in
     let if3 = c .before .if3 in
-    method-sound (a .n) (seenIn (a .found .now)) (queueIn (a .found .now)) (a .tail) (relationOf (a .k)) (rawMethod (a .x)) (rawMethod (a .y)) (state-rule .result) (state-rule .ensures) (not-false (state-rule .result) (if1 .left)) (both-permit .result) (both-permit .ensures) (not-false (both-permit .result) (if2 .left)) (seenIn (find-arguments .last .0)) (queueIn (find-arguments .last .0)) (find-arguments .result) (find-arguments .ensures) (if3 .left)
+    method-listed (a .n) (marksIn (a .found .now)) (queueIn (a .found .now)) (a .tail) (relationOf (a .k)) (rawMethod (a .x)) (rawMethod (a .y)) (state-rule .result)
+    (state-rule .ensures) (not-false (state-rule .result) (if1 .left)) (both-permit .result) (both-permit .ensures) (not-false (both-permit .result) (if2 .left))
+    (marksIn (find-arguments .last .0)) (queueIn (find-arguments .last .0)) (find-arguments .result) (find-arguments .ensures) (if3 .left)
 
 returns-4 : tie.Need-returns-4
 returns-4 c =
@@ -66,7 +72,10 @@ returns-4 c =
     let find-arguments = c .before .before .before .find-arguments in
     let find-answer = c .find-answer in
     let if3 = c .before .before .if3 in
-    method-answer (a .n) (seenIn (a .found .now)) (queueIn (a .found .now)) (a .tail) (relationOf (a .k)) (rawMethod (a .x)) (rawMethod (a .y)) (state-rule .result) (state-rule .ensures) (not-false (state-rule .result) (if1 .left)) (both-permit .result) (both-permit .ensures) (not-false (both-permit .result) (if2 .left)) (seenIn (find-arguments .last .0)) (queueIn (find-arguments .last .0)) (find-arguments .result) (find-arguments .ensures) (seenIn (find-answer .last .0)) (queueIn (find-answer .last .0)) (find-answer .result) (if3 .left) (find-answer .ensures)
+    method-answer (a .n) (marksIn (a .found .now)) (queueIn (a .found .now)) (a .tail) (relationOf (a .k)) (rawMethod (a .x)) (rawMethod (a .y)) (state-rule .result)
+    (state-rule .ensures) (not-false (state-rule .result) (if1 .left)) (both-permit .result) (both-permit .ensures) (not-false (both-permit .result) (if2 .left))
+    (marksIn (find-arguments .last .0)) (queueIn (find-arguments .last .0)) (find-arguments .result) (find-arguments .ensures) (marksIn (find-answer .last .0))
+    (queueIn (find-answer .last .0)) (find-answer .result) (if3 .left) (find-answer .ensures)
 
 pub find-method-spec : {M : Type 1} → statement M
 find-method-spec =

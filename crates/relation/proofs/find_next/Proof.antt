@@ -1,17 +1,17 @@
 -- What is in the queue is a pair of the table; there are at most 16384.
 use native.Mathlib.Omega.{arith}
 use borrow.Author.Needs.{needs}
-use Rattle.search.specs.Found.{seenIn, queueIn}
-use Rattle.search.proofs.Pairs.{fits}
-use Rattle.search.proofs.Buffer.{queue-at}
+use Rattle.relation.specs.Found.{marksIn, queueIn}
+use Rattle.relation.proofs.Pairs.{fits}
+use Rattle.relation.proofs.Buffer.{queue-at}
 use Rattle.relation.proofs.find_next.Statement.{statement}
 use Rattle.relation.proofs.find_next.Tie as tie
 
 mul-wide16 : tie.Need-mul-wide16
-mul-wide16 c = let a = c .args in let f = fits (a .c .types) (seenIn (a .found .now)) (queueIn (a .found .now)) (a .tail) (c .pre .0) in omega (arith, c .pre .3)
+mul-wide16 c = let a = c .args in let f = fits (a .c .types) (marksIn (a .found .now)) (queueIn (a .found .now)) (a .tail) (c .pre .0) in omega (arith, c .pre .3)
 
 element-copy-out-wide16 : tie.Need-element-copy-out-wide16
-element-copy-out-wide16 c = let a = c .args in let f = fits (a .c .types) (seenIn (a .found .now)) (queueIn (a .found .now)) (a .tail) (c .pre .0) in omega (arith, c .pre .3)
+element-copy-out-wide16 c = let a = c .args in let f = fits (a .c .types) (marksIn (a .found .now)) (queueIn (a .found .now)) (a .tail) (c .pre .0) in omega (arith, c .pre .3)
 
 wide16-requires : tie.Need-wide16-requires
 wide16-requires c κs = search needs

@@ -4,9 +4,9 @@ use mathlib.Core.Bool.{true, false}
 use Prim.Native.Nat.{_+_, _*_}
 use native.Mathlib.Omega.{arith}
 use borrow.Author.Needs.{needs}
-use Rattle.search.specs.Found.{seenIn, queueIn}
-use Rattle.search.proofs.Pairs.{pair-left, pair-right, pair-known, room}
-use Rattle.search.proofs.Buffer.{seen-at, buffer-length, pair-added}
+use Rattle.relation.specs.Found.{marksIn, queueIn}
+use Rattle.relation.proofs.Pairs.{pair-left, pair-right, pair-known, room}
+use Rattle.relation.proofs.Buffer.{mark-at, buffer-length, pair-added}
 use Rattle.relation.proofs.find_pair.Statement.{statement}
 use Rattle.relation.proofs.find_pair.Tie as tie
 
@@ -39,8 +39,8 @@ returns-3 c =
     let if2 = c .before .before .before .if2 in
     let is-found = c .before .is-found in
     let if3 = c .if3 in
-    let known = seen-at (a .found .now) (a .x * 128 + a .y) (is-found .result) true (is-found .ensures) (if3 .taken) in
-    inr (pair-known (a .n) (seenIn (a .found .now)) (queueIn (a .found .now)) (a .tail) (a .x) (a .y) pre (if1 .left) (if2 .left) known)
+    let known = mark-at (a .found .now) (a .x * 128 + a .y) (is-found .result) true (is-found .ensures) (if3 .taken) in
+    inr (pair-known (a .n) (marksIn (a .found .now)) (queueIn (a .found .now)) (a .tail) (a .x) (a .y) pre (if1 .left) (if2 .left) known)
 
 add-pair-requires : tie.Need-add-pair-requires
 add-pair-requires c κs =
@@ -48,8 +48,8 @@ add-pair-requires c κs =
     let pre = c .before .before .before .before .before .before .pre in
     let is-found = c .before .before .is-found in
     let if3 = c .before .if3 in
-    let new = seen-at (a .found .now) (a .x * 128 + a .y) (is-found .result) false (is-found .ensures) (if3 .left) in
-    (buffer-length (a .n) (a .found .now) (a .tail) pre, room (a .n) (seenIn (a .found .now)) (queueIn (a .found .now)) (a .tail) (a .x * 128 + a .y) pre (omega arith) new, omega arith)
+    let new = mark-at (a .found .now) (a .x * 128 + a .y) (is-found .result) false (is-found .ensures) (if3 .left) in
+    (buffer-length (a .n) (a .found .now) (a .tail) pre, room (a .n) (marksIn (a .found .now)) (queueIn (a .found .now)) (a .tail) (a .x * 128 + a .y) pre (omega arith) new, omega arith)
 
 returns-4 : tie.Need-returns-4
 returns-4 c =
@@ -60,7 +60,7 @@ returns-4 c =
     let is-found = c .before .before .before .is-found in
     let if3 = c .before .before .if3 in
     let add-pair = c .add-pair in
-    let new = seen-at (a .found .now) (a .x * 128 + a .y) (is-found .result) false (is-found .ensures) (if3 .left) in
+    let new = mark-at (a .found .now) (a .x * 128 + a .y) (is-found .result) false (is-found .ensures) (if3 .left) in
     pair-added (a .n) (a .found .now) (a .tail) (a .x) (a .y) pre (if1 .left) (if2 .left) new (add-pair .last .0) (add-pair .result) (add-pair .ensures)
 
 pub find-pair-spec : {M : Type 1} → statement M

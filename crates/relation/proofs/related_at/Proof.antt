@@ -2,7 +2,7 @@
 use borrow.Author.Needs.{needs}
 use Rattle.table.specs.Store.{tableIn}
 use Rattle.table.proofs.Tables.{size-is}
-use Rattle.search.proofs.Loop.{out-left, out-right}
+use Rattle.relation.proofs.Loop.{out-left, out-right}
 use Rattle.rules.specs.Asked.{relationOf}
 use Rattle.relation.proofs.related_at.Statement.{statement}
 use Rattle.relation.proofs.related_at.Tie as tie

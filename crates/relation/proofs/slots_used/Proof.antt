@@ -1,21 +1,22 @@
--- Rests on `used-all`: a count above the slots uses all four.
-use mathlib.Core.Path.{ap, sym}
-use Prim.Native.Nat.{ℕ}
-use native.Mathlib.Omega.{arith}
-use lib.ListN.{take}
+-- Rests on `slots-are`: a count above the slots uses all four.
+use mathlib.Core.Path.{ap, sym, _∙_}
+use Prim.Native.Nat.{ℕ, min}
 use borrow.Author.Needs.{needs}
-use Rattle.search.proofs.Signatures.{used-all}
+use Rattle.relation.proofs.Signatures.{slots-are}
 use Rattle.relation.proofs.slots_used.Statement.{statement}
 use Rattle.relation.proofs.slots_used.Tie as tie
 
 wide-requires : tie.Need-wide-requires
 wide-requires c κs = search needs
 
-returns : tie.Need-returns
-returns c = let e = c .before .wide .ensures .0 in (omega arith, λ xs h. ap (λ (n : ℕ). take n xs) (sym e))
+least-requires : tie.Need-least-requires
+least-requires c κs = search needs
 
-returns-2 : tie.Need-returns-2
-returns-2 c = let e = c .before .wide .ensures .0 in (omega arith, λ xs h. used-all (c .before .before .args .count) (omega arith) xs h)
+returns : tie.Need-returns
+returns c =
+    let least = c .least in
+    let wide = c .before .wide in
+    (least .ensures .2, slots-are (c .before .before .args .count) (least .result) (least .ensures .0 ∙ ap (λ (n : ℕ). min n 4) (wide .ensures .0)))
 
 pub slots-used-spec : {M : Type 1} → statement M
-slots-used-spec = tie.close (tie.spec wide-requires returns returns-2)
+slots-used-spec = tie.close (tie.spec wide-requires least-requires returns)

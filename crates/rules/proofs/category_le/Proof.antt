@@ -9,8 +9,8 @@ use borrow.Author.Tests.{eq-eqb, ne-eqb}
 use borrow.Author.Needs.{needs}
 use Rattle.model.specs.Relations.{reaches}
 use Rattle.table.proofs.Lists.{set-next}
-use Rattle.search.specs.Checked.{broaderIn}
-use Rattle.search.proofs.Categories.{order-is, next-order, far-order}
+use Rattle.rules.specs.Parts.{broaderIn}
+use Rattle.rules.proofs.Categories.{order-is, next-order, far-order}
 use Rattle.rules.proofs.category_le.Statement.{statement}
 use Rattle.rules.proofs.category_le.Tie as tie
 
@@ -41,14 +41,14 @@ category-next-requires : tie.Need-category-next-requires Inv-loop μ-loop
 category-next-requires c κs =
     let pre = c .before .before .before .before .before .pre in
     let if1 = c .before .before .before .if1 in
-    (pre, omega (arith, pre .cats, if1 .left))
+    (pre, omega (arith, pre .limits .cats, if1 .left))
 
 array-write-done : tie.Need-array-write-done Inv-loop μ-loop
 array-write-done c =
     let pre = c .before .before .before .before .before .before .pre in
     let if1 = c .before .before .before .before .if1 in
     let loop = c .before .before .before .loop in
-    omega (arith, pre .cats, if1 .left, loop .inv .1)
+    omega (arith, pre .limits .cats, if1 .left, loop .inv .1)
 
 add-x : tie.Need-add-x Inv-loop μ-loop
 add-x c = search needs
@@ -64,14 +64,19 @@ loop-again c =
     let loop = c .before .before .before .loop in
     let if1 = c .before .before .before .before .if1 in
     let loop-test = c .before .before .loop-test in
-    let small : loop .x < 32 = omega (arith, pre .cats, if1 .left, loop-test .taken) in
-    (omega arith, length-set (loop .done) (loop .x) (category-next .result) ∙ loop .inv .1, set-next (λ k v. v ≡ reaches 32 (broaderIn (a .l .now) (a .c)) (a .a) k) (loop .done) (loop .x) (category-next .result) false (omega (arith, loop .inv .1)) (loop .inv .2) (category-next .ensures ∙ next-order (a .l .now) (a .c) pre (loop .done) (a .a) (loop .x) small (loop .inv .2)))
+    let small : loop .x < 32 = omega (arith, pre .limits .cats, if1 .left, loop-test .taken) in (
+      omega arith,
+      length-set (loop .done) (loop .x) (category-next .result) ∙ loop .inv .1,
+      set-next (λ k v. v ≡ reaches 32 (broaderIn (a .l .now) (a .c)) (a .a) k) (loop .done)
+          (loop .x) (category-next .result) false (omega (arith, loop .inv .1)) (loop .inv .2)
+          (category-next .ensures ∙ next-order (a .l .now) (a .c) pre (loop .done) (a .a) (loop .x) small (loop .inv .2)),
+    )
 
 category-next-requires-2 : tie.Need-category-next-requires-2 Inv-loop μ-loop
 category-next-requires-2 c κs =
     let pre = c .before .before .before .before .before .pre in
     let if1 = c .before .before .before .if1 in
-    (pre, omega (arith, pre .cats, if1 .left))
+    (pre, omega (arith, pre .limits .cats, if1 .left))
 
 returns-3 : tie.Need-returns-3 Inv-loop μ-loop
 returns-3 c = λ b.
@@ -81,7 +86,8 @@ returns-3 c = λ b.
     let if1 = c .before .before .before .before .if1 in
     let loop-test = c .before .before .loop-test in
     let loop = c .before .before .before .loop in
-    category-next2 .ensures ∙ next-order (a .l .now) (a .c) pre (loop .done) (a .a) (a .b) (omega (arith, pre .cats, if1 .left)) (λ k p. loop .inv .2 k (omega (arith, loop .inv .0, loop-test .left))) ∙ order-is b (a .l .now) (a .c) (a .a) (a .b)
+    category-next2 .ensures ∙ next-order (a .l .now) (a .c) pre (loop .done) (a .a) (a .b) (omega (arith, pre .limits .cats, if1 .left))
+    (λ k p. loop .inv .2 k (omega (arith, loop .inv .0, loop-test .left))) ∙ order-is b (a .l .now) (a .c) (a .a) (a .b)
 
 pub category-le-spec : {M : Type 1} → statement M
 category-le-spec =

@@ -1,7 +1,7 @@
 -- One law for each way in which it returns; the links fall, so both numbers are below 32.
 use borrow.Author.Needs.{needs}
 use Rattle.table.specs.Store.{rawLinks}
-use Rattle.search.proofs.Categories.{next-none, next-self, next-zero, next-out, next-first, next-second, next-one, first-below, second-below}
+use Rattle.rules.proofs.Categories.{next-none, next-self, next-zero, next-out, next-first, next-second, next-one, first-below, second-below}
 use Rattle.rules.proofs.category_next.Statement.{statement}
 use Rattle.rules.proofs.category_next.Tie as tie
 
@@ -53,7 +53,8 @@ returns-5 c =
     let get-links = c .before .before .before .get-links in
     let wide = c .before .before .wide in
     let if5 = c .if5 in
-    next-first (a .l .now) (a .c) (a .done .now) (a .a) (a .x) (if1 .left) (if2 .left) (if3 .left) (if4 .left) (rawLinks (get-links .result)) (get-links .ensures) (wide .result) (wide .ensures .0) (if5 .taken)
+    next-first (a .l .now) (a .c) (a .done .now) (a .a) (a .x) (if1 .left) (if2 .left) (if3 .left) (if4 .left) (rawLinks (get-links .result)) (get-links .ensures) (wide .result)
+    (wide .ensures .0) (if5 .taken)
 
 wide-requires-2 : tie.Need-wide-requires-2
 wide-requires-2 c κs = search needs
@@ -81,7 +82,8 @@ returns-6 c =
     let wide2 = c .before .wide2 in
     let if5 = c .before .before .before .before .if5 in
     let if6 = c .before .before .if6 in
-    next-second (a .l .now) (a .c) (a .done .now) (a .a) (a .x) (if1 .left) (if2 .left) (if3 .left) (if4 .left) (rawLinks (get-links .result)) (get-links .ensures) (wide .result) (wide2 .result) (wide .ensures .0) (wide2 .ensures .0) (if5 .left) (if6 .taken)
+    next-second (a .l .now) (a .c) (a .done .now) (a .a) (a .x) (if1 .left) (if2 .left) (if3 .left) (if4 .left) (rawLinks (get-links .result)) (get-links .ensures) (wide .result)
+    (wide2 .result) (wide .ensures .0) (wide2 .ensures .0) (if5 .left) (if6 .taken)
 
 returns-7 : tie.Need-returns-7
 returns-7 c =
@@ -94,7 +96,8 @@ returns-7 c =
     let wide = c .before .before .before .before .wide in
     let if5 = c .before .before .if5 in
     let if6 = c .if6 in
-    next-one (a .l .now) (a .c) (a .done .now) (a .a) (a .x) (if1 .left) (if2 .left) (if3 .left) (if4 .left) (rawLinks (get-links .result)) (get-links .ensures) (wide .result) (wide .ensures .0) (if5 .left) (if6 .left)
+    next-one (a .l .now) (a .c) (a .done .now) (a .a) (a .x) (if1 .left) (if2 .left) (if3 .left) (if4 .left) (rawLinks (get-links .result)) (get-links .ensures) (wide .result)
+    (wide .ensures .0) (if5 .left) (if6 .left)
 
 pub category-next-spec : {M : Type 1} → statement M
 category-next-spec =

@@ -29,7 +29,8 @@ returns c = λ b.
     let wide2 = c .before .wide2 in
     let wide = c .before .before .wide in
     let t = tableIn b (a .l .now) (a .c) in
-    asked (asks-category .ensures) (catLe t (a .x) (a .y)) (category-le .result) (if1 .taken) (category-le .ensures b ∙ ap (λ (u : ℕ). catLe t u (wide2 .result)) (wide .ensures .0) ∙ ap (λ (u : ℕ). catLe t (a .x) u) (wide2 .ensures .0))
+    asked (asks-category .ensures) (catLe t (a .x) (a .y)) (category-le .result) (if1 .taken)
+    (category-le .ensures b ∙ ap (λ (u : ℕ). catLe t u (wide2 .result)) (wide .ensures .0) ∙ ap (λ (u : ℕ). catLe t (a .x) u) (wide2 .ensures .0))
 
 returns-2 : tie.Need-returns-2
 returns-2 c = λ b.

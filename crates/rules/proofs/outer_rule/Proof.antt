@@ -3,7 +3,7 @@ use mathlib.Core.Path.{_∙_, sym}
 use borrow.Author.Tests.{not-true, not-false}
 use borrow.Author.Needs.{needs}
 use Rattle.table.specs.Store.{tableIn}
-use Rattle.search.proofs.Outside.{heads-rep, heads-cat, heads-own}
+use Rattle.rules.proofs.Outside.{heads-rep, heads-cat, heads-own}
 use Rattle.rules.specs.Asked.{relationOf}
 use Rattle.rules.proofs.outer_rule.Statement.{statement}
 use Rattle.rules.proofs.outer_rule.Tie as tie
@@ -28,7 +28,8 @@ returns-2 c = λ b.
     let if1 = c .before .before .if1 in
     let category-rule = c .before .category-rule in
     let if2 = c .if2 in
-    heads-cat (relationOf (a .k)) (tableIn b (a .l .now) (a .c)) (a .x) (a .y) (sym (rep-rule .ensures) ∙ not-false (rep-rule .result) (if1 .left)) (sym (category-rule .ensures b) ∙ not-true (category-rule .result) (if2 .taken))
+    heads-cat (relationOf (a .k)) (tableIn b (a .l .now) (a .c)) (a .x) (a .y) (sym (rep-rule .ensures) ∙ not-false (rep-rule .result) (if1 .left))
+    (sym (category-rule .ensures b) ∙ not-true (category-rule .result) (if2 .taken))
 
 own-rule-requires : tie.Need-own-rule-requires
 own-rule-requires c κs = search needs
@@ -41,7 +42,8 @@ returns-3 c = λ b.
     let if1 = c .before .before .before .if1 in
     let category-rule = c .before .before .category-rule in
     let if2 = c .before .if2 in
-    own-rule .ensures ∙ heads-own (relationOf (a .k)) (tableIn b (a .l .now) (a .c)) (a .x) (a .y) (sym (rep-rule .ensures) ∙ not-false (rep-rule .result) (if1 .left)) (sym (category-rule .ensures b) ∙ not-false (category-rule .result) (if2 .left))
+    own-rule .ensures ∙ heads-own (relationOf (a .k)) (tableIn b (a .l .now) (a .c)) (a .x) (a .y) (sym (rep-rule .ensures) ∙ not-false (rep-rule .result) (if1 .left))
+    (sym (category-rule .ensures b) ∙ not-false (category-rule .result) (if2 .left))
 
 pub outer-rule-spec : {M : Type 1} → statement M
 outer-rule-spec =

@@ -2,7 +2,7 @@
 use mathlib.Core.Bool.{true}
 use borrow.Author.Needs.{needs}
 use Rattle.model.specs.Basics.{_⇒_}
-use Rattle.search.specs.Parts.{ownOf}
+use Rattle.rules.specs.Parts.{headOwns}
 use Rattle.rules.proofs.Laws.{asked, unasked}
 use Rattle.rules.proofs.own_rule.Statement.{statement}
 use Rattle.rules.proofs.own_rule.Tie as tie
@@ -24,7 +24,7 @@ returns c =
     let if1 = c .before .before .before .if1 in
     let owns = c .before .before .owns in
     let if2 = c .before .if2 in
-    asked (asks-own .ensures) (ownOf (a .x) ⇒ ownOf (a .y)) (owns2 .result) (if1 .taken) (asked (owns .ensures) (ownOf (a .y)) (owns2 .result) (if2 .taken) (owns2 .ensures))
+    asked (asks-own .ensures) (headOwns (a .x) ⇒ headOwns (a .y)) (owns2 .result) (if1 .taken) (asked (owns .ensures) (headOwns (a .y)) (owns2 .result) (if2 .taken) (owns2 .ensures))
 
 returns-2 : tie.Need-returns-2
 returns-2 c =
@@ -33,10 +33,10 @@ returns-2 c =
     let if1 = c .before .before .if1 in
     let owns = c .before .owns in
     let if2 = c .if2 in
-    asked (asks-own .ensures) (ownOf (a .x) ⇒ ownOf (a .y)) true (if1 .taken) (unasked (owns .ensures) (ownOf (a .y)) (if2 .left))
+    asked (asks-own .ensures) (headOwns (a .x) ⇒ headOwns (a .y)) true (if1 .taken) (unasked (owns .ensures) (headOwns (a .y)) (if2 .left))
 
 returns-3 : tie.Need-returns-3
-returns-3 c = let a = c .before .before .args in unasked (c .before .asks-own .ensures) (ownOf (a .x) ⇒ ownOf (a .y)) (c .if1 .left)
+returns-3 c = let a = c .before .before .args in unasked (c .before .asks-own .ensures) (headOwns (a .x) ⇒ headOwns (a .y)) (c .if1 .left)
 
 pub own-rule-spec : {M : Type 1} → statement M
 own-rule-spec =

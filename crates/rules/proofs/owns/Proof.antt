@@ -1,5 +1,5 @@
 -- Rests on `own-ref` and `own-number`.
-use Rattle.search.proofs.Outside.{own-ref, own-number}
+use Rattle.rules.proofs.Outside.{own-ref, own-number}
 use Rattle.rules.proofs.owns.Statement.{statement}
 use Rattle.rules.proofs.owns.Tie as tie
 

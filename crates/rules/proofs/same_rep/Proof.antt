@@ -1,5 +1,5 @@
 -- Rests on what codes of representations mean.
-use Rattle.search.proofs.Outside.{rep-ref, rep-short, rep-long}
+use Rattle.rules.proofs.Outside.{rep-ref, rep-short, rep-long}
 use Rattle.rules.proofs.same_rep.Statement.{statement}
 use Rattle.rules.proofs.same_rep.Tie as tie
 

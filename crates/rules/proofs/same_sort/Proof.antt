@@ -1,5 +1,5 @@
 -- Rests on what codes of representations mean.
-use Rattle.search.proofs.Outside.{sort-ref, sort-number}
+use Rattle.rules.proofs.Outside.{sort-ref, sort-number}
 use Rattle.rules.proofs.same_sort.Statement.{statement}
 use Rattle.rules.proofs.same_sort.Tie as tie
 

@@ -1,6 +1,6 @@
 -- Rests on the laws that each square says its rule.
 use borrow.Author.Needs.{needs}
-use Rattle.search.proofs.Squares.{says-subtype, says-conforms, says-strict, says-loose, says-free}
+use Rattle.rules.proofs.Squares.{says-subtype, says-conforms, says-strict, says-loose, says-free}
 use Rattle.rules.proofs.state_square.Statement.{statement}
 use Rattle.rules.proofs.state_square.Tie as tie
 

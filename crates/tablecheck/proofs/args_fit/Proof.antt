@@ -5,14 +5,14 @@ use native.Mathlib.Omega.{arith}
 use lib.ListN.{length, getD}
 use borrow.Author.Needs.{needs}
 use Rattle.table.specs.Store.{typesIn, rawMethod}
-use Rattle.tablecheck.specs.Parts.{eachFrom, mayStand, argsAccepted}
+use Rattle.tablecheck.specs.Parts.{eachFrom, standsAs, argsAccepted}
 use Rattle.tablecheck.proofs.Steps.{refused, passed, args-start}
 use Rattle.tablecheck.proofs.Each.{rest-next, rest-broken, rest-end}
 use Rattle.tablecheck.proofs.args_fit.Statement.{statement}
 use Rattle.tablecheck.proofs.args_fit.Tie as tie
 
 abbrev Inv-loop : tie.InvT-loop
-Inv-loop b n m count i₀ i = (i ≤ count) × (argsAccepted (typesIn b) n (rawMethod m) ≡ eachFrom (count - i) i (λ k. mayStand (typesIn b) n (getD (m .args) k 0)))
+Inv-loop b n m count i₀ i = (i ≤ count) × (argsAccepted (typesIn b) n (rawMethod m) ≡ eachFrom (count - i) i (λ k. standsAs (typesIn b) n (getD (m .args) k 0)))
 
 abbrev μ-loop : tie.MeasureT-loop
 μ-loop b n m count i₀ i = count - i
@@ -23,7 +23,7 @@ wide-requires c κs = search needs
 loop-holds : tie.Need-loop-holds Inv-loop μ-loop
 loop-holds c = let a = c .before .args in
     let h : length (a .t3 .args) ≡ 4 = search needs in
-    (omega arith, args-start (mayStand (typesIn (a .b .now)) (a .n)) (a .t3 .count) (c .wide .result) (a .t3 .args) (c .wide .ensures .0) (omega (arith, c .before .pre .1)))
+    (omega arith, args-start (standsAs (typesIn (a .b .now)) (a .n)) (a .t3 .count) (c .wide .result) (a .t3 .args) (c .wide .ensures .0) (omega (arith, c .before .pre .1)))
 
 element-copy-out-x : tie.Need-element-copy-out-x Inv-loop μ-loop
 element-copy-out-x c = omega (arith, c .before .before .wide .ensures .0, c .before .before .before .pre .1)
@@ -37,8 +37,9 @@ stands-in-requires c κs = search needs
 returns : tie.Need-returns Inv-loop μ-loop
 returns c = let a = c .before .before .before .before .before .before .before .args in
     let l = c .before .before .before .before .before .loop in
-    sym (l .inv .1 ∙ rest-broken (λ k. mayStand (typesIn (a .b .now)) (a .n) (getD (a .t3 .args) k 0)) (c .before .before .before .before .before .before .wide .result) (l .i) (c .before .before .before .before .loop-test .taken)
-    (ap (mayStand (typesIn (a .b .now)) (a .n)) (sym (c .before .before .wide2 .ensures .0)) ∙ refused (c .before .stands-in .result) _ (c .before .stands-in .ensures) (c .if1 .taken)))
+    sym (l .inv .1 ∙ rest-broken (λ k. standsAs (typesIn (a .b .now)) (a .n) (getD (a .t3 .args) k 0)) (c .before .before .before .before .before .before .wide .result) (l .i)
+    (c .before .before .before .before .loop-test .taken)
+    (ap (standsAs (typesIn (a .b .now)) (a .n)) (sym (c .before .before .wide2 .ensures .0)) ∙ refused (c .before .stands-in .result) _ (c .before .stands-in .ensures) (c .if1 .taken)))
 
 add-i : tie.Need-add-i Inv-loop μ-loop
 add-i c = search needs
@@ -50,14 +51,15 @@ loop-again : tie.Need-loop-again Inv-loop μ-loop
 loop-again c = let a = c .before .before .before .before .before .before .before .args in
     let l = c .before .before .before .before .before .loop in (
       omega arith,
-      l .inv .1 ∙ rest-next (λ k. mayStand (typesIn (a .b .now)) (a .n) (getD (a .t3 .args) k 0)) (c .before .before .before .before .before .before .wide .result) (l .i) (c .before .before .before .before .loop-test .taken)
-          (ap (mayStand (typesIn (a .b .now)) (a .n)) (sym (c .before .before .wide2 .ensures .0)) ∙ passed (c .before .stands-in .result) _ (c .before .stands-in .ensures) (c .if1 .left)),
+      l .inv .1 ∙ rest-next (λ k. standsAs (typesIn (a .b .now)) (a .n) (getD (a .t3 .args) k 0)) (c .before .before .before .before .before .before .wide .result) (l .i)
+          (c .before .before .before .before .loop-test .taken)
+          (ap (standsAs (typesIn (a .b .now)) (a .n)) (sym (c .before .before .wide2 .ensures .0)) ∙ passed (c .before .stands-in .result) _ (c .before .stands-in .ensures) (c .if1 .left)),
     )
 
 returns-2 : tie.Need-returns-2 Inv-loop μ-loop
 returns-2 c = let a = c .before .before .before .args in
     let l = c .before .loop in
-    sym (l .inv .1 ∙ rest-end (λ k. mayStand (typesIn (a .b .now)) (a .n) (getD (a .t3 .args) k 0)) (c .before .before .wide .result) (l .i) (c .loop-test .left))
+    sym (l .inv .1 ∙ rest-end (λ k. standsAs (typesIn (a .b .now)) (a .n) (getD (a .t3 .args) k 0)) (c .before .before .wide .result) (l .i) (c .loop-test .left))
 
 pub args-fit-spec : {M : Type 1} → statement M
 args-fit-spec =

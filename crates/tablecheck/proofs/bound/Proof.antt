@@ -5,7 +5,7 @@ use Rattle.tablecheck.proofs.bound.Statement.{statement}
 use Rattle.tablecheck.proofs.bound.Tie as tie
 
 returns : tie.Need-returns
-returns c = (bound-sheet (c .before .before .args .c) (c .before .before .args .i) (c .if1 .taken), omega (arith, c .before .before .pre .sheet, c .before .before .pre .types))
+returns c = (bound-sheet (c .before .before .args .c) (c .before .before .args .i) (c .if1 .taken), omega (arith, c .before .before .pre .counted, c .before .before .pre .types))
 
 returns-2 : tie.Need-returns-2
 returns-2 c = (bound-all (c .before .before .args .c) (c .before .before .args .i) (c .if1 .left), c .before .before .pre .types)

@@ -25,7 +25,8 @@ returns-2 c = let a = c .before .before .before .before .args .c in
 
 returns-3 : tie.Need-returns-3
 returns-3 c = let a = c .before .before .before .before .before .before .args .c in
-    goes (between 1 16 (a .subjects)) _ _ (passed (c .before .before .before .before .before .within .result) _ (c .before .before .before .before .before .within .ensures) (c .before .before .before .before .if1 .left))
+    goes (between 1 16 (a .subjects)) _ _ (passed (c .before .before .before .before .before .within .result) _ (c .before .before .before .before .before .within .ensures)
+    (c .before .before .before .before .if1 .left))
     (goes (between 1 16 (a .methods)) _ _ (passed (c .before .before .before .within2 .result) _ (c .before .before .before .within2 .ensures) (c .before .before .if2 .left))
     (ends (leb (a .cats) 31) _ (lt-leb (a .cats) 31 (c .if3 .taken))))
 
@@ -34,23 +35,30 @@ within-requires-3 c κs = search needs
 
 returns-4 : tie.Need-returns-4
 returns-4 c = let a = c .before .before .before .before .before .before .before .before .args .c in
-    goes (between 1 16 (a .subjects)) _ _ (passed (c .before .before .before .before .before .before .before .within .result) _ (c .before .before .before .before .before .before .before .within .ensures) (c .before .before .before .before .before .before .if1 .left))
-    (goes (between 1 16 (a .methods)) _ _ (passed (c .before .before .before .before .before .within2 .result) _ (c .before .before .before .before .before .within2 .ensures) (c .before .before .before .before .if2 .left))
+    goes (between 1 16 (a .subjects)) _ _ (passed (c .before .before .before .before .before .before .before .within .result) _
+    (c .before .before .before .before .before .before .before .within .ensures) (c .before .before .before .before .before .before .if1 .left))
+    (goes (between 1 16 (a .methods)) _ _ (passed (c .before .before .before .before .before .within2 .result) _ (c .before .before .before .before .before .within2 .ensures)
+    (c .before .before .before .before .if2 .left))
     (goes (leb (a .cats) 31) _ _ (le-leb (a .cats) 31 (c .before .before .if3 .left))
     (ends (between 1 48 (a .sheet)) _ (refused (c .before .within3 .result) _ (c .before .within3 .ensures) (c .if4 .taken)))))
 
 returns-5 : tie.Need-returns-5
 returns-5 c = let a = c .before .before .before .before .before .before .before .before .before .before .args .c in
-    goes (between 1 16 (a .subjects)) _ _ (passed (c .before .before .before .before .before .before .before .before .before .within .result) _ (c .before .before .before .before .before .before .before .before .before .within .ensures) (c .before .before .before .before .before .before .before .before .if1 .left))
-    (goes (between 1 16 (a .methods)) _ _ (passed (c .before .before .before .before .before .before .before .within2 .result) _ (c .before .before .before .before .before .before .before .within2 .ensures) (c .before .before .before .before .before .before .if2 .left))
+    goes (between 1 16 (a .subjects)) _ _ (passed (c .before .before .before .before .before .before .before .before .before .within .result) _
+    (c .before .before .before .before .before .before .before .before .before .within .ensures) (c .before .before .before .before .before .before .before .before .if1 .left))
+    (goes (between 1 16 (a .methods)) _ _ (passed (c .before .before .before .before .before .before .before .within2 .result) _
+    (c .before .before .before .before .before .before .before .within2 .ensures) (c .before .before .before .before .before .before .if2 .left))
     (goes (leb (a .cats) 31) _ _ (le-leb (a .cats) 31 (c .before .before .before .before .if3 .left))
     (goes (between 1 48 (a .sheet)) _ _ (passed (c .before .before .before .within3 .result) _ (c .before .before .before .within3 .ensures) (c .before .before .if4 .left))
     (ends (leb (a .sheet) (a .types)) _ (lt-leb (a .sheet) (a .types) (c .if5 .taken))))))
 
 returns-6 : tie.Need-returns-6
 returns-6 c = let a = c .before .before .before .before .before .before .before .before .before .before .before .args .c in
-    goes (between 1 16 (a .subjects)) _ _ (passed (c .before .before .before .before .before .before .before .before .before .before .within .result) _ (c .before .before .before .before .before .before .before .before .before .before .within .ensures) (c .before .before .before .before .before .before .before .before .before .if1 .left))
-    (goes (between 1 16 (a .methods)) _ _ (passed (c .before .before .before .before .before .before .before .before .within2 .result) _ (c .before .before .before .before .before .before .before .before .within2 .ensures) (c .before .before .before .before .before .before .before .if2 .left))
+    goes (between 1 16 (a .subjects)) _ _ (passed (c .before .before .before .before .before .before .before .before .before .before .within .result) _
+    (c .before .before .before .before .before .before .before .before .before .before .within .ensures)
+    (c .before .before .before .before .before .before .before .before .before .if1 .left))
+    (goes (between 1 16 (a .methods)) _ _ (passed (c .before .before .before .before .before .before .before .before .within2 .result) _
+    (c .before .before .before .before .before .before .before .before .within2 .ensures) (c .before .before .before .before .before .before .before .if2 .left))
     (goes (leb (a .cats) 31) _ _ (le-leb (a .cats) 31 (c .before .before .before .before .before .if3 .left))
     (goes (between 1 48 (a .sheet)) _ _ (passed (c .before .before .before .before .within3 .result) _ (c .before .before .before .before .within3 .ensures) (c .before .before .before .if4 .left))
     (goes (leb (a .sheet) (a .types)) _ _ (le-leb (a .sheet) (a .types) (c .before .if5 .left)) refl))))

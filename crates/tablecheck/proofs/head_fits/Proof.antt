@@ -8,21 +8,26 @@ use Rattle.tablecheck.proofs.head_fits.Statement.{statement}
 use Rattle.tablecheck.proofs.head_fits.Tie as tie
 
 returns : tie.Need-returns
-returns c = ends (ltb (c .before .before .args .h .rep) 3) _ (le-ltb (c .before .before .args .h .rep) 3 (c .if1 .taken))
+returns c = let a = c .before .before .args in ends (ltb (a .h .rep) 3) _ (le-ltb (a .h .rep) 3 (c .if1 .taken))
 
 wide-requires : tie.Need-wide-requires
 wide-requires c κs = search needs
 
 returns-2 : tie.Need-returns-2
-returns-2 c = goes (ltb (c .before .before .before .before .before .args .h .rep) 3) _ _ (lt-ltb (c .before .before .before .before .before .args .h .rep) 3 (c .before .before .before .if1 .left))
-    (ends (leb (c .before .before .before .before .before .args .h .cat) (c .before .before .before .before .before .args .c .cats)) _ (lt-leb (c .before .before .before .before .before .args .h .cat) (c .before .before .before .before .before .args .c .cats) (omega (arith, c .before .before .wide .ensures .0, c .if2 .taken))))
+returns-2 c =
+    let a = c .before .before .before .before .before .args in
+    goes (ltb (a .h .rep) 3) _ _ (lt-ltb (a .h .rep) 3 (omega (arith, c .before .before .before .if1 .left)))
+    (ends (leb (a .h .cat) (a .c .cats)) _ (lt-leb (a .h .cat) (a .c .cats) (omega (arith, c .before .before .wide .ensures .0, c .if2 .taken))))
 
 key-fits-requires : tie.Need-key-fits-requires
 key-fits-requires c κs = search needs
 
 returns-3 : tie.Need-returns-3
-returns-3 c = goes (ltb (c .before .before .before .before .before .before .args .h .rep) 3) _ _ (lt-ltb (c .before .before .before .before .before .before .args .h .rep) 3 (c .before .before .before .before .if1 .left))
-    (goes (leb (c .before .before .before .before .before .before .args .h .cat) (c .before .before .before .before .before .before .args .c .cats)) _ _ (le-leb (c .before .before .before .before .before .before .args .h .cat) (c .before .before .before .before .before .before .args .c .cats) (omega (arith, c .before .before .before .wide .ensures .0, c .before .if2 .left))) (c .key-fits .ensures))
+returns-3 c =
+    let a = c .before .before .before .before .before .before .args in
+    goes (ltb (a .h .rep) 3) _ _ (lt-ltb (a .h .rep) 3 (omega (arith, c .before .before .before .before .if1 .left)))
+    (goes (leb (a .h .cat) (a .c .cats)) _ _ (le-leb (a .h .cat) (a .c .cats) (omega (arith, c .before .before .before .wide .ensures .0, c .before .if2 .left)))
+    (c .key-fits .ensures))
 
 pub head-fits-spec : {M : Type 1} → statement M
 head-fits-spec = tie.close (tie.spec returns wide-requires returns-2 key-fits-requires returns-3)

@@ -10,28 +10,34 @@ use Rattle.tablecheck.proofs.key_fits.Statement.{statement}
 use Rattle.tablecheck.proofs.key_fits.Tie as tie
 
 returns : tie.Need-returns
-returns c = holds (ltb (c .before .before .args .i) (c .before .before .args .c .sheet)) _ (lt-ltb (c .before .before .args .i) (c .before .before .args .c .sheet) (c .if1 .taken))
+returns c = let a = c .before .before .args in holds (ltb (a .i) (a .c .sheet)) _ (lt-ltb (a .i) (a .c .sheet) (c .if1 .taken))
 
 returns-2 : tie.Need-returns-2
-returns-2 c = leaves (ltb (c .before .before .before .before .args .i) (c .before .before .before .before .args .c .sheet)) _ _ (le-ltb (c .before .before .before .before .args .i) (c .before .before .before .before .args .c .sheet) (c .before .before .if1 .left))
-    (ends (ltb (c .before .before .before .before .args .h .kind) 3) _ (le-ltb (c .before .before .before .before .args .h .kind) 3 (c .if2 .taken)))
+returns-2 c =
+    let a = c .before .before .before .before .args in
+    leaves (ltb (a .i) (a .c .sheet)) _ _ (le-ltb (a .i) (a .c .sheet) (c .before .before .if1 .left))
+    (ends (ltb (a .h .kind) 3) _ (le-ltb (a .h .kind) 3 (c .if2 .taken)))
 
 wide-requires : tie.Need-wide-requires
 wide-requires c κs = search needs
 
 returns-3 : tie.Need-returns-3
-returns-3 c = leaves (ltb (c .before .before .before .before .before .before .before .args .i) (c .before .before .before .before .before .before .before .args .c .sheet)) _ _ (le-ltb (c .before .before .before .before .before .before .before .args .i) (c .before .before .before .before .before .before .before .args .c .sheet) (c .before .before .before .before .before .if1 .left))
-    (goes (ltb (c .before .before .before .before .before .before .before .args .h .kind) 3) _ _ (lt-ltb (c .before .before .before .before .before .before .before .args .h .kind) 3 (c .before .before .before .if2 .left))
-    (ends (ltb (c .before .before .before .before .before .before .before .args .h .left) (c .before .before .before .before .before .before .before .args .c .types)) _ (le-ltb (c .before .before .before .before .before .before .before .args .h .left) (c .before .before .before .before .before .before .before .args .c .types) (omega (arith, c .before .before .wide .ensures .0, c .if3 .taken)))))
+returns-3 c =
+    let a = c .before .before .before .before .before .before .before .args in
+    leaves (ltb (a .i) (a .c .sheet)) _ _ (le-ltb (a .i) (a .c .sheet) (c .before .before .before .before .before .if1 .left))
+    (goes (ltb (a .h .kind) 3) _ _ (lt-ltb (a .h .kind) 3 (omega (arith, c .before .before .before .if2 .left)))
+    (ends (ltb (a .h .left) (a .c .types)) _ (le-ltb (a .h .left) (a .c .types) (omega (arith, c .before .before .wide .ensures .0, c .if3 .taken)))))
 
 wide-requires-2 : tie.Need-wide-requires-2
 wide-requires-2 c κs = search needs
 
 returns-4 : tie.Need-returns-4
-returns-4 c = leaves (ltb (c .before .before .before .before .before .before .before .before .before .args .i) (c .before .before .before .before .before .before .before .before .before .args .c .sheet)) _ _ (le-ltb (c .before .before .before .before .before .before .before .before .before .args .i) (c .before .before .before .before .before .before .before .before .before .args .c .sheet) (c .before .before .before .before .before .before .before .if1 .left))
-    (goes (ltb (c .before .before .before .before .before .before .before .before .before .args .h .kind) 3) _ _ (lt-ltb (c .before .before .before .before .before .before .before .before .before .args .h .kind) 3 (c .before .before .before .before .before .if2 .left))
-    (goes (ltb (c .before .before .before .before .before .before .before .before .before .args .h .left) (c .before .before .before .before .before .before .before .before .before .args .c .types)) _ _ (lt-ltb (c .before .before .before .before .before .before .before .before .before .args .h .left) (c .before .before .before .before .before .before .before .before .before .args .c .types) (omega (arith, c .before .before .before .before .wide .ensures .0, c .before .before .if3 .left)))
-    (ap (λ (x : ℕ). ltb x (c .before .before .before .before .before .before .before .before .before .args .c .types)) (c .before .wide2 .ensures .0))))
+returns-4 c =
+    let a = c .before .before .before .before .before .before .before .before .before .args in
+    leaves (ltb (a .i) (a .c .sheet)) _ _ (le-ltb (a .i) (a .c .sheet) (c .before .before .before .before .before .before .before .if1 .left))
+    (goes (ltb (a .h .kind) 3) _ _ (lt-ltb (a .h .kind) 3 (omega (arith, c .before .before .before .before .before .if2 .left)))
+    (goes (ltb (a .h .left) (a .c .types)) _ _ (lt-ltb (a .h .left) (a .c .types) (omega (arith, c .before .before .before .before .wide .ensures .0, c .before .before .if3 .left)))
+    (ap (λ (x : ℕ). ltb x (a .c .types)) (c .before .wide2 .ensures .0))))
 
 pub key-fits-spec : {M : Type 1} → statement M
 key-fits-spec =

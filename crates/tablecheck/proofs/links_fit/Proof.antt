@@ -33,7 +33,8 @@ link-fits-requires c κs = search needs
 returns : tie.Need-returns Inv-loop μ-loop
 returns c = let a = c .before .before .before .before .args in
     let l = c .before .before .before .loop in
-    sym (l .inv .2 ∙ rest-broken (λ j. linkAccepted j (getD (linksIn (a .l .now)) j noRawLinks)) (a .cats + 1) (l .k) (c .before .before .loop-test .taken) (refused (c .before .link-fits .result) _ (c .before .link-fits .ensures) (c .if1 .taken)))
+    sym (l .inv .2 ∙ rest-broken (λ j. linkAccepted j (getD (linksIn (a .l .now)) j noRawLinks)) (a .cats + 1) (l .k) (c .before .before .loop-test .taken)
+    (refused (c .before .link-fits .result) _ (c .before .link-fits .ensures) (c .if1 .taken)))
 
 add-k : tie.Need-add-k Inv-loop μ-loop
 add-k c = search needs
@@ -43,8 +44,12 @@ loop-less c = search needs
 
 loop-again : tie.Need-loop-again Inv-loop μ-loop
 loop-again c = let a = c .before .before .before .before .args in
-    let l = c .before .before .before .loop in
-    (omega arith, omega arith, l .inv .2 ∙ rest-next (λ j. linkAccepted j (getD (linksIn (a .l .now)) j noRawLinks)) (a .cats + 1) (l .k) (c .before .before .loop-test .taken) (passed (c .before .link-fits .result) _ (c .before .link-fits .ensures) (c .if1 .left)))
+    let l = c .before .before .before .loop in (
+      omega arith,
+      omega arith,
+      l .inv .2 ∙ rest-next (λ j. linkAccepted j (getD (linksIn (a .l .now)) j noRawLinks)) (a .cats + 1) (l .k) (c .before .before .loop-test .taken)
+          (passed (c .before .link-fits .result) _ (c .before .link-fits .ensures) (c .if1 .left)),
+    )
 
 returns-2 : tie.Need-returns-2 Inv-loop μ-loop
 returns-2 c = let a = c .before .before .args in

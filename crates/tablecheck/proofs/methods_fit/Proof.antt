@@ -13,7 +13,8 @@ use Rattle.tablecheck.proofs.methods_fit.Statement.{statement}
 use Rattle.tablecheck.proofs.methods_fit.Tie as tie
 
 abbrev Inv-loop : tie.InvT-loop
-Inv-loop b i n methods j₀ j = (j ≤ methods) × (methodsAccepted (typesIn b) n methods (getD (typesIn b) i noRawType) ≡ eachFrom (methods - j) j (λ k. methodAccepted (typesIn b) n (getD (getD (typesIn b) i noRawType .methods) k noRawMethod)))
+Inv-loop b i n methods j₀ j = (j ≤ methods) × (methodsAccepted (typesIn b) n methods (getD (typesIn b) i noRawType) ≡ eachFrom (methods - j) j
+    (λ k. methodAccepted (typesIn b) n (getD (getD (typesIn b) i noRawType .methods) k noRawMethod)))
 
 abbrev μ-loop : tie.MeasureT-loop
 μ-loop b i n methods j₀ j = methods - j
@@ -33,7 +34,8 @@ method-fits-requires c κs = search needs
 returns : tie.Need-returns Inv-loop μ-loop
 returns c = let a = c .before .before .before .before .before .args in
     let l = c .before .before .before .before .loop in
-    sym (l .inv .1 ∙ rest-broken (λ k. methodAccepted (typesIn (a .b .now)) (a .n) (getD (getD (typesIn (a .b .now)) (a .i) noRawType .methods) k noRawMethod)) (a .methods) (l .j) (c .before .before .before .loop-test .taken)
+    sym (l .inv .1 ∙ rest-broken (λ k. methodAccepted (typesIn (a .b .now)) (a .n) (getD (getD (typesIn (a .b .now)) (a .i) noRawType .methods) k noRawMethod)) (a .methods) (l .j)
+    (c .before .before .before .loop-test .taken)
     (ap (methodAccepted (typesIn (a .b .now)) (a .n)) (sym (c .before .before .get-method .ensures)) ∙ refused (c .before .method-fits .result) _ (c .before .method-fits .ensures) (c .if1 .taken)))
 
 add-j : tie.Need-add-j Inv-loop μ-loop
@@ -46,8 +48,10 @@ loop-again : tie.Need-loop-again Inv-loop μ-loop
 loop-again c = let a = c .before .before .before .before .before .args in
     let l = c .before .before .before .before .loop in (
       omega arith,
-      l .inv .1 ∙ rest-next (λ k. methodAccepted (typesIn (a .b .now)) (a .n) (getD (getD (typesIn (a .b .now)) (a .i) noRawType .methods) k noRawMethod)) (a .methods) (l .j) (c .before .before .before .loop-test .taken)
-          (ap (methodAccepted (typesIn (a .b .now)) (a .n)) (sym (c .before .before .get-method .ensures)) ∙ passed (c .before .method-fits .result) _ (c .before .method-fits .ensures) (c .if1 .left)),
+      l .inv .1 ∙ rest-next (λ k. methodAccepted (typesIn (a .b .now)) (a .n) (getD (getD (typesIn (a .b .now)) (a .i) noRawType .methods) k noRawMethod)) (a .methods) (l .j)
+          (c .before .before .before .loop-test .taken)
+          (ap (methodAccepted (typesIn (a .b .now)) (a .n)) (sym (c .before .before .get-method .ensures)) ∙ passed (c .before .method-fits .result) _
+          (c .before .method-fits .ensures) (c .if1 .left)),
     )
 
 returns-2 : tie.Need-returns-2 Inv-loop μ-loop

@@ -30,7 +30,8 @@ type-fits-requires c κs = (c .before .before .pre, omega (arith, c .loop-test .
 returns : tie.Need-returns Inv-loop μ-loop
 returns c = let a = c .before .before .before .before .args in
     let l = c .before .before .before .loop in
-    sym (l .inv .2 ∙ rest-broken (λ k. typeAccepted (typesIn (a .b .now)) (a .c) k (getD (typesIn (a .b .now)) k noRawType)) (a .c .types) (l .i) (c .before .before .loop-test .taken) (refused (c .before .type-fits .result) _ (c .before .type-fits .ensures) (c .if1 .taken)))
+    sym (l .inv .2 ∙ rest-broken (λ k. typeAccepted (typesIn (a .b .now)) (a .c) k (getD (typesIn (a .b .now)) k noRawType)) (a .c .types) (l .i)
+    (c .before .before .loop-test .taken) (refused (c .before .type-fits .result) _ (c .before .type-fits .ensures) (c .if1 .taken)))
 
 add-i : tie.Need-add-i Inv-loop μ-loop
 add-i c = search needs
@@ -40,8 +41,12 @@ loop-less c = search needs
 
 loop-again : tie.Need-loop-again Inv-loop μ-loop
 loop-again c = let a = c .before .before .before .before .args in
-    let l = c .before .before .before .loop in
-    (omega arith, refl, l .inv .2 ∙ rest-next (λ k. typeAccepted (typesIn (a .b .now)) (a .c) k (getD (typesIn (a .b .now)) k noRawType)) (a .c .types) (l .i) (c .before .before .loop-test .taken) (passed (c .before .type-fits .result) _ (c .before .type-fits .ensures) (c .if1 .left)))
+    let l = c .before .before .before .loop in (
+      omega arith,
+      refl,
+      l .inv .2 ∙ rest-next (λ k. typeAccepted (typesIn (a .b .now)) (a .c) k (getD (typesIn (a .b .now)) k noRawType)) (a .c .types) (l .i)
+          (c .before .before .loop-test .taken) (passed (c .before .type-fits .result) _ (c .before .type-fits .ensures) (c .if1 .left)),
+    )
 
 returns-2 : tie.Need-returns-2 Inv-loop μ-loop
 returns-2 c = let a = c .before .before .args in

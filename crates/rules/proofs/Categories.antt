@@ -1,4 +1,4 @@
--- "a ≤ b if a is 0, a = b, or a is reached from b by broader links": worked out for the categories in order, since links fall.
+-- The order of categories (T7), worked out for the categories from 0 up, since links fall.
 use mathlib.Core.Path.{_≡_, refl, ap, sym, _∙_}
 use mathlib.Core.Logic.{⊎-elim}
 use mathlib.Core.Bool.{Bool, true, false, _||_, cond}
@@ -16,8 +16,8 @@ use Rattle.model.proofs.Largest.{getD-from, getD-from-out}
 use Rattle.table.specs.declared.Counts.{Counts}
 use Rattle.table.specs.Store.{linksIn, tableIn, broaderOf}
 use Rattle.table.proofs.Lists.{lt-or-ge}
-use Rattle.search.specs.Checked.{broaderIn, Checked}
-use Rattle.search.specs.Parts.{catNext}
+use Rattle.table.specs.Limits.{Checked}
+use Rattle.rules.specs.Parts.{broaderIn, catNext}
 
 -- the order of the table is that of these links, whatever its types
 pub order-is : (b l : List ℕ) (c : Counts) (x y : ℕ) → reaches 32 (broaderIn l c) x y ≡ catLe (tableIn b l c) x y
@@ -51,7 +51,8 @@ or-none false false = refl
 module _ (l : List ℕ) (c : Counts) (h : Checked l c) where
   links-below : (x : ℕ) → AllBelow x (getD (broaderIn l c) x [])
   links-below zero = rw (links-zero l c) tt
-  links-below (suc x) = ⊎-elim (λ (p : c .cats < suc x). rw (links-out l c (suc x) p) tt) (λ (p : suc x ≤ c .cats). rw (links-in l c (suc x) (omega arith) p) (h .falls (suc x) (omega arith) p)) (lt-or-ge (c .cats) (suc x))
+  links-below (suc x) = ⊎-elim (λ (p : c .cats < suc x). rw (links-out l c (suc x) p) tt)
+      (λ (p : suc x ≤ c .cats). rw (links-in l c (suc x) (omega arith) p) (h .falls (suc x) (omega arith) p)) (lt-or-ge (c .cats) (suc x))
 
   -- as many steps as the category's number are enough
   more-fuel : (f a x : ℕ) → x ≤ f → reaches f (broaderIn l c) a x ≡ reaches (suc f) (broaderIn l c) a x
@@ -124,11 +125,11 @@ module _ (l : List ℕ) (c : Counts) (x u : ℕ) (h : Checked l c) (z : x ≡ 0 
   falls = rw e (h .falls x (omega arith) i)
 
   pub first-below : u ≡ r .first → u < 32
-  first-below f = let g : r .first < x = go (eqb (r .count) 2) falls in omega (arith, h .cats)
+  first-below f = let g : r .first < x = go (eqb (r .count) 2) falls in omega (arith, h .limits .cats)
     where
       go : (b : Bool) → AllBelow x (cond b (r .first ∷ r .second ∷ []) (r .first ∷ [])) → r .first < x
       go true w = w .0
       go false w = w .0
 
   pub second-below : u ≡ r .second → r .count ≡ 2 → u < 32
-  second-below f n = let w : AllBelow x (r .first ∷ r .second ∷ []) = rw (eq-eqb (r .count) 2 n) at falls in let g = w .1 .0 in omega (arith, h .cats)
+  second-below f n = let w : AllBelow x (r .first ∷ r .second ∷ []) = rw (eq-eqb (r .count) 2 n) at falls in let g = w .1 .0 in omega (arith, h .limits .cats)

@@ -18,24 +18,24 @@ use Rattle.table.specs.declared.Head.{Head}
 use Rattle.table.specs.Store.{typesIn, headOf, tableIn, methodIn}
 use Rattle.table.proofs.Lists.{from-first}
 use Rattle.table.proofs.Tables.{type-is}
-use Rattle.table.proofs.Codes.{number-rep}
-use Rattle.search.specs.Found.{found, Sound, Met, upto}
-use Rattle.search.specs.Parts.{outerHeads}
-use Rattle.search.proofs.Pairs.{clash, stay, met-as}
-use Rattle.search.proofs.Signatures.{upto-says, upto-test}
-use Rattle.search.proofs.Outside.{heads-rule, outer-sort, code-ref}
+use Rattle.table.proofs.Codes.{number-rep, ref-rep}
+use Rattle.relation.specs.Found.{found, Listed, Met, eachBelow}
+use Rattle.rules.specs.Parts.{outerHeads}
+use Rattle.relation.proofs.Pairs.{clash, stay, met-as}
+use Rattle.relation.proofs.Signatures.{each-says, each-test}
+use Rattle.rules.proofs.Outside.{heads-rule, outer-sort}
 
 -- every method of two lists that are as long
 module _ (f : Method → Method → Bool) (z : So (f noMethod noMethod)) (n : ℕ) (x y : ℕ → Method) where
-  all-upto : So (upto n (λ j. f (x j) (y j))) → So (everyMethod f (from n 0 x) (from n 0 y))
-  all-upto w = all-test f (from n 0 x) (from n 0 y) (λ m. go m (decLt m n))
+  all-eachBelow : So (eachBelow n (λ j. f (x j) (y j))) → So (everyMethod f (from n 0 x) (from n 0 y))
+  all-eachBelow w = all-test f (from n 0 x) (from n 0 y) (λ m. go m (decLt m n))
     where
       go : (m : ℕ) → Dec (m < n) → So (f (getD (from n 0 x) m noMethod) (getD (from n 0 y) m noMethod))
-      go m (yes l) = rw (from-first x n m noMethod l, from-first y n m noMethod l) (upto-says n (λ j. f (x j) (y j)) w m l)
+      go m (yes l) = rw (from-first x n m noMethod l, from-first y n m noMethod l) (each-says n (λ j. f (x j) (y j)) w m l)
       go m (no l) = rw (getD-from-out x noMethod n 0 m (omega arith), getD-from-out y noMethod n 0 m (omega arith)) z
 
-  upto-all : So (everyMethod f (from n 0 x) (from n 0 y)) → So (upto n (λ j. f (x j) (y j)))
-  upto-all w = upto-test n (λ j. f (x j) (y j)) (λ j l. rw (from-first x n j noMethod l, from-first y n j noMethod l) at (all-says f z (from n 0 x) (from n 0 y) w j))
+  each-all : So (everyMethod f (from n 0 x) (from n 0 y)) → So (eachBelow n (λ j. f (x j) (y j)))
+  each-all w = each-test n (λ j. f (x j) (y j)) (λ j l. rw (from-first x n j noMethod l, from-first y n j noMethod l) at (all-says f z (from n 0 x) (from n 0 y) w j))
 
 -- The pair (a, d) of types in the table, whose heads are x and y; `fine` is what the rule says of the heads.
 module _ (b l : List ℕ) (c : Counts) (k : Relation) (a d : ℕ) (p : a < c .types) (q : d < c .types) (x y : Head)
@@ -50,7 +50,7 @@ module _ (b l : List ℕ) (c : Counts) (k : Relation) (a d : ℕ) (p : a < c .ty
   W M = rule k (tableIn b l c) M a d
 
   abbrev Methods : (ℕ → ℕ → Bool) → Bool
-  Methods M = upto (c .methods) (λ j. methodRule k M (methodIn b a j) (methodIn b d j))
+  Methods M = eachBelow (c .methods) (λ j. methodRule k M (methodIn b a j) (methodIn b d j))
 
   rule-is : (M : ℕ → ℕ → Bool) → W M ≡ (outerRule k (tableIn b l c) (typeOf (c .methods) (c .sheet) a A) (typeOf (c .methods) (c .sheet) d D)
       && everyMethod (methodRule k M) (typeOf (c .methods) (c .sheet) a A .methods) (typeOf (c .methods) (c .sheet) d D .methods))
@@ -60,31 +60,35 @@ module _ (b l : List ℕ) (c : Counts) (k : Relation) (a d : ℕ) (p : a < c .ty
   outer-is : fine ≡ outerRule k (tableIn b l c) (typeOf (c .methods) (c .sheet) a A) (typeOf (c .methods) (c .sheet) d D)
   outer-is = ef ∙ rw (ex, ey) (sym (heads-rule k (tableIn b l c) (c .methods) (c .sheet) a d A D))
 
-  module _ (n : ℕ) (seen : List Bool) (queue : List ℕ) (t : ℕ) where
+  module _ (n : ℕ) (marks : List Bool) (queue : List ℕ) (t : ℕ) where
     -- the heads break it
-    pub types-broke : (seen′ : List Bool) (queue′ : List ℕ) → fine ≡ false → Met n W seen queue t seen′ queue′ 0
-    types-broke seen′ queue′ e = inl (record { zero = refl; none = λ M i w. clash (first (outerRule k (tableIn b l c) (typeOf (c .methods) (c .sheet) a A) (typeOf (c .methods) (c .sheet) d D)) _ (rw (rule-is M) at w)) (sym outer-is ∙ e) })
+    pub types-broke : (marks′ : List Bool) (queue′ : List ℕ) → fine ≡ false → Met n W marks queue t marks′ queue′ 0
+    types-broke marks′ queue′ e = inl (record {
+      zero = refl;
+      none = λ M i w. clash
+          (first (outerRule k (tableIn b l c) (typeOf (c .methods) (c .sheet) a A) (typeOf (c .methods) (c .sheet) d D)) _ (rw (rule-is M) at w)) (sym outer-is ∙ e);
+    })
 
     module _ (e : fine ≡ true) where
       sorts : isRef (repOf (A .rep)) ≡ isRef (repOf (D .rep))
       sorts = outer-sort k (tableIn b l c) (typeOf (c .methods) (c .sheet) a A) (typeOf (c .methods) (c .sheet) d D) (sym outer-is ∙ e)
 
       -- two numbers have no methods
-      pub types-numbers : (x .rep ≡ 0 → ⊥) → Sound n seen queue t → Met n W seen queue t seen queue t
+      pub types-numbers : (x .rep ≡ 0 → ⊥) → Listed n marks queue t → Met n W marks queue t marks queue t
       unfolding everyMethod
       types-numbers z h =
           let f : isRef (repOf (A .rep)) ≡ false = number-rep (A .rep) (λ o. z (ap (λ (v : Head). v .rep) ex ∙ o)) in
           let g : isRef (repOf (D .rep)) ≡ false = sym sorts ∙ f in
-          inr (stay n W seen queue t h (rw (rule-is (found n seen), sym outer-is ∙ e, f, g)))
+          inr (stay n W marks queue t h (rw (rule-is (found n marks), sym outer-is ∙ e, f, g)))
 
       -- two references have their methods
-      pub types-methods : (seen′ : List Bool) (queue′ : List ℕ) (r : ℕ) → x .rep ≡ 0 → Met n Methods seen queue t seen′ queue′ r → Met n W seen queue t seen′ queue′ r
-      types-methods seen′ queue′ r z m = met-as n Methods W seen queue t seen′ queue′ r
-          (λ M w. rw (all M) (all-upto (methodRule k M) (denied-fits k M) (c .methods) (methodIn b a) (methodIn b d) w))
-          (λ M w. upto-all (methodRule k M) (denied-fits k M) (c .methods) (methodIn b a) (methodIn b d) (rw (all M) at w)) m
+      pub types-methods : (marks′ : List Bool) (queue′ : List ℕ) (r : ℕ) → x .rep ≡ 0 → Met n Methods marks queue t marks′ queue′ r → Met n W marks queue t marks′ queue′ r
+      types-methods marks′ queue′ r z m = met-as n Methods W marks queue t marks′ queue′ r
+          (λ M w. rw (all M) (all-eachBelow (methodRule k M) (denied-fits k M) (c .methods) (methodIn b a) (methodIn b d) w))
+          (λ M w. each-all (methodRule k M) (denied-fits k M) (c .methods) (methodIn b a) (methodIn b d) (rw (all M) at w)) m
         where
           all : (M : ℕ → ℕ → Bool) → W M ≡ everyMethod (methodRule k M) (from (c .methods) 0 (methodIn b a)) (from (c .methods) 0 (methodIn b d))
           all M =
-              let f : isRef (repOf (A .rep)) ≡ true = code-ref (A .rep) (sym (ap (λ (v : Head). v .rep) ex) ∙ z) in
+              let f : isRef (repOf (A .rep)) ≡ true = ref-rep (A .rep) (sym (ap (λ (v : Head). v .rep) ex) ∙ z) in
               let g : isRef (repOf (D .rep)) ≡ true = sym sorts ∙ f in
               rw (rule-is M, sym outer-is ∙ e, f, g)

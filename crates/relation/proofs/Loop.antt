@@ -15,9 +15,9 @@ use Rattle.model.proofs.Tests.{so-ltb}
 use Rattle.model.proofs.Rules.{never, both, rule-test, rule-says}
 use Rattle.model.proofs.Largest.{largest, keeps-related}
 use Rattle.table.proofs.Lists.{same-or}
-use Rattle.search.specs.Found.{found, Within, Pair, Sound, Met, seenIn, queueIn, Added}
-use Rattle.search.proofs.Pairs.{found-says, found-test, pair-as, yeses-set, met-zero, met-more}
-use Rattle.search.proofs.Buffer.{none-found, none-queued}
+use Rattle.relation.specs.Found.{found, Within, Pair, Listed, Met, marksIn, queueIn, Added}
+use Rattle.relation.proofs.Pairs.{found-says, found-test, pair-as, yeses-set, met-zero, met-more}
+use Rattle.relation.proofs.Buffer.{none-found, none-queued}
 
 -- ---- the root
 yeses-none : (n : ℕ) → yeses (replicate n false) ≡ 0
@@ -25,14 +25,14 @@ unfolding yeses
 yeses-none zero = refl
 yeses-none (suc n) = let h : yeses (replicate n false) ≡ 0 = yeses-none n in omega arith
 
-none-seen : (n p : ℕ) → So (getD (replicate n false) p false) → ⊥
-none-seen zero p h = never h
-none-seen (suc n) zero h = never h
-none-seen (suc n) (suc p) h = none-seen n p h
+none-marked : (n p : ℕ) → So (getD (replicate n false) p false) → ⊥
+none-marked zero p h = never h
+none-marked (suc n) zero h = never h
+none-marked (suc n) (suc p) h = none-marked n p h
 
 module _ (n t s : ℕ) (l : n ≤ 128) (p : t < n) (q : s < n) where
-  abbrev seen₀ : List Bool
-  seen₀ = set (replicate 16384 false) (t * 128 + s) true
+  abbrev marks₀ : List Bool
+  marks₀ = set (replicate 16384 false) (t * 128 + s) true
 
   abbrev queue₀ : List ℕ
   queue₀ = set (replicate 16384 0) 0 (t * 128 + s)
@@ -40,40 +40,41 @@ module _ (n t s : ℕ) (l : n ≤ 128) (p : t < n) (q : s < n) where
   slot : t * 128 + s < length (replicate 16384 false)
   slot = rw length-replicate (omega arith)
 
-  root-seen : So (getD seen₀ (t * 128 + s) false)
-  root-seen = getD-set-same (replicate 16384 false) (t * 128 + s) true false slot
+  root-marked : So (getD marks₀ (t * 128 + s) false)
+  root-marked = getD-set-same (replicate 16384 false) (t * 128 + s) true false slot
 
-  root-listed : getD queue₀ 0 0 ≡ t * 128 + s
-  root-listed = getD-set-same (replicate 16384 0) 0 (t * 128 + s) 0 (rw length-replicate (omega arith))
+  root-queued : getD queue₀ 0 0 ≡ t * 128 + s
+  root-queued = getD-set-same (replicate 16384 0) 0 (t * 128 + s) 0 (rw length-replicate (omega arith))
 
-  only-root : (u : ℕ) → So (getD seen₀ u false) → u ≡ t * 128 + s
-  only-root u h = ⊎-elim (λ (e : u ≡ t * 128 + s). e) (λ (e : u ≡ t * 128 + s → ⊥). absurd (none-seen 16384 u (sym (getD-set-other (replicate 16384 false) (t * 128 + s) u true false e) ∙ h))) (same-or u (t * 128 + s))
+  only-root : (u : ℕ) → So (getD marks₀ u false) → u ≡ t * 128 + s
+  only-root u h = ⊎-elim (λ (e : u ≡ t * 128 + s). e) (λ (e : u ≡ t * 128 + s → ⊥). absurd
+      (none-marked 16384 u (sym (getD-set-other (replicate 16384 false) (t * 128 + s) u true false e) ∙ h))) (same-or u (t * 128 + s))
 
-  root-sound : Sound n seen₀ queue₀ 1
-  root-sound = record {
+  root-listed : Listed n marks₀ queue₀ 1
+  root-listed = record {
     small = l;
     slots = length-set (replicate 16384 false) (t * 128 + s) true ∙ length-replicate 16384 false;
     room = length-set (replicate 16384 0) 0 (t * 128 + s) ∙ length-replicate {A = ℕ} 16384 0;
     first = omega arith;
-    count = yeses-set (replicate 16384 false) (t * 128 + s) slot (getD-none (t * 128 + s)) ∙ ap suc (yeses-none 16384);
-    back = λ i k. (let e : i ≡ 0 = omega arith in rw (e, root-listed) (let o : Pair n seen₀ (t * 128 + s) = record { low = omega arith; high = omega arith; known = root-seen } in o));
-    forth = λ x y h. (let g = found-says n seen₀ x y h in record { place = 0; below = omega arith; there = root-listed ∙ sym (only-root (x * 128 + y) (g .2)) });
+    tally = yeses-set (replicate 16384 false) (t * 128 + s) slot (getD-none (t * 128 + s)) ∙ ap suc (yeses-none 16384);
+    back = λ i k. (let e : i ≡ 0 = omega arith in rw (e, root-queued) (let o : Pair n marks₀ (t * 128 + s) = record { low = omega arith; high = omega arith; known = root-marked } in o));
+    forth = λ x y h. (let g = found-says n marks₀ x y h in record { place = 0; below = omega arith; there = root-queued ∙ sym (only-root (x * 128 + y) (g .2)) });
   }
     where
       getD-none : (u : ℕ) → getD (replicate 16384 false) u false ≡ false
       getD-none u = go (getD (replicate 16384 false) u false) refl
         where
           go : (b : Bool) → getD (replicate 16384 false) u false ≡ b → b ≡ false
-          go true e = absurd (none-seen 16384 u e)
+          go true e = absurd (none-marked 16384 u e)
           go false e = refl
 
 -- ---- a turn
-pub record Going (k : Relation) (T : Table) (n t s : ℕ) (seen : List Bool) (queue : List ℕ) (tail head : ℕ) : Type 0 where
-  pub sound : Sound n seen queue tail
+pub record Going (k : Relation) (T : Table) (n t s : ℕ) (marks : List Bool) (queue : List ℕ) (tail head : ℕ) : Type 0 where
+  pub listed : Listed n marks queue tail
   pub within : head ≤ tail
-  pub root : So (found n seen t s)
-  pub done : (i : ℕ) → i < head → So (rule k T (found n seen) (getD queue i 0 / 128) (getD queue i 0 % 128))
-  pub only : So (related k T t s) → Within (found n seen) (related k T)
+  pub root : So (found n marks t s)
+  pub done : (i : ℕ) → i < head → So (rule k T (found n marks) (getD queue i 0 / 128) (getD queue i 0 % 128))
+  pub only : So (related k T t s) → Within (found n marks) (related k T)
 
 -- the rule is monotone
 pub rule-up : (k : Relation) (T : Table) (M N : ℕ → ℕ → Bool) (a b : ℕ) → a < size T → b < size T → Within M N → So (rule k T M a b) → So (rule k T N a b)
@@ -84,9 +85,9 @@ module _ (k : Relation) (T : Table) (n t s : ℕ) (e : size T ≡ n) where
   pub start : n ≤ 128 → t < n → s < n → Going k T n t s (set (replicate 16384 false) (t * 128 + s) true) (set (replicate 16384 0) 0 (t * 128 + s)) 1 0
   unfolding Within
   start l p q = record {
-    sound = root-sound n t s l p q;
+    listed = root-listed n t s l p q;
     within = omega arith;
-    root = found-test n (set (replicate 16384 false) (t * 128 + s) true) t s p q (root-seen n t s l p q);
+    root = found-test n (set (replicate 16384 false) (t * 128 + s) true) t s p q (root-marked n t s l p q);
     done = λ i h. (let z : ⊥ = omega arith in absurd z);
     only = λ r x y h. (let g = found-says n (set (replicate 16384 false) (t * 128 + s) true) x y h in
         let d : x * 128 + y ≡ t * 128 + s = only-root n t s l p q (x * 128 + y) (g .2) in
@@ -94,7 +95,7 @@ module _ (k : Relation) (T : Table) (n t s : ℕ) (e : size T ≡ n) where
   }
 
   -- the first pair is added to an array that says nothing
-  pub start-at : (b : List ℕ) (r : ℕ) → (r ≡ 1) × Added (replicate 16384 0) 0 (t * 128 + s) b → n ≤ 128 → t < n → s < n → Going k T n t s (seenIn b) (queueIn b) r 0
+  pub start-at : (b : List ℕ) (r : ℕ) → (r ≡ 1) × Added (replicate 16384 0) 0 (t * 128 + s) b → n ≤ 128 → t < n → s < n → Going k T n t s (marksIn b) (queueIn b) r 0
   start-at b r h l p q = rw (h .0, h .1 .0, h .1 .1, none-found 16384, none-queued 16384) (start l p q)
 
   -- what is related keeps its rule, and is of the table
@@ -105,24 +106,27 @@ module _ (k : Relation) (T : Table) (n t s : ℕ) (e : size T ≡ n) where
   unfolding Within
   of-table x y h = let r = keeps-related k T x y h in both (so-ltb (subst (λ (m : ℕ). x < m) e (r .low))) (so-ltb (subst (λ (m : ℕ). y < m) e (r .high)))
 
-  module _ (seen : List Bool) (queue : List ℕ) (tail head : ℕ) (g : Going k T n t s seen queue tail head) where
-    pub next : head < tail → Pair n seen (getD queue head 0)
-    next l = g .sound .back head l
+  module _ (marks : List Bool) (queue : List ℕ) (tail head : ℕ) (g : Going k T n t s marks queue tail head) where
+    pub next : head < tail → Pair n marks (getD queue head 0)
+    next l = g .listed .back head l
 
-    module _ (l : head < tail) (seen′ : List Bool) (queue′ : List ℕ) (r : ℕ) (m : Met n (λ M. rule k T M (getD queue head 0 / 128) (getD queue head 0 % 128)) seen queue tail seen′ queue′ r) where
-      pub again : (r ≡ 0 → ⊥) → Going k T n t s seen′ queue′ r (head + 1)
+    module _ (l : head < tail) (marks′ : List Bool) (queue′ : List ℕ) (r : ℕ) (m : Met n (λ M. rule k T M (getD queue head 0 / 128) (getD queue head 0 % 128)) marks queue tail marks′ queue′ r) where
+      pub again : (r ≡ 0 → ⊥) → Going k T n t s marks′ queue′ r (head + 1)
       unfolding Within
       again z =
-          let w = met-more n (λ M. rule k T M (getD queue head 0 / 128) (getD queue head 0 % 128)) seen queue tail seen′ queue′ r z m in
+          let w = met-more n (λ M. rule k T M (getD queue head 0 / 128) (getD queue head 0 % 128)) marks queue tail marks′ queue′ r z m in
           record {
-            sound = w .sound;
+            listed = w .listed;
             within = omega (arith, w .longer);
             root = w .more t s (g .root);
             done = λ i h. ⊎-elim
                 (λ (d : i ≡ head). rw (d, w .kept head l) (w .has))
-                (λ (d : i ≡ head → ⊥). let o = g .sound .back i (omega arith) in rw (w .kept i (omega arith)) (rule-up k T (found n seen) (found n seen′) (getD queue i 0 / 128) (getD queue i 0 % 128) (rw e (o .low)) (rw e (o .high)) (w .more) (g .done i (omega arith))))
+                (λ (d : i ≡ head → ⊥). let o = g .listed .back i (omega arith) in rw (w .kept i (omega arith))
+                (rule-up k T (found n marks) (found n marks′) (getD queue i 0 / 128) (getD queue i 0 % 128) (rw e (o .low)) (rw e (o .high)) (w .more)
+                (g .done i (omega arith))))
                 (same-or i head);
-            only = λ q. w .only (related k T) (kept (getD queue head 0 / 128) (getD queue head 0 % 128) (g .only q (getD queue head 0 / 128) (getD queue head 0 % 128) (pair-as n seen (getD queue head 0) (next l)))) (g .only q);
+            only = λ q. w .only (related k T) (kept (getD queue head 0 / 128) (getD queue head 0 % 128)
+                (g .only q (getD queue head 0 / 128) (getD queue head 0 % 128) (pair-as n marks (getD queue head 0) (next l)))) (g .only q);
           }
 
       pub broken : r ≡ 0 → false ≡ related k T t s
@@ -130,21 +134,23 @@ module _ (k : Relation) (T : Table) (n t s : ℕ) (e : size T ≡ n) where
       broken z = go (related k T t s) refl
         where
           go : (b : Bool) → related k T t s ≡ b → false ≡ b
-          go true q = absurd (met-zero n (λ M. rule k T M (getD queue head 0 / 128) (getD queue head 0 % 128)) seen queue tail seen′ queue′ r z m .none (related k T) of-table (kept (getD queue head 0 / 128) (getD queue head 0 % 128) (unfold Within in (g .only q) (getD queue head 0 / 128) (getD queue head 0 % 128) (pair-as n seen (getD queue head 0) (next l)))))
+          go true q = absurd (met-zero n (λ M. rule k T M (getD queue head 0 / 128) (getD queue head 0 % 128)) marks queue tail marks′ queue′ r z m .none (related k T) of-table
+              (kept (getD queue head 0 / 128) (getD queue head 0 % 128)
+              (unfold Within in (g .only q) (getD queue head 0 / 128) (getD queue head 0 % 128) (pair-as n marks (getD queue head 0) (next l)))))
           go false q = refl
 
     pub ended : tail ≤ head → true ≡ related k T t s
-    ended l = sym (largest k T (λ x y. So (found n seen x y)) keeps t s (g .root))
+    ended l = sym (largest k T (λ x y. So (found n marks x y)) keeps t s (g .root))
       where
-        keeps : Keeps k T (λ x y. So (found n seen x y))
+        keeps : Keeps k T (λ x y. So (found n marks x y))
         keeps x y h =
-            let i = found-says n seen x y h in
-            let w = g .sound .forth x y h in
+            let i = found-says n marks x y h in
+            let w = g .listed .forth x y h in
             let b = w .below in
             let f = w .there in
-            let a : getD queue (w .place) 0 / 128 ≡ x = omega (arith, i .1, g .sound .small) in
-            let c : getD queue (w .place) 0 % 128 ≡ y = omega (arith, i .1, g .sound .small) in
-            rule-says k T (found n seen) x y (rw e (i .0)) (rw e (i .1)) (rw (a, c) at (g .done (w .place) (omega arith)))
+            let a : getD queue (w .place) 0 / 128 ≡ x = omega (arith, i .1, g .listed .small) in
+            let c : getD queue (w .place) 0 % 128 ≡ y = omega (arith, i .1, g .listed .small) in
+            rule-says k T (found n marks) x y (rw e (i .0)) (rw e (i .1)) (rw (a, c) at (g .done (w .place) (omega arith)))
 
   pub out-left : n ≤ t → false ≡ related k T t s
   out-left l = go (related k T t s) refl

@@ -1,10 +1,6 @@
 pub mod Pairs
 pub mod Buffer
 pub mod Signatures
-pub mod Squares
-pub mod Outside
-pub mod Categories
 pub mod Types
 pub mod Steps
 pub mod Loop
-pub mod Accepted

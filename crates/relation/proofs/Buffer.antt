@@ -10,8 +10,8 @@ use lib.Dec.{leb}
 use lib.ListN.{length, getD, set, replicate, length-map, List·getD-map}
 use lib.Seq.{map-set-same}
 use Rattle.table.proofs.Lists.{lt-or-ge}
-use Rattle.search.specs.Found.{seenIn, queueIn, Added, SoundIn, MetIn}
-use Rattle.search.proofs.Pairs.{pair-new}
+use Rattle.relation.specs.Found.{marksIn, queueIn, Added, ListedIn, MetIn}
+use Rattle.relation.proofs.Pairs.{pair-new}
 
 map-set : {A B : Type 0} (f : A → B) (l : List A) (i : ℕ) (y : A) → map f (set l i y) ≡ set (map f l) i (f y)
 map-set f [] i y = refl
@@ -23,21 +23,21 @@ map-replicate f zero a = refl
 map-replicate {B = B} f (suc n) a = ap (λ (zs : List B). f a ∷ zs) (map-replicate f n a)
 
 -- ---- an entry, as it is read
-pub seen-at : (b : List ℕ) (i : ℕ) (r x : Bool) → r ≡ leb 32768 (getD b i 0) → r ≡ x → getD (seenIn b) i false ≡ x
-unfolding seenIn
-seen-at b i r x e f = List·getD-map (λ (v : ℕ). leb 32768 v) b i 0 ∙ sym e ∙ f
+pub mark-at : (b : List ℕ) (i : ℕ) (r x : Bool) → r ≡ leb 32768 (getD b i 0) → r ≡ x → getD (marksIn b) i false ≡ x
+unfolding marksIn
+mark-at b i r x e f = List·getD-map (λ (v : ℕ). leb 32768 v) b i 0 ∙ sym e ∙ f
 
 pub queue-at : (b : List ℕ) (i v : ℕ) → v ≡ getD b i 0 → getD (queueIn b) i 0 ≡ v % 32768
 unfolding queueIn
 queue-at b i v e = List·getD-map (λ (v : ℕ). v % 32768) b i 0 ∙ ap (λ (v : ℕ). v % 32768) (sym e)
 
-pub buffer-length : (n : ℕ) (b : List ℕ) (t : ℕ) → SoundIn n b t → length b ≡ 16384
-unfolding seenIn
+pub buffer-length : (n : ℕ) (b : List ℕ) (t : ℕ) → ListedIn n b t → length b ≡ 16384
+unfolding marksIn
 buffer-length n b t h = sym (length-map b (λ (v : ℕ). leb 32768 v)) ∙ h .slots
 
 -- ---- no pair is found
-pub none-found : (n : ℕ) → seenIn (replicate n 0) ≡ replicate n false
-unfolding seenIn
+pub none-found : (n : ℕ) → marksIn (replicate n 0) ≡ replicate n false
+unfolding marksIn
 none-found n = map-replicate (λ (v : ℕ). leb 32768 v) n 0
 
 pub none-queued : (n : ℕ) → queueIn (replicate n 0) ≡ replicate n 0
@@ -61,9 +61,9 @@ module _ (b : List ℕ) (t p : ℕ) (l : p < 32768) where
     abbrev placed : ℕ
     placed = w / 32768 * 32768 + p
 
-    added-seen : seenIn (set marked t placed) ≡ set (seenIn b) p true
-    unfolding seenIn
-    added-seen =
+    added-marks : marksIn (set marked t placed) ≡ set (marksIn b) p true
+    unfolding marksIn
+    added-marks =
         map-set-same (λ (v : ℕ). leb 32768 v) marked t placed 0 (top-kept w p l ∙ ap (λ (v : ℕ). leb 32768 v) e)
         ∙ map-set (λ (v : ℕ). leb 32768 v) b p (getD b p 0 % 32768 + 32768)
         ∙ ap (λ (v : Bool). set (map (λ (v : ℕ). leb 32768 v) b) p v) (le-leb 32768 (getD b p 0 % 32768 + 32768) (omega arith))
@@ -78,8 +78,8 @@ module _ (b : List ℕ) (t p : ℕ) (l : p < 32768) where
         ∙ ap (λ (v : ℕ). set (map (λ (v : ℕ). v % 32768) b) t v) new
 
     pub added : Added b t p (set marked t placed)
-    added = (added-seen, added-queue)
+    added = (added-marks, added-queue)
 
-pub pair-added : (n : ℕ) (b : List ℕ) (t x y : ℕ) → SoundIn n b t → x < n → y < n → getD (seenIn b) (x * 128 + y) false ≡ false
+pub pair-added : (n : ℕ) (b : List ℕ) (t x y : ℕ) → ListedIn n b t → x < n → y < n → getD (marksIn b) (x * 128 + y) false ≡ false
     → (b′ : List ℕ) (r : ℕ) → (r ≡ t + 1) × Added b t (x * 128 + y) b′ → MetIn n (λ M. M x y) b t b′ r
-pair-added n b t x y h p q e b′ r k = inr (rw (k .0, k .1 .0, k .1 .1) (pair-new n (seenIn b) (queueIn b) t x y h p q e))
+pair-added n b t x y h p q e b′ r k = inr (rw (k .0, k .1 .0, k .1 .1) (pair-new n (marksIn b) (queueIn b) t x y h p q e))

@@ -13,7 +13,7 @@ use Rattle.model.proofs.Tests.{ltb-so, so-ltb}
 use Rattle.model.proofs.Rules.{never, both, first, second}
 use Rattle.model.specs.Relations.{bit, yeses}
 use Rattle.table.proofs.Lists.{same-or}
-use Rattle.search.specs.Found.{found, Within, Queued, Pair, Sound, Grew, Broke, Met}
+use Rattle.relation.specs.Found.{found, Within, Queued, Pair, Listed, Grew, Broke, Met}
 
 pub clash : {A : Type 0} → {b : Bool} → b ≡ true → b ≡ false → A
 clash p q = never (sym q ∙ p)
@@ -48,23 +48,23 @@ yeses-set [] p l h = absurd (not-suc-le-zero l)
 yeses-set (b ∷ s) zero l h = let e : bit b ≡ 0 = ap bit h in omega arith
 yeses-set (b ∷ s) (suc p) l h = let e : yeses (set s p true) ≡ suc (yeses s) = yeses-set s p (le-of-suc-le-suc l) h in omega arith
 
-pub fits : (n : ℕ) (s : List Bool) (l : List ℕ) (t : ℕ) → Sound n s l t → t ≤ 16384
-fits n s l t h = let e = yeses-le s in omega (arith, h .count, h .slots)
+pub fits : (n : ℕ) (s : List Bool) (l : List ℕ) (t : ℕ) → Listed n s l t → t ≤ 16384
+fits n s l t h = let e = yeses-le s in omega (arith, h .tally, h .slots)
 
-pub room : (n : ℕ) (s : List Bool) (l : List ℕ) (t p : ℕ) → Sound n s l t → p < 16384 → getD s p false ≡ false → t < 16384
+pub room : (n : ℕ) (s : List Bool) (l : List ℕ) (t p : ℕ) → Listed n s l t → p < 16384 → getD s p false ≡ false → t < 16384
 room n s l t p h q e =
     let k : p < length s = omega (arith, h .slots) in
     let a : yeses (set s p true) ≡ suc (yeses s) = yeses-set s p k e in
     let b : yeses (set s p true) ≤ length (set s p true) = yeses-le (set s p true) in
     let c : length (set s p true) ≡ length s = length-set s p true in
-    omega (arith, h .count, h .slots)
+    omega (arith, h .tally, h .slots)
 
 -- ---- one pair
-pub stay : (n : ℕ) (W : (ℕ → ℕ → Bool) → Bool) (s : List Bool) (l : List ℕ) (t : ℕ) → Sound n s l t → So (W (found n s)) → Grew n W s l t s l t
+pub stay : (n : ℕ) (W : (ℕ → ℕ → Bool) → Bool) (s : List Bool) (l : List ℕ) (t : ℕ) → Listed n s l t → So (W (found n s)) → Grew n W s l t s l t
 unfolding Within
-stay n W s l t h w = record { sound = h; more = λ x y k. k; kept = λ i k. refl; longer = omega arith; has = w; only = λ M k i. i }
+stay n W s l t h w = record { listed = h; more = λ x y k. k; kept = λ i k. refl; longer = omega arith; has = w; only = λ M k i. i }
 
-pub pair-known : (n : ℕ) (s : List Bool) (l : List ℕ) (t x y : ℕ) → Sound n s l t → x < n → y < n → So (getD s (x * 128 + y) false) → Grew n (λ M. M x y) s l t s l t
+pub pair-known : (n : ℕ) (s : List Bool) (l : List ℕ) (t x y : ℕ) → Listed n s l t → x < n → y < n → So (getD s (x * 128 + y) false) → Grew n (λ M. M x y) s l t s l t
 pair-known n s l t x y h p q k = stay n (λ M. M x y) s l t h (found-test n s x y p q k)
 
 set-more : (s : List Bool) (p q : ℕ) → So (getD s q false) → p < length s → So (getD (set s p true) q false)
@@ -81,7 +81,7 @@ set-less s p q h =
     (λ (e : q ≡ p → ⊥). inr (sym (getD-set-other s p q true false e) ∙ h))
     (same-or q p)
 
-module _ (n : ℕ) (s : List Bool) (l : List ℕ) (t x y : ℕ) (h : Sound n s l t) (p : x < n) (q : y < n) (e : getD s (x * 128 + y) false ≡ false) where
+module _ (n : ℕ) (s : List Bool) (l : List ℕ) (t x y : ℕ) (h : Listed n s l t) (p : x < n) (q : y < n) (e : getD s (x * 128 + y) false ≡ false) where
   at-slot : x * 128 + y < length s
   at-slot = omega (arith, h .slots, h .small)
 
@@ -102,18 +102,24 @@ module _ (n : ℕ) (s : List Bool) (l : List ℕ) (t x y : ℕ) (h : Sound n s l
   new-forth u v k =
       let g = found-says n (set s (x * 128 + y) true) u v k in
       ⊎-elim
-      (λ (a : u * 128 + v ≡ x * 128 + y). let o : Queued (set l t (x * 128 + y)) (t + 1) (u * 128 + v) = record { place = t; below = omega arith; there = getD-set-same l t (x * 128 + y) 0 at-room ∙ sym a } in o)
+      (λ (a : u * 128 + v ≡ x * 128 + y). let o : Queued (set l t (x * 128 + y)) (t + 1) (u * 128 + v) = record
+      { place = t; below = omega arith; there = getD-set-same l t (x * 128 + y) 0 at-room ∙ sym a } in o)
       (λ (a : So (getD s (u * 128 + v) false)). let w = h .forth u v (found-test n s u v (g .0) (g .1) a) in
-      let o : Queued (set l t (x * 128 + y)) (t + 1) (u * 128 + v) = record { place = w .place; below = omega (arith, w .below); there = getD-set-other l t (w .place) (x * 128 + y) 0 (λ z. let f = w .below in let d : w .place ≡ t = z in omega arith) ∙ w .there } in o)
+      let o : Queued (set l t (x * 128 + y)) (t + 1) (u * 128 + v) = record {
+        place = w .place;
+        below = omega (arith, w .below);
+        there = getD-set-other l t (w .place) (x * 128 + y) 0
+            (λ z. let f = w .below in let d : w .place ≡ t = z in omega arith) ∙ w .there;
+      } in o)
       (set-less s (x * 128 + y) (u * 128 + v) (g .2))
 
-  new-sound : Sound n (set s (x * 128 + y) true) (set l t (x * 128 + y)) (t + 1)
-  new-sound = record {
+  new-listed : Listed n (set s (x * 128 + y) true) (set l t (x * 128 + y)) (t + 1)
+  new-listed = record {
     small = h .small;
     slots = length-set s (x * 128 + y) true ∙ h .slots;
     room = length-set l t (x * 128 + y) ∙ h .room;
     first = omega arith;
-    count = (let a = yeses-set s (x * 128 + y) at-slot e in omega (arith, h .count));
+    tally = (let a = yeses-set s (x * 128 + y) at-slot e in omega (arith, h .tally));
     back = new-back;
     forth = new-forth;
   }
@@ -129,7 +135,7 @@ module _ (n : ℕ) (s : List Bool) (l : List ℕ) (t x y : ℕ) (h : Sound n s l
   pub pair-new : Grew n (λ M. M x y) s l t (set s (x * 128 + y) true) (set l t (x * 128 + y)) (t + 1)
   unfolding Within
   pair-new = record {
-    sound = new-sound;
+    listed = new-listed;
     more = λ u v k. (let g = found-says n s u v k in found-test n (set s (x * 128 + y) true) u v (g .0) (g .1) (set-more s (x * 128 + y) (u * 128 + v) (g .2) at-slot));
     kept = λ i k. getD-set-other l t i (x * 128 + y) 0 (λ z. let d : i ≡ t = z in omega arith);
     longer = omega arith;
@@ -154,16 +160,17 @@ broke-as n W U r f b = record { zero = b .zero; none = λ M i v. b .none M i (f 
 
 module _ (n : ℕ) (W U : (ℕ → ℕ → Bool) → Bool) (s : List Bool) (l : List ℕ) (t : ℕ) where
   pub grew-as : (s′ : List Bool) (l′ : List ℕ) (r : ℕ) → ((M : ℕ → ℕ → Bool) → So (W M) → So (U M)) → ((M : ℕ → ℕ → Bool) → So (U M) → So (W M)) → Grew n W s l t s′ l′ r → Grew n U s l t s′ l′ r
-  grew-as s′ l′ r f g w = record { sound = w .sound; more = w .more; kept = w .kept; longer = w .longer; has = f (found n s′) (w .has); only = λ M v. w .only M (g M v) }
+  grew-as s′ l′ r f g w = record { listed = w .listed; more = w .more; kept = w .kept; longer = w .longer; has = f (found n s′) (w .has); only = λ M v. w .only M (g M v) }
 
   pub met-as : (s′ : List Bool) (l′ : List ℕ) (r : ℕ) → ((M : ℕ → ℕ → Bool) → So (W M) → So (U M)) → ((M : ℕ → ℕ → Bool) → So (U M) → So (W M)) → Met n W s l t s′ l′ r → Met n U s l t s′ l′ r
   met-as s′ l′ r f g (inl b) = inl (broke-as n W U r g b)
   met-as s′ l′ r f g (inr w) = inr (grew-as s′ l′ r f g w)
 
-  pub grew-then : (s₁ : List Bool) (l₁ : List ℕ) (t₁ : ℕ) (s₂ : List Bool) (l₂ : List ℕ) (t₂ : ℕ) → Mono W → Grew n W s l t s₁ l₁ t₁ → Grew n U s₁ l₁ t₁ s₂ l₂ t₂ → Grew n (λ M. W M && U M) s l t s₂ l₂ t₂
+  pub grew-then : (s₁ : List Bool) (l₁ : List ℕ) (t₁ : ℕ) (s₂ : List Bool) (l₂ : List ℕ) (t₂ : ℕ) → Mono W → Grew n W s l t s₁ l₁ t₁ → Grew n U s₁ l₁ t₁ s₂ l₂ t₂ → Grew n
+      (λ M. W M && U M) s l t s₂ l₂ t₂
   unfolding Within Mono
   grew-then s₁ l₁ t₁ s₂ l₂ t₂ m a b = record {
-    sound = b .sound;
+    listed = b .listed;
     more = λ x y k. b .more x y (a .more x y k);
     kept = λ i k. b .kept i (omega (arith, a .longer)) ∙ a .kept i k;
     longer = omega (arith, a .longer, b .longer);
@@ -178,7 +185,7 @@ module _ (n : ℕ) (W U : (ℕ → ℕ → Bool) → Bool) (s : List Bool) (l : 
 -- ---- the answer 0, and any other
 pub met-zero : (n : ℕ) (W : (ℕ → ℕ → Bool) → Bool) (s : List Bool) (l : List ℕ) (t : ℕ) (s′ : List Bool) (l′ : List ℕ) (r : ℕ) → r ≡ 0 → Met n W s l t s′ l′ r → Broke n W 0
 met-zero n W s l t s′ l′ r e (inl b) = record { zero = refl; none = b .none }
-met-zero n W s l t s′ l′ r e (inr g) = let h : 0 < r = g .sound .first in let z : ⊥ = omega arith in absurd z
+met-zero n W s l t s′ l′ r e (inr g) = let h : 0 < r = g .listed .first in let z : ⊥ = omega arith in absurd z
 
 pub met-more : (n : ℕ) (W : (ℕ → ℕ → Bool) → Bool) (s : List Bool) (l : List ℕ) (t : ℕ) (s′ : List Bool) (l′ : List ℕ) (r : ℕ) → (r ≡ 0 → ⊥) → Met n W s l t s′ l′ r → Grew n W s l t s′ l′ r
 met-more n W s l t s′ l′ r e (inl b) = absurd (e (b .zero))

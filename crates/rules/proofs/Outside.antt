@@ -1,6 +1,6 @@
 -- Representation, category and own of a pair: the rule by its parts (specs/Parts), and what the code's tests of codes mean.
 use mathlib.Core.Path.{_≡_, refl, ap, sym, _∙_}
-use mathlib.Core.Bool.{Bool, true, false, not, _&&_, Bool·beq, So}
+use mathlib.Core.Bool.{Bool, true, false, not, _&&_, and-true, Bool·beq, So}
 use Prim.Native.Nat.{ℕ, zero, suc}
 use native.Mathlib.Omega.{arith}
 use lib.Dec.{eqb, leb}
@@ -13,20 +13,16 @@ use Rattle.model.proofs.Rules.{first, never}
 use Rattle.table.specs.declared.Head.{Head}
 use Rattle.table.specs.Store.{headOf}
 use Rattle.table.proofs.Codes.{number-rep}
-use Rattle.search.specs.Parts.{repRule, ordered, owned, ownOf, outerHeads}
-
-and-one : (b : Bool) → b ≡ (b && true)
-and-one true = refl
-and-one false = refl
+use Rattle.rules.specs.Parts.{repRule, ordered, owned, headOwns, outerHeads}
 
 -- the rule of the two types is that of their heads
 pub heads-rule : (k : Relation) (t : Table) (ms sh i j : ℕ) (x y : RawType) → outerRule k t (typeOf ms sh i x) (typeOf ms sh j y) ≡ outerHeads k t (headOf x) (headOf y)
 unfolding outerRule outerHeads
 heads-rule subtype t ms sh i j x y = refl
-heads-rule conforms t ms sh i j x y = ap (λ (b : Bool). sameRep (repOf (x .rep)) (repOf (y .rep)) && b) (and-one (catLe t (x .cat) (y .cat)))
-heads-rule strict t ms sh i j x y = ap (λ (b : Bool). sameSort (repOf (x .rep)) (repOf (y .rep)) && b) (and-one (catLe t (x .cat) (y .cat)))
-heads-rule loose t ms sh i j x y = and-one (sameSort (repOf (x .rep)) (repOf (y .rep)))
-heads-rule free t ms sh i j x y = and-one (sameSort (repOf (x .rep)) (repOf (y .rep)))
+heads-rule conforms t ms sh i j x y = ap (λ (b : Bool). sameRep (repOf (x .rep)) (repOf (y .rep)) && b) (sym (and-true (catLe t (x .cat) (y .cat))))
+heads-rule strict t ms sh i j x y = ap (λ (b : Bool). sameSort (repOf (x .rep)) (repOf (y .rep)) && b) (sym (and-true (catLe t (x .cat) (y .cat))))
+heads-rule loose t ms sh i j x y = sym (and-true (sameSort (repOf (x .rep)) (repOf (y .rep))))
+heads-rule free t ms sh i j x y = sym (and-true (sameSort (repOf (x .rep)) (repOf (y .rep))))
 
 -- The parts in turn.
 module _ (k : Relation) (t : Table) (x y : Head) where
@@ -39,7 +35,7 @@ module _ (k : Relation) (t : Table) (x y : Head) where
     unfolding outerHeads
     heads-cat f = rw (e, f)
 
-    pub heads-own : (ordered k ⇒ catLe t (x .cat) (y .cat)) ≡ true → (owned k ⇒ (ownOf x ⇒ ownOf y)) ≡ outerHeads k t x y
+    pub heads-own : (ordered k ⇒ catLe t (x .cat) (y .cat)) ≡ true → (owned k ⇒ (headOwns x ⇒ headOwns y)) ≡ outerHeads k t x y
     unfolding outerHeads
     heads-own f = rw (e, f)
 
@@ -70,9 +66,6 @@ outer-sort loose t x y h = same-sort (isRef (x .rep)) (isRef (y .rep)) h
 outer-sort free t x y h = same-sort (isRef (x .rep)) (isRef (y .rep)) h
 
 -- Codes of representations: 0 is ref.
-pub code-ref : (x : ℕ) → x ≡ 0 → isRef (repOf x) ≡ true
-code-ref x e = rw e
-
 ref-code : (y : ℕ) → eqb y 0 ≡ isRef (repOf y)
 ref-code zero = refl
 ref-code (suc zero) = refl
@@ -110,8 +103,8 @@ rep-long (suc (suc x)) (suc zero) p q = refl
 rep-long (suc (suc x)) (suc (suc y)) p q = le-leb 2 (suc (suc y)) (omega arith)
 
 -- own of a head
-pub own-ref : (x : Head) → x .rep ≡ 0 → eqb (x .own) 1 ≡ ownOf x
+pub own-ref : (x : Head) → x .rep ≡ 0 → eqb (x .own) 1 ≡ headOwns x
 own-ref x e = rw e
 
-pub own-number : (x : Head) → (x .rep ≡ 0 → ⊥) → false ≡ ownOf x
+pub own-number : (x : Head) → (x .rep ≡ 0 → ⊥) → false ≡ headOwns x
 own-number x e = rw (number-rep (x .rep) e)

@@ -1,11 +1,11 @@
 -- The rule of a method by its parts: states, arguments slot by slot, answers.
 use mathlib.Core.Path.{_≡_, refl, ap, sym, _∙_}
 use mathlib.Core.Logic.{⊎-elim}
-use mathlib.Core.Bool.{Bool, true, false, _&&_, So}
+use mathlib.Core.Bool.{Bool, true, false, _&&_, and-true, and-assoc, So}
 use mathlib.Core.List.{List, [], _∷_}
 use mathlib.Core.Option.{some}
-use Prim.Native.Nat.{ℕ, zero, suc, _-_, _≤_, _<_}
-use native.Mathlib.Nat.{not-suc-le-zero, le-of-suc-le-suc}
+use Prim.Native.Nat.{ℕ, zero, suc, _-_, _≤_, _<_, min}
+use native.Mathlib.Nat.{not-suc-le-zero, le-of-suc-le-suc, min-eq-left, min-eq-right}
 use native.Mathlib.Omega.{arith}
 use lib.ListN.{length, getD, take}
 use lib.Seq.{take-all, length-take-le, getD-take}
@@ -13,20 +13,16 @@ use Rattle.model.specs.Table.{Method, permit}
 use Rattle.model.specs.Relations.{Relation, stateRule, argsRule, answerRule, methodRule}
 use Rattle.model.specs.Check.{RawMethod, stateOf, answerOf, methodOf}
 use Rattle.model.proofs.Rules.{never, both, first, second, args-mono, signature-mono, args-test, args-says, method-test, method-says}
-use Rattle.table.proofs.Lists.{same-or}
-use Rattle.search.specs.Found.{Within, upto}
-use Rattle.search.proofs.Pairs.{Mono, clash}
-
--- States.
-pub state-high : (x : ℕ) → 4 ≤ x → stateOf 3 ≡ stateOf x
-state-high zero l = let z : ⊥ = omega arith in absurd z
-state-high (suc zero) l = let z : ⊥ = omega arith in absurd z
-state-high (suc (suc zero)) l = let z : ⊥ = omega arith in absurd z
-state-high (suc (suc (suc n))) l = refl
+use Rattle.table.proofs.Lists.{lt-or-ge, same-or}
+use Rattle.relation.specs.Found.{Within, eachBelow}
+use Rattle.relation.proofs.Pairs.{Mono, clash}
 
 -- Arguments. A count above the four slots uses all of them.
-pub used-all : (n : ℕ) → 4 ≤ n → (xs : List ℕ) → length xs ≡ 4 → take n xs ≡ take 4 xs
-used-all n l xs e = take-all n xs (omega arith) ∙ sym (take-all 4 xs (omega arith))
+pub slots-are : (n r : ℕ) → r ≡ min n 4 → (xs : List ℕ) → length xs ≡ 4 → take n xs ≡ take r xs
+slots-are n r e xs k = ⊎-elim
+    (λ (l : n < 4). ap (λ (m : ℕ). take m xs) (sym (e ∙ min-eq-left {n = n} {m = 4} (omega arith))))
+    (λ (l : 4 ≤ n). take-all n xs (omega arith) ∙ sym (take-all r xs (let d : r ≡ 4 = e ∙ min-eq-right {n = 4} {m = n} l in omega arith)))
+    (lt-or-ge n 4)
 
 args-length : (M : ℕ → ℕ → Bool) (xs ys : List ℕ) → So (argsRule M xs ys) → length xs ≡ length ys
 args-length M [] [] w = refl
@@ -49,20 +45,13 @@ module _ (xs ys : List ℕ) where
       let k : i < length (take c xs) = rw (length-take-le c xs p) l in
       rw (getD-take c ys i 0 l, getD-take c xs i 0 l) at (args-at M (take c xs) (take c ys) w i k)
 
-and-one : (b : Bool) → (b && true) ≡ b
-and-one true = refl
-and-one false = refl
-
-and-again : (a b c : Bool) → (a && (b && c)) ≡ ((a && b) && c)
-and-again true b c = refl
-and-again false b c = refl
-
 -- one slot more
-pub args-next : (M : ℕ → ℕ → Bool) (xs ys : List ℕ) (i : ℕ) → i < length xs → i < length ys → argsRule M (take (suc i) xs) (take (suc i) ys) ≡ (argsRule M (take i xs) (take i ys) && M (getD ys i 0) (getD xs i 0))
+pub args-next : (M : ℕ → ℕ → Bool) (xs ys : List ℕ) (i : ℕ) → i < length xs → i < length ys → argsRule M (take (suc i) xs) (take (suc i) ys) ≡
+    (argsRule M (take i xs) (take i ys) && M (getD ys i 0) (getD xs i 0))
 args-next M [] ys i p q = absurd (not-suc-le-zero p)
 args-next M (x ∷ xs) [] i p q = absurd (not-suc-le-zero q)
-args-next M (x ∷ xs) (y ∷ ys) zero p q = and-one (M y x)
-args-next M (x ∷ xs) (y ∷ ys) (suc i) p q = ap (λ (b : Bool). M y x && b) (args-next M xs ys i (le-of-suc-le-suc p) (le-of-suc-le-suc q)) ∙ and-again (M y x) _ _
+args-next M (x ∷ xs) (y ∷ ys) zero p q = and-true (M y x)
+args-next M (x ∷ xs) (y ∷ ys) (suc i) p q = ap (λ (b : Bool). M y x && b) (args-next M xs ys i (le-of-suc-le-suc p) (le-of-suc-le-suc q)) ∙ sym (and-assoc (M y x) _ _)
 
 -- Answers: 0 for none, else the number and 1.
 answer-is : (x : ℕ) → (x ≡ 0 → ⊥) → answerOf x ≡ some (x - 1)
@@ -117,16 +106,16 @@ method-up k x y M N i w =
     method-test N k x y (record { state = r .state; signature = λ p q. signature-mono {R = λ x y. So (M x y)} {Q = λ x y. So (N x y)} i x y (r .signature p q) })
 
 -- Every number below m.
-pub upto-says : (m : ℕ) (f : ℕ → Bool) → So (upto m f) → (j : ℕ) → j < m → So (f j)
-unfolding upto
-upto-says zero f w j l = let z : ⊥ = omega arith in absurd z
-upto-says (suc m) f w j l = ⊎-elim (λ (d : j ≡ m). rw d (second (upto m f) _ w)) (λ (d : j ≡ m → ⊥). upto-says m f (first (upto m f) _ w) j (omega arith)) (same-or j m)
+pub each-says : (m : ℕ) (f : ℕ → Bool) → So (eachBelow m f) → (j : ℕ) → j < m → So (f j)
+unfolding eachBelow
+each-says zero f w j l = let z : ⊥ = omega arith in absurd z
+each-says (suc m) f w j l = ⊎-elim (λ (d : j ≡ m). rw d (second (eachBelow m f) _ w)) (λ (d : j ≡ m → ⊥). each-says m f (first (eachBelow m f) _ w) j (omega arith)) (same-or j m)
 
-pub upto-test : (m : ℕ) (f : ℕ → Bool) → ((j : ℕ) → j < m → So (f j)) → So (upto m f)
-unfolding upto
-upto-test zero f h = refl
-upto-test (suc m) f h = both (upto-test m f (λ j l. h j (omega arith))) (h m (omega arith))
+pub each-test : (m : ℕ) (f : ℕ → Bool) → ((j : ℕ) → j < m → So (f j)) → So (eachBelow m f)
+unfolding eachBelow
+each-test zero f h = refl
+each-test (suc m) f h = both (each-test m f (λ j l. h j (omega arith))) (h m (omega arith))
 
-pub upto-up : (m : ℕ) (k : Relation) (x y : ℕ → Method) → Mono (λ M. upto m (λ j. methodRule k M (x j) (y j)))
+pub each-up : (m : ℕ) (k : Relation) (x y : ℕ → Method) → Mono (λ M. eachBelow m (λ j. methodRule k M (x j) (y j)))
 unfolding Mono Within
-upto-up m k x y M N i w = upto-test m (λ j. methodRule k N (x j) (y j)) (λ j l. unfold Mono Within in (method-up k (x j) (y j)) M N i (upto-says m (λ j. methodRule k M (x j) (y j)) w j l))
+each-up m k x y M N i w = each-test m (λ j. methodRule k N (x j) (y j)) (λ j l. unfold Mono Within in (method-up k (x j) (y j)) M N i (each-says m (λ j. methodRule k M (x j) (y j)) w j l))
