@@ -81,3 +81,13 @@ module _ (ps : List Placeᵐ) (falls : (p : ℕ) → p < length ps → isObject 
       go : (f : ℕ) → p < f → layers f ps p ≡ placeType (placeAt ps p) ∷ layersOf ps (behindOf (placeAt ps p))
       go zero l = absurd (not-suc-le-zero l)
       go (suc f) l = at f (placeAt ps p) l e (falls p h e)
+
+  -- layers are types of places
+  pub layers-below : (n : ℕ) → ((p : ℕ) → p < length ps → placeType (placeAt ps p) < n) → (f p : ℕ) → p < length ps → AllBelow n (layers f ps p)
+  unfolding layers
+  layers-below n each zero p h = tt
+  layers-below n each (suc f) p h = go (placeAt ps p) (falls p h) (each p h) (λ q k. layers-below n each f q k)
+    where
+      go : (x : Placeᵐ) → (isObject x ≡ false → behindOf x < p) → placeType x < n → ((q : ℕ) → q < length ps → AllBelow n (layers f ps q)) → AllBelow n (elim x [ object c o ↦ c ∷ [] | adapter b c ↦ c ∷ layers f ps b ])
+      go (object c o) l k again = (k, tt)
+      go (adapter q c) l k again = let r : q < p = l refl in (k, again q (omega arith))

@@ -4,7 +4,7 @@ use mathlib.Core.Bool.{true, false}
 use mathlib.Core.List.{List, [], _∷_, _++_, map}
 use Prim.Native.Nat.{ℕ, _+_, _≤_, _<_}
 use lib.ListN.{length, getD, set, List·getD-map}
-use Rattle.model.specs.Basics.{from}
+use Rattle.model.specs.Basics.{AllBelow}
 use Rattle.model.specs.Crossing.{Place as Placeᵐ, noPlace, placeAt, placeType, base, baseOf}
 use Rattle.model.specs.Requests.{Cell as Cellᵐ, Call as Callᵐ, System, noCell, noCall, flagged, layers, layersOf}
 use Rattle.model.specs.Check.{RawPlace, RawCall, noRawPlace, noRawCall, systemOf}
@@ -109,3 +109,7 @@ module _ (ps : Places) (h : Falling ps) where
 
     pub layers-go : isObject x ≡ false → layersOf (placesIn ps) p ≡ placeType x ∷ layersOf (placesIn ps) (behindOf x)
     layers-go o = rw e (go.layers-behind (placesIn ps) falls p (inside p l) (rw (← e) o))
+
+  -- every layer is in the table where every place's type is
+  pub layers-in : (n : ℕ) → ((p : ℕ) → p < ps .count → placeType (placeAt (placesIn ps) p) < n) → (p : ℕ) → p < ps .count → AllBelow n (layersOf (placesIn ps) p)
+  layers-in n each p l = go.layers-below (placesIn ps) falls n (λ q k. each q (subst (λ (m : ℕ). q < m) (places-length ps) k)) (length (placesIn ps)) p (inside p l)

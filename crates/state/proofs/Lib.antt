@@ -2,3 +2,4 @@ pub mod Lists
 pub mod Going
 pub mod Laws
 pub mod Walk
+pub mod Kept

@@ -1,0 +1,87 @@
+-- A state that passes the check has what the steps of requests need.
+use mathlib.Core.Path.{_≡_, sym, subst, _∙_}
+use mathlib.Core.Bool.{true, false, So}
+use Prim.Native.Nat.{ℕ, _≤_, _<_}
+use native.Mathlib.Omega.{arith}
+use lib.Dec.{ltb}
+use lib.ListN.{length}
+use Rattle.model.specs.Table.{Table, size}
+use Rattle.model.specs.Crossing.{Place as Placeᵐ, object, adapter, noPlace, placeAt, placeType}
+use Rattle.model.specs.Requests.{System, cellAt, callAt, noCell, noCall}
+use Rattle.model.specs.Check.{cellFits, placeFits, callFits, systemFits, codesFit, stateCodesFit, tableAccepted, systemAccepted, tableOf}
+use Rattle.model.proofs.Tests.{ltb-so}
+use Rattle.model.proofs.Rules.{never, first, second}
+use Rattle.model.proofs.Fitting.{all-at, every-at}
+use Rattle.model.proofs.Checked.{SystemFitting, system-fitting}
+use Rattle.table.specs.Limits.{Checked}
+use Rattle.table.specs.Store.{tableIn, rawTable}
+use Rattle.table.proofs.Tables.{size-is}
+use Rattle.tablecheck.proofs.Accepted.{accepted-checked}
+use Rattle.state.specs.declared.State.{State}
+use Rattle.state.specs.View.{cellsIn, placesIn, callsIn, rawState, systemIn, isObject, behindOf}
+use Rattle.state.specs.Sound.{Sound}
+use Rattle.state.proofs.Laws.{cells-length, places-length, calls-length, system-is}
+use Rattle.statecheck.specs.Parts.{sizesAccepted}
+use Rattle.statecheck.proofs.Laws.{accepted-is, sizes-are}
+
+falls : (s : System) (p : ℕ) (x : Placeᵐ) → So (placeFits s p x) → isObject x ≡ false → behindOf x < p
+falls s p (object k o) h e = never (sym e)
+falls s p (adapter b k) h e = ltb-so (first (ltb b p) _ h)
+
+typed : (s : System) (p : ℕ) (x : Placeᵐ) → s .table .sheet ≤ size (s .table) → So (placeFits s p x) → placeType x < size (s .table)
+typed s p (object k o) l h =
+    let r : k < s .table .sheet = ltb-so (first (ltb k (s .table .sheet)) _ (second (ltb o (s .table .subjects)) _ h)) in omega arith
+typed s p (adapter b k) l h = ltb-so (first (ltb k (size (s .table))) _ (second (ltb b p) _ h))
+
+module _ (s : State) (h : So (systemAccepted (rawState s))) where
+  abbrev m : System
+  m = record { table = tableIn (s .types) (s .links) (s .counts); cells = cellsIn (s .cells); places = placesIn (s .places); calls = callsIn (s .calls) }
+
+  fitting : SystemFitting m
+  unfolding systemAccepted systemIn
+  fitting = system-fitting m (subst (λ (x : System). So (systemFits x)) (system-is s) (second (stateCodesFit (rawState s)) _ (second (codesFit (rawTable (s .types) (s .links) (s .counts))) _ h)))
+
+  by-parts : So (sizesAccepted (s .cells .count) (s .places .count) (s .calls .count)) × So (tableAccepted (rawTable (s .types) (s .links) (s .counts)))
+  by-parts =
+      let e = sym (accepted-is s) ∙ h in
+      let z = sizesAccepted (s .cells .count) (s .places .count) (s .calls .count) in
+      (first z _ e, first (tableAccepted (rawTable (s .types) (s .links) (s .counts))) _ (second z _ e))
+
+  checked : Checked (s .links) (s .counts)
+  checked = accepted-checked (s .types) (s .links) (s .counts) (by-parts .1)
+
+  place-fits : (p : ℕ) → p < s .places .count → So (placeFits m p (placeAt (placesIn (s .places)) p))
+  place-fits p l =
+      subst (λ (n : ℕ). So (placeFits m n (placeAt (placesIn (s .places)) p))) (omega arith)
+      (every-at (placeFits m) noPlace 0 (placesIn (s .places)) (fitting .places) p (subst (λ (n : ℕ). p < n) (sym (places-length (s .places))) l))
+
+  sheet-below : m .table .sheet ≤ size (m .table)
+  unfolding tableIn tableOf
+  sheet-below = subst (λ (n : ℕ). s .counts .sheet ≤ n) (sym (size-is (s .types) (s .links) (s .counts))) (checked .limits .counted)
+
+  pub accepted-sound : Sound s
+  unfolding tableIn tableOf
+  accepted-sound =
+      let z = sizes-are (s .cells .count) (s .places .count) (s .calls .count) (by-parts .0) in
+      record {
+        checked = checked;
+        falling = record { count = z .1; behind = λ p l. falls m p (placeAt (placesIn (s .places)) p) (place-fits p l) };
+        typed = λ p l. subst (λ (n : ℕ). placeType (placeAt (placesIn (s .places)) p) < n) (size-is (s .types) (s .links) (s .counts)) (typed m p (placeAt (placesIn (s .places)) p) sheet-below (place-fits p l));
+        cellCount = z .0;
+        callCount = z .2;
+        cells = λ k l. let c = cellAt m k in
+            let e = all-at (cellFits m) noCell (cellsIn (s .cells)) (fitting .cells) k (subst (λ (n : ℕ). k < n) (sym (cells-length (s .cells))) l) in
+            let e₁ = second (ltb (c .holder) (m .table .subjects)) _ e in
+            let e₂ = second (ltb (c .place) (length (m .places))) _ e₁ in
+            record {
+              type = ltb-so (first (ltb (c .type) (m .table .sheet)) _ e₂);
+              place = subst (λ (n : ℕ). c .place < n) (places-length (s .places)) (ltb-so (first (ltb (c .place) (length (m .places))) _ e₁));
+            };
+        calls = λ j l. let c = callAt m j in
+            let e = all-at (callFits m) noCall (callsIn (s .calls)) (fitting .calls) j (subst (λ (n : ℕ). j < n) (sym (calls-length (s .calls))) l) in
+            let e₁ = second (ltb (c .caller) (m .table .subjects)) _ e in
+            record {
+              cell = subst (λ (n : ℕ). c .cell < n) (cells-length (s .cells)) (ltb-so (first (ltb (c .cell) (length (m .cells))) _ e₁));
+              method = ltb-so (second (ltb (c .cell) (length (m .cells))) _ e₁);
+            };
+      }

@@ -1,0 +1,68 @@
+-- The invariant: the whole test is what is left of it (`rest-next`, `rest-broken`, `rest-end`).
+use mathlib.Core.Path.{_≡_, refl, ap, sym, _∙_}
+use Prim.Native.Nat.{ℕ, _-_, _≤_}
+use native.Mathlib.Omega.{arith}
+use borrow.Author.Needs.{needs}
+use Rattle.table.specs.Store.{typesIn}
+use Rattle.tablecheck.proofs.Each.{rest-next, rest-broken, rest-end}
+use Rattle.tablecheck.proofs.Steps.{refused, passed}
+use Rattle.tablecheck.specs.Parts.{eachFrom}
+use Rattle.state.specs.View.{cellOf}
+use Rattle.state.specs.declared.Cell.{Cell}
+use Rattle.statecheck.specs.Parts.{cellAccepted, cellsAccepted}
+use Rattle.statecheck.proofs.Steps.{CellAt}
+use Rattle.statecheck.proofs.cells_fit.Statement.{statement}
+use Rattle.statecheck.proofs.cells_fit.Tie as tie
+
+abbrev Inv-loop : tie.InvT-loop
+Inv-loop b c places cs n k₀ k = (k ≤ n) × (n ≡ cs .count) × (cellsAccepted (typesIn b) c places cs ≡ eachFrom (n - k) k (CellAt b c places cs))
+
+abbrev μ-loop : tie.MeasureT-loop
+μ-loop b c places cs n k₀ k = n - k
+
+loop-holds : tie.Need-loop-holds Inv-loop μ-loop
+unfolding cellsAccepted
+loop-holds c = let a = c .args in let e : a .cs .count ≡ a .cs .count - 0 = omega arith in (omega arith, refl, ap (λ (z : ℕ). eachFrom z 0 (CellAt (a .b .now) (a .c) (a .places) (a .cs))) e)
+
+cell-at-requires : tie.Need-cell-at-requires Inv-loop μ-loop
+cell-at-requires c κs = omega (arith, c .loop-test .taken, c .before .before .pre .1)
+
+cell-fits-requires : tie.Need-cell-fits-requires Inv-loop μ-loop
+cell-fits-requires c κs = c .before .before .before .pre .0
+
+returns : tie.Need-returns Inv-loop μ-loop
+returns c = let a = c .before .before .before .before .before .args in let l = c .before .before .before .before .loop in
+    sym (l .inv .2 ∙ rest-broken (CellAt (a .b .now) (a .c) (a .places) (a .cs)) (a .cs .count) (l .k) (c .before .before .before .loop-test .taken)
+    (ap (λ (z : Cell). cellAccepted (typesIn (a .b .now)) (a .c) (a .places) (cellOf z)) (sym (c .before .before .cell-at .ensures .0)) ∙ refused (c .before .cell-fits .result) _ (c .before .cell-fits .ensures) (c .if1 .taken)))
+
+add-k : tie.Need-add-k Inv-loop μ-loop
+add-k c = search needs
+
+loop-less : tie.Need-loop-less Inv-loop μ-loop
+loop-less c = search needs
+
+loop-again : tie.Need-loop-again Inv-loop μ-loop
+loop-again c = let a = c .before .before .before .before .before .args in let l = c .before .before .before .before .loop in (
+  omega arith,
+  refl,
+  l .inv .2 ∙ rest-next (CellAt (a .b .now) (a .c) (a .places) (a .cs)) (a .cs .count) (l .k) (c .before .before .before .loop-test .taken)
+      (ap (λ (z : Cell). cellAccepted (typesIn (a .b .now)) (a .c) (a .places) (cellOf z)) (sym (c .before .before .cell-at .ensures .0)) ∙ passed (c .before .cell-fits .result) _ (c .before .cell-fits .ensures) (c .if1 .left)),
+)
+
+returns-2 : tie.Need-returns-2 Inv-loop μ-loop
+returns-2 c = let a = c .before .before .args in let l = c .before .loop in sym (l .inv .2 ∙ rest-end (CellAt (a .b .now) (a .c) (a .places) (a .cs)) (a .cs .count) (l .k) (c .loop-test .left))
+
+pub cells-fit-spec : {M : Type 1} → statement M
+cells-fit-spec =
+    tie.close
+    (tie.spec
+    Inv-loop
+    μ-loop
+    loop-holds
+    cell-at-requires
+    cell-fits-requires
+    returns
+    add-k
+    loop-less
+    loop-again
+    returns-2)

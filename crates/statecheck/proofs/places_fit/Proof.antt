@@ -1,0 +1,68 @@
+-- The invariant: the whole test is what is left of it (`rest-next`, `rest-broken`, `rest-end`).
+use mathlib.Core.Path.{_≡_, refl, ap, sym, _∙_}
+use Prim.Native.Nat.{ℕ, _-_, _≤_}
+use native.Mathlib.Omega.{arith}
+use borrow.Author.Needs.{needs}
+use Rattle.table.specs.Store.{typesIn}
+use Rattle.tablecheck.proofs.Each.{rest-next, rest-broken, rest-end}
+use Rattle.tablecheck.proofs.Steps.{refused, passed}
+use Rattle.tablecheck.specs.Parts.{eachFrom}
+use Rattle.state.specs.View.{placeOf}
+use Rattle.state.specs.declared.PlaceRec.{PlaceRec}
+use Rattle.statecheck.specs.Parts.{placeAccepted, placesAccepted}
+use Rattle.statecheck.proofs.Steps.{PlaceAt}
+use Rattle.statecheck.proofs.places_fit.Statement.{statement}
+use Rattle.statecheck.proofs.places_fit.Tie as tie
+
+abbrev Inv-loop : tie.InvT-loop
+Inv-loop b c ps n p₀ p = (p ≤ n) × (n ≡ ps .count) × (placesAccepted (typesIn b) c ps ≡ eachFrom (n - p) p (PlaceAt b c ps))
+
+abbrev μ-loop : tie.MeasureT-loop
+μ-loop b c ps n p₀ p = n - p
+
+loop-holds : tie.Need-loop-holds Inv-loop μ-loop
+unfolding placesAccepted
+loop-holds c = let a = c .args in let e : a .ps .count ≡ a .ps .count - 0 = omega arith in (omega arith, refl, ap (λ (z : ℕ). eachFrom z 0 (PlaceAt (a .b .now) (a .c) (a .ps))) e)
+
+place-at-requires : tie.Need-place-at-requires Inv-loop μ-loop
+place-at-requires c κs = omega (arith, c .loop-test .taken, c .before .before .pre .1)
+
+place-fits-requires : tie.Need-place-fits-requires Inv-loop μ-loop
+place-fits-requires c κs = c .before .before .before .pre .0
+
+returns : tie.Need-returns Inv-loop μ-loop
+returns c = let a = c .before .before .before .before .before .args in let l = c .before .before .before .before .loop in
+    sym (l .inv .2 ∙ rest-broken (PlaceAt (a .b .now) (a .c) (a .ps)) (a .ps .count) (l .p) (c .before .before .before .loop-test .taken)
+    (ap (λ (z : PlaceRec). placeAccepted (typesIn (a .b .now)) (a .c) (l .p) (placeOf (z .place))) (sym (c .before .before .place-at .ensures .0)) ∙ refused (c .before .place-fits .result) _ (c .before .place-fits .ensures) (c .if1 .taken)))
+
+add-p : tie.Need-add-p Inv-loop μ-loop
+add-p c = search needs
+
+loop-less : tie.Need-loop-less Inv-loop μ-loop
+loop-less c = search needs
+
+loop-again : tie.Need-loop-again Inv-loop μ-loop
+loop-again c = let a = c .before .before .before .before .before .args in let l = c .before .before .before .before .loop in (
+  omega arith,
+  refl,
+  l .inv .2 ∙ rest-next (PlaceAt (a .b .now) (a .c) (a .ps)) (a .ps .count) (l .p) (c .before .before .before .loop-test .taken)
+      (ap (λ (z : PlaceRec). placeAccepted (typesIn (a .b .now)) (a .c) (l .p) (placeOf (z .place))) (sym (c .before .before .place-at .ensures .0)) ∙ passed (c .before .place-fits .result) _ (c .before .place-fits .ensures) (c .if1 .left)),
+)
+
+returns-2 : tie.Need-returns-2 Inv-loop μ-loop
+returns-2 c = let a = c .before .before .args in let l = c .before .loop in sym (l .inv .2 ∙ rest-end (PlaceAt (a .b .now) (a .c) (a .ps)) (a .ps .count) (l .p) (c .loop-test .left))
+
+pub places-fit-spec : {M : Type 1} → statement M
+places-fit-spec =
+    tie.close
+    (tie.spec
+    Inv-loop
+    μ-loop
+    loop-holds
+    place-at-requires
+    place-fits-requires
+    returns
+    add-p
+    loop-less
+    loop-again
+    returns-2)
