@@ -1,5 +1,5 @@
-//! A table in bytes, byte for byte, written from docs/ARCHITECTURE.md ("Byte layout") and from nothing else: what each byte has to
-//! hold, and which mean nothing. A table that the core makes has 0 in those; in one handed in they may hold anything.
+//! A table in bytes, byte for byte, by docs/SPEC.md (B1 to B21) and from nothing else: what each byte has to hold, and which mean nothing.
+//! A table that the core makes has 0 in those; in one handed in they may hold anything.
 
 use reference::random::Random;
 use reference::raw::{RawTable, BROADER_LENGTH, TYPES_LENGTH};

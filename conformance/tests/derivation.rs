@@ -1,5 +1,5 @@
-//! Sub, Sup and Closed in the proved core against the reference: answer, number, counts and what the types mean; what is
-//! refused leaves every byte as it was.
+//! Sub, Sup and Closed in the proved core against the reference: answer, number, counts and every byte of the types below the
+//! count; what is refused leaves every byte as it was.
 
 use conformance::chains::{self, chain, nesting, MOST};
 use conformance::inputs::{shares, table};
@@ -102,12 +102,24 @@ fn fault(
         return Some(format!("stores {stored} and {counts:?}"));
     }
     theirs.types = after.types;
-    let earlier = before.types as usize * TYPE_BYTES;
+    let (first, counted) = (before.types as usize, after.types as usize * TYPE_BYTES);
+    let earlier = first * TYPE_BYTES;
     if theirs.type_bytes[..earlier] != before.type_bytes[..earlier] {
         return Some("changes a type that was there before".to_string());
     }
-    (check::table(&theirs) != check::table(after))
-        .then(|| format!("derives\n{theirs:?}not\n{after:?}"))
+    if let Some(at) = (earlier..counted).find(|at| theirs.type_bytes[*at] != after.type_bytes[*at])
+    {
+        let (number, place) = (at / TYPE_BYTES, at % TYPE_BYTES);
+        let (theirs, ours) = (theirs.entry(number), after.entry(number));
+        return Some(format!(
+            "differs at type {number} byte {place}: {theirs:?} for {ours:?}"
+        ));
+    }
+    // a table handed in may have become one that the check refuses
+    let table = check::table(after).ok()?;
+    (first..table.types.len())
+        .find(|new| layout::stored(&layout::type_record(&table, *new)) != theirs.entry(*new))
+        .map(|new| format!("type {new} is {:?}", theirs.entry(new)))
 }
 
 /// One derivation on a table, which becomes what the reference makes of it; gives the reference's answer.
