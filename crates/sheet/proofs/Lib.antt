@@ -7,4 +7,5 @@ pub mod Readers
 pub mod Types
 pub mod Valid
 pub mod Exact
+pub mod Refusals
 pub mod Offsets

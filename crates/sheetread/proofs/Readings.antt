@@ -80,7 +80,8 @@ module _ {A B : Type 0} (R : Reading A) (k : A → Reader B) where
   follow-ok x at rs e = ap (λ z. follow z k) e
 
 -- two readers as one
-pub regroup : {A B C : Type 0} (R : Reading A) (k : A → Reader B) (e : B → Reader C) (f : A → Reader C) → ((x : A) (at : ℕ) (rs : List Row) → f x at rs ≡ follow (k x at rs) e) → follow R f ≡ follow (follow R k) e
+pub regroup : {A B C : Type 0} (R : Reading A) (k : A → Reader B) (e : B → Reader C) (f : A → Reader C) → ((x : A) (at : ℕ) (rs : List Row) → f x at rs ≡ follow (k x at rs) e)
+    → follow R f ≡ follow (follow R k) e
 regroup (refused n at) k e f h = refl
 regroup (got x at rs) k e f h = h x at rs
 
@@ -221,7 +222,8 @@ module _ (at : ℕ) (rs : List Row) where
         pub cats-no : (k a : ℕ) → refused k a ≡ line (numberLine (bytes "cats=") 0 maxCategories) at₃ rs₃ → refused k a ≡ first at rs
         cats-no k a e = follow-no (line (numberLine (bytes "cats=") 0 maxCategories) at₃ rs₃) (counted s m) k a e ∙ to-cats
 
-        pub first-ok : (c at₄ : ℕ) (rs₄ : List Row) → got c at₄ rs₄ ≡ line (numberLine (bytes "cats=") 0 maxCategories) at₃ rs₃ → got (record { subjects = s; methods = m; cats = c }) at₄ rs₄ ≡ first at rs
+        pub first-ok : (c at₄ : ℕ) (rs₄ : List Row) → got c at₄ rs₄ ≡ line (numberLine (bytes "cats=") 0 maxCategories) at₃ rs₃
+            → got (record { subjects = s; methods = m; cats = c }) at₄ rs₄ ≡ first at rs
         unfolding counted
         first-ok c at₄ rs₄ e = follow-ok (line (numberLine (bytes "cats=") 0 maxCategories) at₃ rs₃) (counted s m) c at₄ rs₄ e ∙ to-cats
 
@@ -254,7 +256,8 @@ module _ (h : Front) (at : ℕ) (rs : List Row) where
     pub count-no : (k a : ℕ) → refused k a ≡ line (numberLine (bytes "types=") 1 maxSheetTypes) at₁ rs₁ → refused k a ≡ bind (afterFirst h) ending at rs
     count-no k a e = ap (λ z. follow (follow z (afterCount h links)) ending) e ∙ to-count
 
-    pub count-ok : (n at₂ : ℕ) (rs₂ : List Row) → got n at₂ rs₂ ≡ line (numberLine (bytes "types=") 1 maxSheetTypes) at₁ rs₁ → bind (afterCount h links n) ending at₂ rs₂ ≡ bind (afterFirst h) ending at rs
+    pub count-ok : (n at₂ : ℕ) (rs₂ : List Row) → got n at₂ rs₂ ≡ line (numberLine (bytes "types=") 1 maxSheetTypes) at₁ rs₁
+        → bind (afterCount h links n) ending at₂ rs₂ ≡ bind (afterFirst h) ending at rs
     count-ok n at₂ rs₂ e = ap (λ z. follow (follow z (afterCount h links)) ending) e ∙ to-count
 
 -- the table that is read
@@ -273,7 +276,8 @@ module _ (h : Front) (links : List (List ℕ)) (n at : ℕ) (rs : List Row) wher
   pub types-no : (k a : ℕ) → refused k a ≡ times (oneType (h .methods) (h .cats) n) n 0 [] at rs → refused k a ≡ bind (afterCount h links n) ending at rs
   types-no k a e = ap (λ z. follow (follow z tabled) ending) e ∙ count-of
 
-  pub to-ending : (ts : List Ty) (at₁ : ℕ) (rs₁ : List Row) → got ts at₁ rs₁ ≡ times (oneType (h .methods) (h .cats) n) n 0 [] at rs → ending (tableWith h links n ts) at₁ rs₁ ≡ bind (afterCount h links n) ending at rs
+  pub to-ending : (ts : List Ty) (at₁ : ℕ) (rs₁ : List Row) → got ts at₁ rs₁ ≡ times (oneType (h .methods) (h .cats) n) n 0 [] at rs
+      → ending (tableWith h links n ts) at₁ rs₁ ≡ bind (afterCount h links n) ending at rs
   unfolding tabled
   to-ending ts at₁ rs₁ e = ap (λ z. follow (follow z tabled) ending) e ∙ count-of
 
@@ -313,7 +317,8 @@ module _ (t : Table) (s : List ℕ) (last : ℕ) where
     to-endOfInput = follow-ok (line endLine last (split (drop last s))) after-end tt a (split (drop a s)) e ∙ ending-of
 
     pub ending-more : a < length s → refused 1 a ≡ ending t last (split (drop last s))
-    ending-more h = follow-no (endOfInput a (split (drop a s))) after-endOfInput 1 a (sym (ap (λ z. endOfInput a (split z)) (from-here s a h) ∙ more-left a (getD s a 0) (drop (a + 1) s))) ∙ to-endOfInput
+    ending-more h = follow-no (endOfInput a (split (drop a s))) after-endOfInput 1 a (sym (ap (λ z. endOfInput a (split z)) (from-here s a h) ∙ more-left a (getD s a 0) (drop (a + 1) s)))
+        ∙ to-endOfInput
 
     module _ (h : length s ≤ a) where
       alone : cond (signaturesStand t) (got t a (split (drop a s))) (refused 3 last) ≡ ending t last (split (drop last s))

@@ -64,7 +64,8 @@ meaning r isr c o ms sheet x =
     record { rep = r; cat = c; own = isr && eqb o 1; methods = cond isr ms []; key = cond sheet none (some (record { kind = kindOf (x .kind); left = x .left; right = x .right })) }
 
 module _ (m n i : ℕ) (x : RawType) (h : i < n) where
-  pub ref-means : (c o : ℕ) (ms : List Methodᵐ) → x .rep ≡ 0 → x .cat ≡ c → x .own ≡ o → from m 0 (λ j. methodOf (getD (x .methods) j noRawMethod)) ≡ ms → typeOf m n i x ≡ sheetType (repOf 0) c (eqb o 1) ms
+  pub ref-means : (c o : ℕ) (ms : List Methodᵐ) → x .rep ≡ 0 → x .cat ≡ c → x .own ≡ o → from m 0 (λ j. methodOf (getD (x .methods) j noRawMethod)) ≡ ms
+      → typeOf m n i x ≡ sheetType (repOf 0) c (eqb o 1) ms
   unfolding meaning
   ref-means c o ms p q r f =
       ap (λ z. meaning (repOf (x .rep)) (isRef (repOf (x .rep))) (x .cat) (x .own) (from m 0 (λ j. methodOf (getD (x .methods) j noRawMethod))) z x) (lt-ltb i n h)
@@ -109,10 +110,12 @@ types-room ts h = let l : length (flatten (map bytesOf ts)) ≡ length ts * 128 
 
 pub links-room : (cs : List (List ℕ)) → length cs ≤ 31 → length (linkBytes cs) ≡ 96
 unfolding linkBytes
-links-room cs h = let l : length (flatten (map linkBytesOf ([] ∷ cs))) ≡ suc (length cs) * 3 = flat-length linkBytesOf 3 (λ x. refl) ([] ∷ cs) in padded-length 96 (flatten (map linkBytesOf ([] ∷ cs))) (omega arith)
+links-room cs h = let l : length (flatten (map linkBytesOf ([] ∷ cs))) ≡ suc (length cs) * 3 = flat-length linkBytesOf 3 (λ x. refl) ([] ∷ cs) in padded-length 96
+    (flatten (map linkBytesOf ([] ∷ cs))) (omega arith)
 
 -- a type more is stored behind i others
-pub types-stored : (ts : List Ty) (t : Ty) (i : ℕ) (x : RawType) (b b′ : List ℕ) → length ts ≡ i → i < 128 → b ≡ typeBytes ts → typeRecord t ≡ x → b′ ≡ sets b (i * 128) (recordBytes x) → b′ ≡ typeBytes (ts ++ t ∷ [])
+pub types-stored : (ts : List Ty) (t : Ty) (i : ℕ) (x : RawType) (b b′ : List ℕ) → length ts ≡ i → i < 128 → b ≡ typeBytes ts → typeRecord t ≡ x → b′ ≡ sets b (i * 128) (recordBytes x)
+    → b′ ≡ typeBytes (ts ++ t ∷ [])
 unfolding typeBytes
 types-stored ts t i x b b′ n h e r w =
     let all : List ℕ = flatten (map bytesOf ts) in
@@ -127,7 +130,8 @@ unfolding TypeExact
 type-record m n i x e = e
 
 -- and the links of a category behind those of j others
-pub links-stored : (cs : List (List ℕ)) (c : List ℕ) (j : ℕ) (x : RawLinks) (l l′ : List ℕ) → length cs ≡ j → j < 31 → l ≡ linkBytes cs → linksRecord c ≡ x → l′ ≡ sets l ((j + 1) * 3) (linksBytes x) → l′ ≡ linkBytes (cs ++ c ∷ [])
+pub links-stored : (cs : List (List ℕ)) (c : List ℕ) (j : ℕ) (x : RawLinks) (l l′ : List ℕ) → length cs ≡ j → j < 31 → l ≡ linkBytes cs → linksRecord c ≡ x
+    → l′ ≡ sets l ((j + 1) * 3) (linksBytes x) → l′ ≡ linkBytes (cs ++ c ∷ [])
 unfolding linkBytes
 links-stored cs c j x l l′ n h e r w =
     let all : List ℕ = flatten (map linkBytesOf ([] ∷ cs)) in
@@ -164,13 +168,16 @@ methods-put ms j x l h e w = record { exact = before; rest = λ k p q. other k (
         (same-or k j)
 
 -- The head of a sheet type.
-pub head-eq : {r c o r′ c′ o′ : ℕ} → r ≡ r′ → c ≡ c′ → o ≡ o′ → _≡_ {A = Head} (record { rep = r; cat = c; own = o; kind = 0; left = 0; right = 0 }) (record { rep = r′; cat = c′; own = o′; kind = 0; left = 0; right = 0 })
+pub head-eq : {r c o r′ c′ o′ : ℕ} → r ≡ r′ → c ≡ c′ → o ≡ o′
+    → _≡_ {A = Head} (record { rep = r; cat = c; own = o; kind = 0; left = 0; right = 0 }) (record { rep = r′; cat = c′; own = o′; kind = 0; left = 0; right = 0 })
 head-eq p q r = cc
 
 -- The whole answer.
 pub sheet-loaded : (t : Table) (b l : List ℕ) (n k : ℕ) → b ≡ typeBytes (t .types) → l ≡ linkBytes (t .cats) → n ≡ size t → k ≡ length (t .cats)
-    → _≡_ {A = Sheet} (record { refusal = 0; at = 0; types = b; links = l; counts = record { subjects = t .subjects; methods = t .methods; cats = k; sheet = t .sheet; types = n } }) (answered (loaded t))
+    → _≡_ {A = Sheet} (record { refusal = 0; at = 0; types = b; links = l; counts = record { subjects = t .subjects; methods = t .methods; cats = k; sheet = t .sheet; types = n } })
+    (answered (loaded t))
 sheet-loaded t b l n k p q r e = cc
 
-pub sheet-malformed : (n at : ℕ) (b l : List ℕ) (c : Counts) → b ≡ emptyTypes → l ≡ emptyLinks → c ≡ emptyCounts → _≡_ {A = Sheet} (record { refusal = n; at = at; types = b; links = l; counts = c }) (answered (malformed n at))
+pub sheet-malformed : (n at : ℕ) (b l : List ℕ) (c : Counts) → b ≡ emptyTypes → l ≡ emptyLinks → c ≡ emptyCounts
+    → _≡_ {A = Sheet} (record { refusal = n; at = at; types = b; links = l; counts = c }) (answered (malformed n at))
 sheet-malformed n at b l c p q r = cc

@@ -86,7 +86,8 @@ typeStands rs n x = methodsStand (standsAt rs n) (x .methods)
 
 -- The lines of `body` in groups: the first four, the `under=` lines, the number of types, and the rest.
 abbrev pub first₁ : ℕ → Reader Front
-first₁ g = bind (line (numberLine (bytes "subjects=") 1 maxSubjects)) λ s. bind (line (numberLine (bytes "methods=") 1 maxMethods)) λ m. bind (line (numberLine (bytes "cats=") 0 maxCategories)) λ cats.
+first₁ g = bind (line (numberLine (bytes "subjects=") 1 maxSubjects)) λ s. bind (line (numberLine (bytes "methods=") 1 maxMethods)) λ m. bind
+    (line (numberLine (bytes "cats=") 0 maxCategories)) λ cats.
     pure (record { subjects = s; methods = m; cats = cats })
 
 unfoldable pub first : Reader Front

@@ -180,17 +180,20 @@ module _ (l items : List ℕ) (max count i : ℕ) (R : Scan (List ℕ)) (inv : n
           ap (λ z. took (take (count + 1) (set items count n)) z) d
           ∙ ap (λ z. comma (take (count + 1) (set items count n)) (λ q. numbers (max - (count + 1)) (take (count + 1) (set items count n)) q) z) (sym d) ∙ after
 
-      byte : e < length l → cond (eqb (getD l e 0) 44) (numbers (max - (count + 1)) (take (count + 1) (set items count n)) (drop (e + 1) l)) (took (take (count + 1) (set items count n)) (getD l e 0 ∷ drop (e + 1) l)) ≡ R
+      byte : e < length l → cond (eqb (getD l e 0) 44) (numbers (max - (count + 1)) (take (count + 1) (set items count n)) (drop (e + 1) l))
+          (took (take (count + 1) (set items count n)) (getD l e 0 ∷ drop (e + 1) l)) ≡ R
       byte b = ap (λ z. comma (take (count + 1) (set items count n)) (λ q. numbers (max - (count + 1)) (take (count + 1) (set items count n)) q) z) (sym (from-here l e b)) ∙ after
 
       pub numbers-other : e < length l → (getD l e 0 ≡ 44 → ⊥) → took (take (count + 1) (set items count n)) (drop e l) ≡ R
       numbers-other b w =
           ap (took (take (count + 1) (set items count n))) (from-here l e b)
-          ∙ ap (λ z. cond z (numbers (max - (count + 1)) (take (count + 1) (set items count n)) (drop (e + 1) l)) (took (take (count + 1) (set items count n)) (getD l e 0 ∷ drop (e + 1) l))) (sym (ne-eqb (getD l e 0) 44 w)) ∙ byte b
+          ∙ ap (λ z. cond z (numbers (max - (count + 1)) (take (count + 1) (set items count n)) (drop (e + 1) l))
+          (took (take (count + 1) (set items count n)) (getD l e 0 ∷ drop (e + 1) l))) (sym (ne-eqb (getD l e 0) 44 w)) ∙ byte b
 
       pub numbers-comma : e < length l → getD l e 0 ≡ 44 → numbers (max - (count + 1)) (take (count + 1) (set items count n)) (drop (e + 1) l) ≡ R
       numbers-comma b w =
-          ap (λ z. cond z (numbers (max - (count + 1)) (take (count + 1) (set items count n)) (drop (e + 1) l)) (took (take (count + 1) (set items count n)) (getD l e 0 ∷ drop (e + 1) l))) (sym (eq-eqb (getD l e 0) 44 w)) ∙ byte b
+          ap (λ z. cond z (numbers (max - (count + 1)) (take (count + 1) (set items count n)) (drop (e + 1) l)) (took (take (count + 1) (set items count n)) (getD l e 0 ∷ drop (e + 1) l)))
+          (sym (eq-eqb (getD l e 0) 44 w)) ∙ byte b
 
 -- A line of a key and a number.
 module _ (key l : List ℕ) (low high : ℕ) where
@@ -320,7 +323,8 @@ behind-first l (b ∷ xs) rs e = cond-cases (eqb b 10) e (λ t q. lf (row-value 
     lf : [] ≡ l → split xs ≡ rs → rs ≡ split (drop (length l + 1) (b ∷ xs))
     lf p q = sym q ∙ ap (λ (z : List ℕ). split (drop (length z + 1) (b ∷ xs))) p
 
-    pushed : (qs : List Row) → split xs ≡ qs → push b qs ≡ row l ∷ rs → ((m : List ℕ) (ps : List Row) → split xs ≡ row m ∷ ps → ps ≡ split (drop (length m + 1) xs)) → rs ≡ split (drop (length l + 1) (b ∷ xs))
+    pushed : (qs : List Row) → split xs ≡ qs → push b qs ≡ row l ∷ rs → ((m : List ℕ) (ps : List Row) → split xs ≡ row m ∷ ps → ps ≡ split (drop (length m + 1) xs))
+        → rs ≡ split (drop (length l + 1) (b ∷ xs))
     pushed [] p q rec = cut-row q
     pushed (cut m ∷ qs) p q rec = cut-row q
     pushed (row m ∷ qs) p q rec =

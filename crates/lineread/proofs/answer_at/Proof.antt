@@ -38,7 +38,8 @@ returns-3 c =
     let c3 = c2 .before in
     let c7 = c3 .before .before .before .before in
     let a = c7 .args in
-    let h : a .at < length (a .l .now) = omega arith in answer-wrong _ _ h (c3 .if2 .left) (number-scan-wrong (λ n. n) (a .l .now) (c2 .number-at .result) _ (c2 .number-at .ensures .0) (c .enum-told .given .1))
+    let h : a .at < length (a .l .now) = omega arith in answer-wrong _ _ h (c3 .if2 .left)
+    (number-scan-wrong (λ n. n) (a .l .now) (c2 .number-at .result) _ (c2 .number-at .ensures .0) (c .enum-told .given .1))
 
 returns-4 : tie.Need-returns-4
 returns-4 c =
@@ -48,7 +49,8 @@ returns-4 c =
     let a = c8 .args in
     let h : a .at < length (a .l .now) = omega arith in
     let n = c .before .t .given .0 .0 in
-    let e = c .before .t .given .0 .1 .0 in answer-took _ _ h (c4 .if2 .left) n e (number-scan-right (λ n. n) (a .l .now) (c3 .number-at .result) _ (c3 .number-at .ensures .0) n e (c .before .t .given .1))
+    let e = c .before .t .given .0 .1 .0 in answer-took _ _ h (c4 .if2 .left) n e
+    (number-scan-right (λ n. n) (a .l .now) (c3 .number-at .result) _ (c3 .number-at .ensures .0) n e (c .before .t .given .1))
 
 pub answer-at-spec : {M : Type 1} → statement M
 answer-at-spec =

@@ -16,7 +16,11 @@ no-numbers-requires c κs = search needs
 returns : tie.Need-returns
 returns c =
     let c3 = c .before .before .before in
-    let n = c .no-numbers in (scan-none (c3 .args .l .now) (n .result .right) (take (n .result .count) (n .result .items)) (n .result .next) _ (n .ensures .0) (args-none (c3 .args .l .now) (c3 .args .at) (c .before .if1 .taken)), (omega arith, omega arith, n .ensures .3))
+    let n = c .no-numbers in (
+      scan-none (c3 .args .l .now) (n .result .right) (take (n .result .count) (n .result .items)) (n .result .next) _ (n .ensures .0)
+          (args-none (c3 .args .l .now) (c3 .args .at) (c .before .if1 .taken)),
+      (omega arith, omega arith, n .ensures .3),
+    )
 
 shared-slice-read-if2 : tie.Need-shared-slice-read-if2
 shared-slice-read-if2 c = search needs
@@ -42,7 +46,9 @@ returns-3 c =
     let c8 = c4 .before .before .before .before in
     let h : c8 .args .at < length (c8 .args .l .now) = omega arith in let n = c .no-numbers2 in let t = c3 .numbers-at in (
       scan-none (c8 .args .l .now) (n .result .right) (take (n .result .count) (n .result .items)) (n .result .next) _ (n .ensures .0)
-          (args-wrong (c8 .args .l .now) (c8 .args .at) h (c4 .if2 .left) (scan-wrong (c8 .args .l .now) (t .result .right) (take (t .result .count) (t .result .items)) (t .result .next) _ (t .ensures .0) (not-true (t .result .right) (c .before .if3 .taken)))),
+          (args-wrong (c8 .args .l .now) (c8 .args .at) h (c4 .if2 .left)
+          (scan-wrong (c8 .args .l .now) (t .result .right) (take (t .result .count) (t .result .items)) (t .result .next) _ (t .ensures .0)
+          (not-true (t .result .right) (c .before .if3 .taken)))),
       (omega arith, omega arith, n .ensures .3),
     )
 
@@ -57,7 +63,9 @@ returns-4 c =
     let c9 = c5 .before .before .before .before in
     let h : c9 .args .at < length (c9 .args .l .now) = omega arith in let n = c .no-numbers3 in let t = c4 .numbers-at in (
       scan-none (c9 .args .l .now) (n .result .right) (take (n .result .count) (n .result .items)) (n .result .next) _ (n .ensures .0)
-          (args-open (c9 .args .l .now) (c9 .args .at) h (c5 .if2 .left) (take (t .result .count) (t .result .items)) (t .result .next) (scan-right (c9 .args .l .now) (t .result .right) (take (t .result .count) (t .result .items)) (t .result .next) _ (t .ensures .0) (not-false (t .result .right) (c2 .if3 .left))) (c .before .if4 .taken)),
+          (args-open (c9 .args .l .now) (c9 .args .at) h (c5 .if2 .left) (take (t .result .count) (t .result .items)) (t .result .next)
+          (scan-right (c9 .args .l .now) (t .result .right) (take (t .result .count) (t .result .items)) (t .result .next) _ (t .ensures .0)
+          (not-false (t .result .right) (c2 .if3 .left))) (c .before .if4 .taken)),
       (omega arith, omega arith, n .ensures .3),
     )
 
@@ -78,7 +86,9 @@ returns-5 c =
     let t = c6 .numbers-at in
     let k : t .result .next < length (c11 .args .l .now) = omega arith in (
       scan-none (c11 .args .l .now) (n .result .right) (take (n .result .count) (n .result .items)) (n .result .next) _ (n .ensures .0)
-          (args-other (c11 .args .l .now) (c11 .args .at) h (c7 .if2 .left) (take (t .result .count) (t .result .items)) (t .result .next) (scan-right (c11 .args .l .now) (t .result .right) (take (t .result .count) (t .result .items)) (t .result .next) _ (t .ensures .0) (not-false (t .result .right) (c4 .if3 .left))) k (c .before .if5 .taken)),
+          (args-other (c11 .args .l .now) (c11 .args .at) h (c7 .if2 .left) (take (t .result .count) (t .result .items)) (t .result .next)
+          (scan-right (c11 .args .l .now) (t .result .right) (take (t .result .count) (t .result .items)) (t .result .next) _ (t .ensures .0)
+          (not-false (t .result .right) (c4 .if3 .left))) k (c .before .if5 .taken)),
       (omega arith, omega arith, n .ensures .3),
     )
 
@@ -94,7 +104,9 @@ returns-6 c =
     let h : c11 .args .at < length (c11 .args .l .now) = omega arith in
     let t = c6 .numbers-at in
     let k : t .result .next < length (c11 .args .l .now) = omega arith in (
-      args-closed (c11 .args .l .now) (c11 .args .at) h (c7 .if2 .left) (take (t .result .count) (t .result .items)) (t .result .next) (scan-right (c11 .args .l .now) (t .result .right) (take (t .result .count) (t .result .items)) (t .result .next) _ (t .ensures .0) (not-false (t .result .right) (c4 .if3 .left))) k (c .before .if5 .left),
+      args-closed (c11 .args .l .now) (c11 .args .at) h (c7 .if2 .left) (take (t .result .count) (t .result .items)) (t .result .next)
+          (scan-right (c11 .args .l .now) (t .result .right) (take (t .result .count) (t .result .items)) (t .result .next) _ (t .ensures .0)
+          (not-false (t .result .right) (c4 .if3 .left))) k (c .before .if5 .left),
       (omega arith, omega arith, t .ensures .1 .2),
     )
 

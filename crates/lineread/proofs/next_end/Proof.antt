@@ -22,7 +22,8 @@ returns : tie.Need-returns
 returns c =
     let c2 = c .before .before in
     let c4 = c2 .before .before in
-    let a = c4 .args in line-read endLine end-empty (a .s .now) (a .c .at) _ (c2 .line-at .ensures) (λ n. tt) (c .before .read-end .result) (c .passed .result) (c .before .read-end .ensures) (c .passed .ensures)
+    let a = c4 .args in line-read endLine end-empty (a .s .now) (a .c .at) _ (c2 .line-at .ensures) (λ n. tt) (c .before .read-end .result) (c .passed .result)
+    (c .before .read-end .ensures) (c .passed .ensures)
 
 pub next-end-spec : {M : Type 1} → statement M
 next-end-spec = tie.close (tie.spec line-at-requires read-end-requires passed-requires returns)

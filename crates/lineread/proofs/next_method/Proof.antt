@@ -21,8 +21,11 @@ returns c =
     let c4 = c3 .before in
     let c6 = c4 .before .before in
     let a = c6 .args in
-    let g = c3 .read-method in
-    (line-result-no (methodLine (a .n)) (method-empty (a .n)) (a .s .now) (a .c .at) _ (c4 .line-at .ensures) (g .result .refusal) (methodOf (rawMethod (g .result .m))) (g .ensures .0) (c .if1 .taken), g .ensures .1)
+    let g = c3 .read-method in (
+      line-result-no (methodLine (a .n)) (method-empty (a .n)) (a .s .now) (a .c .at) _ (c4 .line-at .ensures) (g .result .refusal) (methodOf (rawMethod (g .result .m))) (g .ensures .0)
+          (c .if1 .taken),
+      g .ensures .1,
+    )
 
 past-requires : tie.Need-past-requires
 past-requires c κs =

@@ -12,7 +12,8 @@ use Rattle.lineread.proofs.pack.Statement.{statement}
 use Rattle.lineread.proofs.pack.Tie as tie
 
 abbrev Inv-loop : tie.InvT-loop
-Inv-loop count n items bytes₀ i₀ bytes i = (i ≤ count) × (length bytes ≡ 4) × (take i bytes ≡ take i items) × ((k : ℕ) → i ≤ k → getD bytes k 0 ≡ 0) × (all (below n) (take count items) ≡ all (below n) (drop i (take count items)))
+Inv-loop count n items bytes₀ i₀ bytes i = (i ≤ count) × (length bytes ≡ 4) × (take i bytes ≡ take i items) × ((k : ℕ) → i ≤ k
+    → getD bytes k 0 ≡ 0) × (all (below n) (take count items) ≡ all (below n) (drop i (take count items)))
 
 abbrev μ-loop : tie.MeasureT-loop
 μ-loop count n items bytes₀ i₀ bytes i = count - i

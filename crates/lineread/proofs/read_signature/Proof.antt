@@ -27,7 +27,8 @@ returns c =
     let t = c3 .args-at in
     let xs = take (t .result .count) (t .result .items) in
     let l = drop (a .at) (a .l .now) in (
-      c .no-method .ensures .0 ∙ signature-args (a .n) (stateOf (a .state)) l (scan-wrong (a .l .now) (t .result .right) xs (t .result .next) _ (t .ensures .0) (not-true (t .result .right) (c .before .if1 .taken))),
+      c .no-method .ensures .0 ∙ signature-args (a .n) (stateOf (a .state)) l (scan-wrong (a .l .now) (t .result .right) xs (t .result .next) _ (t .ensures .0)
+          (not-true (t .result .right) (c .before .if1 .taken))),
       c .no-method .ensures .1,
     )
 
@@ -54,7 +55,8 @@ returns-2 c =
     let xs = take (t .result .count) (t .result .items) in
     let l = drop (a .at) (a .l .now) in
     let e = scan-right (a .l .now) (t .result .right) xs (t .result .next) _ (t .ensures .0) (not-false (t .result .right) (c4 .if1 .left)) in (
-      c .no-method2 .ensures .0 ∙ signature-answer (a .n) (stateOf (a .state)) l xs (drop (t .result .next) (a .l .now)) e (number-scan-wrong answerOf (a .l .now) (c3 .answer-at .result) _ (c3 .answer-at .ensures) (c .before .enum-told .given .1)),
+      c .no-method2 .ensures .0 ∙ signature-answer (a .n) (stateOf (a .state)) l xs (drop (t .result .next) (a .l .now)) e
+          (number-scan-wrong answerOf (a .l .now) (c3 .answer-at .result) _ (c3 .answer-at .ensures) (c .before .enum-told .given .1)),
       c .no-method2 .ensures .1,
     )
 
@@ -101,8 +103,11 @@ returns-4 c =
     let m : ℕ = c7 .o .given .0 .0 in
     let next : ℕ = c7 .o .given .0 .1 .0 in
     let q = number-scan-right answerOf (a .l .now) (c9 .answer-at .result) _ (c9 .answer-at .ensures) m next (c7 .o .given .1) in
-    let p = c3 .pack in
-    (c .no-method4 .ensures .0 ∙ signature-high (a .n) (stateOf (a .state)) l xs (drop (t .result .next) (a .l .now)) e m (a .l .now) next q (c5 .if2 .left) (sym (p .ensures .0) ∙ not-true (p .result .right) (c .before .if3 .taken)), c .no-method4 .ensures .1)
+    let p = c3 .pack in (
+      c .no-method4 .ensures .0 ∙ signature-high (a .n) (stateOf (a .state)) l xs (drop (t .result .next) (a .l .now)) e m (a .l .now) next q (c5 .if2 .left)
+          (sym (p .ensures .0) ∙ not-true (p .result .right) (c .before .if3 .taken)),
+      c .no-method4 .ensures .1,
+    )
 
 no-method-requires-5 : tie.Need-no-method-requires-5
 no-method-requires-5 c κs = search needs
@@ -126,8 +131,11 @@ returns-5 c =
     let next : ℕ = c8 .o .given .0 .1 .0 in
     let q = number-scan-right answerOf (a .l .now) (c10 .answer-at .result) _ (c10 .answer-at .ensures) m next (c8 .o .given .1) in
     let p = c4 .pack in
-    let low = sym (p .ensures .0) ∙ not-false (p .result .right) (c2 .if3 .left) in
-    (c .no-method5 .ensures .0 ∙ signature-answer-high (a .n) (stateOf (a .state)) l xs (drop (t .result .next) (a .l .now)) e m (a .l .now) next q (c6 .if2 .left) low (c .before .if4 .taken), c .no-method5 .ensures .1)
+    let low = sym (p .ensures .0) ∙ not-false (p .result .right) (c2 .if3 .left) in (
+      c .no-method5 .ensures .0 ∙ signature-answer-high (a .n) (stateOf (a .state)) l xs (drop (t .result .next) (a .l .now)) e m (a .l .now) next q (c6 .if2 .left) low
+          (c .before .if4 .taken),
+      c .no-method5 .ensures .1,
+    )
 
 narrow-requires : tie.Need-narrow-requires
 narrow-requires c κs = search needs
@@ -157,9 +165,11 @@ returns-6 c =
     let p = c6 .pack in
     let low = not-false (p .result .right) (c4 .if3 .left) in
     let permits = c17 .pre .2 in (
-      ap ok (signed-means (a .state) (c .before .narrow .result) (c .narrow2 .result) m (t .result .count) (p .result .items) xs permits (c .before .narrow .ensures) (p .ensures .1 .0 low) (c .narrow2 .ensures))
+      ap ok (signed-means (a .state) (c .before .narrow .result) (c .narrow2 .result) m (t .result .count) (p .result .items) xs permits (c .before .narrow .ensures) (p .ensures .1 .0 low)
+          (c .narrow2 .ensures))
           ∙ signature-good (a .n) (stateOf (a .state)) l xs (drop (t .result .next) (a .l .now)) e m (a .l .now) next q (c8 .if2 .left) (sym (p .ensures .0) ∙ low) (c3 .if4 .left),
-      signed-exact _ (permits-below (a .state) permits) permits (omega (arith, c .before .narrow .ensures, t .ensures .1 .1)) (p .ensures .1 .1) (λ k h. p .ensures .1 .2 k (omega (arith, c .before .narrow .ensures))),
+      signed-exact _ (permits-below (a .state) permits) permits (omega (arith, c .before .narrow .ensures, t .ensures .1 .1)) (p .ensures .1 .1)
+          (λ k h. p .ensures .1 .2 k (omega (arith, c .before .narrow .ensures))),
     )
 
 pub read-signature-spec : {M : Type 1} → statement M

@@ -91,7 +91,8 @@ returns-3 c =
     let n = c2 .y2 .given .0 .0 in
     let e = c2 .y2 .given .0 .1 .0 in
     c .after-count .ensures links (on-done (u .result) at _ (c7 .u2 .given .1) (u .ensures .1)) (links-count (a .h .cats) ls) ∙ ap (λ z. answered (sheetAnswer z))
-    (count-ok (a .h) (a .c .at) (split (drop (a .c .at) s)) links (at .at) (split (drop (at .at) s)) (done-ok s links (u .result) _ (u .ensures .0) at (c7 .u2 .given .1)) n (e .at) (split (drop (e .at) s))
+    (count-ok (a .h) (a .c .at) (split (drop (a .c .at) s)) links (at .at) (split (drop (at .at) s)) (done-ok s links (u .result) _ (u .ensures .0) at (c7 .u2 .given .1)) n (e .at)
+    (split (drop (e .at) s))
     (got-ok (λ n. n) s (at .at) (y .result) _ (y .ensures .0) n e (c2 .y2 .given .1)))
 
 pub after-first-spec : {M : Type 1} → statement M

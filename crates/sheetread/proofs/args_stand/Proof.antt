@@ -13,7 +13,8 @@ use Rattle.sheetread.proofs.args_stand.Statement.{statement}
 use Rattle.sheetread.proofs.args_stand.Tie as tie
 
 abbrev Inv-loop : tie.InvT-loop
-Inv-loop b n m count i₀ i = (i ≤ 4) × (i ≤ count) × (count ≡ m .count) × (length (m .args) ≡ 4) × (all (standsAt (typesIn b) n) (take (m .count) (m .args)) ≡ all (standsAt (typesIn b) n) (drop i (take (m .count) (m .args))))
+Inv-loop b n m count i₀ i = (i ≤ 4) × (i ≤ count) × (count ≡ m .count) × (length (m .args) ≡ 4) ×
+    (all (standsAt (typesIn b) n) (take (m .count) (m .args)) ≡ all (standsAt (typesIn b) n) (drop i (take (m .count) (m .args))))
 
 abbrev μ-loop : tie.MeasureT-loop
 μ-loop b n m count i₀ i = 4 - i

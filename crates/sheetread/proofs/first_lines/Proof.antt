@@ -27,8 +27,11 @@ returns c =
     let c5 = c3 .before .before in
     let c7 = c5 .before .before in
     let s = c7 .args .s .now in
-    let g = c3 .next-number in
-    (guide-no 0 (split s) _ _ (got-no (λ n. n) s (c5 .start .result .at) (g .result) _ (g .ensures .0) _ (c .before .g .given .1) ∙ ap (λ (z : ℕ). line (numberLine (bytes "guide=") 1 1) z (split (drop z s))) (c5 .start .ensures)), tt)
+    let g = c3 .next-number in (
+      guide-no 0 (split s) _ _ (got-no (λ n. n) s (c5 .start .result .at) (g .result) _ (g .ensures .0) _ (c .before .g .given .1)
+          ∙ ap (λ (z : ℕ). line (numberLine (bytes "guide=") 1 1) z (split (drop z s))) (c5 .start .ensures)),
+      tt,
+    )
 
 enum-known-g-2 : tie.Need-enum-known-g-2
 enum-known-g-2 c = search needs
@@ -81,7 +84,8 @@ returns-2 c =
     let gn = c6 .g2 .given .0 .0 in
     let gc = c6 .g2 .given .0 .1 .0 in
     let gr = split (drop (gc .at) s) in
-    let ge = got-ok (λ n. n) s (c10 .start .result .at) (g .result) _ (g .ensures .0) gn gc (c6 .g2 .given .1) ∙ ap (λ (z : ℕ). line (numberLine (bytes "guide=") 1 1) z (split (drop z s))) (c10 .start .ensures) in
+    let ge = got-ok (λ n. n) s (c10 .start .result .at) (g .result) _ (g .ensures .0) gn gc (c6 .g2 .given .1)
+    ∙ ap (λ (z : ℕ). line (numberLine (bytes "guide=") 1 1) z (split (drop z s))) (c10 .start .ensures) in
     (subjects-no 0 (split s) gn (gc .at) gr ge _ _ (got-no (λ n. n) s (gc .at) (c3 .next-number2 .result) _ (c3 .next-number2 .ensures .0) _ (c .before .u .given .1)), tt)
 
 returns-3 : tie.Need-returns-3
@@ -98,7 +102,8 @@ returns-3 c =
     let gn = c11 .g2 .given .0 .0 in
     let gc = c11 .g2 .given .0 .1 .0 in
     let gr = split (drop (gc .at) s) in
-    let ge = got-ok (λ n. n) s (c15 .start .result .at) (g .result) _ (g .ensures .0) gn gc (c11 .g2 .given .1) ∙ ap (λ (z : ℕ). line (numberLine (bytes "guide=") 1 1) z (split (drop z s))) (c15 .start .ensures) in
+    let ge = got-ok (λ n. n) s (c15 .start .result .at) (g .result) _ (g .ensures .0) gn gc (c11 .g2 .given .1)
+    ∙ ap (λ (z : ℕ). line (numberLine (bytes "guide=") 1 1) z (split (drop z s))) (c15 .start .ensures) in
     let u = c8 .next-number2 in
     let un = c6 .u2 .given .0 .0 in
     let uc = c6 .u2 .given .0 .1 .0 in
@@ -122,7 +127,8 @@ returns-4 c =
     let gn = c16 .g2 .given .0 .0 in
     let gc = c16 .g2 .given .0 .1 .0 in
     let gr = split (drop (gc .at) s) in
-    let ge = got-ok (λ n. n) s (c20 .start .result .at) (g .result) _ (g .ensures .0) gn gc (c16 .g2 .given .1) ∙ ap (λ (z : ℕ). line (numberLine (bytes "guide=") 1 1) z (split (drop z s))) (c20 .start .ensures) in
+    let ge = got-ok (λ n. n) s (c20 .start .result .at) (g .result) _ (g .ensures .0) gn gc (c16 .g2 .given .1)
+    ∙ ap (λ (z : ℕ). line (numberLine (bytes "guide=") 1 1) z (split (drop z s))) (c20 .start .ensures) in
     let u = c13 .next-number2 in
     let un = c11 .u2 .given .0 .0 in
     let uc = c11 .u2 .given .0 .1 .0 in
@@ -132,8 +138,11 @@ returns-4 c =
     let mn = c6 .m2 .given .0 .0 in
     let mc = c6 .m2 .given .0 .1 .0 in
     let mr = split (drop (mc .at) s) in
-    let me = got-ok (λ n. n) s (uc .at) (m .result) _ (m .ensures .0) mn mc (c6 .m2 .given .1) in
-    (cats-no 0 (split s) gn (gc .at) gr ge un (uc .at) ur ue mn (mc .at) mr me _ _ (got-no (λ n. n) s (mc .at) (c3 .next-number4 .result) _ (c3 .next-number4 .ensures .0) _ (c .before .y .given .1)), tt)
+    let me = got-ok (λ n. n) s (uc .at) (m .result) _ (m .ensures .0) mn mc (c6 .m2 .given .1) in (
+      cats-no 0 (split s) gn (gc .at) gr ge un (uc .at) ur ue mn (mc .at) mr me _ _
+          (got-no (λ n. n) s (mc .at) (c3 .next-number4 .result) _ (c3 .next-number4 .ensures .0) _ (c .before .y .given .1)),
+      tt,
+    )
 
 returns-5 : tie.Need-returns-5
 returns-5 c =
@@ -151,7 +160,8 @@ returns-5 c =
     let gn = c16 .g2 .given .0 .0 in
     let gc = c16 .g2 .given .0 .1 .0 in
     let gr = split (drop (gc .at) s) in
-    let ge = got-ok (λ n. n) s (c20 .start .result .at) (g .result) _ (g .ensures .0) gn gc (c16 .g2 .given .1) ∙ ap (λ (z : ℕ). line (numberLine (bytes "guide=") 1 1) z (split (drop z s))) (c20 .start .ensures) in
+    let ge = got-ok (λ n. n) s (c20 .start .result .at) (g .result) _ (g .ensures .0) gn gc (c16 .g2 .given .1)
+    ∙ ap (λ (z : ℕ). line (numberLine (bytes "guide=") 1 1) z (split (drop z s))) (c20 .start .ensures) in
     let u = c13 .next-number2 in
     let un = c11 .u2 .given .0 .0 in
     let uc = c11 .u2 .given .0 .1 .0 in

@@ -20,7 +20,8 @@ use Rattle.sheetread.proofs.links_into.Statement.{statement}
 use Rattle.sheetread.proofs.links_into.Tie as tie
 
 abbrev Inv-loop : tie.InvT-loop
-Inv-loop s cats l₀ j₀ at₀ l j at = (j ≤ cats) × (l ≡ linkBytes (linksTo j (linksIn l))) × (times (eachUnder cats) (cats - j) (j + 1) (linksTo j (linksIn l)) at (split (drop at s)) ≡ times (eachUnder cats) cats 1 [] at₀ (split (drop at₀ s)))
+Inv-loop s cats l₀ j₀ at₀ l j at = (j ≤ cats) × (l ≡ linkBytes (linksTo j (linksIn l))) ×
+    (times (eachUnder cats) (cats - j) (j + 1) (linksTo j (linksIn l)) at (split (drop at s)) ≡ times (eachUnder cats) cats 1 [] at₀ (split (drop at₀ s)))
 
 abbrev μ-loop : tie.MeasureT-loop
 μ-loop s cats l₀ j₀ at₀ l j at = cats - j
@@ -99,7 +100,8 @@ loop-again c =
     let put = ap linksIn (c .put-links .ensures) ∙ links-put (p .l) (p .j + 1) (rawLinks x) (omega arith) (ap length (p .inv .1) ∙ links-room (linksTo (p .j) ls) (omega arith)) in
     let one = ap (linksTo (p .j + 1)) put ∙ links-add ls (p .j) (rawLinks x) k in (
       omega arith,
-      links-stored (linksTo (p .j) ls) (linksOf (rawLinks x)) (p .j) (rawLinks x) (p .l) _ n small (p .inv .1) (subst UnderGotExact (c3 .g2 .given .1) (g .ensures .1)) (c .put-links .ensures) ∙ ap linkBytes (sym one),
+      links-stored (linksTo (p .j) ls) (linksOf (rawLinks x)) (p .j) (rawLinks x) (p .l) _ n small (p .inv .1) (subst UnderGotExact (c3 .g2 .given .1) (g .ensures .1))
+          (c .put-links .ensures) ∙ ap linkBytes (sym one),
       times-next (eachUnder (a .cats)) (a .cats) (p .j) (p .j + 1) (linksTo (p .j) ls) (p .at) (split (drop (p .at) (a .s .now))) _ (p .inv .2) (c6 .loop-test .taken)
           (linksOf (rawLinks x)) (next .at) (split (drop (next .at) (a .s .now))) (p .j + 1 + 1) _
           (under-ok (a .s .now) (p .at) (g .result) _ (g .ensures .0) x next (c3 .g2 .given .1)) (add-one (p .j + 1)) one,

@@ -14,7 +14,8 @@ use Rattle.sheetread.proofs.methods_at.Statement.{statement}
 use Rattle.sheetread.proofs.methods_at.Tie as tie
 
 abbrev Inv-loop : tie.InvT-loop
-Inv-loop s m n list₀ j₀ at₀ list j at = (j ≤ m) × (length list ≡ 16) × MethodsExact j list × (times (eachMethod n) (m - j) j (map methodIs (take j list)) at (split (drop at s)) ≡ times (eachMethod n) m 0 [] at₀ (split (drop at₀ s)))
+Inv-loop s m n list₀ j₀ at₀ list j at = (j ≤ m) × (length list ≡ 16) × MethodsExact j list ×
+    (times (eachMethod n) (m - j) j (map methodIs (take j list)) at (split (drop at s)) ≡ times (eachMethod n) m 0 [] at₀ (split (drop at₀ s)))
 
 abbrev μ-loop : tie.MeasureT-loop
 μ-loop s m n list₀ j₀ at₀ list j at = m - j

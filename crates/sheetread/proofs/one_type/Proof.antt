@@ -70,8 +70,16 @@ ref-type-requires : tie.Need-ref-type-requires
 ref-type-requires c κs =
     let c2 = c .before .before in
     let c4 = c2 .before .before in
-    let c16 = c4 .before .before .before .before .before .before .before .before .before .before .before .before in
-    (omega (arith, got-at-most (c16 .args .cats) (c4 .next-number2 .result) (c2 .y2 .given .0 .0) (c2 .y2 .given .0 .1 .0) (c2 .y2 .given .1) (c4 .next-number2 .ensures .1), c16 .pre .3), c16 .pre .2, c16 .pre .1)
+    let c16 = c4 .before .before .before .before .before .before .before .before .before .before .before .before in (
+      omega (
+        arith,
+        got-at-most (c16 .args .cats) (c4 .next-number2 .result) (c2 .y2 .given .0 .0) (c2 .y2 .given .0 .1 .0) (c2 .y2 .given .1)
+            (c4 .next-number2 .ensures .1),
+        c16 .pre .3,
+      ),
+      c16 .pre .2,
+      c16 .pre .1,
+    )
 
 returns-2 : tie.Need-returns-2
 returns-2 c =
@@ -101,7 +109,8 @@ returns-2 c =
     let zr = split (drop (zc .at) s) in
     let ze = got-ok (λ n. n) s (yc .at) (z .result) _ (z .ensures .0) zn zc (c3 .y2 .given .1) in
     let g = c .ref-type in (
-      g .ensures .0 (a .i) (c17 .pre .0) ∙ members-ref (a .m) (a .n) yn zn (zc .at) zr (c .before .if1 .taken) ∙ type-members (a .m) (a .cats) (a .n) (a .i) (a .c .at) rs xn (xc .at) xr xe (repOf yn) (yc .at) yr ye zn (zc .at) zr ze,
+      g .ensures .0 (a .i) (c17 .pre .0) ∙ members-ref (a .m) (a .n) yn zn (zc .at) zr (c .before .if1 .taken)
+          ∙ type-members (a .m) (a .cats) (a .n) (a .i) (a .c .at) rs xn (xc .at) xr xe (repOf yn) (yc .at) yr ye zn (zc .at) zr ze,
       g .ensures .1 (a .i) (c17 .pre .0),
     )
 
@@ -111,8 +120,12 @@ number-type-requires c κs =
     let c4 = c2 .before .before in
     let c7 = c4 .before .before .before in
     let c9 = c7 .before .before in
-    let c16 = c9 .before .before .before .before .before .before .before in
-    (omega (arith, c .if1 .left), got-at-most 2 (c9 .next-rep .result) (c7 .r2 .given .0 .0) (c7 .r2 .given .0 .1 .0) (c7 .r2 .given .1) (c9 .next-rep .ensures .1), omega (arith, got-at-most (c16 .args .cats) (c4 .next-number2 .result) (c2 .y2 .given .0 .0) (c2 .y2 .given .0 .1 .0) (c2 .y2 .given .1) (c4 .next-number2 .ensures .1), c16 .pre .3))
+    let c16 = c9 .before .before .before .before .before .before .before in (
+      omega (arith, c .if1 .left),
+      got-at-most 2 (c9 .next-rep .result) (c7 .r2 .given .0 .0) (c7 .r2 .given .0 .1 .0) (c7 .r2 .given .1) (c9 .next-rep .ensures .1),
+      omega
+          (arith, got-at-most (c16 .args .cats) (c4 .next-number2 .result) (c2 .y2 .given .0 .0) (c2 .y2 .given .0 .1 .0) (c2 .y2 .given .1) (c4 .next-number2 .ensures .1), c16 .pre .3),
+    )
 
 returns-3 : tie.Need-returns-3
 returns-3 c =
@@ -160,7 +173,8 @@ returns-4 c =
     let nz = got-refusal (a .cats) (z .result) k (c2 .y .given .1) (z .ensures .1) in
     let r = c .no-type3 in (
       refused-is s (r .result .refusal) k (r .result .next .at) (yc .at) _ _ nz (r .ensures .0) (r .ensures .1)
-          (type-cat-no (a .m) (a .cats) (a .n) (a .i) (a .c .at) rs xn (xc .at) xr xe (repOf yn) (yc .at) yr ye k (yc .at) (got-no (λ n. n) s (yc .at) (z .result) _ (z .ensures .0) k (c2 .y .given .1))),
+          (type-cat-no (a .m) (a .cats) (a .n) (a .i) (a .c .at) rs xn (xc .at) xr xe (repOf yn) (yc .at) yr ye k (yc .at)
+          (got-no (λ n. n) s (yc .at) (z .result) _ (z .ensures .0) k (c2 .y .given .1))),
       λ z. absurd (nz (sym (r .ensures .0) ∙ z)),
     )
 
@@ -193,7 +207,8 @@ returns-5 c =
     let ze = got-ok (λ n. n) s (yc .at) (z .result) _ (z .ensures .0) zn zc (c3 .y2 .given .1) in
     let g = c .number-type in (
       ap (λ (t : Ty). got t (zc .at) zr) (g .ensures .0 (a .m) (a .n) (a .i) (c17 .pre .0))
-          ∙ members-number (a .m) (a .n) yn zn (zc .at) zr (c .before .if1 .left) ∙ type-members (a .m) (a .cats) (a .n) (a .i) (a .c .at) rs xn (xc .at) xr xe (repOf yn) (yc .at) yr ye zn (zc .at) zr ze,
+          ∙ members-number (a .m) (a .n) yn zn (zc .at) zr (c .before .if1 .left)
+          ∙ type-members (a .m) (a .cats) (a .n) (a .i) (a .c .at) rs xn (xc .at) xr xe (repOf yn) (yc .at) yr ye zn (zc .at) zr ze,
       λ z. g .ensures .1 (a .m) (a .n) (a .i) (c17 .pre .0),
     )
 

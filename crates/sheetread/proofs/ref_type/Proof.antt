@@ -56,7 +56,7 @@ sheet-head-requires c κs =
     let c6 = c .before .before .before .before .before .before in
     let c8 = c6 .before .before in
     let c10 = c8 .before .before in
-    (omega arith, c10 .pre .0, got-at-most 1 (c8 .next-own .result) (c6 .o2 .given .0 .0) (c6 .o2 .given .0 .1 .0) (c6 .o2 .given .1) (c8 .next-own .ensures .1))
+    (omega arith, c10 .pre .0, omega (arith, got-at-most 1 (c8 .next-own .result) (c6 .o2 .given .0 .0) (c6 .o2 .given .0 .1 .0) (c6 .o2 .given .1) (c8 .next-own .ensures .1)))
 
 returns-2 : tie.Need-returns-2
 returns-2 c =
@@ -91,9 +91,11 @@ returns-3 c =
     let x = rawOf (record { head = c .sheet-head .result; methods = list }) in
     let exact = g .ensures .1 .0 (c2 .if1 .left) in (
       λ i h. ap (λ (z : Ty). got z (g .result .next .at) (split (drop (g .result .next .at) s)))
-          (ref-means (a .m) (a .n) i x h (a .cat) on (map methodIs (take (a .m) list)) (ap (λ (z : Head). z .rep) head) (ap (λ (z : Head). z .cat) head) (ap (λ (z : Head). z .own) head) (methods-all list (a .m) few))
+          (ref-means (a .m) (a .n) i x h (a .cat) on (map methodIs (take (a .m) list)) (ap (λ (z : Head). z .rep) head) (ap (λ (z : Head). z .cat) head) (ap (λ (z : Head). z .own) head)
+          (methods-all list (a .m) few))
           ∙ member-ok (a .m) (a .n) (a .cat) (a .c .at) (split (drop (a .c .at) s)) (yesOf on) (oc .at) (split (drop (oc .at) s)) oe
-          (map methodIs (take (a .m) list)) (g .result .next .at) (split (drop (g .result .next .at) s)) (read-ok s (g .result .refusal) (map methodIs (take (a .m) list)) (g .result .next .at) _ (g .ensures .0) (c2 .if1 .left)),
+          (map methodIs (take (a .m) list)) (g .result .next .at) (split (drop (g .result .next .at) s))
+          (read-ok s (g .result .refusal) (map methodIs (take (a .m) list)) (g .result .next .at) _ (g .ensures .0) (c2 .if1 .left)),
       λ i h z. ref-exact (a .m) (a .n) i x (length-map list rawMethod ∙ g .ensures .1 .1)
           (sheet-key (a .n) i x h (ap (λ (z : Head). z .kind) head) (ap (λ (z : Head). z .left) head) (ap (λ (z : Head). z .right) head))
           (ap (λ (z : Head). z .rep) head)

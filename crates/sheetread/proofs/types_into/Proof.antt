@@ -19,7 +19,8 @@ use Rattle.sheetread.proofs.types_into.Statement.{statement}
 use Rattle.sheetread.proofs.types_into.Tie as tie
 
 abbrev Inv-loop : tie.InvT-loop
-Inv-loop s m cats n b₀ i₀ at₀ b i at = (i ≤ n) × (b ≡ typeBytes (typesTo m n i (typesIn b))) × (times (oneType m cats n) (n - i) i (typesTo m n i (typesIn b)) at (split (drop at s)) ≡ times (oneType m cats n) n 0 [] at₀ (split (drop at₀ s)))
+Inv-loop s m cats n b₀ i₀ at₀ b i at = (i ≤ n) × (b ≡ typeBytes (typesTo m n i (typesIn b))) ×
+    (times (oneType m cats n) (n - i) i (typesTo m n i (typesIn b)) at (split (drop at s)) ≡ times (oneType m cats n) n 0 [] at₀ (split (drop at₀ s)))
 
 abbrev μ-loop : tie.MeasureT-loop
 μ-loop s m cats n b₀ i₀ at₀ b i at = n - i
@@ -46,7 +47,8 @@ returns c =
     let p = c5 .loop in
     let g = c3 .one-type in (
       times-stop (oneType (a .m) (a .cats) (a .n)) (a .n) (p .i) (p .i) (typesTo (a .m) (a .n) (p .i) (typesIn (p .b))) (p .at) (split (drop (p .at) (a .s .now))) _ (p .inv .2) (c4 .loop-test .taken)
-          (g .result .refusal) (g .result .next .at) (read-no (a .s .now) (g .result .refusal) (typeOf (a .m) (a .n) (p .i) (rawOf (g .result .t))) (g .result .next .at) _ (g .ensures .0) (c .if1 .taken)),
+          (g .result .refusal) (g .result .next .at) (read-no (a .s .now) (g .result .refusal) (typeOf (a .m) (a .n) (p .i) (rawOf (g .result .t))) (g .result .next .at) _ (g .ensures .0)
+          (c .if1 .taken)),
       tt,
     )
 
@@ -86,7 +88,8 @@ loop-again c =
     let put = put-types (c .put-type .ensures) (ap length (p .inv .1) ∙ types-room ts (omega arith)) small in
     let one = ap (typesTo (a .m) (a .n) (p .i + 1)) put ∙ types-next (a .m) (a .n) (p .i) bs x k in (
       omega arith,
-      types-stored ts (typeOf (a .m) (a .n) (p .i) x) (p .i) x (p .b) _ l small (p .inv .1) (type-record (a .m) (a .n) (p .i) x (g .ensures .1 (c3 .if1 .left))) (c .put-type .ensures .bytes) ∙ ap typeBytes (sym one),
+      types-stored ts (typeOf (a .m) (a .n) (p .i) x) (p .i) x (p .b) _ l small (p .inv .1) (type-record (a .m) (a .n) (p .i) x (g .ensures .1 (c3 .if1 .left)))
+          (c .put-type .ensures .bytes) ∙ ap typeBytes (sym one),
       times-next (oneType (a .m) (a .cats) (a .n)) (a .n) (p .i) (p .i) ts (p .at) (split (drop (p .at) (a .s .now))) _ (p .inv .2) (c7 .loop-test .taken)
           (typeOf (a .m) (a .n) (p .i) x) (g .result .next .at) (split (drop (g .result .next .at) (a .s .now))) (p .i + 1) _
           (read-ok (a .s .now) (g .result .refusal) (typeOf (a .m) (a .n) (p .i) x) (g .result .next .at) _ (g .ensures .0) (c3 .if1 .left)) (add-one (p .i)) one,

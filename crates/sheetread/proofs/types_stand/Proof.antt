@@ -37,7 +37,8 @@ returns c =
     let ts = typesTo (a .m) (a .n) (a .n) rs in
     let l : length ts ≡ a .n = types-to-length (a .m) (a .n) rs (a .n) in
     all-broken (typeStands rs (a .n)) ts (p .i) noType (p .inv .1) (omega arith)
-    (ap (typeStands rs (a .n)) (types-to-at (a .m) (a .n) rs (a .n) (p .i) noType (c2 .loop-test .taken)) ∙ sym (c .before .type-stands .ensures) ∙ not-true (c .before .type-stands .result) (c .if1 .taken))
+    (ap (typeStands rs (a .n)) (types-to-at (a .m) (a .n) rs (a .n) (p .i) noType (c2 .loop-test .taken)) ∙ sym (c .before .type-stands .ensures)
+    ∙ not-true (c .before .type-stands .result) (c .if1 .taken))
 
 add-i : tie.Need-add-i Inv-loop μ-loop
 add-i c = search needs
@@ -57,7 +58,8 @@ loop-again c =
     let l : length ts ≡ a .n = types-to-length (a .m) (a .n) rs (a .n) in (
       omega arith,
       all-next (typeStands rs (a .n)) ts (p .i) noType (p .inv .1) (omega arith)
-          (ap (typeStands rs (a .n)) (types-to-at (a .m) (a .n) rs (a .n) (p .i) noType (c2 .loop-test .taken)) ∙ sym (c .before .type-stands .ensures) ∙ not-false (c .before .type-stands .result) (c .if1 .left)),
+          (ap (typeStands rs (a .n)) (types-to-at (a .m) (a .n) rs (a .n) (p .i) noType (c2 .loop-test .taken)) ∙ sym (c .before .type-stands .ensures)
+          ∙ not-false (c .before .type-stands .result) (c .if1 .left)),
     )
 
 returns-2 : tie.Need-returns-2 Inv-loop μ-loop

@@ -15,14 +15,16 @@ read-number-requires c κs = search needs
 passed-requires : tie.Need-passed-requires
 passed-requires c κs =
     let c4 = c .before .before .before .before in
-    let a = c4 .args in line-passable (numberLine (a .key .now) (a .low) (a .high)) (number-empty (a .key .now) (a .low) (a .high)) (a .s .now) (a .c .at) _ (c .before .line-at .ensures) (λ n. n) (c .read-number .result) (c .read-number .ensures .0) (omega arith)
+    let a = c4 .args in line-passable (numberLine (a .key .now) (a .low) (a .high)) (number-empty (a .key .now) (a .low) (a .high)) (a .s .now) (a .c .at) _ (c .before .line-at .ensures)
+    (λ n. n) (c .read-number .result) (c .read-number .ensures .0) (omega arith)
 
 returns : tie.Need-returns
 returns c =
     let c2 = c .before .before in
     let c5 = c2 .before .before .before in
     let a = c5 .args in (
-      line-read (numberLine (a .key .now) (a .low) (a .high)) (number-empty (a .key .now) (a .low) (a .high)) (a .s .now) (a .c .at) _ (c2 .line-at .ensures) (λ n. n) (c .before .read-number .result) (c .passed .result) (c .before .read-number .ensures .0) (c .passed .ensures),
+      line-read (numberLine (a .key .now) (a .low) (a .high)) (number-empty (a .key .now) (a .low) (a .high)) (a .s .now) (a .c .at) _ (c2 .line-at .ensures) (λ n. n)
+          (c .before .read-number .result) (c .passed .result) (c .before .read-number .ensures .0) (c .passed .ensures),
       passed-at-most (a .high) (a .c .at) _ (c .before .read-number .result) (c .passed .result) (c .before .read-number .ensures .1) (c .passed .ensures),
     )
 

@@ -50,7 +50,11 @@ returns-5 c =
     let c3 = c2 .before in
     let c4 = c3 .before in
     let c8 = c4 .before .before .before .before in
-    let h : c8 .args .at < length (c8 .args .l .now) = omega arith in (c .digits-at .ensures .0 ∙ number-more _ _ _ h (c4 .wide .ensures .0) (c3 .if2 .left) (c2 .if3 .left) (c .before .if4 .left), c .digits-at .ensures .1)
+    let h : c8 .args .at < length (c8 .args .l .now) = omega arith in (
+      c .digits-at .ensures .0
+          ∙ number-more _ _ _ h (c4 .wide .ensures .0) (c3 .if2 .left) (c2 .if3 .left) (c .before .if4 .left),
+      c .digits-at .ensures .1,
+    )
 
 pub number-at-spec : {M : Type 1} → statement M
 number-at-spec =

@@ -40,7 +40,8 @@ returns c =
     let c7 = c5 .before .before in
     let a = c7 .args in let p = c5 .loop in let t = c3 .number-at in let n = c .no-numbers in (
       scan-none (a .l .now) (n .result .right) (take (n .result .count) (n .result .items)) (n .result .next) _ (n .ensures .0)
-          (numbers-fail (a .l .now) (p .items) (a .max) (p .count) (p .i) _ (p .inv .3) (c4 .loop-test .taken) (number-scan-wrong (λ n. n) (a .l .now) (t .result) _ (t .ensures .0) (c .before .enum-told .given .1))),
+          (numbers-fail (a .l .now) (p .items) (a .max) (p .count) (p .i) _ (p .inv .3) (c4 .loop-test .taken)
+          (number-scan-wrong (λ n. n) (a .l .now) (t .result) _ (t .ensures .0) (c .before .enum-told .given .1))),
       (omega arith, omega arith, n .ensures .3, λ h. clash (sym h ∙ n .ensures .0)),
     )
 
@@ -61,7 +62,8 @@ returns-2 c =
     let c6 = c5 .before in
     let c8 = c6 .before .before in
     let a = c8 .args in let p = c6 .loop in let t = c4 .number-at in let k : p .count < length (p .items) = omega arith in (
-      numbers-end (a .l .now) (p .items) (a .max) (p .count) (p .i) _ (p .inv .3) (c5 .loop-test .taken) k _ _ (number-scan-right (λ n. n) (a .l .now) (t .result) _ (t .ensures .0) _ _ (c2 .t .given .1)) (c .if1 .taken),
+      numbers-end (a .l .now) (p .items) (a .max) (p .count) (p .i) _ (p .inv .3) (c5 .loop-test .taken) k _ _
+          (number-scan-right (λ n. n) (a .l .now) (t .result) _ (t .ensures .0) _ _ (c2 .t .given .1)) (c .if1 .taken),
       (right-within _ (t .result) _ _ (c2 .t .given .1) (t .ensures .1) .0, omega arith, length-set (p .items) (p .count) _ ∙ p .inv .2, λ h. omega arith),
     )
 
@@ -83,7 +85,8 @@ returns-3 c =
     let t = c6 .number-at in
     let k : p .count < length (p .items) = omega arith in
     let w = right-within _ (t .result) _ _ (c4 .t .given .1) (t .ensures .1) in (
-      numbers-other (a .l .now) (p .items) (a .max) (p .count) (p .i) _ (p .inv .3) (c7 .loop-test .taken) k _ _ (number-scan-right (λ n. n) (a .l .now) (t .result) _ (t .ensures .0) _ _ (c4 .t .given .1)) (omega arith) (c .if2 .taken),
+      numbers-other (a .l .now) (p .items) (a .max) (p .count) (p .i) _ (p .inv .3) (c7 .loop-test .taken) k _ _
+          (number-scan-right (λ n. n) (a .l .now) (t .result) _ (t .ensures .0) _ _ (c4 .t .given .1)) (omega arith) (c .if2 .taken),
       (w .0, omega arith, length-set (p .items) (p .count) _ ∙ p .inv .2, λ h. omega arith),
     )
 
@@ -111,7 +114,8 @@ loop-again c =
       omega arith,
       omega arith,
       length-set (p .items) (p .count) _ ∙ p .inv .2,
-      numbers-comma (a .l .now) (p .items) (a .max) (p .count) (p .i) _ (p .inv .3) (c7 .loop-test .taken) k _ _ (number-scan-right (λ n. n) (a .l .now) (t .result) _ (t .ensures .0) _ _ (c4 .t .given .1)) (omega arith) (c .if2 .left),
+      numbers-comma (a .l .now) (p .items) (a .max) (p .count) (p .i) _ (p .inv .3) (c7 .loop-test .taken) k _ _
+          (number-scan-right (λ n. n) (a .l .now) (t .result) _ (t .ensures .0) _ _ (c4 .t .given .1)) (omega arith) (c .if2 .left),
     )
 
 no-numbers-requires-2 : tie.Need-no-numbers-requires-2 Inv-loop μ-loop
@@ -122,7 +126,8 @@ returns-4 c =
     let c2 = c .before .before in
     let c4 = c2 .before .before in
     let a = c4 .args in let p = c2 .loop in let n = c .no-numbers2 in (
-      scan-none (a .l .now) (n .result .right) (take (n .result .count) (n .result .items)) (n .result .next) _ (n .ensures .0) (numbers-many (a .l .now) (p .items) (a .max) (p .count) (p .i) _ (p .inv .3) (c .before .loop-test .left)),
+      scan-none (a .l .now) (n .result .right) (take (n .result .count) (n .result .items)) (n .result .next) _ (n .ensures .0)
+          (numbers-many (a .l .now) (p .items) (a .max) (p .count) (p .i) _ (p .inv .3) (c .before .loop-test .left)),
       (omega arith, omega arith, n .ensures .3, λ h. clash (sym h ∙ n .ensures .0)),
     )
 
