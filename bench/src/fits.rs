@@ -1,6 +1,7 @@
 //! The check of a table handed in, in safe Rust on the bytes as they are: what document 01 gives 2 for.
 
-use reference::raw::{RawTable, BROADER_BYTES};
+use reference::raw::{RawState, RawTable, BROADER_BYTES};
+use reference::state::{MAX_CALLS, MAX_CELLS, MAX_PLACES};
 use reference::table::{
     MAX_ARGUMENTS, MAX_CATEGORIES, MAX_METHODS, MAX_SHEET_TYPES, MAX_SUBJECTS, MAX_TYPES,
 };
@@ -10,6 +11,52 @@ pub fn table(raw: &RawTable) -> bool {
     limits(raw)
         && (1..=raw.categories as usize).all(|category| links(raw, category))
         && (0..raw.types as usize).all(|number| one_type(raw, number))
+}
+
+/// Whether a state keeps every rule.
+pub fn state(raw: &RawState) -> bool {
+    table(&raw.table)
+        && raw.cells as usize <= MAX_CELLS
+        && raw.places as usize <= MAX_PLACES
+        && raw.calls as usize <= MAX_CALLS
+        && (0..raw.places as usize).all(|number| place(raw, number))
+        && (0..raw.cells as usize).all(|number| cell(raw, raw.cell(number)))
+        && (0..raw.calls as usize).all(|number| call(raw, raw.call(number)))
+}
+
+fn place(raw: &RawState, number: usize) -> bool {
+    let bytes = raw.place(number);
+    let (first, second) = (usize::from(bytes[1]), usize::from(bytes[2]));
+    match bytes[0] {
+        0 => {
+            first < raw.table.sheet_types as usize
+                && class(&raw.table, first)
+                && second < raw.table.subjects as usize
+        }
+        1 => first < number && second < raw.table.types as usize && raw.table.entry(second)[0] == 0,
+        _ => false,
+    }
+}
+
+fn cell(raw: &RawState, bytes: &[u8]) -> bool {
+    u32::from(bytes[0]) < raw.table.subjects
+        && u32::from(bytes[1]) < raw.table.sheet_types
+        && raw.table.entry(usize::from(bytes[1]))[0] == 0
+        && u32::from(bytes[2]) < raw.places
+}
+
+fn call(raw: &RawState, bytes: &[u8]) -> bool {
+    u32::from(bytes[0]) < raw.table.subjects
+        && u32::from(bytes[1]) < raw.cells
+        && u32::from(bytes[2]) < raw.table.methods
+        && bytes[3] <= 1
+}
+
+/// Whether a type is a class: a reference without own whose every method is avail or unavail.
+pub fn class(raw: &RawTable, number: usize) -> bool {
+    let entry = raw.entry(number);
+    let settled = |method: usize| matches!(raw.method(number, method)[0], 2 | 3);
+    entry[0] == 0 && entry[2] == 0 && (0..raw.methods as usize).all(settled)
 }
 
 fn limits(raw: &RawTable) -> bool {

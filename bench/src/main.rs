@@ -2,16 +2,20 @@
 //! Prints ratios (proved time over Rust time): below 1 the proved core is faster. Buffers are cleared by both sides in each search, as the algorithm asks.
 
 mod fits;
+mod requests;
 mod restriction;
 mod search;
 mod sheets;
 
 use conformance::inputs::{damaged, with_48_types, worst};
-use conformance::{chains, compare, counted, counts, Asked, Derived, Loaded, PAIRS_LENGTH};
+use conformance::{chains, compare, counts, Asked, Loaded, PAIRS_LENGTH};
+use reference::check;
 use reference::hostile;
-use reference::raw::{RawTable, BROADER_LENGTH, TYPES_LENGTH};
+use reference::raw::{self, RawState, RawTable, BROADER_LENGTH, TYPES_LENGTH};
 use reference::relations::RELATIONS;
+use reference::script;
 use reference::sheet;
+use reference::state::State;
 use reference::table::MAX_CATEGORIES;
 use std::hint::black_box;
 use std::time::{Duration, Instant};
@@ -203,27 +207,23 @@ fn without_end(text: &[u8]) -> &[u8] {
 /// A derivation, each time on the table as it was first; both have to give the same number and types.
 fn derivation(name: &str, table: &RawTable, (kind, t, s): (usize, i64, i64)) {
     let asked = Asked { kind, t, s };
-    let mut derived = Derived {
-        number: 0,
-        types: 0,
-    };
+    let (mut number, mut now) = (0, counts(table));
     let (mut theirs, mut ours) = (table.clone(), table.clone());
-    let code = conformance::derive(&mut theirs, counts(table), asked, &mut derived);
+    let code = conformance::derive(&mut theirs, &mut now, asked, &mut number);
     let result = restriction::derive(&mut ours, kind, t as usize, s as usize);
-    assert_eq!((code, Ok(derived.number)), (0, result));
-    theirs.types = derived.types as u32;
-    assert!(theirs.types == ours.types && counted::types(&theirs) == counted::types(&ours));
+    assert_eq!((code, Ok(number), now), (0, result, counts(&ours)));
+    assert!(theirs.type_bytes == ours.type_bytes, "the types differ");
     let new = ours.types - table.types;
     ratio(
         &format!("derive, {name}, {new} new types"),
         || {
             theirs.type_bytes = table.type_bytes;
-            let counts = counts(table);
+            let mut counts = counts(table);
             black_box(conformance::derive(
                 &mut theirs,
-                counts,
+                &mut counts,
                 asked,
-                &mut derived,
+                &mut number,
             ));
         },
         || {
@@ -254,8 +254,47 @@ fn derivations() {
     derivation("48 generated types", &random, most.expect("a pair"));
 }
 
+/// Requests one after the other, each measured on the state that it meets: safe Rust alone, until the core serves requests.
+fn alone(name: &str, mut state: RawState, list: &[&str]) {
+    for line in list {
+        let request = script::parse(line.as_bytes()).expect("a request");
+        let mut after = state.clone();
+        let result = requests::request(&mut after, &request);
+        assert_eq!(result, raw::request(&mut state.clone(), &request));
+        let time = time(|| {
+            let _ = black_box(requests::request(&mut state.clone(), black_box(&request)));
+        });
+        println!("{line}, {name}: {result:?}, safe Rust alone {time:?} a call");
+        state = after;
+    }
+}
+
+/// The state of a table's sheet.
+fn first_state(table: &RawTable) -> RawState {
+    let table = check::table(table).expect("a right table");
+    RawState::of(&State::of_sheet(table))
+}
+
+fn requests_alone() {
+    let example = sheet::read(include_bytes!("../../examples/case-p.sheet")).expect("a sheet");
+    let list = ["do=new 0 1 4", "do=move 0 0 1 2", "do=move 1 1 2 3"];
+    alone("Case P", first_state(&RawTable::of(&example)), &list);
+    let worst = worst(48, 31);
+    alone(
+        "48 types, every pair reached",
+        first_state(&worst),
+        &["do=new 0 0 1", "do=move 0 0 0 2"],
+    );
+    let state = first_state(&worst);
+    assert_eq!(
+        requests::offers(&state, 0, &[]),
+        raw::offers(&state, 0, &[])
+    );
+}
+
 fn main() {
     same_refusals();
+    requests_alone();
     comparisons();
     let random = with_48_types();
     let generated = sheet::text(&random);

@@ -28,7 +28,7 @@ pub fn derive(raw: &mut RawTable, kind: usize, t: usize, s: usize) -> Result<usi
     let number = match kind {
         SUB => sub(&mut table, t, s),
         SUP => sup(&mut table, t, s),
-        _ => known_or_new(&mut table, CLOSED, t, s),
+        _ => closed(&mut table, t, s),
     }?;
     *raw = table;
     Ok(number)
@@ -38,7 +38,7 @@ fn both_ref(raw: &RawTable, t: usize, s: usize) -> bool {
     raw.entry(t)[0] == 0 && raw.entry(s)[0] == 0
 }
 
-fn sub(raw: &mut RawTable, t: usize, s: usize) -> Result<usize, Full> {
+pub fn sub(raw: &mut RawTable, t: usize, s: usize) -> Result<usize, Full> {
     if t == s || !both_ref(raw, t, s) {
         return Ok(t);
     }
@@ -50,6 +50,11 @@ fn sup(raw: &mut RawTable, t: usize, s: usize) -> Result<usize, Full> {
         return Ok(s);
     }
     known_or_new(raw, SUP, t, s)
+}
+
+/// Closed of two reference types.
+pub fn closed(raw: &mut RawTable, r: usize, v: usize) -> Result<usize, Full> {
+    known_or_new(raw, CLOSED, r, v)
 }
 
 fn known_or_new(raw: &mut RawTable, kind: u8, t: usize, s: usize) -> Result<usize, Full> {

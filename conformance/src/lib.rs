@@ -4,9 +4,10 @@
 //! Nothing checks these declarations against the Rattle source (crates/exports/src/lib.rt); keep them few and in its order.
 
 pub mod chains;
-pub mod counted;
 pub mod inputs;
+pub mod layout;
 pub mod process;
+pub mod requests;
 
 use reference::raw::{RawTable, BROADER_LENGTH, TYPES_LENGTH};
 use reference::table::MAX_SHEET_TYPES;
@@ -21,11 +22,7 @@ extern "C" {
     fn pilgonca_compare(
         types: *const [u8; TYPES_LENGTH],
         links: *const [u8; BROADER_LENGTH],
-        subjects: usize,
-        methods: usize,
-        cats: usize,
-        sheet: usize,
-        count: usize,
+        counts: *const Counts,
         t: i64,
         s: i64,
     ) -> usize;
@@ -33,27 +30,18 @@ extern "C" {
     fn pilgonca_pairs(
         types: *const [u8; TYPES_LENGTH],
         links: *const [u8; BROADER_LENGTH],
-        subjects: usize,
-        methods: usize,
-        cats: usize,
-        sheet: usize,
-        count: usize,
+        counts: *const Counts,
         out: *mut [u8; PAIRS_LENGTH],
     ) -> usize;
 
     fn pilgonca_derive(
         types: *mut [u8; TYPES_LENGTH],
         links: *const [u8; BROADER_LENGTH],
-        subjects: usize,
-        methods: usize,
-        cats: usize,
-        sheet: usize,
-        count: usize,
+        counts: *mut Counts,
         kind: usize,
         t: i64,
         s: i64,
         number: *mut usize,
-        total: *mut usize,
     ) -> usize;
 
     fn pilgonca_read(
@@ -70,11 +58,7 @@ extern "C" {
         buffer_len: usize,
         types: *const [u8; TYPES_LENGTH],
         links: *const [u8; BROADER_LENGTH],
-        subjects: usize,
-        methods: usize,
-        cats: usize,
-        sheet: usize,
-        count: usize,
+        counts: *const Counts,
         length: *mut usize,
     ) -> usize;
 }
@@ -92,21 +76,8 @@ pub fn counts(raw: &RawTable) -> Counts {
 
 /// Compare on a table handed in: a refusal's number, or the four answers (subtype, strict, loose, free).
 pub fn compare(raw: &RawTable, t: i64, s: i64) -> Result<[bool; 4], usize> {
-    let [subjects, methods, cats, sheet, count] = counts(raw);
-    // SAFETY: the function reads both arrays, which have the lengths it takes, and writes nothing.
-    let code = unsafe {
-        pilgonca_compare(
-            &raw.type_bytes,
-            &raw.broader,
-            subjects,
-            methods,
-            cats,
-            sheet,
-            count,
-            t,
-            s,
-        )
-    };
+    // SAFETY: the function reads three arrays, which have the lengths it takes, and writes nothing.
+    let code = unsafe { pilgonca_compare(&raw.type_bytes, &raw.broader, &counts(raw), t, s) };
     if code < 16 {
         return Err(code);
     }
@@ -115,20 +86,8 @@ pub fn compare(raw: &RawTable, t: i64, s: i64) -> Result<[bool; 4], usize> {
 
 /// The pair table of a sheet, in the bytes of `raw` with these counts: 0 and `out` stored, or 2.
 pub fn pairs(raw: &RawTable, counts: Counts, out: &mut [u8; PAIRS_LENGTH]) -> usize {
-    let [subjects, methods, cats, sheet, count] = counts;
-    // SAFETY: the function reads two arrays and writes the third; they are apart and have the lengths it takes.
-    unsafe {
-        pilgonca_pairs(
-            &raw.type_bytes,
-            &raw.broader,
-            subjects,
-            methods,
-            cats,
-            sheet,
-            count,
-            out,
-        )
-    }
+    // SAFETY: the function reads three arrays and writes the fourth; they are apart and have the lengths it takes.
+    unsafe { pilgonca_pairs(&raw.type_bytes, &raw.broader, &counts, out) }
 }
 
 /// A derivation to ask for: kind 0 is Sub, 1 Sup, 2 Closed.
@@ -139,32 +98,19 @@ pub struct Asked {
     pub s: i64,
 }
 
-/// What a derivation stores beside the types: the derived type's number, and how many types there are now.
-#[derive(Clone, Copy, PartialEq, Eq, Debug)]
-pub struct Derived {
-    pub number: usize,
-    pub types: usize,
-}
-
-/// A derivation in the bytes of `raw` with these counts: 0 with types and `derived` stored, or the refusal's number.
-pub fn derive(raw: &mut RawTable, counts: Counts, asked: Asked, derived: &mut Derived) -> usize {
-    let [subjects, methods, cats, sheet, count] = counts;
-    // SAFETY: the function reads and writes the types, reads the links and writes the two numbers; the arrays have the
+/// A derivation in the bytes of `raw` with these counts: 0 with types, counts and the type's number stored, or the refusal's number.
+pub fn derive(raw: &mut RawTable, counts: &mut Counts, asked: Asked, number: &mut usize) -> usize {
+    // SAFETY: the function reads and writes types and counts, reads the links and writes the number; the arrays have the
     // lengths it takes, and all four are apart.
     unsafe {
         pilgonca_derive(
             &mut raw.type_bytes,
             &raw.broader,
-            subjects,
-            methods,
-            cats,
-            sheet,
-            count,
+            counts,
             asked.kind,
             asked.t,
             asked.s,
-            &mut derived.number,
-            &mut derived.types,
+            number,
         )
     }
 }
@@ -214,8 +160,7 @@ pub fn read(sheet: &[u8], loaded: &mut Loaded) -> usize {
 
 /// Sheet write of the bytes of `raw` with these counts: 0 with text and `length` stored, or the refusal's number.
 pub fn write(raw: &RawTable, counts: Counts, buffer: &mut [u8], length: &mut usize) -> usize {
-    let [subjects, methods, cats, sheet, count] = counts;
-    // SAFETY: the function reads both arrays, which have the lengths it takes, and writes within `buffer_len` bytes, all of
+    // SAFETY: the function reads three arrays, which have the lengths it takes, and writes within `buffer_len` bytes, all of
     // the slice, and the length; all are apart.
     unsafe {
         pilgonca_write(
@@ -223,11 +168,7 @@ pub fn write(raw: &RawTable, counts: Counts, buffer: &mut [u8], length: &mut usi
             buffer.len(),
             &raw.type_bytes,
             &raw.broader,
-            subjects,
-            methods,
-            cats,
-            sheet,
-            count,
+            &counts,
             length,
         )
     }

@@ -2,7 +2,7 @@
 //! the buffer.
 
 use conformance::inputs::{damaged, largest, lines, shares, table, BYTES, NUMBERS};
-use conformance::{counts, derive, read, write, Asked, Counts, Derived, Loaded};
+use conformance::{counts, derive, layout, read, write, Asked, Counts, Loaded};
 use reference::gen::{BIG, SMALL};
 use reference::hostile;
 use reference::random::Random;
@@ -17,8 +17,8 @@ use std::collections::BTreeMap;
 const MARK: u8 = 0xa5;
 const NUMBER_MARK: usize = 0xa5a5_a5a5_a5a5;
 
-/// What a reading gives: the table, and a refusal's number and offset.
-type Reading = (RawTable, Result<(), (Refusal, usize)>);
+/// What a reading gives: the table, and the offset, with a refusal's number before it.
+type Reading = (RawTable, Result<usize, (Refusal, usize)>);
 
 /// The proved core's reading; the bytes of the new table were others before.
 fn proved(input: &[u8]) -> Reading {
@@ -30,14 +30,22 @@ fn proved(input: &[u8]) -> Reading {
     };
     let code = read(input, &mut loaded);
     let result = match code {
-        0 => Ok(()),
+        0 => Ok(loaded.at),
         _ => Err((code as Refusal, loaded.at)),
     };
     (loaded.table(), result)
 }
 
+/// The reference's reading, in bytes by the layout; the offset is 0 where the sheet is accepted, every byte where it is refused.
+fn wanted(input: &[u8]) -> Reading {
+    match sheet::read(input) {
+        Ok(table) => (layout::plain(&table), Ok(0)),
+        Err(refusal) => (RawTable::default(), Err(refusal)),
+    }
+}
+
 fn differs(input: &[u8]) -> bool {
-    proved(input) != raw::read(input)
+    proved(input) != wanted(input)
 }
 
 /// What the readings of a test met: for each number the lines where it was met, by what stands before `=`.
@@ -100,11 +108,11 @@ fn same(input: &[u8], seen: &mut Seen, from: &str) {
         panic!(
             "{from}: {:?} for {:?} of\n{}",
             proved(&small),
-            raw::read(&small),
+            wanted(&small),
             String::from_utf8_lossy(&small)
         );
     }
-    seen.note(input, raw::read(input).1);
+    seen.note(input, sheet::read(input).map(drop));
 }
 
 #[test]
@@ -437,14 +445,10 @@ fn derive_some(raw: &mut RawTable, seed: u64) -> u32 {
             t: any(),
             s: any(),
         };
-        let mut derived = Derived {
-            number: 0,
-            types: 0,
-        };
-        let counts = counts(raw);
-        if derive(raw, counts, asked, &mut derived) == 0 {
-            raw.types = derived.types as u32;
-        }
+        let mut counts = counts(raw);
+        // a full table stays as it is
+        let _ = derive(raw, &mut counts, asked, &mut 0);
+        raw.types = counts[4] as u32;
     }
     raw.types - before
 }

@@ -3,7 +3,7 @@
 use conformance::chains::{self, chain, nesting, MOST};
 use conformance::inputs::with_48_types;
 use conformance::process::{limited, plain, run};
-use conformance::{counted, counts, PAIRS_LENGTH};
+use conformance::{counts, PAIRS_LENGTH};
 use reference::pairs;
 use reference::raw::{self, RawTable, TYPES_LENGTH};
 use reference::sheet;
@@ -76,13 +76,13 @@ fn the_deepest_derivation() {
     assert_eq!((nesting(&ours, 9), ours.types), (MOST, 128));
     let (answer, after) = derived(&table);
     assert_eq!(answer, [0, 9, 128]);
-    assert_eq!(counted::types(&after), counted::types(&ours));
+    assert!(after.type_bytes == ours.type_bytes);
     assert_eq!(nesting(&after, 9), MOST);
     // one type more on the way: as deep, and refused with 119 types begun
     let longer = chain(MOST - 112, seed);
     assert_eq!(raw::derive(&mut longer.clone(), kind, t, s), Err(11));
     let (answer, after) = derived(&longer);
-    assert_eq!(answer, [11, 0, 0]);
+    assert_eq!(answer, [11, 0, 9]);
     assert!(after.type_bytes == longer.type_bytes);
 }
 

@@ -392,8 +392,8 @@ impl Seen {
     }
 }
 
-/// The refusals each request can meet on a loaded sheet.
-const OF_REQUESTS: &[(&str, &[Refusal])] = &[
+/// The refusals each request can meet on a loaded sheet. On a state handed in each can meet 2, call and answer also 19.
+pub const OF_REQUESTS: &[(&str, &[Refusal])] = &[
     ("new", &[5, 7, 8, 10, 11, 12, 13]),
     ("move", &[5, 6, 7, 8, 9, 10, 11, 12, 13]),
     ("call", &[5, 6, 8, 10, 11, 12, 13, 14, 15, 16, 18]),

@@ -20,27 +20,50 @@ pub struct Hostile {
 /// A hostile state from a seed.
 pub fn generate(seed: u64) -> Hostile {
     let mut random = Random::new(seed ^ 0x0005_7a7e_0000_0000);
+    let state = bent(&mut random);
+    handed_in(&mut random, state)
+}
+
+/// One in which hardly a place, cell or call is free.
+pub fn crowded(seed: u64) -> Hostile {
+    let mut random = Random::new(seed ^ 0x000c_4024_0000_0000);
+    let mut state = bent(&mut random);
+    for kind in 0..3 {
+        if random.chance(60) {
+            fill(&mut random, &mut state, kind);
+        }
+    }
+    handed_in(&mut random, state)
+}
+
+/// A state that requests led to, mostly bent.
+fn bent(random: &mut Random) -> State {
     let plan = if random.chance(75) { SMALL } else { MEDIUM };
-    let table = gen::table(&mut random, &plan);
-    let (_, model) = gen::requests(&mut random, &plan, table);
+    let table = gen::table(random, &plan);
+    let (_, model) = gen::requests(random, &plan, table);
     let mut state = model.state;
     if random.chance(70) {
         for _ in 0..random.within((1, 12)) {
-            bend(&mut random, &mut state);
+            bend(random, &mut state);
         }
     }
+    state
+}
+
+/// Requests for a state, noise in its bytes, and rules broken.
+fn handed_in(random: &mut Random, state: State) -> Hostile {
     let right = check::state(&RawState::of(&state)).ok().map(Model::new);
     let requests = (0..random.within((2, 8)))
-        .map(|_| request(&mut random, &state, right.as_ref()))
+        .map(|_| request(random, &state, right.as_ref()))
         .collect();
     let mut raw = RawState::of(&state);
     if random.chance(60) {
-        noise(&mut random, &mut raw);
+        noise(random, &mut raw);
     }
     if random.chance(45) {
         for _ in 0..random.weighted(&[0, 80, 20]) {
             let reason = *random.pick(&REASONS);
-            break_one(&mut random, &mut raw, reason);
+            break_one(random, &mut raw, reason);
         }
     }
     Hostile {
@@ -74,7 +97,10 @@ fn bend(random: &mut Random, state: &mut State) {
         9 => add_derived(random, state),
         10 => bend_sheet_type(random, state),
         11 => add_adapters(random, state),
-        12 => fill(random, state),
+        12 => {
+            let kind = random.below(3);
+            fill(random, state, kind);
+        }
         _ => add_cell_and_call(random, state),
     }
 }
@@ -270,10 +296,10 @@ fn add_adapters(random: &mut Random, state: &mut State) {
     state.cells[cell].place = place;
 }
 
-/// Brings places, cells or calls to their limits or just below.
-fn fill(random: &mut Random, state: &mut State) {
+/// Brings places (0), cells (1) or calls (2) to their limits or just below.
+fn fill(random: &mut Random, state: &mut State, kind: usize) {
     let short = random.below(3);
-    match random.below(3) {
+    match kind {
         0 if !state.places.is_empty() => {
             while state.places.len() < MAX_PLACES - short {
                 let at = random.below(state.places.len());

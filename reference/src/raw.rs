@@ -13,6 +13,8 @@
 //! an object, class, owner; 1 for an adapter, place behind, closed type. A
 //! call is four bytes: caller, cell, method, answered (0 no, 1 yes).
 
+use crate::book;
+use crate::chains::All;
 use crate::check;
 use crate::faults::Fault;
 use crate::pairs;
@@ -367,11 +369,36 @@ pub fn derive(raw: &mut RawTable, kind: usize, t: i64, s: i64) -> Result<TypeNo,
 /// whole record as it was; an acceptance adds records and changes no other
 /// byte but the answered one of a call.
 pub fn request(raw: &mut RawState, request: &Request) -> Result<Got, Refusal> {
+    request_with(raw, request, Fault::None)
+}
+
+/// The same with a deliberate fault.
+pub fn request_with(raw: &mut RawState, request: &Request, fault: Fault) -> Result<Got, Refusal> {
     let state = check::state(raw).map_err(|_| RANGE)?;
-    let mut model = Model::new(state.clone());
-    let got = model.request(request)?;
+    let mut model = Model::with_fault(state.clone(), fault);
+    let result = model.request(request);
+    // what a refusal leaves is the state as it was, without a fault
     raw.update(&state, &model.state);
-    Ok(got)
+    result
+}
+
+/// Whether a cell of a handed-in state offers a chain: 2 before all else; a
+/// number that names no cell or no method is offered nothing.
+pub fn offers(raw: &RawState, cell: i64, chain: &[i64]) -> Result<bool, Refusal> {
+    let state = check::state(raw).map_err(|_| RANGE)?;
+    let Some(cell) = index(cell, state.cells.len()) else {
+        return Ok(false);
+    };
+    let methods: Option<Vec<usize>> = chain
+        .iter()
+        .map(|method| index(*method, state.table.methods))
+        .collect();
+    let types = book::offered(&state, cell);
+    let all = All {
+        table: &state.table,
+        types: &types,
+    };
+    Ok(methods.is_some_and(|methods| all.permit(&methods)))
 }
 
 impl std::fmt::Debug for RawTable {

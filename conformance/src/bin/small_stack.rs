@@ -6,7 +6,7 @@
 //!   overflow   goes through as much stack as the limit, and so must not come to its end
 
 use conformance::process::STACK;
-use conformance::{counts, derive, pairs, read, write, Asked, Derived, Loaded, PAIRS_LENGTH};
+use conformance::{counts, derive, pairs, read, write, Asked, Loaded, PAIRS_LENGTH};
 use reference::raw::{RawTable, BROADER_LENGTH, TYPES_LENGTH};
 use std::io::{Read, Write};
 
@@ -23,28 +23,25 @@ fn main() {
 }
 
 /// Takes the next eight bytes as a number.
-fn number(input: &mut &[u8]) -> u64 {
+fn next(input: &mut &[u8]) -> u64 {
     let (bytes, rest) = input.split_at(8);
     *input = rest;
     u64::from_le_bytes(bytes.try_into().expect("eight bytes"))
 }
 
 fn derived(mut input: &[u8]) -> Vec<u8> {
-    let counts = std::array::from_fn(|_| number(&mut input) as usize);
+    let mut counts = std::array::from_fn(|_| next(&mut input) as usize);
     let asked = Asked {
-        kind: number(&mut input) as usize,
-        t: number(&mut input) as i64,
-        s: number(&mut input) as i64,
+        kind: next(&mut input) as usize,
+        t: next(&mut input) as i64,
+        s: next(&mut input) as i64,
     };
     let mut table = Box::<RawTable>::default();
     table.broader.copy_from_slice(&input[..BROADER_LENGTH]);
     table.type_bytes.copy_from_slice(&input[BROADER_LENGTH..]);
-    let mut derived = Derived {
-        number: 0,
-        types: 0,
-    };
-    let code = derive(&mut table, counts, asked, &mut derived);
-    let mut output = numbers(&[code, derived.number, derived.types]);
+    let mut number = 0;
+    let code = derive(&mut table, &mut counts, asked, &mut number);
+    let mut output = numbers(&[code, number, counts[4]]);
     output.extend_from_slice(&table.type_bytes);
     output
 }

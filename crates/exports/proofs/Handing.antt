@@ -1,5 +1,5 @@
 -- What the pair table and a derivation hand out, from their contracts.
-use mathlib.Core.Path.{_≡_, refl, sym, ap, _∙_}
+use mathlib.Core.Path.{_≡_, refl, sym, ap, _∙_, subst}
 use mathlib.Core.Bool.{Bool, true, false}
 use mathlib.Core.List.{List}
 use Prim.Native.Nat.{ℕ}
@@ -13,8 +13,9 @@ use Rattle.compare.specs.declared.Pairs.{Pairs}
 use Rattle.compare.specs.Pairs.{pairTable, pairsHanded}
 use Rattle.compare.specs.Answered.{pairsGiven}
 use Rattle.restrict_entry.specs.declared.Derivation.{Derivation}
-use Rattle.restrict_entry.specs.Answer.{derivationOf}
-use Rattle.exports.specs.Codes.{handedOut, derivationLeft}
+use Rattle.restrict.specs.Link.{Writes}
+use Rattle.restrict_entry.specs.Answer.{derivationOf, Answered}
+use Rattle.exports.specs.Codes.{countsIn, handedOut, derivationLeft, Lent, DerivedIs}
 
 -- by whether the table is accepted
 module _ (old entries : List ℕ) (r : Pairs) where
@@ -38,6 +39,15 @@ module _ (t : RawTable) (old : List ℕ) (r : Pairs) (e : r ≡ pairsGiven (pair
   unfolding pairsHanded
   pairs-old = out-old old (pairTable (tableOf t)) r (tableAccepted t) e
 
--- A refusal is its number alone, whatever stands beside it.
-pub refusal-alone : (l : List ℕ) (c : Counts) (r : Derivation) (a : Res (Table × ℕ)) (number total : ℕ) (types : List ℕ) → (r .no ≡ 0 → ⊥) → derivationOf l c r ≡ a → derivationOf l c (derivationLeft (r .no) number total types) ≡ a
-refusal-alone l c r a number total types h e = let z = ne-eqb (r .no) 0 h in rw z (rw z at e)
+-- A derivation that is refused: its number alone, and what was lent as it was.
+module _ (l : List ℕ) (a : Res (Table × ℕ)) (r : Derivation) (old : Lent) (h : r .refusal ≡ 0 → ⊥) where
+  abbrev oldCounts : Counts
+  oldCounts = countsIn (old .counts)
+
+  alone : derivationOf l oldCounts r ≡ a → derivationOf l oldCounts (derivationLeft (r .refusal) (old .number) (old .counts) (old .types)) ≡ a
+  alone e = let z = ne-eqb (r .refusal) 0 h in rw z (rw z at e)
+
+  pub derivation-refused : Answered (old .types) l oldCounts a r → DerivedIs l a (r .refusal) old old
+  derivation-refused g =
+      let same : r .types ≡ old .types = ap (λ (z : Derivation). z .types) (g .refused h) in
+      record { is = alone (g .is); refused = λ _. refl; writes = subst (λ z. Writes (oldCounts .types) (old .types) z a) same (g .writes); counted = refl; codes = λ z. absurd (h z) }

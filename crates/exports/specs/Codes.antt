@@ -1,37 +1,38 @@
 -- Numbers at the C boundary, and what they stand for.
 use mathlib.Core.Path.{_≡_}
-use mathlib.Core.Bool.{Bool}
+use mathlib.Core.Bool.{So}
 use mathlib.Core.List.{List}
 use Prim.Native.Nat.{ℕ, _+_}
 use lib.ListN.{getD}
 use Rattle.model.specs.Basics.{Res, refuse, ok}
+use Rattle.model.specs.Table.{Table}
 use Rattle.model.specs.Relations.{Answers}
+use Rattle.model.specs.Check.{codesFit}
 use Rattle.table.specs.declared.Counts.{Counts}
+use Rattle.table.specs.Store.{rawTable, withCount}
 use Rattle.compare.specs.Pairs.{pairCode}
+use Rattle.restrict.specs.Link.{Writes}
 use Rattle.restrict_entry.specs.declared.Derivation.{Derivation}
+use Rattle.restrict_entry.specs.Answer.{derivationOf}
 use Rattle.sheet.specs.Text.{Written}
 use Rattle.sheetread.specs.declared.Sheet.{Sheet}
 
--- the counts of a table, each passed by itself
-abbrev pub countsOf : ℕ → ℕ → ℕ → ℕ → ℕ → Counts
-countsOf subjects methods cats sheet types = record { subjects = subjects; methods = methods; cats = cats; sheet = sheet; types = types }
+-- the counts of a table: five numbers in a row, in this order
+abbrev pub countsIn : List ℕ → Counts
+countsIn n = record { subjects = getD n 0 0; methods = getD n 1 0; cats = getD n 2 0; sheet = getD n 3 0; types = getD n 4 0 }
 
--- 16 and the four answers, as in the pair table
-abbrev pub answersCode : Bool → Bool → Bool → Bool → ℕ
-answersCode w x y z = 16 + pairCode w x y z
+-- 16 and the answers, as in the pair table
+abbrev pub answersCode : Answers → ℕ
+answersCode a = 16 + pairCode a
 
--- Compare's answer: the number of the refusal, or the code of the four answers
+-- Compare's answer: the number of the refusal, or the code of the answers
 abbrev pub comparedCode : Res Answers → ℕ
 comparedCode (refuse n) = n
-comparedCode (ok a) = answersCode (a .subtype) (a .strict) (a .loose) (a .free)
-
--- the counts of a table as five numbers in a row
-abbrev pub countsIn : List ℕ → Counts
-countsIn cs = countsOf (getD cs 0 0) (getD cs 1 0) (getD cs 2 0) (getD cs 3 0) (getD cs 4 0)
+comparedCode (ok a) = answersCode a
 
 -- the reader's answer, each part of it handed out by itself: number, offset, bytes and counts
 abbrev pub sheetOf : ℕ → ℕ → List ℕ → List ℕ → List ℕ → Sheet
-sheetOf n at types links counts = record { no = n; at = at; types = types; links = links; counts = countsIn counts }
+sheetOf n at types links counts = record { refusal = n; at = at; types = types; links = links; counts = countsIn counts }
 
 -- the number of a refusal, or 0; and what is handed out beside it, which stays `old` where it is refused
 abbrev pub numberOf : {A : Type 0} → Res A → ℕ
@@ -52,6 +53,25 @@ pub record WrittenIs (w : Written) (n old new : ℕ) (buffer : List ℕ) : Type 
 abbrev pub handedOut : {A : Type 0} → A → Res A → ℕ × A
 handedOut old a = (numberOf a, valueOf old a)
 
--- a derivation's answer, each part by itself: number, the type's number, how many types there are now, and their bytes
-abbrev pub derivationLeft : ℕ → ℕ → ℕ → List ℕ → Derivation
-derivationLeft n number total types = record { no = n; number = number; count = total; types = types }
+-- a derivation's answer, each part by itself: number, the type's number, the counts as they are now, and the types' bytes
+abbrev pub derivationLeft : ℕ → ℕ → List ℕ → List ℕ → Derivation
+derivationLeft n number counts types = record { refusal = n; number = number; count = countsIn counts .types; types = types }
+
+-- what a caller lends to a derivation, all of it: the types' bytes, the counts, and where the type's number goes
+pub record Lent : Type 0 where
+  pub types : List ℕ
+  pub counts : List ℕ
+  pub number : ℕ
+
+abbrev pub lent : List ℕ → List ℕ → ℕ → Lent
+lent types counts number = record { types = types; counts = counts; number = number }
+
+-- What a derivation leaves of it (old and new), n being returned, where `a` is the definition's answer: the table and the type's number; a refusal changes nothing;
+-- every byte below the old count stays and the records of the new types stand behind them (B22); of the counts only that of the types changes; and codes that
+-- named something still do, whatever the links are.
+pub record DerivedIs (l : List ℕ) (a : Res (Table × ℕ)) (n : ℕ) (old new : Lent) : Type 0 where
+  pub is : derivationOf l (countsIn (old .counts)) (derivationLeft n (new .number) (new .counts) (new .types)) ≡ a
+  pub refused : (n ≡ 0 → ⊥) → new ≡ old
+  pub writes : Writes (countsIn (old .counts) .types) (old .types) (new .types) a
+  pub counted : countsIn (new .counts) ≡ withCount (countsIn (old .counts)) (countsIn (new .counts) .types)
+  pub codes : n ≡ 0 → (k : List ℕ) → So (codesFit (rawTable (old .types) k (countsIn (old .counts)))) → So (codesFit (rawTable (new .types) k (countsIn (new .counts))))

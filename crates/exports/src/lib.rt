@@ -1,30 +1,45 @@
-// What tests, benchmarks and integrators link: C functions on numbers and arrays of bytes, for any numbers and any bytes. The layout of a table in bytes is in
-// docs/ARCHITECTURE.md; the numbers returned are given by definitions in specs/Codes.antt.
+// What tests, benchmarks and integrators link: C functions on numbers and arrays of bytes, for any numbers and any bytes (E2, E12). A table is three arrays: the bytes
+// of its types, those of its links, and five counts in the order of B12; docs/SPEC.md, section B, has the layout. The numbers returned are given by definitions in
+// specs/Codes.antt.
 ghost use mathlib.Core.Path.{_≡_};
 ghost use Prim.Native.Nat.{_+_};
 ghost use Rattle.model.specs.Check.{compareHanded};
 ghost use Rattle.table.specs.Store.{rawTable};
+ghost use Rattle.relation.specs.Answered.{answersOf};
 ghost use Rattle.compare.specs.Answered.{comparedOf};
 ghost use Rattle.compare.specs.Pairs.{pairsHanded};
 ghost use Rattle.restrict_entry.specs.Handed.{deriveHanded};
-ghost use Rattle.restrict_entry.specs.Answer.{derivationOf, Stays};
 ghost use Rattle.sheet.specs.Sheet.{read as readSheet};
 ghost use Rattle.sheet.specs.Text.{write};
-ghost use Rattle.sheetread.specs.View.{SheetIs};
+ghost use Rattle.sheetread.specs.View.{answered};
 ghost use Rattle.sheetwrite.specs.Answer.{wroteAnswer};
-ghost use Rattle.exports.specs.Codes.{countsOf, answersCode, comparedCode, sheetOf, numberOf, valueOf, WrittenIs, handedOut, derivationLeft};
+ghost use Rattle.exports.specs.Codes.{countsIn, answersCode, comparedCode, sheetOf, numberOf, valueOf, WrittenIs, handedOut, DerivedIs, lent};
 use compare::Compared;
 use numbers::wide;
+use relation::Answers;
 use sheetwrite::Wrote;
 use table::Counts;
 use table::LINK_BYTES;
 use table::TYPE_BYTES;
 
-// Four answers as one number.
-fn answers_code(subtype: bool, strict: bool, loose: bool, free: bool) -> usize
-    ensures { λ n. ⌜ n ≡ answersCode subtype strict loose free ⌝ }
+// A table's counts from five numbers in a row.
+fn counts_of(n: [usize; 5]) -> Counts
+    ensures { λ c. ⌜ c ≡ countsIn n ⌝ }
 {
-    let code = compare::pair_code(subtype, strict, loose, free);
+    Counts {
+        subjects: n[0],
+        methods: n[1],
+        cats: n[2],
+        sheet: n[3],
+        types: n[4],
+    }
+}
+
+// The answers as one number.
+fn answers_code(a: Answers) -> usize
+    ensures { λ n. ⌜ n ≡ answersCode (answersOf a) ⌝ }
+{
+    let code = compare::pair_code(a);
     16 + wide(code)
 }
 
@@ -35,42 +50,27 @@ fn compared_code(r: Compared) -> usize
     match r {
         Compared::Unfit => 2,
         Compared::Unknown => 7,
-        Compared::Answers {
-            subtype,
-            strict,
-            loose,
-            free,
-        } => answers_code(subtype, strict, loose, free),
+        Compared::Answers(a) => answers_code(a),
     }
 }
 
-// "Compare (T, S)" on a table handed in: 2, then 7, else 16 and the four answers.
+// Compare (R14) on a table handed in: 2, then 7, else 16 and the answers.
 #[no_mangle]
 pub extern "C" fn pilgonca_compare(
     types: &[u8; TYPE_BYTES],
     links: &[u8; LINK_BYTES],
-    subjects: usize,
-    methods: usize,
-    cats: usize,
-    sheet: usize,
-    count: usize,
+    counts: &[usize; 5],
     t: i64,
     s: i64,
 ) -> usize
-    ensures { λ n. ⌜ n ≡ comparedCode (compareHanded (rawTable (now (types .entry)) (now (links .entry)) (countsOf subjects methods cats sheet count)) t s) ⌝ }
+    ensures { λ n. ⌜ n ≡ comparedCode (compareHanded (rawTable (now (types .entry)) (now (links .entry)) (countsIn (now (counts .entry)))) t s) ⌝ }
 {
-    let c = Counts {
-        subjects,
-        methods,
-        cats,
-        sheet,
-        types: count,
-    };
+    let c = counts_of(*counts);
     let r = compare::compare_types(types, links, c, t, s);
     compared_code(r)
 }
 
-// "Sheet read" of any bytes: 0 and the table, or the refusal and the byte offset of the line, with a table whose every count is 0.
+// Sheet read (S) of any bytes: 0 and the table, with offset 0; or the refusal and the byte offset of the line, with a table whose every count and byte is 0 (B21).
 #[no_mangle]
 pub extern "C" fn pilgonca_read(
     text: &[u8],
@@ -79,7 +79,7 @@ pub extern "C" fn pilgonca_read(
     counts: &mut [usize; 5],
     at: &mut usize,
 ) -> usize
-    ensures { λ n. ⌜ SheetIs (sheetOf n (now (at .exit)) (now (types .exit)) (now (links .exit)) (now (counts .exit))) (readSheet (now (text .entry))) ⌝ }
+    ensures { λ n. ⌜ sheetOf n (now (at .exit)) (now (types .exit)) (now (links .exit)) (now (counts .exit)) ≡ answered (readSheet (now (text .entry))) ⌝ }
 {
     let r = sheetread::read(text);
     let t = r.types;
@@ -89,7 +89,7 @@ pub extern "C" fn pilgonca_read(
     *links = l;
     *counts = [c.subjects, c.methods, c.cats, c.sheet, c.types];
     *at = r.at;
-    r.no
+    r.refusal
 }
 
 // The writer's answer: the refusal's number, or 0 with the length handed out.
@@ -106,53 +106,33 @@ fn wrote_code(w: Wrote, length: &mut usize) -> usize
     }
 }
 
-// "Sheet write" of a table handed in: 2, then 4 where the buffer is short, else 0 and the length; a refusal leaves buffer and length as they were.
+// Sheet write (W) of a table handed in: 2, then 4 where the buffer is short, else 0 and the length; a refusal leaves buffer and length as they were.
 #[no_mangle]
 pub extern "C" fn pilgonca_write(
     buffer: &mut [u8],
     types: &[u8; TYPE_BYTES],
     links: &[u8; LINK_BYTES],
-    subjects: usize,
-    methods: usize,
-    cats: usize,
-    sheet: usize,
-    count: usize,
+    counts: &[usize; 5],
     length: &mut usize,
 ) -> usize
-    ensures { λ n. ⌜ WrittenIs (write (rawTable (now (types .entry)) (now (links .entry)) (countsOf subjects methods cats sheet count)) (now (buffer .entry))) n (now (length .entry)) (now (length .exit)) (now (buffer .exit)) ⌝ }
+    ensures { λ n. ⌜ WrittenIs (write (rawTable (now (types .entry)) (now (links .entry)) (countsIn (now (counts .entry)))) (now (buffer .entry))) n (now (length .entry)) (now (length .exit)) (now (buffer .exit)) ⌝ }
 {
-    let c = Counts {
-        subjects,
-        methods,
-        cats,
-        sheet,
-        types: count,
-    };
+    let c = counts_of(*counts);
     let w = sheetwrite::write_sheet(buffer, types, links, c);
     wrote_code(w, length)
 }
 
-// The pair table of a table handed in: 0 and the four answers at every pair of sheet types, or 2 and `out` as it was.
+// The pair table (E9) of a table handed in: 0 and the answers at every pair of sheet types, or 2 and `out` as it was.
 #[no_mangle]
 pub extern "C" fn pilgonca_pairs(
     types: &[u8; TYPE_BYTES],
     links: &[u8; LINK_BYTES],
-    subjects: usize,
-    methods: usize,
-    cats: usize,
-    sheet: usize,
-    count: usize,
+    counts: &[usize; 5],
     out: &mut [u8; 2304],
 ) -> usize
-    ensures { λ n. ⌜ (n, now (out .exit)) ≡ handedOut (now (out .entry)) (pairsHanded (rawTable (now (types .entry)) (now (links .entry)) (countsOf subjects methods cats sheet count))) ⌝ }
+    ensures { λ n. ⌜ (n, now (out .exit)) ≡ handedOut (now (out .entry)) (pairsHanded (rawTable (now (types .entry)) (now (links .entry)) (countsIn (now (counts .entry))))) ⌝ }
 {
-    let c = Counts {
-        subjects,
-        methods,
-        cats,
-        sheet,
-        types: count,
-    };
+    let c = counts_of(*counts);
     let r = compare::pairs_of(types, links, c);
     if r.fits {
         let entries = r.entries;
@@ -162,41 +142,28 @@ pub extern "C" fn pilgonca_pairs(
     2
 }
 
-// Sub (kind 0), Sup (1) or Closed (2) of types t and s of a table handed in: 0 and the types, the derived type's number and how many types there are now; or 2,
-// 7 or 11, and nothing is changed.
+// A derivation (E10) on a table handed in: Sub (kind 0), Sup (1) or Closed (2) of types t and s. 0, with types and counts those of the table that there is now
+// and `number` the derived type's; or 2, 7 or 11, and nothing is changed.
 #[no_mangle]
 pub extern "C" fn pilgonca_derive(
     types: &mut [u8; TYPE_BYTES],
     links: &[u8; LINK_BYTES],
-    subjects: usize,
-    methods: usize,
-    cats: usize,
-    sheet: usize,
-    count: usize,
+    counts: &mut [usize; 5],
     kind: usize,
     t: i64,
     s: i64,
     number: &mut usize,
-    total: &mut usize,
 ) -> usize
-    ensures is { λ n. ⌜ derivationOf (now (links .entry)) (countsOf subjects methods cats sheet count) (derivationLeft n (now (number .exit)) (now (total .exit)) (now (types .exit))) ≡ deriveHanded (rawTable (now (types .entry)) (now (links .entry)) (countsOf subjects methods cats sheet count)) kind t s ⌝ }
-    ensures refused { λ n. ⌜ ((n ≡ 0 → ⊥) → derivationLeft n (now (number .exit)) (now (total .exit)) (now (types .exit)) ≡ derivationLeft n (now (number .entry)) (now (total .entry)) (now (types .entry))) ⌝ }
-    ensures stays { λ n. ⌜ Stays (now (types .entry)) (countsOf subjects methods cats sheet count) (derivationLeft n (now (number .exit)) (now (total .exit)) (now (types .exit))) ⌝ }
+    ensures { λ n. ⌜ DerivedIs (now (links .entry)) (deriveHanded (rawTable (now (types .entry)) (now (links .entry)) (countsIn (now (counts .entry)))) kind t s) n (lent (now (types .entry)) (now (counts .entry)) (now (number .entry))) (lent (now (types .exit)) (now (counts .exit)) (now (number .exit))) ⌝ }
 {
-    let c = Counts {
-        subjects,
-        methods,
-        cats,
-        sheet,
-        types: count,
-    };
+    let c = counts_of(*counts);
     let old = *types;
     let r = restrict_entry::derive(old, links, c, kind, t, s);
-    if r.no == 0 {
+    if r.refusal == 0 {
         let new = r.types;
         *types = new;
+        *counts = [c.subjects, c.methods, c.cats, c.sheet, r.count];
         *number = r.number;
-        *total = r.count;
     }
-    r.no
+    r.refusal
 }

@@ -8,27 +8,54 @@ use native.Mathlib.Omega.{arith}
 use native.Mathlib.Numerals.{add-one}
 use lib.Dec.{eqb, ltb, leb}
 use lib.ListN.{length, getD, set, take, drop}
-use lib.Seq.{length-take-le, take-suc-set, take-suc, getD-take}
+use lib.Seq.{length-take-le, take-suc-set, take-suc, getD-take, getD-set-other}
 use borrow.Author.Tests.{leb-true, leb-false, lt-ltb, le-ltb, le-leb, eq-eqb, ne-eqb}
-use Rattle.model.specs.Basics.{Res, refuse, ok, try, need, _⇒_, all, unlessMissing}
-use Rattle.model.specs.Table.{State, denied, optional, avail, unavail, Rep, ref, w32, w64, Method, permit, maxArguments, between}
-use Rattle.model.specs.Check.{stateOf, answerOf, methodOf, rawMethodFits}
-use Rattle.model.proofs.Rules.{never, both, imply}
-use Rattle.sheet.specs.Lines.{bytes, starts, same, keyed, oneOf}
-use Rattle.sheet.specs.Numbers.{Scan, fail, took, andThen, whole, number, numbers}
-use Rattle.sheet.specs.Text.{repText, ownText, stateText}
-use Rattle.sheet.specs.Sheet.{repLine, ownLine, underLine, closing, arguments, answer, below, signature, unsigned, methodLine}
-use Rattle.sheet.proofs.Steps.{refuse-ok}
+use Rattle.model.specs.Basics.{Res, refuse, ok, try, need, all, unlessMissing}
+use Rattle.model.specs.Table.{State, denied, optional, avail, unavail, Rep, ref, w32, w64, Method, permit}
+use Rattle.model.specs.Check.{RawLinks, stateOf, answerOf, methodOf, linksOf}
+use Rattle.model.specs.Records.{linksRecord}
+use Rattle.model.proofs.Rules.{never}
+use Rattle.sheet.specs.Lines.{bytes, starts, same, keyed, choice}
+use Rattle.sheet.specs.Numbers.{Scan, fail, took, bindScan, whole, number, numbers}
+use Rattle.sheet.specs.Text.{repText, ownText, stateText, endText}
+use Rattle.sheet.specs.Sheet.{repLine, ownLine, endLine, underLine, closing, arguments, answer, below, signature, unsigned, methodLine}
 use Rattle.textread.specs.View.{result}
 use Rattle.textread.proofs.Laws.{from-here, at-end}
+use Rattle.lineread.specs.View.{LinksExact}
 
 -- a refusal's number isn't 0
 pub result-refused : {A : Type 0} (nr : ℕ) (x : A) → 0 < nr → result nr x ≡ refuse nr
 result-refused nr x h = ap (λ z. cond z (ok x) (refuse nr)) (ne-eqb nr 0 (λ e. omega arith))
 
--- what is refused is not accepted
-pub not-accepted : {A : Type 0} {C : Type 0} (nr k : ℕ) (x : A) → result nr x ≡ refuse k → nr ≡ 0 → C
-not-accepted nr k x e z = refuse-ok (sym e ∙ ap (λ b. cond b (ok x) (refuse nr)) (eq-eqb nr 0 z))
+-- every line kind refuses an empty line
+pub rep-empty : repLine [] ≡ refuse 1
+unfolding repLine choice starts
+rep-empty = refl
+
+pub own-empty : ownLine [] ≡ refuse 1
+unfolding ownLine choice starts
+own-empty = refl
+
+pub end-empty : endLine [] ≡ refuse 1
+unfolding endLine choice starts
+end-empty = refl
+
+pub under-empty : (cats k : ℕ) → underLine cats k [] ≡ refuse 1
+unfolding underLine keyed starts
+under-empty cats k = refl
+
+pub method-empty : (n : ℕ) → methodLine n [] ≡ refuse 1
+unfolding methodLine starts
+method-empty n = refl
+
+-- The last line.
+pub end-yes : (l : List ℕ) → same endText l ≡ true → ok tt ≡ endLine l
+unfolding endLine choice
+end-yes l e = ap (λ z. cond z (ok tt) (refuse 1)) (sym e)
+
+pub end-no : (l : List ℕ) → same endText l ≡ false → refuse 1 ≡ endLine l
+unfolding endLine choice
+end-no l e = ap (λ z. cond z (ok tt) (refuse 1)) (sym e)
 
 -- Words.
 module _ (l : List ℕ) where
@@ -39,12 +66,12 @@ module _ (l : List ℕ) where
   rep-second = cond (same (repText w32) l) (ok w32) rep-third
 
   pub rep-ref : same (repText ref) l ≡ true → ok ref ≡ repLine l
-  unfolding repLine oneOf rep-second rep-third
+  unfolding repLine choice rep-second rep-third
   rep-ref e = ap (λ z. cond z (ok ref) rep-second) (sym e)
 
   module _ (a : same (repText ref) l ≡ false) where
     to-second : rep-second ≡ repLine l
-    unfolding repLine oneOf rep-second rep-third
+    unfolding repLine choice rep-second rep-third
     to-second = ap (λ z. cond z (ok ref) rep-second) (sym a)
 
     pub rep-w32 : same (repText w32) l ≡ true → ok w32 ≡ repLine l
@@ -68,12 +95,12 @@ module _ (l : List ℕ) where
   own-second = cond (same (ownText false) l) (ok false) (refuse 1)
 
   pub own-yes : same (ownText true) l ≡ true → ok true ≡ ownLine l
-  unfolding ownLine oneOf own-second
+  unfolding ownLine choice own-second
   own-yes e = ap (λ z. cond z (ok true) own-second) (sym e)
 
   module _ (a : same (ownText true) l ≡ false) where
     to-own : own-second ≡ ownLine l
-    unfolding ownLine oneOf own-second
+    unfolding ownLine choice own-second
     to-own = ap (λ z. cond z (ok true) own-second) (sym a)
 
     pub own-no : same (ownText false) l ≡ true → ok false ≡ ownLine l
@@ -107,6 +134,17 @@ pub kept-next : (items bytes : List ℕ) (i x : ℕ) → i < length items → i 
 kept-next items bytes i x h k e q =
     ap (λ z. take z (set bytes i x)) (add-one i) ∙ take-suc-set bytes i x k ∙ ap (λ z. z ++ x ∷ []) q ∙ ap (λ z. take i items ++ z ∷ []) e
     ∙ sym (take-suc items i 0 h) ∙ ap (λ z. take z items) (sym (add-one i))
+
+-- the bytes behind those kept are 0
+pub rest-none : (k : ℕ) → let z : List ℕ = 0 ∷ 0 ∷ 0 ∷ 0 ∷ [] in getD z k 0 ≡ 0
+rest-none zero = refl
+rest-none (suc zero) = refl
+rest-none (suc (suc zero)) = refl
+rest-none (suc (suc (suc zero))) = refl
+rest-none (suc (suc (suc (suc k)))) = refl
+
+pub rest-next : (bytes : List ℕ) (i x : ℕ) → ((k : ℕ) → i ≤ k → getD bytes k 0 ≡ 0) → (k : ℕ) → i + 1 ≤ k → getD (set bytes i x) k 0 ≡ 0
+rest-next bytes i x h k e = getD-set-other bytes i k x 0 (λ q. let s : k ≡ i = q in omega arith) ∙ h k (omega arith)
 
 -- a bound that is allowed
 pub all-leb : (c : ℕ) (xs : List ℕ) → all (λ n. leb n c) xs ≡ all (below (c + 1)) xs
@@ -184,8 +222,18 @@ one-or-two (a ∷ b ∷ p) (suc zero) e h k = refl
 one-or-two (a ∷ b ∷ p) (suc (suc zero)) e h k = refl
 one-or-two (a ∷ b ∷ p) (suc (suc (suc n))) e h k = absurd (omega arith)
 
-pub one-or-two-fits : (n count : ℕ) → n ≡ count → 1 ≤ count → count ≤ 2 → between 1 2 n ≡ true
-one-or-two-fits n count e h k = both (le-leb 1 n (omega arith)) (le-leb n 2 (omega arith))
+-- they are the record of what they say: a missing second one is 0
+pub one-or-two-exact : (p : List ℕ) (n count : ℕ) → n ≡ count → 1 ≤ count → count ≤ 2 → ((k : ℕ) → count ≤ k → getD p k 0 ≡ 0)
+    → LinksExact (record { count = n; first = getD p 0 0; second = getD p 1 0 })
+one-or-two-exact p n zero e h k z = absurd (omega arith)
+one-or-two-exact p n (suc zero) e h k z =
+    ap (λ (m : ℕ). linksRecord (linksOf (record { count = m; first = getD p 0 0; second = getD p 1 0 }))) e
+    ∙ ap (λ (s : ℕ). let x : RawLinks = record { count = 1; first = getD p 0 0; second = s } in x) (sym (z 1 (omega arith)))
+    ∙ ap (λ (m : ℕ). let x : RawLinks = record { count = m; first = getD p 0 0; second = getD p 1 0 } in x) (sym e)
+one-or-two-exact p n (suc (suc zero)) e h k z =
+    ap (λ (m : ℕ). linksRecord (linksOf (record { count = m; first = getD p 0 0; second = getD p 1 0 }))) e
+    ∙ ap (λ (m : ℕ). let x : RawLinks = record { count = m; first = getD p 0 0; second = getD p 1 0 } in x) (sym e)
+one-or-two-exact p n (suc (suc (suc m))) e h k z = absurd (omega arith)
 
 -- The arguments of a signature.
 pub args-none : (l : List ℕ) (at : ℕ) → at ≡ length l → fail ≡ arguments (drop at l)
@@ -193,23 +241,23 @@ unfolding arguments
 args-none l at h = sym (ap arguments (at-end l at (omega arith)))
 
 module _ (l : List ℕ) (at : ℕ) (h : at < length l) where
-  args-here : arguments (drop at l) ≡ cond (eqb (getD l at 0) 41) (took [] (drop (at + 1) l)) (andThen (numbers 2 [] (drop at l)) closing)
+  args-here : arguments (drop at l) ≡ cond (eqb (getD l at 0) 41) (took [] (drop (at + 1) l)) (bindScan (numbers 2 [] (drop at l)) closing)
   unfolding arguments
-  args-here = ap arguments (from-here l at h) ∙ ap (λ z. cond (eqb (getD l at 0) 41) (took [] (drop (at + 1) l)) (andThen (numbers 2 [] z) closing)) (sym (from-here l at h))
+  args-here = ap arguments (from-here l at h) ∙ ap (λ z. cond (eqb (getD l at 0) 41) (took [] (drop (at + 1) l)) (bindScan (numbers 2 [] z) closing)) (sym (from-here l at h))
 
   pub args-empty : getD l at 0 ≡ 41 → took [] (drop (at + 1) l) ≡ arguments (drop at l)
-  args-empty q = sym (args-here ∙ ap (λ z. cond z (took [] (drop (at + 1) l)) (andThen (numbers 2 [] (drop at l)) closing)) (eq-eqb (getD l at 0) 41 q))
+  args-empty q = sym (args-here ∙ ap (λ z. cond z (took [] (drop (at + 1) l)) (bindScan (numbers 2 [] (drop at l)) closing)) (eq-eqb (getD l at 0) 41 q))
 
   module _ (ne : getD l at 0 ≡ 41 → ⊥) where
-    args-list : arguments (drop at l) ≡ andThen (numbers 2 [] (drop at l)) closing
-    args-list = args-here ∙ ap (λ z. cond z (took [] (drop (at + 1) l)) (andThen (numbers 2 [] (drop at l)) closing)) (ne-eqb (getD l at 0) 41 ne)
+    args-list : arguments (drop at l) ≡ bindScan (numbers 2 [] (drop at l)) closing
+    args-list = args-here ∙ ap (λ z. cond z (took [] (drop (at + 1) l)) (bindScan (numbers 2 [] (drop at l)) closing)) (ne-eqb (getD l at 0) 41 ne)
 
     pub args-wrong : fail ≡ numbers 2 [] (drop at l) → fail ≡ arguments (drop at l)
-    args-wrong q = sym (args-list ∙ ap (λ z. andThen z closing) (sym q))
+    args-wrong q = sym (args-list ∙ ap (λ z. bindScan z closing) (sym q))
 
     module _ (xs : List ℕ) (e : ℕ) (q : took xs (drop e l) ≡ numbers 2 [] (drop at l)) where
       listed : arguments (drop at l) ≡ closing xs (drop e l)
-      listed = args-list ∙ ap (λ z. andThen z closing) (sym q)
+      listed = args-list ∙ ap (λ z. bindScan z closing) (sym q)
 
       pub args-open : e ≡ length l → fail ≡ arguments (drop at l)
       args-open b = sym (listed ∙ ap (closing xs) (at-end l e (omega arith)))
@@ -221,22 +269,22 @@ module _ (l : List ℕ) (at : ℕ) (h : at < length l) where
       args-closed b w = sym (listed ∙ ap (closing xs) (from-here l e b) ∙ ap (λ z. cond z (took xs (drop (e + 1) l)) fail) (eq-eqb (getD l e 0) 41 w))
 
   -- its answer
-  answer-here : answer (drop at l) ≡ cond (eqb (getD l at 0) 45) (took none (drop (at + 1) l)) (andThen (number (drop at l)) (λ n r. took (some n) r))
+  answer-here : answer (drop at l) ≡ cond (eqb (getD l at 0) 45) (took none (drop (at + 1) l)) (bindScan (number (drop at l)) (λ n r. took (some n) r))
   unfolding answer
-  answer-here = ap answer (from-here l at h) ∙ ap (λ z. cond (eqb (getD l at 0) 45) (took none (drop (at + 1) l)) (andThen (number z) (λ n r. took (some n) r))) (sym (from-here l at h))
+  answer-here = ap answer (from-here l at h) ∙ ap (λ z. cond (eqb (getD l at 0) 45) (took none (drop (at + 1) l)) (bindScan (number z) (λ n r. took (some n) r))) (sym (from-here l at h))
 
   pub answer-dash : getD l at 0 ≡ 45 → took none (drop (at + 1) l) ≡ answer (drop at l)
-  answer-dash q = sym (answer-here ∙ ap (λ z. cond z (took none (drop (at + 1) l)) (andThen (number (drop at l)) (λ n r. took (some n) r))) (eq-eqb (getD l at 0) 45 q))
+  answer-dash q = sym (answer-here ∙ ap (λ z. cond z (took none (drop (at + 1) l)) (bindScan (number (drop at l)) (λ n r. took (some n) r))) (eq-eqb (getD l at 0) 45 q))
 
   module _ (ne : getD l at 0 ≡ 45 → ⊥) where
-    answer-number : answer (drop at l) ≡ andThen (number (drop at l)) (λ n r. took (some n) r)
-    answer-number = answer-here ∙ ap (λ z. cond z (took none (drop (at + 1) l)) (andThen (number (drop at l)) (λ n r. took (some n) r))) (ne-eqb (getD l at 0) 45 ne)
+    answer-number : answer (drop at l) ≡ bindScan (number (drop at l)) (λ n r. took (some n) r)
+    answer-number = answer-here ∙ ap (λ z. cond z (took none (drop (at + 1) l)) (bindScan (number (drop at l)) (λ n r. took (some n) r))) (ne-eqb (getD l at 0) 45 ne)
 
     pub answer-wrong : fail ≡ number (drop at l) → fail ≡ answer (drop at l)
-    answer-wrong q = sym (answer-number ∙ ap (λ z. andThen z (λ n r. took (some n) r)) (sym q))
+    answer-wrong q = sym (answer-number ∙ ap (λ z. bindScan z (λ n r. took (some n) r)) (sym q))
 
     pub answer-took : (n e : ℕ) → took n (drop e l) ≡ number (drop at l) → took (answerOf (n + 1)) (drop e l) ≡ answer (drop at l)
-    answer-took n e q = ap (λ z. took (answerOf z) (drop e l)) (add-one n) ∙ sym (answer-number ∙ ap (λ z. andThen z (λ n r. took (some n) r)) (sym q))
+    answer-took n e q = ap (λ z. took (answerOf z) (drop e l)) (add-one n) ∙ sym (answer-number ∙ ap (λ z. bindScan z (λ n r. took (some n) r)) (sym q))
 
 pub answer-none : (l : List ℕ) (at : ℕ) → at ≡ length l → fail ≡ answer (drop at l)
 unfolding answer
@@ -260,10 +308,10 @@ module _ (n : ℕ) (s : State) (l : List ℕ) where
   checked m = need (all (below n) (m .args) && unlessMissing (m .answer) (below n)) 2 λ _. ok m
 
   after-args : Scan (List ℕ) → Res Method
-  after-args r = try (whole (andThen r λ xs q. andThen (answer q) λ o p. took (method xs o) p)) checked
+  after-args r = try (whole (bindScan r λ xs q. bindScan (answer q) λ o p. took (method xs o) p)) checked
 
   after-answer : List ℕ → Scan (Option ℕ) → Res Method
-  after-answer xs r = try (whole (andThen r λ o p. took (method xs o) p)) checked
+  after-answer xs r = try (whole (bindScan r λ o p. took (method xs o) p)) checked
 
   signature-of : after-args (arguments l) ≡ signature n s l
   unfolding signature method checked after-args
@@ -326,18 +374,12 @@ pub unsigned-means : (s count answer : ℕ) (args : List ℕ) → permit (stateO
 unfolding means
 unsigned-means s count answer args p = ap (λ z. means (stateOf s) z count args answer) p
 
--- its codes name a state, and a number of arguments where it permits
-permits-below : (s : ℕ) → permit (stateOf s) ≡ true → s < 4
+-- a state that permits has a code
+pub permits-below : (s : ℕ) → permit (stateOf s) ≡ true → s < 4
 permits-below zero p = never p
 permits-below (suc zero) p = omega arith
 permits-below (suc (suc zero)) p = omega arith
 permits-below (suc (suc (suc s))) p = never p
-
-pub signed-fits : (s count answer k : ℕ) (args : List ℕ) → permit (stateOf s) ≡ true → count ≡ k → k ≤ 2 → rawMethodFits (record { state = s; count = count; args = args; answer = answer }) ≡ true
-signed-fits s count answer k args p e h = both (lt-ltb s 4 (permits-below s p)) (imply (permit (stateOf s)) _ (λ _. le-leb count 2 (omega arith)))
-
-pub unsigned-fits : (s count answer : ℕ) (args : List ℕ) → permit (stateOf s) ≡ false → s < 4 → rawMethodFits (record { state = s; count = count; args = args; answer = answer }) ≡ true
-unsigned-fits s count answer args p h = both (lt-ltb s 4 h) (ap (λ z. z ⇒ leb count maxArguments) p)
 
 -- An `m=` line.
 module _ (n : ℕ) (l : List ℕ) where

@@ -1,20 +1,22 @@
-// Document 01, "Sheet read" and "Sheet text": the line kinds of a sheet but those of one number. Each is read by 1 (form), 2 (number outside its range), 3 (broader category not below),
-// in this order over the whole line. A function `.._line` reads the bytes of one line, a function `next_..` the next line of the text.
-// `is` says what a code means, `within` that it names something: a table that is read passes the check of a table handed in.
+// The line kinds of a sheet but those of one number (docs/SPEC.md S24 to S26). In each the tests for 1 come first, then those for 2, then those for 3, over the whole line (S5).
+// A function `read_..` reads the bytes of one line, a function `next_..` the next line of the text.
+// `is` says what is read, `exact` that the record is the one that stands for it: a state by its own code, unused slots 0 (B13).
 ghost use mathlib.Core.Path.{_≡_};
 ghost use mathlib.Core.Bool.{true, false};
-ghost use Prim.Native.Nat.{_+_, _≤_, _<_};
-ghost use lib.Dec.{eqb};
-ghost use lib.ListN.{length, take, drop};
+ghost use Prim.Native.Nat.{ℕ, _≤_, _<_};
+ghost use lib.ListN.{length, getD, take, drop};
 ghost use Rattle.model.specs.Basics.{refuse, ok, all};
-ghost use Rattle.model.specs.Table.{permit, between};
-ghost use Rattle.model.specs.Check.{stateOf, repOf, answerOf, methodOf, linksOf, rawMethodFits};
-ghost use Rattle.table.specs.Store.{rawMethod, rawLinks};
+ghost use Rattle.model.specs.Table.{permit};
+ghost use Rattle.model.specs.Check.{stateOf, repOf, answerOf, methodOf};
+ghost use Rattle.table.specs.Store.{rawMethod};
+ghost use Rattle.table.specs.Records.{MethodExact};
 ghost use Rattle.sheet.specs.Lines.{split, line};
-ghost use Rattle.sheet.specs.Sheet.{repLine, ownLine, underLine, arguments, answer, below, signature, unsigned, methodLine};
-ghost use Rattle.textread.specs.View.{scanned, result, reading};
+ghost use Rattle.sheet.specs.Sheet.{repLine, ownLine, endLine, underLine, arguments, answer, below, signature, unsigned, methodLine};
+ghost use Rattle.textread.specs.View.{scanned, scanBy, valueBy, AtMost, readBy, GotAtMost, result, reading};
+ghost use Rattle.lineread.specs.View.{yesOf, underBy, underRead, UnderExact, UnderGotExact};
 use numbers::narrow;
 use table::Counts;
+use table::Head;
 use table::Links;
 use table::Method;
 use textread::Cursor;
@@ -29,112 +31,103 @@ pub struct Packed {
     pub items: [u8; 4],
 }
 
-// An `under=` line: the number of a refusal, or 0 and the broader categories.
-pub struct UnderLine {
-    pub no: usize,
-    pub links: Links,
+// An `under=` line: the number of a refusal, or the broader categories.
+pub enum Under {
+    Refused(usize),
+    Are(Links),
 }
 
-pub struct UnderGot {
-    pub no: usize,
-    pub links: Links,
-    pub next: Cursor,
+// The next line, an `under=` line: refused at the cursor that was handed in, or the broader categories and the cursor behind the line.
+pub enum UnderGot {
+    Refused(usize),
+    At(Links, Cursor),
 }
 
-// An `m=` line: the number of a refusal, or 0 and the method.
+// An `m=` line: the number of a refusal, or 0 and the method. (A method holds an array, so these are no enums.)
 pub struct MethodLine {
-    pub no: usize,
+    pub refusal: usize,
     pub m: Method,
 }
 
+// The next line, an `m=` line: the cursor stands behind it, or at a line that is refused.
 pub struct MethodGot {
-    pub no: usize,
+    pub refusal: usize,
     pub m: Method,
     pub next: Cursor,
 }
 
-// "A type has a representation: ref, w32 or w64"; another word is 1.
-fn rep_line(l: &[u8]) -> Value
-    ensures is { λ r. ⌜ result (r .no) (repOf (r .n)) ≡ repLine (now (l .entry)) ⌝ }
-    ensures within { λ r. ⌜ r .n ≤ 2 ⌝ }
+// A `rep=` line (S25); another word is 1.
+fn read_rep(l: &[u8]) -> Value
+    ensures is { λ r. ⌜ valueBy repOf r ≡ repLine (now (l .entry)) ⌝ }
+    ensures within { λ r. ⌜ AtMost 2 r ⌝ }
 {
     if textread::is_word(l, b"rep=ref") {
-        return Value { no: 0, n: 0 };
+        return Value::Is(Head::REF as usize);
     }
     if textread::is_word(l, b"rep=w32") {
-        return Value { no: 0, n: 1 };
+        return Value::Is(Head::W32 as usize);
     }
     if textread::is_word(l, b"rep=w64") {
-        return Value { no: 0, n: 2 };
+        return Value::Is(Head::W64 as usize);
     }
-    Value { no: 1, n: 0 }
+    Value::Refused(1)
 }
 
 pub fn next_rep(s: &[u8], c: Cursor) -> Got
-    requires { ⌜ c .at ≤ length (now s) ⌝ }
-    ensures is { λ r. ⌜ reading (now (s .entry)) (r .no) (repOf (r .n)) (r .next .at) ≡ line repLine (c .at) (split (drop (c .at) (now (s .entry)))) ⌝ }
-    ensures within { λ r. ⌜ (r .next .at ≤ length (now (s .entry))) × (r .n ≤ 2) ⌝ }
+    ensures is { λ r. ⌜ readBy repOf (now (s .entry)) (c .at) r ≡ line repLine (c .at) (split (drop (c .at) (now (s .entry)))) ⌝ }
+    ensures within { λ r. ⌜ GotAtMost 2 r ⌝ }
 {
-    let e = textread::line_end(s, c);
-    if e == s.len() {
-        return Got {
-            no: 1,
-            n: 0,
-            next: c,
-        };
-    }
-    let at = c.at;
-    let g = rep_line(&s[at..e]);
-    let next = textread::past(g.no, c, e);
-    Got {
-        no: g.no,
-        n: g.n,
-        next,
-    }
+    let l = textread::line_at(s, c);
+    let v = read_rep(l);
+    textread::passed(v, c, l)
 }
 
-// "`own=`(yes or no)"
-fn own_line(l: &[u8]) -> Value
-    ensures is { λ r. ⌜ result (r .no) (eqb (r .n) 1) ≡ ownLine (now (l .entry)) ⌝ }
-    ensures within { λ r. ⌜ r .n ≤ 1 ⌝ }
+// An `own=` line (S25).
+fn read_own(l: &[u8]) -> Value
+    ensures is { λ r. ⌜ valueBy yesOf r ≡ ownLine (now (l .entry)) ⌝ }
+    ensures within { λ r. ⌜ AtMost 1 r ⌝ }
 {
     if textread::is_word(l, b"own=yes") {
-        return Value { no: 0, n: 1 };
+        return Value::Is(Head::OWN as usize);
     }
     if textread::is_word(l, b"own=no") {
-        return Value { no: 0, n: 0 };
+        return Value::Is(0);
     }
-    Value { no: 1, n: 0 }
+    Value::Refused(1)
 }
 
 pub fn next_own(s: &[u8], c: Cursor) -> Got
-    requires { ⌜ c .at ≤ length (now s) ⌝ }
-    ensures is { λ r. ⌜ reading (now (s .entry)) (r .no) (eqb (r .n) 1) (r .next .at) ≡ line ownLine (c .at) (split (drop (c .at) (now (s .entry)))) ⌝ }
-    ensures within { λ r. ⌜ (r .next .at ≤ length (now (s .entry))) × (r .n ≤ 1) ⌝ }
+    ensures is { λ r. ⌜ readBy yesOf (now (s .entry)) (c .at) r ≡ line ownLine (c .at) (split (drop (c .at) (now (s .entry)))) ⌝ }
+    ensures within { λ r. ⌜ GotAtMost 1 r ⌝ }
 {
-    let e = textread::line_end(s, c);
-    if e == s.len() {
-        return Got {
-            no: 1,
-            n: 0,
-            next: c,
-        };
+    let l = textread::line_at(s, c);
+    let v = read_own(l);
+    textread::passed(v, c, l)
+}
+
+// The last line (S22).
+fn read_end(l: &[u8]) -> Value
+    ensures { λ r. ⌜ valueBy (λ n. tt) r ≡ endLine (now (l .entry)) ⌝ }
+{
+    if textread::is_word(l, b"end=sheet") {
+        return Value::Is(0);
     }
-    let at = c.at;
-    let g = own_line(&s[at..e]);
-    let next = textread::past(g.no, c, e);
-    Got {
-        no: g.no,
-        n: g.n,
-        next,
-    }
+    Value::Refused(1)
+}
+
+pub fn next_end(s: &[u8], c: Cursor) -> Got
+    ensures { λ r. ⌜ readBy (λ n. tt) (now (s .entry)) (c .at) r ≡ line endLine (c .at) (split (drop (c .at) (now (s .entry)))) ⌝ }
+{
+    let l = textread::line_at(s, c);
+    let v = read_end(l);
+    textread::passed(v, c, l)
 }
 
 // Whether the first count numbers are below n, and those numbers as bytes; the other bytes are 0.
 fn pack(items: [usize; 4], count: usize, n: usize) -> Packed
     requires { ⌜ (count ≤ 4) × (length items ≡ 4) × (n ≤ 256) ⌝ }
     ensures is { λ r. ⌜ r .right ≡ all (below n) (take count items) ⌝ }
-    ensures kept { λ r. ⌜ (r .right ≡ true → take count (r .items) ≡ take count items) × (length (r .items) ≡ 4) ⌝ }
+    ensures kept { λ r. ⌜ (r .right ≡ true → take count (r .items) ≡ take count items) × (length (r .items) ≡ 4) × ((k : ℕ) → count ≤ k → getD (r .items) k 0 ≡ 0) ⌝ }
 {
     let mut bytes = [0u8; 4];
     let mut i: usize = 0;
@@ -155,82 +148,52 @@ fn pack(items: [usize; 4], count: usize, n: usize) -> Packed
     }
 }
 
-fn no_under(no: usize) -> UnderLine
-    requires { ⌜ 0 < no ⌝ }
-    ensures { λ r. ⌜ result (r .no) (linksOf (rawLinks (r .links))) ≡ refuse no ⌝ }
-{
-    UnderLine {
-        no,
-        links: Links {
-            count: 0,
-            first: 0,
-            second: 0,
-        },
-    }
-}
-
-// "one `under=` line (one or two numbers, comma) for each category": the line of category k. "a broader category above the last, is 2".
-fn under_line(l: &[u8], cats: usize, k: usize) -> UnderLine
+// An `under=` line, of category k (S24): a broader category above the last is 2, another that is not below k is 3 (S12).
+fn read_under(l: &[u8], cats: usize, k: usize) -> Under
     requires { ⌜ (cats ≤ 31) × (k ≤ 31) ⌝ }
-    ensures is { λ r. ⌜ result (r .no) (linksOf (rawLinks (r .links))) ≡ underLine cats k (now (l .entry)) ⌝ }
-    ensures within { λ r. ⌜ (r .no ≡ 0 → between 1 2 (r .links .count) ≡ true) ⌝ }
+    ensures is { λ r. ⌜ underBy r ≡ underLine cats k (now (l .entry)) ⌝ }
+    ensures exact { λ r. ⌜ UnderExact r ⌝ }
 {
     if !textread::begins(l, b"under=") {
-        return no_under(1);
+        return Under::Refused(1);
     }
     let t = textread::numbers_at(l, 6, 2);
     if !t.right {
-        return no_under(1);
+        return Under::Refused(1);
     }
     if t.next < l.len() {
-        return no_under(1);
+        return Under::Refused(1);
     }
     let items = t.items;
     let known = pack(items, t.count, cats + 1);
     if !known.right {
-        return no_under(2);
+        return Under::Refused(2);
     }
     let lower = pack(items, t.count, k);
     if !lower.right {
-        return no_under(3);
+        return Under::Refused(3);
     }
-    let links = Links {
+    Under::Are(Links {
         count: narrow(t.count),
         first: lower.items[0],
         second: lower.items[1],
-    };
-    UnderLine { no: 0, links }
+    })
 }
 
 pub fn next_under(s: &[u8], c: Cursor, cats: usize, k: usize) -> UnderGot
-    requires { ⌜ (c .at ≤ length (now s)) × (cats ≤ 31) × (k ≤ 31) ⌝ }
-    ensures is { λ r. ⌜ reading (now (s .entry)) (r .no) (linksOf (rawLinks (r .links))) (r .next .at) ≡ line (underLine cats k) (c .at) (split (drop (c .at) (now (s .entry)))) ⌝ }
-    ensures within { λ r. ⌜ (r .next .at ≤ length (now (s .entry))) × (r .no ≡ 0 → between 1 2 (r .links .count) ≡ true) ⌝ }
+    requires { ⌜ (cats ≤ 31) × (k ≤ 31) ⌝ }
+    ensures is { λ r. ⌜ underRead (now (s .entry)) (c .at) r ≡ line (underLine cats k) (c .at) (split (drop (c .at) (now (s .entry)))) ⌝ }
+    ensures exact { λ r. ⌜ UnderGotExact r ⌝ }
 {
-    let e = textread::line_end(s, c);
-    if e == s.len() {
-        return UnderGot {
-            no: 1,
-            links: Links {
-                count: 0,
-                first: 0,
-                second: 0,
-            },
-            next: c,
-        };
-    }
-    let at = c.at;
-    let g = under_line(&s[at..e], cats, k);
-    let next = textread::past(g.no, c, e);
-    let links = g.links;
-    UnderGot {
-        no: g.no,
-        links,
-        next,
+    let l = textread::line_at(s, c);
+    let v = read_under(l, cats, k);
+    match v {
+        Under::Refused(n) => UnderGot::Refused(n),
+        Under::Are(x) => UnderGot::At(x, textread::past(c, l)),
     }
 }
 
-// The arguments of a signature, to the bracket that closes them. "more than two arguments is 1"
+// The arguments of a signature, to the bracket that closes them (S26). More than two are a fault of form (S11).
 fn args_at(l: &[u8], at: usize) -> Numbers
     requires { ⌜ at ≤ length (now l) ⌝ }
     ensures is { λ r. ⌜ scanned (now (l .entry)) (r .right) (take (r .count) (r .items)) (r .next) ≡ arguments (drop at (now (l .entry))) ⌝ }
@@ -267,55 +230,38 @@ fn args_at(l: &[u8], at: usize) -> Numbers
     }
 }
 
-// The answer of a signature: 0 for "a missing answer `-`", else the number plus 1.
+// The answer of a signature: 0 for `-`, else the number plus 1 (B10).
 fn answer_at(l: &[u8], at: usize) -> Number
     requires { ⌜ at ≤ length (now l) ⌝ }
-    ensures is { λ r. ⌜ scanned (now (l .entry)) (r .right) (answerOf (r .n)) (r .next) ≡ answer (drop at (now (l .entry))) ⌝ }
-    ensures within { λ r. ⌜ r .next ≤ length (now (l .entry)) ⌝ }
+    ensures { λ r. ⌜ scanBy answerOf (now (l .entry)) r ≡ answer (drop at (now (l .entry))) ⌝ }
 {
     if at == l.len() {
-        return Number {
-            right: false,
-            n: 0,
-            next: at,
-        };
+        return Number::Wrong;
     }
     if l[at] == b'-' {
-        return Number {
-            right: true,
-            n: 0,
-            next: at + 1,
-        };
+        return Number::Right(0, at + 1);
     }
     let t = textread::number_at(l, at);
-    if !t.right {
-        return Number {
-            right: false,
-            n: 0,
-            next: at,
-        };
-    }
-    Number {
-        right: true,
-        n: t.n + 1,
-        next: t.next,
+    match t {
+        Number::Wrong => Number::Wrong,
+        Number::Right(n, next) => Number::Right(n + 1, next),
     }
 }
 
-fn no_method(no: usize) -> MethodLine
-    requires { ⌜ 0 < no ⌝ }
-    ensures is { λ r. ⌜ result (r .no) (methodOf (rawMethod (r .m))) ≡ refuse no ⌝ }
-    ensures within { λ r. ⌜ rawMethodFits (rawMethod (r .m)) ≡ true ⌝ }
+fn no_method(refusal: usize) -> MethodLine
+    requires { ⌜ 0 < refusal ⌝ }
+    ensures is { λ r. ⌜ result (r .refusal) (methodOf (rawMethod (r .m))) ≡ refuse refusal ⌝ }
+    ensures exact { λ r. ⌜ MethodExact (rawMethod (r .m)) ⌝ }
 {
     let m = Method::empty();
-    MethodLine { no, m }
+    MethodLine { refusal, m }
 }
 
 // A method without a signature.
-fn unsigned_method(state: u8) -> MethodLine
+fn read_unsigned(state: u8) -> MethodLine
     requires { ⌜ (permit (stateOf state) ≡ false) × (state < 4) ⌝ }
-    ensures is { λ r. ⌜ result (r .no) (methodOf (rawMethod (r .m))) ≡ ok (unsigned (stateOf state)) ⌝ }
-    ensures within { λ r. ⌜ rawMethodFits (rawMethod (r .m)) ≡ true ⌝ }
+    ensures is { λ r. ⌜ result (r .refusal) (methodOf (rawMethod (r .m))) ≡ ok (unsigned (stateOf state)) ⌝ }
+    ensures exact { λ r. ⌜ MethodExact (rawMethod (r .m)) ⌝ }
 {
     let m = Method {
         state,
@@ -323,25 +269,24 @@ fn unsigned_method(state: u8) -> MethodLine
         args: [0u8; 4],
         answer: 0,
     };
-    MethodLine { no: 0, m }
+    MethodLine { refusal: 0, m }
 }
 
-// "A state with signature is written `avail(0,3)2`": the signature from `at` on, of a sheet with n types.
-fn signature_line(l: &[u8], at: usize, state: u8, n: usize) -> MethodLine
+// A signature, from `at` on, of a sheet with n types (S26): a number that isn't below n is 2 (S29).
+fn read_signature(l: &[u8], at: usize, state: u8, n: usize) -> MethodLine
     requires { ⌜ (at ≤ length (now l)) × (n ≤ 48) × (permit (stateOf state) ≡ true) ⌝ }
-    ensures is { λ r. ⌜ result (r .no) (methodOf (rawMethod (r .m))) ≡ signature n (stateOf state) (drop at (now (l .entry))) ⌝ }
-    ensures within { λ r. ⌜ rawMethodFits (rawMethod (r .m)) ≡ true ⌝ }
+    ensures is { λ r. ⌜ result (r .refusal) (methodOf (rawMethod (r .m))) ≡ signature n (stateOf state) (drop at (now (l .entry))) ⌝ }
+    ensures exact { λ r. ⌜ MethodExact (rawMethod (r .m)) ⌝ }
 {
     let t = args_at(l, at);
     if !t.right {
         return no_method(1);
     }
-    let a = t.next;
-    let o = answer_at(l, a);
-    if !o.right {
+    let o = answer_at(l, t.next);
+    let Number::Right(a, next) = o else {
         return no_method(1);
-    }
-    if o.next < l.len() {
+    };
+    if next < l.len() {
         return no_method(1);
     }
     let items = t.items;
@@ -349,7 +294,7 @@ fn signature_line(l: &[u8], at: usize, state: u8, n: usize) -> MethodLine
     if !p.right {
         return no_method(2);
     }
-    if n < o.n {
+    if n < a {
         return no_method(2);
     }
     let args = p.items;
@@ -357,45 +302,51 @@ fn signature_line(l: &[u8], at: usize, state: u8, n: usize) -> MethodLine
         state,
         count: narrow(t.count),
         args,
-        answer: narrow(o.n),
+        answer: narrow(a),
     };
-    MethodLine { no: 0, m }
+    MethodLine { refusal: 0, m }
 }
 
-// "an `m=` line for each method", of a sheet with n types.
-fn method_line(l: &[u8], n: usize) -> MethodLine
+// An `m=` line of a sheet with n types (S26).
+fn read_method(l: &[u8], n: usize) -> MethodLine
     requires { ⌜ n ≤ 48 ⌝ }
-    ensures is { λ r. ⌜ result (r .no) (methodOf (rawMethod (r .m))) ≡ methodLine n (now (l .entry)) ⌝ }
-    ensures within { λ r. ⌜ rawMethodFits (rawMethod (r .m)) ≡ true ⌝ }
+    ensures is { λ r. ⌜ result (r .refusal) (methodOf (rawMethod (r .m))) ≡ methodLine n (now (l .entry)) ⌝ }
+    ensures exact { λ r. ⌜ MethodExact (rawMethod (r .m)) ⌝ }
 {
     if textread::begins(l, b"m=avail(") {
-        return signature_line(l, 8, 2, n);
+        return read_signature(l, 8, Method::AVAIL, n);
     }
     if textread::begins(l, b"m=optional(") {
-        return signature_line(l, 11, 1, n);
+        return read_signature(l, 11, Method::OPTIONAL, n);
     }
     if textread::is_word(l, b"m=denied") {
-        return unsigned_method(0);
+        return read_unsigned(Method::DENIED);
     }
     if textread::is_word(l, b"m=unavail") {
-        return unsigned_method(3);
+        return read_unsigned(Method::UNAVAIL);
     }
     no_method(1)
 }
 
 pub fn next_method(s: &[u8], c: Cursor, n: usize) -> MethodGot
-    requires { ⌜ (c .at ≤ length (now s)) × (n ≤ 48) ⌝ }
-    ensures is { λ r. ⌜ reading (now (s .entry)) (r .no) (methodOf (rawMethod (r .m))) (r .next .at) ≡ line (methodLine n) (c .at) (split (drop (c .at) (now (s .entry)))) ⌝ }
-    ensures within { λ r. ⌜ (r .next .at ≤ length (now (s .entry))) × (rawMethodFits (rawMethod (r .m)) ≡ true) ⌝ }
+    requires { ⌜ n ≤ 48 ⌝ }
+    ensures is { λ r. ⌜ reading (now (s .entry)) (r .refusal) (methodOf (rawMethod (r .m))) (r .next .at) ≡ line (methodLine n) (c .at) (split (drop (c .at) (now (s .entry)))) ⌝ }
+    ensures exact { λ r. ⌜ MethodExact (rawMethod (r .m)) ⌝ }
 {
-    let e = textread::line_end(s, c);
-    if e == s.len() {
-        let m = Method::empty();
-        return MethodGot { no: 1, m, next: c };
-    }
-    let at = c.at;
-    let g = method_line(&s[at..e], n);
-    let next = textread::past(g.no, c, e);
+    let l = textread::line_at(s, c);
+    let g = read_method(l, n);
     let m = g.m;
-    MethodGot { no: g.no, m, next }
+    if g.refusal != 0 {
+        return MethodGot {
+            refusal: g.refusal,
+            m,
+            next: c,
+        };
+    }
+    let next = textread::past(c, l);
+    MethodGot {
+        refusal: 0,
+        m,
+        next,
+    }
 }

@@ -124,6 +124,7 @@ module _ (x : Links) where
   unfolding numberText underText join
   under-is n e = ap (λ z. (bytes "under=" ++ decimal z) ++ secondText x) e ∙ go (eqb (x .count) 2)
     where
-      go : (b : Bool) → (bytes "under=" ++ decimal (x .first)) ++ cond b (((44 ∷ []) ++ decimal (x .second)) ++ 10 ∷ []) (10 ∷ []) ≡ (bytes "under=" ++ commas (cond b (x .first ∷ x .second ∷ []) (x .first ∷ []))) ++ 10 ∷ []
+      go : (b : Bool) → (bytes "under=" ++ decimal (x .first)) ++ cond b (((44 ∷ []) ++ decimal (x .second)) ++ 10 ∷ []) (10 ∷ [])
+          ≡ (bytes "under=" ++ commas (cond b (x .first ∷ x .second ∷ []) (x .first ∷ []))) ++ 10 ∷ []
       go true = simp (append-assoc, append-nil)
       go false = simp (append-assoc, append-nil)

@@ -1,4 +1,4 @@
--- Pieces of a line, as they are written one behind the other. That together they are the lines of document 01 is proved in proofs/Laws.antt.
+-- Pieces of a line, as they are written one behind the other. That together they are the lines of a sheet is proved in proofs/Laws.antt.
 use mathlib.Core.Bool.{cond}
 use mathlib.Core.List.{List, [], _∷_, _++_}
 use Prim.Native.Nat.{ℕ, zero, suc}
@@ -20,7 +20,7 @@ argumentText (suc i) n = numberText (bytes ",") n
 abbrev pub closingText : ℕ → List ℕ
 closingText answer = code ")" ∷ (answerText (answerOf answer) ++ code "\n" ∷ [])
 
--- "A state with signature is written `avail(0,3)2`, a missing answer `-`": the key up to the bracket, `count` of the arguments, and the answer's code
+-- the line of a permitted method (S26): the key up to the bracket, `count` of the arguments, and the answer's code
 abbrev pub signedText : List ℕ → ℕ → List ℕ → ℕ → List ℕ
 signedText key count args answer = key ++ (commas (take count args) ++ code ")" ∷ answerText (answerOf answer))
 

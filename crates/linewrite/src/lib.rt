@@ -1,15 +1,16 @@
-// Document 01, "Sheet text": each kind of line of a sheet that is more than a key and a number, written in front of a lent buffer. Inside a line too the rest of
+// Each kind of line of a sheet (S24 to S26) that is more than a key and a number, written in front of a lent buffer. Inside a line too the rest of
 // the buffer, from the end of what is written, is lent on to the next writer. Every code has a line, so that nothing is asked of the bytes.
+use numbers::least;
 use numbers::wide;
+use table::Head;
 use table::Links;
 use table::Method;
-use textwrite::number_line;
 use textwrite::put_byte;
 use textwrite::put_bytes;
 use textwrite::put_decimal;
 use textwrite::put_number;
-use textwrite::text_line;
-use textwrite::upto;
+use textwrite::write_number;
+use textwrite::write_word;
 ghost use mathlib.Core.List.{[], _∷_};
 ghost use Prim.Native.Nat.{_≤_};
 ghost use lib.Dec.{eqb};
@@ -37,12 +38,12 @@ fn put_arguments(buf: &mut [u8], count: usize, args: [u8; 4]) -> usize
     ensures is { λ r. ⌜ Filled (now (buf .entry)) (now (buf .exit)) (commas (take count args)) r ⌝ }
     ensures few { λ r. ⌜ r ≤ 144 ⌝ }
 {
-    let n = upto(count, 4);
+    let n = least(count, 4);
     let mut at: usize = 0;
     let mut i: usize = 0;
     while i < n {
         let a = wide(args[i]);
-        let k = upto(at, buf.len());
+        let k = least(at, buf.len());
         let c = put_argument(&mut buf[k..], i, a);
         at += c;
         i += 1;
@@ -50,7 +51,7 @@ fn put_arguments(buf: &mut [u8], count: usize, args: [u8; 4]) -> usize
     at
 }
 
-// "a missing answer `-`"
+// The answer of a signature, `-` for none (S26).
 fn put_answer(buf: &mut [u8], answer: u8) -> usize
     ensures is { λ r. ⌜ Filled (now (buf .entry)) (now (buf .exit)) (answerText (answerOf answer)) r ⌝ }
     ensures few { λ r. ⌜ r ≤ 20 ⌝ }
@@ -68,71 +69,71 @@ fn put_closing(buf: &mut [u8], answer: u8) -> usize
     ensures few { λ r. ⌜ r ≤ 22 ⌝ }
 {
     let a = put_byte(buf, 41);
-    let k = upto(a, buf.len());
+    let k = least(a, buf.len());
     let b = put_answer(&mut buf[k..], answer);
     let d = a + b;
-    let j = upto(d, buf.len());
+    let j = least(d, buf.len());
     let c = put_byte(&mut buf[j..], 10);
     d + c
 }
 
-// "A state with signature is written `avail(0,3)2`": the line of a permitted method, whose key ends in the bracket.
-fn signed_line(buf: &mut [u8], key: &[u8], m: Method) -> usize
+// The line of a permitted method, whose key ends in the bracket (S26).
+fn write_signed(buf: &mut [u8], key: &[u8], m: Method) -> usize
     requires { ⌜ length (now key) ≤ 16 ⌝ }
     ensures is { λ r. ⌜ Lined (now (buf .entry)) (now (buf .exit)) (signedText (now (key .entry)) (m .count) (m .args) (m .answer) ∷ []) r ⌝ }
     ensures few { λ r. ⌜ r ≤ 182 ⌝ }
 {
     let args = m.args;
     let a = put_bytes(buf, key);
-    let k = upto(a, buf.len());
+    let k = least(a, buf.len());
     let b = put_arguments(&mut buf[k..], wide(m.count), args);
     let d = a + b;
-    let j = upto(d, buf.len());
+    let j = least(d, buf.len());
     let c = put_closing(&mut buf[j..], m.answer);
     d + c
 }
 
-// "an `m=` line for each method"
-pub fn method_line(buf: &mut [u8], m: Method) -> usize
+// The line of a method (S26).
+pub fn write_method(buf: &mut [u8], m: Method) -> usize
     ensures is { λ r. ⌜ Lined (now (buf .entry)) (now (buf .exit)) (methodText (methodOf (rawMethod m)) ∷ []) r ⌝ }
     ensures few { λ r. ⌜ r ≤ 182 ⌝ }
 {
     let state = m.state;
-    if state == 0 {
-        return text_line(buf, b"m=denied");
+    if state == Method::DENIED {
+        return write_word(buf, b"m=denied");
     }
-    if state == 1 {
-        return signed_line(buf, b"m=optional(", m);
+    if state == Method::OPTIONAL {
+        return write_signed(buf, b"m=optional(", m);
     }
-    if state == 2 {
-        return signed_line(buf, b"m=avail(", m);
+    if state == Method::AVAIL {
+        return write_signed(buf, b"m=avail(", m);
     }
-    text_line(buf, b"m=unavail")
+    write_word(buf, b"m=unavail")
 }
 
-// "`rep=`": "ref, w32 or w64"
-pub fn rep_line(buf: &mut [u8], rep: u8) -> usize
+// The line of a representation (S25).
+pub fn write_rep(buf: &mut [u8], rep: u8) -> usize
     ensures is { λ r. ⌜ Lined (now (buf .entry)) (now (buf .exit)) (repText (repOf rep) ∷ []) r ⌝ }
     ensures few { λ r. ⌜ r ≤ 17 ⌝ }
 {
-    if rep == 0 {
-        return text_line(buf, b"rep=ref");
+    if rep == Head::REF {
+        return write_word(buf, b"rep=ref");
     }
-    if rep == 1 {
-        return text_line(buf, b"rep=w32");
+    if rep == Head::W32 {
+        return write_word(buf, b"rep=w32");
     }
-    text_line(buf, b"rep=w64")
+    write_word(buf, b"rep=w64")
 }
 
-// "`own=`(yes or no)"
-pub fn own_line(buf: &mut [u8], own: u8) -> usize
+// The line of the own flag (S25).
+pub fn write_own(buf: &mut [u8], own: u8) -> usize
     ensures is { λ r. ⌜ Lined (now (buf .entry)) (now (buf .exit)) (ownText (eqb own 1) ∷ []) r ⌝ }
     ensures few { λ r. ⌜ r ≤ 17 ⌝ }
 {
-    if own == 1 {
-        return text_line(buf, b"own=yes");
+    if own == Head::OWN {
+        return write_word(buf, b"own=yes");
     }
-    text_line(buf, b"own=no")
+    write_word(buf, b"own=no")
 }
 
 // What follows the first number of an `under=` line: the second, where there is one, and the end of the line.
@@ -141,18 +142,18 @@ fn put_second(buf: &mut [u8], x: Links) -> usize
     ensures few { λ r. ⌜ r ≤ 37 ⌝ }
 {
     if x.count == 2 {
-        return number_line(buf, b",", wide(x.second));
+        return write_number(buf, b",", wide(x.second));
     }
     put_byte(buf, 10)
 }
 
-// "one `under=` line (one or two numbers, comma) for each category"
-pub fn under_line(buf: &mut [u8], x: Links) -> usize
+// The line of a category's broader ones (S24, W7).
+pub fn write_under(buf: &mut [u8], x: Links) -> usize
     ensures is { λ r. ⌜ Lined (now (buf .entry)) (now (buf .exit)) (underText (linksOf (rawLinks x)) ∷ []) r ⌝ }
     ensures few { λ r. ⌜ r ≤ 73 ⌝ }
 {
     let a = put_number(buf, b"under=", wide(x.first));
-    let k = upto(a, buf.len());
+    let k = least(a, buf.len());
     let c = put_second(&mut buf[k..], x);
     a + c
 }

@@ -2,61 +2,30 @@
 use mathlib.Core.Path.{_≡_, refl}
 use mathlib.Core.Bool.{Bool, true, false, _&&_}
 use mathlib.Core.List.{List, [], _∷_, _++_}
-use mathlib.Core.Option.{Option, none, some}
+use mathlib.Core.Option.{none, some}
 use Prim.Native.Nat.{ℕ}
-use lib.IntN.{ℤ, pos, negsuc}
-use lib.ListN.{length, drop}
+use lib.IntN.{pos, negsuc}
+use lib.ListN.{drop}
 use Rattle.model.specs.Basics.{all}
-use Rattle.model.specs.Table.{ref, State, denied, optional, avail, unavail, Kind, sub, sup, closed, Method, Ty, Table, noType, size, validSheet}
-use Rattle.model.specs.Requests.{Request, new, move, call, answer, pair, number, nothing, Outcome, got, refused, loaded, run}
+use Rattle.model.specs.Table.{denied, optional, avail, unavail, sub, sup, closed, Ty, Table, noType, size, validSheet, signed, bare}
+use Rattle.model.specs.Requests.{Request, move, pair, number, nothing, Outcome, got, refused, loaded, run}
 use Rattle.model.specs.Chains.{permits, offered}
 use Rattle.model.specs.Book.{Book, pageAt, enter}
 use Rattle.model.specs.Claim.{follow, reached}
-
--- ---- small words for sheets: a method's state with its signature, a reference type, and one with a key
-abbrev with : State → List ℕ → Option ℕ → Method
-with s xs a = record { state = s; args = xs; answer = a }
-
-abbrev bare : State → Method
-bare s = with s [] none
-
-abbrev type : List Method → Ty
-type ms = record { rep = ref; cat = 0; own = false; methods = ms; key = none }
-
-abbrev owned : List Method → Ty
-owned ms = record { rep = ref; cat = 0; own = true; methods = ms; key = none }
-
-abbrev derivedAs : Kind → ℕ → ℕ → List Method → Ty
-derivedAs d l r ms = record { rep = ref; cat = 0; own = false; methods = ms; key = some (record { kind = d; left = l; right = r }) }
-
-abbrev sheetOf : ℕ → ℕ → List Ty → Table
-sheetOf subjects methods ts = record { subjects = subjects; methods = methods; cats = []; sheet = length ts; types = ts }
-
--- requests with numbers that are not negative
-abbrev new′ : ℕ → ℕ → ℕ → Request
-new′ a b c = new (pos a) (pos b) (pos c)
-
-abbrev move′ : ℕ → ℕ → ℕ → ℕ → Request
-move′ a b c d = move (pos a) (pos b) (pos c) (pos d)
-
-abbrev call′ : ℕ → ℕ → ℕ → List ℤ → Request
-call′ a b c vs = call (pos a) (pos b) (pos c) vs
-
-abbrev answer′ : ℕ → ℕ → Option ℤ → Request
-answer′ a b v = answer (pos a) (pos b) v
+use Rattle.model.proofs.CasesWords.{type, owned, derivedAs, sheetOf, new′, move′, call′, answer′}
 
 -- ---- "Case P. Three subjects, methods 0 read, 1 mark, 2 erase."
 abbrev pub caseP : Table
 caseP = sheetOf 3 3 (noType
-    ∷ type (with avail [] (some 0) ∷ with avail (0 ∷ []) none ∷ bare avail ∷ [])
-    ∷ type (with avail [] (some 0) ∷ bare denied ∷ bare denied ∷ [])
-    ∷ type (with avail [] (some 0) ∷ with optional (0 ∷ []) none ∷ bare denied ∷ [])
-    ∷ owned (with avail [] (some 0) ∷ with avail (0 ∷ []) none ∷ bare avail ∷ [])
-    ∷ type (bare denied ∷ with avail (0 ∷ []) none ∷ bare denied ∷ [])
+    ∷ type (signed avail [] (some 0) ∷ signed avail (0 ∷ []) none ∷ bare avail ∷ [])
+    ∷ type (signed avail [] (some 0) ∷ bare denied ∷ bare denied ∷ [])
+    ∷ type (signed avail [] (some 0) ∷ signed optional (0 ∷ []) none ∷ bare denied ∷ [])
+    ∷ owned (signed avail [] (some 0) ∷ signed avail (0 ∷ []) none ∷ bare avail ∷ [])
+    ∷ type (bare denied ∷ signed avail (0 ∷ []) none ∷ bare denied ∷ [])
     ∷ [])
 
 -- A reference that gets two adapters: type 1 takes method 1 away, type 2 does not show method 2, and type 3 asks for it again. Type 4 is the class with own.
-abbrev twice : Table
+abbrev pub twice : Table
 twice = sheetOf 2 3 (
     type (bare avail ∷ bare avail ∷ bare avail ∷ [])
     ∷ type (bare avail ∷ bare unavail ∷ bare avail ∷ [])
@@ -66,22 +35,22 @@ twice = sheetOf 2 3 (
     ∷ [])
 
 -- Answers that are references: type 1 answers with 2, which shows nothing, and type 3 with 4, which asks for method 1 again.
-abbrev answering : Table
+abbrev pub answering : Table
 answering = sheetOf 2 2 (
-    type (with avail [] (some 0) ∷ bare avail ∷ [])
-    ∷ type (with avail [] (some 2) ∷ bare denied ∷ [])
+    type (signed avail [] (some 0) ∷ bare avail ∷ [])
+    ∷ type (signed avail [] (some 2) ∷ bare denied ∷ [])
     ∷ type (bare denied ∷ bare denied ∷ [])
-    ∷ type (with avail [] (some 4) ∷ bare denied ∷ [])
+    ∷ type (signed avail [] (some 4) ∷ bare denied ∷ [])
     ∷ type (bare denied ∷ bare optional ∷ [])
     ∷ [])
 
 -- Signatures of signatures: the two sides differ in every argument and answer, and those differ again.
-abbrev nested : Table
+abbrev pub nested : Table
 nested = sheetOf 1 2 (
-    type (with avail (2 ∷ 3 ∷ []) (some 4) ∷ with avail (3 ∷ []) (some 5) ∷ [])
-    ∷ type (with optional (3 ∷ 2 ∷ []) (some 5) ∷ with avail (2 ∷ []) (some 4) ∷ [])
-    ∷ type (with avail [] (some 4) ∷ bare denied ∷ [])
-    ∷ type (with avail [] (some 5) ∷ bare optional ∷ [])
+    type (signed avail (2 ∷ 3 ∷ []) (some 4) ∷ signed avail (3 ∷ []) (some 5) ∷ [])
+    ∷ type (signed optional (3 ∷ 2 ∷ []) (some 5) ∷ signed avail (2 ∷ []) (some 4) ∷ [])
+    ∷ type (signed avail [] (some 4) ∷ bare denied ∷ [])
+    ∷ type (signed avail [] (some 5) ∷ bare optional ∷ [])
     ∷ type (bare optional ∷ bare optional ∷ [])
     ∷ type (bare denied ∷ bare optional ∷ [])
     ∷ [])
@@ -94,7 +63,7 @@ all-valid = refl
 abbrev two : List Request
 two = new′ 0 1 4 ∷ move′ 0 0 1 2 ∷ []
 
-abbrev three : List Request
+abbrev pub three : List Request
 three = two ++ (move′ 1 1 2 3 ∷ [])
 
 -- ---- Demand 3 evaluated: what the state offers in a cell and what the book says of its page, each computed on its own
@@ -168,7 +137,7 @@ provedCases =
     ∷ record { table = caseP; requests = three ++ (move′ 2 2 2 5 ∷ []); gives = got (pair 0 0) ∷ got (pair 1 0) ∷ got (pair 2 1) ∷ refused 10 ∷ []; types = 8 }
     -- "new 0 2 2: 7"
     ∷ record { table = caseP; requests = new′ 0 2 2 ∷ []; gives = refused 7 ∷ []; types = 6 }
-    -- "erase called on cell 1: 14; mark on cell 2: 14"
+    -- "erase called on cell 1: 14; mark on cell 2: 14", which is only optional in type 3
     ∷ record { table = caseP; requests = two ++ (call′ 1 1 2 [] ∷ []); gives = got (pair 0 0) ∷ got (pair 1 0) ∷ refused 14 ∷ []; types = 6 }
     ∷ record { table = caseP; requests = three ++ (call′ 2 2 1 (pos 7 ∷ []) ∷ []); gives = got (pair 0 0) ∷ got (pair 1 0) ∷ got (pair 2 1) ∷ refused 14 ∷ []; types = 8 }
     -- further: a number answered through an adapter, one too large for w32, and numbers that are negative
@@ -204,17 +173,17 @@ abbrev derivedTypes : Table → List Request → List Ty
 derivedTypes t qs = drop (t .sheet) (run (loaded t) qs .1 .table .types)
 
 pub worked-nested : derivedTypes nested (new′ 0 0 1 ∷ new′ 0 0 1 ∷ []) ≡
-    derivedAs sub 1 0 (with optional (7 ∷ 9 ∷ []) (some 11) ∷ with avail (9 ∷ []) (some 12) ∷ [])
-    ∷ derivedAs sup 2 3 (with avail [] (some 8) ∷ bare denied ∷ [])
+    derivedAs sub 1 0 (signed optional (7 ∷ 9 ∷ []) (some 11) ∷ signed avail (9 ∷ []) (some 12) ∷ [])
+    ∷ derivedAs sup 2 3 (signed avail [] (some 8) ∷ bare denied ∷ [])
     ∷ derivedAs sup 4 5 (bare denied ∷ bare optional ∷ [])
-    ∷ derivedAs sup 3 2 (with avail [] (some 10) ∷ bare denied ∷ [])
+    ∷ derivedAs sup 3 2 (signed avail [] (some 10) ∷ bare denied ∷ [])
     ∷ derivedAs sup 5 4 (bare denied ∷ bare optional ∷ [])
     ∷ derivedAs sub 5 4 (bare denied ∷ bare optional ∷ [])
     ∷ derivedAs sub 4 5 (bare unavail ∷ bare optional ∷ [])
-    ∷ derivedAs closed 6 0 (with avail (14 ∷ 16 ∷ []) (some 18) ∷ with avail (16 ∷ []) (some 19) ∷ [])
-    ∷ derivedAs sup 2 7 (with avail [] (some 15) ∷ bare denied ∷ [])
+    ∷ derivedAs closed 6 0 (signed avail (14 ∷ 16 ∷ []) (some 18) ∷ signed avail (16 ∷ []) (some 19) ∷ [])
+    ∷ derivedAs sup 2 7 (signed avail [] (some 15) ∷ bare denied ∷ [])
     ∷ derivedAs sup 4 8 (bare denied ∷ bare optional ∷ [])
-    ∷ derivedAs sup 3 9 (with avail [] (some 17) ∷ bare denied ∷ [])
+    ∷ derivedAs sup 3 9 (signed avail [] (some 17) ∷ bare denied ∷ [])
     ∷ derivedAs sup 5 10 (bare denied ∷ bare optional ∷ [])
     ∷ derivedAs sub 11 4 (bare denied ∷ bare optional ∷ [])
     ∷ derivedAs sub 12 5 (bare unavail ∷ bare optional ∷ [])
@@ -223,9 +192,9 @@ unfolding run
 worked-nested = refl
 
 pub worked-answering : derivedTypes answering (new′ 0 0 1 ∷ move′ 0 0 1 3 ∷ []) ≡
-    derivedAs sub 3 1 (with avail [] (some 6) ∷ bare denied ∷ [])
+    derivedAs sub 3 1 (signed avail [] (some 6) ∷ bare denied ∷ [])
     ∷ derivedAs sub 4 2 (bare denied ∷ bare unavail ∷ [])
-    ∷ derivedAs closed 5 0 (with avail [] (some 8) ∷ bare unavail ∷ [])
+    ∷ derivedAs closed 5 0 (signed avail [] (some 8) ∷ bare unavail ∷ [])
     ∷ derivedAs sub 6 0 (bare denied ∷ bare unavail ∷ [])
     ∷ []
 unfolding run

@@ -1,6 +1,6 @@
 -- The check of 2 and the requests: a state that passes it stays, after every request, within its limits with every number below its count.
 use mathlib.Core.Path.{subst}
-use mathlib.Core.Bool.{_&&_, So}
+use mathlib.Core.Bool.{So}
 use mathlib.Core.Option.{Option, none, some}
 use Prim.Native.Nat.{ℕ, _≤_, _<_}
 use native.Mathlib.Omega.{arith}
@@ -17,7 +17,7 @@ use Rattle.model.proofs.Tests.{ltb-so, leb-so, so-leb}
 use Rattle.model.proofs.Rules.{both, first, second}
 use Rattle.model.proofs.Growth.{Grown}
 use Rattle.model.proofs.Deriving.{IfSome}
-use Rattle.model.proofs.Good.{Sound, sheet-within, derive-sound}
+use Rattle.model.proofs.Good.{Sound, counted-of, sheet-within, derive-sound}
 use Rattle.model.proofs.Steps.{IfOk}
 use Rattle.model.proofs.Fitting.{all-at, every-at, table-fitting, fitting-sound}
 use Rattle.model.proofs.Within.{PlaceIn, SystemIn, serve-in}
@@ -34,13 +34,8 @@ derived-of Q t d l r h = go (derive maxTypes t d l r) h
 -- ---- states handed in
 -- a sound table, and nothing known of an adapter's type but that it is in the table
 pub sound-derives : (t : Table) → Sound t → (d : Kind) (l r : ℕ) → So (related free t l r) → IfOk (derived t d l r) (λ x. Sound (x .0) × Grown t (x .0) × (x .1 < size (x .0)) × (Unit {0} → Unit {0}))
-sound-derives t g d l r h = derived-of _ t d l r (go (derive maxTypes t d l r) (derive-sound t g maxTypes d l r h (sound-room t g)))
+sound-derives t g d l r h = derived-of _ t d l r (go (derive maxTypes t d l r) (derive-sound t g maxTypes d l r h (counted-of t (g .counts) .types)))
   where
-    sound-room : (t : Table) → Sound t → size t ≤ maxTypes
-    sound-room t g = let c = g .counts in
-        let a₁ = leb 1 (t .subjects) && leb (t .subjects) 16 in let a₂ = leb 1 (t .methods) && leb (t .methods) 16 in let a₃ = leb (length (t .cats)) 31 in let a₄ = leb 1 (t .sheet) && leb (t .sheet) 48 in
-        leb-so (second (leb (t .sheet) (size t)) _ (second a₄ _ (second a₃ _ (second a₂ _ (second a₁ _ c)))))
-
     go : (o : Option (Table × ℕ)) → IfSome o (λ x. Sound (x .0) × Grown t (x .0) × (x .1 < size (x .0))) → IfSome o (λ x. Sound (x .0) × Grown t (x .0) × (x .1 < size (x .0)) × (Unit {0} → Unit {0}))
     go none w = tt
     go (some x) w = (w .0, w .1, w .2, λ u. u)

@@ -11,7 +11,7 @@ use lib.Dec.{eqb, ltb}
 use lib.ListN.{length, getD}
 use lib.Seq.{getD-append-seam, getD-set-same, getD-set-other}
 use Rattle.model.specs.Basics.{_⇒_, then, AllBelow}
-use Rattle.model.specs.Table.{State, Kind, sub, sup, closed, Key, Method, Ty, Table, noMethod, noType, size, typeAt, methodAt, permit, isRef}
+use Rattle.model.specs.Table.{State, Kind, sub, sup, closed, Key, Method, Ty, Table, noMethod, noType, size, typeAt, methodAt, permit, isRef, signed, bare}
 use Rattle.model.specs.Relations.{free, related, ArgsBy, AnswerBy, MethodBy, Rule}
 use Rattle.model.specs.Restriction.{restricted, argKind, answerKind, mainSide, isKey, sameKind, find, withoutNew, entry, pending, Derivation, deriveArgs, deriveAnswer, deriveMethod, deriveMethods, derive}
 use Rattle.model.proofs.Tests.{eqb-so}
@@ -159,8 +159,8 @@ module _ (t₀ : Table) where
         s = restricted d (x .state) (y .state)
 
         go : (b : Bool) → permit (restricted d (x .state) (y .state)) ≡ b → IfSome (elim b [
-          | false ↦ some (t, record { state = s; args = []; answer = none })
-          | true ↦ then (deriveArgs rec d t (x .args) (y .args)) λ p. then (deriveAnswer rec d (p .0) (x .answer) (y .answer)) λ q. some (q .0, record { state = s; args = p .1; answer = q .1 })
+          | false ↦ some (t, bare s)
+          | true ↦ then (deriveArgs rec d t (x .args) (y .args)) λ p. then (deriveAnswer rec d (p .0) (x .answer) (y .answer)) λ q. some (q .0, signed s (p .1) (q .1))
         ]) (GotMethod t p d x y)
         go false e = record { inv = v; grow = grown-refl t; is = here refl (λ h. never (sym e ∙ h)) (λ _. (refl, refl)); inside = (tt, tt) }
         go true e = let w = both-permit d (x .state) (y .state) e in let g = h .signature (w .0) (w .1) in

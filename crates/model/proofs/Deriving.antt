@@ -9,7 +9,7 @@ use lib.Dec.{ltb}
 use lib.ListN.{set, length-append, length-set, List·getD-append}
 use lib.Seq.{getD-set-other}
 use Rattle.model.specs.Basics.{then}
-use Rattle.model.specs.Table.{Kind, Method, Ty, Table, noType, maxTypes, size, typeAt, withTypes, permit}
+use Rattle.model.specs.Table.{Kind, Method, Ty, Table, noType, maxTypes, size, typeAt, withTypes, permit, signed, bare}
 use Rattle.model.specs.Restriction.{restricted, argKind, answerKind, withoutNew, entry, pending, Derivation, deriveArgs, deriveAnswer, deriveMethod, deriveMethods, make, derive}
 use Rattle.model.proofs.Tests.{ltb-so}
 use Rattle.model.proofs.Growth.{Grown, grown-refl, grown-trans}
@@ -79,8 +79,8 @@ module _ (P : Table → Table → Type 0) (at-once : (t : Table) → P t t) (onw
     method-kept x y t = go (permit (restricted d (x .state) (y .state)))
       where
         go : (b : Bool) → IfSome {A = Table × Method} (elim b [
-          | false ↦ some (t, record { state = restricted d (x .state) (y .state); args = []; answer = none })
-          | true ↦ then (deriveArgs rec d t (x .args) (y .args)) λ p. then (deriveAnswer rec d (p .0) (x .answer) (y .answer)) λ q. some (q .0, record { state = restricted d (x .state) (y .state); args = p .1; answer = q .1 })
+          | false ↦ some (t, bare (restricted d (x .state) (y .state)))
+          | true ↦ then (deriveArgs rec d t (x .args) (y .args)) λ p. then (deriveAnswer rec d (p .0) (x .answer) (y .answer)) λ q. some (q .0, signed (restricted d (x .state) (y .state)) (p .1) (q .1))
         ]) (λ x. P t (x .0))
         go false = at-once t
         go true = some-then _ _ (deriveArgs rec d t (x .args) (y .args)) _ (args-kept (x .args) (y .args) t) λ a p.

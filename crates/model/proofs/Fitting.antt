@@ -10,13 +10,13 @@ use native.Mathlib.Decide.{decLt}
 use lib.Dec.{eqb, ltb, leb}
 use lib.ListN.{length, getD, List·getD-eq-default}
 use Rattle.model.specs.Basics.{_⇒_, any, all, every, unlessMissing, AllBelow}
-use Rattle.model.specs.Table.{Key, Method, Ty, Table, noMethod, noType, size, typeAt, methodAt, isRef, permit, maxArguments, maxCategories, maxTypes, between, countsFit, linksFit, standsIn, isNone, isNil, signatureFits, methodCount, keyFits, signatureBound, typeFits, tableFits}
+use Rattle.model.specs.Table.{Key, Method, Ty, Table, noMethod, noType, size, typeAt, methodAt, isRef, permit, maxArguments, maxTypes, between, countsFit, linksFit, standsIn, isNone, isNil, signatureFits, methodCount, keyFits, signatureBound, typeFits, tableFits}
 use Rattle.model.specs.Relations.{reaches, broader, catLe}
 use Rattle.model.proofs.Tests.{eqb-so, eqb-self, ltb-so, leb-so, so-ltb}
 use Rattle.model.proofs.Rules.{never, both, first, second}
 use Rattle.model.proofs.Derived.{AnswerBelow, CategoryOrder, SignaturesIn}
 use Rattle.model.proofs.Unowned.{AllUnowned, AnswerUnowned, UnownedSignatures}
-use Rattle.model.proofs.Good.{MethodCounts, ShortSignatures, CategoriesIn, KeyBelow, Sound, out}
+use Rattle.model.proofs.Good.{MethodCounts, ShortSignatures, CategoriesIn, KeyBelow, Sound, counted-of, out}
 
 or-left : {a : Bool} (b : Bool) → So a → So (a || b)
 or-left b h = rw h
@@ -223,15 +223,13 @@ pub table-fitting : (t : Table) → So (tableFits t) → TableFitting t
 unfolding tableFits
 table-fitting t h =
     let c = first (countsFit t) _ h in let r = second (countsFit t) _ h in
-    let a₁ = between 1 16 (t .subjects) in let a₂ = between 1 16 (t .methods) in let a₃ = leb (length (t .cats)) maxCategories in let a₄ = between 1 48 (t .sheet) in let a₅ = leb (t .sheet) (size t) in
-    let c₃ = second a₂ _ (second a₁ _ c) in let c₅ = second a₄ _ (second a₃ _ c₃) in
-    let long : length (t .cats) ≤ 31 = leb-so (first a₃ _ c₃) in
+    let k = counted-of t c in
     record {
       counts = c;
-      sheet = leb-so (first a₅ _ c₅);
-      room = leb-so (second a₅ _ c₅);
+      sheet = k .sheet;
+      room = k .types;
       links = first (every linksFit 1 (t .cats)) _ r;
-      cats = category-order t (falls-of (t .cats) (first (every linksFit 1 (t .cats)) _ r)) (omega arith);
+      cats = category-order t (falls-of (t .cats) (first (every linksFit 1 (t .cats)) _ r)) (omega (arith, k .cats));
       types = λ i l. type-fitting t i (typeAt t i) (subst (λ n. So (typeFits t n (typeAt t i))) (omega arith) (every-at (typeFits t) noType 0 (t .types) (second (every linksFit 1 (t .cats)) _ r) i l));
     }
 

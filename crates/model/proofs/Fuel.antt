@@ -8,7 +8,7 @@ use native.Mathlib.Omega.{arith}
 use lib.Dec.{ltb}
 use lib.ListN.{set, length-append}
 use Rattle.model.specs.Basics.{then}
-use Rattle.model.specs.Table.{Kind, Method, Table, size, typeAt, permit, withTypes}
+use Rattle.model.specs.Table.{Kind, Method, Table, size, typeAt, permit, withTypes, signed, bare}
 use Rattle.model.specs.Restriction.{restricted, argKind, answerKind, withoutNew, entry, pending, Derivation, deriveArgs, deriveAnswer, deriveMethod, deriveMethods, make, derive}
 use Rattle.model.proofs.Tests.{ltb-so}
 use Rattle.model.proofs.Deriving.{IfSome, Keeping, Larger, larger-once, larger-onward, larger-new, args-kept, method-kept, derive-larger}
@@ -43,13 +43,13 @@ module _ (n : ℕ) (f g : Derivation) (grows : Keeping Larger larger-once larger
   method-agree x y t l = go (permit (restricted d (x .state) (y .state)))
     where
       w : Derivation → Option (Table × Method)
-      w rec = then (deriveArgs rec d t (x .args) (y .args)) λ p. then (deriveAnswer rec d (p .0) (x .answer) (y .answer)) λ q. some (q .0, record { state = restricted d (x .state) (y .state); args = p .1; answer = q .1 })
+      w rec = then (deriveArgs rec d t (x .args) (y .args)) λ p. then (deriveAnswer rec d (p .0) (x .answer) (y .answer)) λ q. some (q .0, signed (restricted d (x .state) (y .state)) (p .1) (q .1))
 
       both : w f ≡ w g
       both = then-same (λ z. size t ≤ size (z .0)) (deriveArgs f d t (x .args) (y .args)) (deriveArgs g d t (x .args) (y .args)) _ _ (args-agree (x .args) (y .args) t l) (args-kept Larger larger-once larger-onward larger-new f grows d (x .args) (y .args) t)
-          λ a p. ap (λ m. then m λ q. some (q .0, record { state = restricted d (x .state) (y .state); args = a .1; answer = q .1 })) (answer-agree (x .answer) (y .answer) (a .0) (omega arith))
+          λ a p. ap (λ m. then m λ q. some (q .0, signed (restricted d (x .state) (y .state)) (a .1) (q .1))) (answer-agree (x .answer) (y .answer) (a .0) (omega arith))
 
-      go : (b : Bool) → _≡_ {A = Option (Table × Method)} (elim b [ false ↦ some (t, record { state = restricted d (x .state) (y .state); args = []; answer = none }) | true ↦ w f ]) (elim b [ false ↦ some (t, record { state = restricted d (x .state) (y .state); args = []; answer = none }) | true ↦ w g ])
+      go : (b : Bool) → _≡_ {A = Option (Table × Method)} (elim b [ false ↦ some (t, bare (restricted d (x .state) (y .state))) | true ↦ w f ]) (elim b [ false ↦ some (t, bare (restricted d (x .state) (y .state))) | true ↦ w g ])
       go false = refl
       go true = both
 

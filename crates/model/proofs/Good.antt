@@ -116,11 +116,22 @@ method-unowned t c d x y z (here e s n) p q = go (permit (z .state)) refl
     go true h = let k = s h in (args-unowned t c (argKind d) (x .args) (y .args) (z .args) (k .args) (p .0) (q .0), answer-unowned t c (answerKind d) (x .answer) (y .answer) (z .answer) (k .answer) (p .1) (q .1))
     go false h = let k = n h in rw (k .0, k .1) (tt, tt)
 
+-- what counts within their limits say
+pub record Counted (t : Table) : Type 0 where
+  pub methods : t .methods ≤ maxMethods
+  pub cats : length (t .cats) ≤ maxCategories
+  pub sheet : t .sheet ≤ size t
+  pub types : size t ≤ maxTypes
+
+pub counted-of : (t : Table) → So (countsFit t) → Counted t
+counted-of t c =
+    let a₁ = between 1 maxSubjects (t .subjects) in let a₂ = between 1 maxMethods (t .methods) in let a₃ = leb (length (t .cats)) maxCategories in let a₄ = between 1 maxSheetTypes (t .sheet) in
+    let a₅ = leb (t .sheet) (size t) in let c₂ = second a₁ _ c in let c₃ = second a₂ _ c₂ in let c₅ = second a₄ _ (second a₃ _ c₃) in
+    record { methods = leb-so (second (leb 1 (t .methods)) _ (first a₂ _ c₂)); cats = leb-so (first a₃ _ c₃); sheet = leb-so (first a₅ _ c₅); types = leb-so (second a₅ _ c₅) }
+
 -- the sheet's types are types of the table
 pub sheet-within : (t : Table) → So (countsFit t) → t .sheet ≤ size t
-sheet-within t c =
-    let a₁ = between 1 maxSubjects (t .subjects) in let a₂ = between 1 maxMethods (t .methods) in let a₃ = leb (length (t .cats)) maxCategories in let a₄ = between 1 maxSheetTypes (t .sheet) in
-    leb-so (first (leb (t .sheet) (size t)) _ (second a₄ _ (second a₃ _ (second a₂ _ (second a₁ _ c)))))
+sheet-within t c = counted-of t c .sheet
 
 -- limits and the signatures of sheet types stay as the table grows
 pub grown-counts : (t u : Table) → Grown t u → So (countsFit t) → size u ≤ maxTypes → So (countsFit u)

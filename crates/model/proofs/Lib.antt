@@ -1,4 +1,8 @@
+pub mod CasesWords
 pub mod Cases
+pub mod CasesAnswers
+pub mod CasesWorked
+pub mod CasesHanded
 pub mod Tests
 pub mod Rules
 pub mod Largest

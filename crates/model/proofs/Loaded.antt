@@ -9,7 +9,7 @@ use native.Mathlib.Decide.{decLt}
 use lib.Dec.{ltb, leb}
 use lib.ListN.{length, getD, List·getD-eq-default}
 use Rattle.model.specs.Basics.{from}
-use Rattle.model.specs.Table.{Key, Table, noMethod, noType, maxMethods, size, typeAt, methodAt, permit, between, linksFit, isNone, signatureFits, keyFits, signatureBound, tableFits}
+use Rattle.model.specs.Table.{Key, Table, noMethod, noType, size, typeAt, methodAt, permit, between, linksFit, isNone, signatureFits, keyFits, signatureBound, tableFits}
 use Rattle.model.specs.Requests.{loaded}
 use Rattle.model.specs.Check.{RawTable, noRawLinks, noRawType, typeOf, linksOf, tableOf, systemOf, rawTypeFits, codesFit, tableAccepted, stateCodesFit, systemAccepted}
 use Rattle.model.specs.Records.{typeRecord, linksRecord}
@@ -17,6 +17,7 @@ use Rattle.model.specs.Handed.{rawTableOf, rawLoaded}
 use Rattle.model.proofs.Tests.{ltb-so, leb-so}
 use Rattle.model.proofs.Rules.{both, first, second}
 use Rattle.model.proofs.Lists.{is-from, from-shift, getD-map-in, all-from, every-from}
+use Rattle.model.proofs.Good.{counted-of}
 use Rattle.model.proofs.Fitting.{TableFitting, all-at, every-at, fitting-short}
 use Rattle.model.proofs.Checked.{fitting-system}
 use Rattle.model.proofs.Reached.{unsigned}
@@ -44,9 +45,6 @@ module _ (t : Table) (f : TableFitting t) where
       go m (yes k) = unsigned t (signatureBound t i) (methodAt t i m) (all-at (signatureFits t (signatureBound t i)) noMethod (typeAt t i .methods) (f .types i l .signatures) m k)
       go m (no k) = rw (List·getD-eq-default (typeAt t i .methods) noMethod {n = m} (omega arith)) (λ e. (refl, refl))
 
-  few : t .methods ≤ maxMethods
-  few = leb-so (second (leb 1 (t .methods)) _ (first (between 1 16 (t .methods)) _ (second (between 1 16 (t .subjects)) _ (f .counts))))
-
   -- the links of category k + 1
   link-fits : (k : ℕ) → k < length (t .cats) → So (between 1 2 (length (getD (t .cats) k [])))
   link-fits k l = first (between 1 2 (length (getD (t .cats) k []))) _ (every-at linksFit [] 1 (t .cats) (f .links) k l)
@@ -59,14 +57,15 @@ module _ (t : Table) (f : TableFitting t) where
 
   links-mean : from (length (t .cats)) 1 (λ k. linksOf (getD (rawTableOf t .links) k noRawLinks)) ≡ t .cats
   links-mean = from-shift (λ k. linksOf (getD (rawTableOf t .links) k noRawLinks)) (length (t .cats)) 0
-      ∙ is-from (λ k. linksOf (getD (map linksRecord (t .cats)) k noRawLinks)) (length (t .cats)) [] (t .cats) refl λ k l. sym (ap linksOf (link-at k l) ∙ links-back (getD (t .cats) k []) (link-fits k l))
+      ∙ is-from (λ k. linksOf (getD (map linksRecord (t .cats)) k noRawLinks)) (length (t .cats)) [] (t .cats) refl λ k l.
+      sym (ap linksOf (link-at k l) ∙ links-back (getD (t .cats) k []) (link-fits k l))
 
   pub table-back : tableOf (rawTableOf t) ≡ t
   unfolding tableOf
   table-back = rw (
     links-mean,
     is-from (λ i. typeOf (t .methods) (t .sheet) i (getD (map typeRecord (t .types)) i noRawType)) (size t) noType (t .types) refl λ i l.
-        sym (ap (typeOf (t .methods) (t .sheet) i) (type-at i l) ∙ type-back (t .methods) (t .sheet) i (typeAt t i) few (fitting-shaped i l)),
+        sym (ap (typeOf (t .methods) (t .sheet) i) (type-at i l) ∙ type-back (t .methods) (t .sheet) i (typeAt t i) (counted-of t (f .counts) .methods) (fitting-shaped i l)),
   )
 
   pub table-codes : So (codesFit (rawTableOf t))

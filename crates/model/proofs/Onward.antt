@@ -1,4 +1,4 @@
--- What an accepted request leaves as it was, from any state: types, cells and places that there were, and calls but for their flag.
+-- What an accepted request leaves as it was, from any state: types, cells and places that there were, and calls but for their flag (Q15).
 use mathlib.Core.Path.{_≡_, refl, ap, sym, subst, _∙_}
 use mathlib.Core.Bool.{Bool, true, false, not, _&&_}
 use mathlib.Core.List.{List, [], _∷_, _++_, map, reverse}
@@ -61,7 +61,10 @@ cross-carries f to r = go (typeAt t to .own) (related subtype t to (f .type))
 
     go : (own st : Bool) → IfOk (elim own [
       | true ↦ need (related free t to (f .type)) 8 λ _. need (eqb r (baseOwner ps (f .place))) 9 λ _. adapt t ps to to (baseOf ps (f .place))
-      | false ↦ need (related loose t to (f .type)) 8 λ _. elim st [ true ↦ ok (record { table = t; places = ps; type = to; place = f .place }) | false ↦ try (derived t sub to (f .type)) λ x. adapt (x .0) ps to (x .1) (f .place) ]
+      | false ↦ need (related loose t to (f .type)) 8 λ _. elim st [
+        | true ↦ ok (record { table = t; places = ps; type = to; place = f .place })
+        | false ↦ try (derived t sub to (f .type)) λ x. adapt (x .0) ps to (x .1) (f .place)
+      ]
     ]) (Carried t ps)
     go true st = ok-need _ (related free t to (f .type)) 8 _ λ _. ok-need _ (eqb r (baseOwner ps (f .place))) 9 _ λ _. adapt-carries t ps to to (baseOf ps (f .place))
     go false true = ok-need _ (related loose t to (f .type)) 8 _ λ _. record { table = grown-refl t; places = prefix-refl noPlace ps }
@@ -139,7 +142,12 @@ call-added s c = record {
 }
 
 call-answered : (s : System) (i : ℕ) → Onward s (withAnswer s i)
-call-answered s i = record { table = grown-refl (s .table); cells = prefix-refl noCell (s .cells); places = prefix-refl noPlace (s .places); calls = record { more = omega (arith, length-set (s .calls) i c); same = λ j l. go j l (ℕ-discrete j i) } }
+call-answered s i = record {
+  table = grown-refl (s .table);
+  cells = prefix-refl noCell (s .cells);
+  places = prefix-refl noPlace (s .places);
+  calls = record { more = omega (arith, length-set (s .calls) i c); same = λ j l. go j l (ℕ-discrete j i) };
+}
   where
     c : Call
     c = flagged (callAt s i) true
@@ -162,7 +170,8 @@ give-onward s subject i (some a) (some v) = go (isRef (typeAt (s .table) a .rep)
       | true ↦ need (held s subject v) 15 λ _. try (send s (callAt s i .caller) (named v) ts) λ x. ok (withAnswer (x .0) i, x .1)
       | false ↦ try (passLayers true (s .table) v ts) λ _. ok (withAnswer s i, number v)
     ]) (λ x. Onward s (x .0))
-    go true = ok-need _ (held s subject v) 15 _ λ _. ok-try _ _ (send s (callAt s i .caller) (named v) ts) _ (send-onward s (callAt s i .caller) (named v) ts) λ x w. onward-trans w (call-answered (x .0) i)
+    go true = ok-need _ (held s subject v) 15 _ λ _.
+        ok-try _ _ (send s (callAt s i .caller) (named v) ts) _ (send-onward s (callAt s i .caller) (named v) ts) λ x w. onward-trans w (call-answered (x .0) i)
     go false = ok-try _ _ (passLayers true (s .table) v ts) _ (whatever (passLayers true (s .table) v ts)) λ _ _. call-answered s i
 
 -- ---- the four requests

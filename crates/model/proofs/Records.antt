@@ -9,7 +9,7 @@ use native.Mathlib.Decide.{decLt}
 use lib.Dec.{eqb, ltb, leb}
 use lib.ListN.{length, getD}
 use Rattle.model.specs.Basics.{_⇒_, from}
-use Rattle.model.specs.Table.{State, denied, optional, avail, unavail, Rep, ref, w32, w64, Kind, sub, sup, closed, Key, Method, Ty, noMethod, maxArguments, maxMethods, isRef, permit, between, isNone, methodCount}
+use Rattle.model.specs.Table.{State, denied, optional, avail, unavail, Rep, ref, w32, w64, Kind, sub, sup, closed, Key, Method, Ty, noMethod, maxArguments, maxMethods, isRef, permit, between, isNone, methodCount, signed}
 use Rattle.model.specs.Relations.{bit}
 use Rattle.model.specs.Crossing.{Place, object, adapter}
 use Rattle.model.specs.Requests.{Call, flagged}
@@ -64,7 +64,7 @@ answer-back none = refl
 answer-back (some a) = refl
 
 abbrev MethodBack : State → List ℕ → Option ℕ → Type 0
-MethodBack s xs a = _≡_ {A = Method} (methodOf (methodRecord (record { state = s; args = xs; answer = a }))) (record { state = s; args = xs; answer = a })
+MethodBack s xs a = _≡_ {A = Method} (methodOf (methodRecord (signed s xs a))) (signed s xs a)
 
 bare-back : (s : State) → permit s ≡ false → stateOf (stateCode s) ≡ s → (xs : List ℕ) (a : Option ℕ) → (xs ≡ []) × (a ≡ none) → MethodBack s xs a
 bare-back s e b xs a u = rw (u .0, u .1, b, e)

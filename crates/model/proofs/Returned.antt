@@ -9,7 +9,7 @@ use Prim.Native.Nat.{ℕ, zero, suc, _+_, _≤_, _<_}
 use native.Mathlib.Nat.{zero-add}
 use native.Mathlib.Omega.{arith}
 use native.Mathlib.Decide.{decLt}
-use lib.Dec.{ltb, leb}
+use lib.Dec.{ltb}
 use lib.ListN.{length, getD, List·getD-map, length-map}
 use Rattle.model.specs.Basics.{Res, refuse, ok, need, all, every, from}
 use Rattle.model.specs.Table.{Kind, Key, Ty, Table, noMethod, noType, maxMethods, maxTypes, size, typeAt, permit, isNone, methodCount, between, tableFits, validSheet}
@@ -22,13 +22,13 @@ use Rattle.model.specs.Records.{typeRecord}
 use Rattle.model.specs.Handed.{placeRecord, callRecord, storedTable, storedFrom, counted, handBack, serveHanded, Returns}
 use Rattle.model.specs.Book.{Book, opened}
 use Rattle.model.specs.Claim.{accepted, feed, follow, reached}
-use Rattle.model.proofs.Tests.{ltb-so, so-ltb, ltb-no, leb-so}
+use Rattle.model.proofs.Tests.{ltb-so, so-ltb, ltb-no}
 use Rattle.model.proofs.Rules.{both, first, second}
 use Rattle.model.proofs.Lists.{length-from, from-first, is-from, from-same, all-from, every-from, first-all}
 use Rattle.model.proofs.Growth.{Grown, grown-refl, grown-trans}
 use Rattle.model.proofs.Deriving.{IfSome}
 use Rattle.model.proofs.Completes.{Inv, Got, Fresh}
-use Rattle.model.proofs.Good.{Sound, sheet-within, derive-inv, derive-sound}
+use Rattle.model.proofs.Good.{Sound, counted-of, sheet-within, derive-inv, derive-sound}
 use Rattle.model.proofs.Steps.{IfOk}
 use Rattle.model.proofs.Fitting.{all-at, every-at, table-fitting}
 use Rattle.model.proofs.Within.{SystemIn, serve-in}
@@ -65,14 +65,10 @@ module _ (t₀ : Table) where
       go i l k (yes h) = rw (v .ext .same i h) (a .each i l h)
       go i l k (no h) = fresh i (v .fresh i (omega arith) k)
 
-  pub added-derives : (t : Table) → Added t → (d : Kind) (l r : ℕ) → So (related free t l r) → IfOk (derived t d l r) (λ x. Added (x .0) × Grown t (x .0) × (x .1 < size (x .0)) × (Unit {0} → Unit {0}))
-  added-derives t a d l r h = derived-of _ t d l r (go (derive maxTypes t d l r) (derive-inv t (a .sound .methods) maxTypes d l r h) (derive-sound t (a .sound) maxTypes d l r h room))
+  pub added-derives : (t : Table) → Added t → (d : Kind) (l r : ℕ) → So (related free t l r)
+      → IfOk (derived t d l r) (λ x. Added (x .0) × Grown t (x .0) × (x .1 < size (x .0)) × (Unit {0} → Unit {0}))
+  added-derives t a d l r h = derived-of _ t d l r (go (derive maxTypes t d l r) (derive-inv t (a .sound .methods) maxTypes d l r h) (derive-sound t (a .sound) maxTypes d l r h (counted-of t (a .sound .counts) .types)))
     where
-      room : size t ≤ maxTypes
-      room = let c = a .sound .counts in
-          let a₁ = between 1 16 (t .subjects) in let a₂ = between 1 16 (t .methods) in let a₃ = leb (length (t .cats)) 31 in let a₄ = between 1 48 (t .sheet) in
-          leb-so (second (leb (t .sheet) (size t)) _ (second a₄ _ (second a₃ _ (second a₂ _ (second a₁ _ c)))))
-
       go : (o : Option (Table × ℕ)) → IfSome o (Got t t (λ j. ⊥) d l r) → IfSome o (λ x. Sound (x .0) × Grown t (x .0) × (x .1 < size (x .0)))
           → IfSome o (λ x. Added (x .0) × Grown t (x .0) × (x .1 < size (x .0)) × (Unit {0} → Unit {0}))
       go none w s = tt
@@ -118,8 +114,7 @@ module _ (r : RawTable) (fits : So (tableFits (tableOf r))) (t : Table) (a : Add
   old-type i l = from-first (λ i. typeOf (r .methods) (r .sheet) i (getD (r .records) i noRawType)) (r .types) i noType l
 
   few-methods : r .methods ≤ maxMethods
-  few-methods = let c = a .sound .counts in let m : t .methods ≤ maxMethods = leb-so (second (leb 1 (t .methods)) _ (first (between 1 16 (t .methods)) _ (second (between 1 16 (t .subjects)) _ c))) in
-      subst (λ n. n ≤ maxMethods) methods-are m
+  few-methods = subst (λ n. n ≤ maxMethods) methods-are (counted-of t (a .sound .counts) .methods)
 
   sheet-counted : r .sheet ≤ r .types
   sheet-counted = let f = table-fitting (tableOf r) fits in omega (arith, f .sheet, counts-are .2, counts-are .3)
@@ -172,10 +167,12 @@ unfolding systemOf storedFrom
 system-means r fits s a = rw (table-means (r .table) fits (s .table) a, first-all noCell (s .cells) (length (s .cells)) refl, places, calls)
   where
     places : from (length (s .places)) 0 (λ k. placeOf (getD (map placeRecord (s .places)) k noRawPlace)) ≡ s .places
-    places = is-from (λ k. placeOf (getD (map placeRecord (s .places)) k noRawPlace)) (length (s .places)) noPlace (s .places) refl λ k l. sym (ap placeOf (List·getD-map placeRecord (s .places) k noPlace) ∙ place-back (placeAt (s .places) k))
+    places = is-from (λ k. placeOf (getD (map placeRecord (s .places)) k noRawPlace)) (length (s .places)) noPlace (s .places) refl λ k l.
+        sym (ap placeOf (List·getD-map placeRecord (s .places) k noPlace) ∙ place-back (placeAt (s .places) k))
 
     calls : from (length (s .calls)) 0 (λ j. callOf (getD (map callRecord (s .calls)) j noRawCall)) ≡ s .calls
-    calls = is-from (λ j. callOf (getD (map callRecord (s .calls)) j noRawCall)) (length (s .calls)) noCall (s .calls) refl λ j l. sym (ap callOf (List·getD-map callRecord (s .calls) j noCall) ∙ call-back (callAt s j))
+    calls = is-from (λ j. callOf (getD (map callRecord (s .calls)) j noRawCall)) (length (s .calls)) noCall (s .calls) refl λ j l.
+        sym (ap callOf (List·getD-map callRecord (s .calls) j noCall) ∙ call-back (callAt s j))
 
 -- what the check says of a state that is handed in
 pub accepted-codes : (r : RawSystem) → So (systemAccepted r) → So (codesFit (r .table)) × So (stateCodesFit r) × So (systemFits (systemOf r))
@@ -206,7 +203,7 @@ returned-means r h q = ap (λ x. systemOf (x .state)) (handed-is r h q) ∙ go (
     go (refuse n) a = refl
     go (ok x) a = system-means r (accepted-table r h) (x .0) a
 
--- ---- "every counted record": what was counted before is stored as it was, a call but for its flag
+-- ---- what was counted before is stored as it was, a call but for its flag (Q15)
 abbrev pub rawFlagged : RawCall → ℕ → RawCall
 rawFlagged c b = record { caller = c .caller; cell = c .cell; method = c .method; answered = b }
 
@@ -232,9 +229,11 @@ module _ (r : RawSystem) (h : So (systemAccepted r)) (s : System) (o : Onward (s
   old-place p l =
       let f : ℕ → Place = λ k. placeOf (getD (r .placeRecords) k noRawPlace) in let x = getD (r .placeRecords) p noRawPlace in
       let c = all-at (λ p. ltb (p .code) 2) noRawPlace (firstOf (r .places) noRawPlace (r .placeRecords))
-      (first (all (λ p. ltb (p .code) 2) (firstOf (r .places) noRawPlace (r .placeRecords))) _ (accepted-codes r h .1)) p (omega (arith, length-from (λ k. getD (r .placeRecords) k noRawPlace) (r .places) 0)) in
+      (first (all (λ p. ltb (p .code) 2) (firstOf (r .places) noRawPlace (r .placeRecords))) _ (accepted-codes r h .1)) p
+      (omega (arith, length-from (λ k. getD (r .placeRecords) k noRawPlace) (r .places) 0)) in
       let e = from-first (λ k. getD (r .placeRecords) k noRawPlace) (r .places) p noRawPlace l in
-      ap placeRecord (o .places .same p (omega (arith, length-from f (r .places) 0)) ∙ from-first f (r .places) p noPlace l) ∙ place-forth (x .code) (x .first) (x .second) (subst (λ y. So (ltb (y .code) 2)) e c)
+      ap placeRecord (o .places .same p (omega (arith, length-from f (r .places) 0)) ∙ from-first f (r .places) p noPlace l)
+      ∙ place-forth (x .code) (x .first) (x .second) (subst (λ y. So (ltb (y .code) 2)) e c)
 
   old-call : (j : ℕ) → j < r .calls → callRecord (callAt s j) ≡ rawFlagged (getD (r .callRecords) j noRawCall) (callRecord (callAt s j) .answered)
   unfolding systemOf
@@ -313,7 +312,8 @@ module _ (r : RawTable) (fits : So (tableFits (tableOf r))) (codes : So (codesFi
       go i l true e = let k : i < r .types = ltb-so e in
           subst (λ x. So (rawTypeFits (r .methods) (r .sheet) i x)) (from-first (λ i. getD (r .records) i noRawType) (r .types) i noRawType k)
           (subst (λ n. So (rawTypeFits (r .methods) (r .sheet) n (getD (from (r .types) 0 (λ i. getD (r .records) i noRawType)) i noRawType))) (zero-add i)
-          (every-at (rawTypeFits (r .methods) (r .sheet)) noRawType 0 (from (r .types) 0 (λ i. getD (r .records) i noRawType)) (second oldLinks oldTypes codes) i (omega (arith, length-from (λ i. getD (r .records) i noRawType) (r .types) 0))))
+          (every-at (rawTypeFits (r .methods) (r .sheet)) noRawType 0 (from (r .types) 0 (λ i. getD (r .records) i noRawType)) (second oldLinks oldTypes codes) i
+          (omega (arith, length-from (λ i. getD (r .records) i noRawType) (r .types) 0))))
       go i l false e = type-codes (r .methods) (r .sheet) i (typeAt t i) (new-shaped r fits t a i (ltb-no e) l)
 
 stored-state-codes : (r : RawSystem) (s : System) → So (stateCodesFit (storedFrom r s))

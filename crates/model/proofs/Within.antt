@@ -243,17 +243,16 @@ module _ (TP : Table → Type 0) (RF : Table → ℕ → Type 0)
   system-reference s h k l = let c = h .cells k l in record { table = h .table; places = h .places; place = c .place; isref = c .isref }
 
   -- what stays of cells and calls as the state grows
-  cell-grow : (s : System) → SystemIn s → (u : Table) → Grown (s .table) u → (ps : List Place) → length (s .places) ≤ length ps → (cs : List Cell) (ds : List Call) (c : Cell) → CellIn s c
-      → CellIn (record { table = u; cells = cs; places = ps; calls = ds }) c
-  cell-grow s h u g ps l cs ds c k = record {
+  cell-grow : (s : System) → SystemIn s → (v : System) → Grown (s .table) (v .table) → length (s .places) ≤ length (v .places) → (c : Cell) → CellIn s c → CellIn v c
+  cell-grow s h v g l c k = record {
     holder = rw (g .subjects) (k .holder);
     place = omega (arith, k .place);
     sheet = rw (g .sheet) (k .sheet);
     isref = rw (g .same (c .type) (let q = sheet-in (s .table) (h .table) in omega (arith, k .sheet))) (k .isref);
   }
 
-  call-grow : (s : System) (u : Table) → Grown (s .table) u → (cs : List Cell) → length (s .cells) ≤ length cs → (ps : List Place) (ds : List Call) (c : Call) → CallIn s c → CallIn (record { table = u; cells = cs; places = ps; calls = ds }) c
-  call-grow s u g cs l ps ds c k = record { caller = rw (g .subjects) (k .caller); cell = omega (arith, k .cell); method = rw (g .methods) (k .method) }
+  call-grow : (s v : System) → Grown (s .table) (v .table) → length (s .cells) ≤ length (v .cells) → (c : Call) → CallIn s c → CallIn v c
+  call-grow s v g l c k = record { caller = rw (g .subjects) (k .caller); cell = omega (arith, k .cell); method = rw (g .methods) (k .method) }
 
   -- a request leaves such a state, with at least the cells there were
   pub record Left (s s′ : System) : Type 0 where
@@ -278,7 +277,7 @@ module _ (TP : Table → Type 0) (RF : Table → ℕ → Type 0)
           cellCount = omega (arith, long);
           callCount = h .callCount;
           cells = λ k i. go g k (decLt k (length (s .cells))) (omega (arith, long));
-          calls = λ j i. call-grow s (f .table) g (s .cells ++ (c ∷ [])) (omega (arith, long)) (f .places) (s .calls) (callAt s j) (h .calls j i);
+          calls = λ j i. call-grow s (withCell s r f) g (omega (arith, long)) (callAt s j) (h .calls j i);
         };
       }
     where
@@ -292,7 +291,7 @@ module _ (TP : Table → Type 0) (RF : Table → ℕ → Type 0)
       s′ = withCell s r f
 
       go : Grown (s .table) (f .table) → (k : ℕ) → Dec (k < length (s .cells)) → k < suc (length (s .cells)) → CellIn s′ (getD (s .cells ++ (c ∷ [])) k noCell)
-      go g k (yes i) u = rw (List·getD-append (s .cells) (c ∷ []) noCell k i) (cell-grow s h (f .table) g (f .places) (omega (arith, w .more)) (s .cells ++ (c ∷ [])) (s .calls) (cellAt s k) (h .cells k i))
+      go g k (yes i) u = rw (List·getD-append (s .cells) (c ∷ []) noCell k i) (cell-grow s h (withCell s r f) g (omega (arith, w .more)) (cellAt s k) (h .cells k i))
       go g k (no i) u = let q : length (s .cells) ≡ k = omega arith in rw (getD-at (s .cells) c [] noCell k q)
           (record { holder = rw (g .subjects) rIn; place = w .within .place; sheet = w .sheet; isref = w .within .isref })
 

@@ -10,7 +10,7 @@ use lib.Dec.{eqb, ltb, leb}
 use lib.IntN.{ℤ}
 use lib.ListN.{length, getD, take}
 use Rattle.model.specs.Basics.{Res, need, _⇒_, all, every, from}
-use Rattle.model.specs.Table.{State, denied, optional, avail, unavail, Rep, ref, w32, w64, Kind, sub, sup, closed, Method, Ty, Table, size, typeAt, isRef, permit, isClass, maxArguments, between, tableFits}
+use Rattle.model.specs.Table.{State, denied, optional, avail, unavail, Rep, ref, w32, w64, Kind, sub, sup, closed, Method, Ty, Table, size, typeAt, isRef, permit, isClass, maxArguments, between, tableFits, signed}
 use Rattle.model.specs.Relations.{Answers, compare}
 use Rattle.model.specs.Crossing.{Place, object, adapter, maxPlaces}
 use Rattle.model.specs.Requests.{Cell, Call, System, maxCells, maxCalls, noCell}
@@ -61,6 +61,10 @@ pub record RawTable : Type 0 where
   pub types : ℕ
   pub links : List RawLinks
   pub records : List RawType
+
+-- the table with so many types, and these records
+abbrev pub withRecords : RawTable → ℕ → List RawLinks → List RawType → RawTable
+withRecords r n ls xs = record { subjects = r .subjects; methods = r .methods; cats = r .cats; sheet = r .sheet; types = n; links = ls; records = xs }
 
 -- A place: code 0 is an object (class, owner), 1 an adapter (the place behind, closed type).
 pub record RawPlace : Type 0 where
@@ -123,7 +127,7 @@ noRawCall = record { caller = 0; cell = 0; method = 0; answered = 0 }
 
 -- a method that isn't permitted has no signature, whatever its record holds
 abbrev pub methodOf : RawMethod → Method
-methodOf m = record { state = stateOf (m .state); args = cond (permit (stateOf (m .state))) (take (m .count) (m .args)) []; answer = cond (permit (stateOf (m .state))) (answerOf (m .answer)) none }
+methodOf m = let s = stateOf (m .state) in signed s (cond (permit s) (take (m .count) (m .args)) []) (cond (permit s) (answerOf (m .answer)) none)
 
 -- a number type has no methods and own=no, whatever its record holds; only the types after the sheet's have a key
 abbrev pub typeOf : ℕ → ℕ → ℕ → RawType → Ty

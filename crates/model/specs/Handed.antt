@@ -1,8 +1,8 @@
--- What is returned to the one who hands a state in: the number or the result, and the state as records of numbers again. Refused, it is what was handed in, all of it;
--- accepted, the counted records are determined, and only what lies past a count is open.
+-- What is returned to the one who hands a state in: the number or the result, and the state as records of numbers again. Refused, it is what was handed in, all of it (Q14);
+-- accepted, the counted records are determined, and only what lies past a count is open (Q15, E3).
 use mathlib.Core.Path.{_≡_}
 use mathlib.Core.Bool.{cond}
-use mathlib.Core.List.{List, [], _∷_, map}
+use mathlib.Core.List.{[], _∷_, map}
 use Prim.Native.Nat.{ℕ, suc}
 use lib.Dec.{ltb}
 use lib.ListN.{length, getD}
@@ -12,7 +12,7 @@ use Rattle.model.specs.Relations.{bit}
 use Rattle.model.specs.Crossing.{Place, object, adapter}
 use Rattle.model.specs.Requests.{Call, System, Request, Result, Outcome, got, refused, noCell, serve}
 use Rattle.model.specs.Records.{typeRecord, linksRecord}
-use Rattle.model.specs.Check.{RawTable, RawPlace, RawCall, RawSystem, noRawType, noRawLinks, noRawPlace, noRawCall, firstOf, systemOf, systemAccepted}
+use Rattle.model.specs.Check.{RawTable, RawPlace, RawCall, RawSystem, noRawType, noRawLinks, noRawPlace, noRawCall, withRecords, firstOf, systemOf, systemAccepted}
 
 -- ---- The records that stand for a place and for a call; those for types and links are in Records.
 abbrev pub placeRecord : Place → RawPlace
@@ -40,15 +40,7 @@ rawLoaded r = record { table = r; cells = 0; places = 0; calls = 0; cellRecords 
 
 -- ---- What is counted: the arrays cut to their counts. The links of category k stand at k, so that there is one more of them.
 abbrev pub countedTable : RawTable → RawTable
-countedTable r = record {
-  subjects = r .subjects;
-  methods = r .methods;
-  cats = r .cats;
-  sheet = r .sheet;
-  types = r .types;
-  links = firstOf (suc (r .cats)) noRawLinks (r .links);
-  records = firstOf (r .types) noRawType (r .records);
-}
+countedTable r = withRecords r (r .types) (firstOf (suc (r .cats)) noRawLinks (r .links)) (firstOf (r .types) noRawType (r .records))
 
 unfoldable pub counted : RawSystem → RawSystem
 counted r = record {
@@ -64,15 +56,8 @@ counted r = record {
 -- ---- What an accepted request leaves of the state r, the model's being s: a type counted before is stored as it was, whatever its record holds where it has no use;
 -- a new one as the record that stands for it. The records of places and calls say nothing but what the model's do, so that the old ones are as they were but for `answered`.
 abbrev pub storedTable : RawTable → Table → RawTable
-storedTable r t = record {
-  subjects = r .subjects;
-  methods = r .methods;
-  cats = r .cats;
-  sheet = r .sheet;
-  types = size t;
-  links = firstOf (suc (r .cats)) noRawLinks (r .links);
-  records = from (size t) 0 (λ i. cond (ltb i (r .types)) (getD (r .records) i noRawType) (typeRecord (typeAt t i)));
-}
+storedTable r t = withRecords r (size t) (firstOf (suc (r .cats)) noRawLinks (r .links))
+    (from (size t) 0 (λ i. cond (ltb i (r .types)) (getD (r .records) i noRawType) (typeRecord (typeAt t i))))
 
 unfoldable pub storedFrom : RawSystem → System → RawSystem
 storedFrom r s = record {
@@ -85,7 +70,7 @@ storedFrom r s = record {
   callRecords = map callRecord (s .calls);
 }
 
--- ---- A request on a state that is handed in: 2 before all else.
+-- ---- A request on a state that is handed in: 2 before all else (Q13).
 pub record Served : Type 0 where
   pub outcome : Outcome
   pub state : RawSystem

@@ -6,7 +6,7 @@ use Prim.Native.Nat.{ℕ, zero, suc}
 use lib.Dec.{eqb, ltb}
 use lib.ListN.{set}
 use Rattle.model.specs.Basics.{Res, refuse, ok, then, from}
-use Rattle.model.specs.Table.{State, denied, optional, avail, unavail, Kind, sub, sup, closed, Key, Method, Ty, Table, noMethod, maxTypes, size, typeAt, withTypes, isRef, permit, isAvail}
+use Rattle.model.specs.Table.{State, denied, optional, avail, unavail, Kind, sub, sup, closed, Key, Method, Ty, Table, noMethod, maxTypes, size, typeAt, withTypes, isRef, permit, isAvail, signed, bare}
 
 -- "optional made avail and denied made unavail"
 abbrev pub shut : State → State
@@ -95,8 +95,8 @@ deriveAnswer rec d t (some x) (some y) = then (rec t (answerKind d) x y) λ p. s
 unfoldable pub deriveMethod : Derivation → Kind → Table → Method → Method → Option (Table × Method)
 unfolding deriveArgs deriveAnswer
 deriveMethod rec d t x y = let s = restricted d (x .state) (y .state) in elim (permit s) [
-  | false ↦ some (t, record { state = s; args = []; answer = none })
-  | true ↦ then (deriveArgs rec d t (x .args) (y .args)) λ p. then (deriveAnswer rec d (p .0) (x .answer) (y .answer)) λ q. some (q .0, record { state = s; args = p .1; answer = q .1 })
+  | false ↦ some (t, bare s)
+  | true ↦ then (deriveArgs rec d t (x .args) (y .args)) λ p. then (deriveAnswer rec d (p .0) (x .answer) (y .answer)) λ q. some (q .0, signed s (p .1) (q .1))
 ]
 
 unfoldable pub deriveMethods : Derivation → Kind → Table → List Method → List Method → Option (Table × List Method)

@@ -68,9 +68,16 @@ pub record Table : Type 0 where
   pub sheet : ℕ
   pub types : List Ty
 
+-- a method's state with a signature, and without one
+abbrev pub signed : State → List ℕ → Option ℕ → Method
+signed s xs a = record { state = s; args = xs; answer = a }
+
+abbrev pub bare : State → Method
+bare s = signed s [] none
+
 -- what is read where there is no such method, or no such type
 abbrev pub noMethod : Method
-noMethod = record { state = denied; args = []; answer = none }
+noMethod = bare denied
 
 abbrev pub noType : Ty
 noType = record { rep = w32; cat = 0; own = false; methods = []; key = none }

@@ -1,13 +1,12 @@
 -- What is written is the definition's: the pairs of an accepted sheet, whose table the relations can be asked of; and the three cases of the input.
-use mathlib.Core.Path.{_≡_, sym, ap, _∙_}
-use mathlib.Core.Bool.{Bool, true, false, cond}
+use mathlib.Core.Path.{_≡_, refl, sym, ap, _∙_}
+use mathlib.Core.Bool.{Bool, true, false, So}
 use mathlib.Core.List.{List, [], _∷_, flatten}
 use Prim.Native.Nat.{ℕ, _+_, _*_, _/_, _%_, _≤_, _<_}
 use native.Mathlib.Omega.{arith}
-use lib.Dec.{eqb}
 use lib.ListN.{length, getD, take, drop}
 use lib.Seq.{take-append-seam, length-take-le}
-use borrow.Author.Tests.{lt-ltb, le-ltb, ne-eqb}
+use borrow.Author.Tests.{lt-ltb, le-ltb}
 use Rattle.model.specs.Basics.{from}
 use Rattle.model.specs.Table.{Table, tableFits, validSheet}
 use Rattle.model.specs.Relations.{Answers, bit}
@@ -16,17 +15,19 @@ use Rattle.model.proofs.Rules.{first}
 use Rattle.model.proofs.Fitting.{TableFitting, table-fitting}
 use Rattle.table.specs.Store.{tableIn}
 use Rattle.table.proofs.Lists.{from-same}
+use Rattle.table.proofs.Whole.{bytes-mean}
 use Rattle.table.specs.Limits.{Checked}
 use Rattle.tablecheck.proofs.Accepted.{fitting-checked}
 use Rattle.relation.specs.Answered.{answersAt}
 use Rattle.compare.specs.Pairs.{pairCode, pairTable}
 use Rattle.compare.proofs.Laws.{pair-at}
 use Rattle.sheet.specs.Lines.{bytes, join}
-use Rattle.sheet.specs.Sheet.{malformed, loaded, read}
+use Rattle.sheet.specs.Sheet.{SheetAnswer, malformed, loaded, read}
 use Rattle.sheet.proofs.Exact.{loaded-valid}
 use Rattle.sheetread.specs.declared.Sheet.{Sheet}
-use Rattle.sheetread.specs.View.{SheetIs}
+use Rattle.sheetread.specs.View.{answered}
 use Rattle.textwrite.specs.Fill.{Filled}
+use Rattle.pairtext.proofs.Refusals.{refusal-number}
 use Rattle.pairtext.specs.Output.{maxInput, spaced, answerBits, pairLine, pairLines, answerLines, pairsOutput}
 use Rattle.pairtext.specs.Parts.{answersIn, codeLine, rowLines, codeLines}
 
@@ -71,16 +72,32 @@ module _ (T : Table) (h : T .sheet ≤ 48) where
       (λ t _ p. from-same (λ s. codeLine t s (getD (pairTable T) (t * 48 + s) 0)) (pairLine T t) (T .sheet) 0 (λ s _ q. pair-is t s (omega arith) (omega arith))))
 
 -- ---- an accepted sheet
-module _ (bs : List ℕ) (x : Sheet) (h : SheetIs x (read bs)) (z : x .no ≡ 0) where
+module _ (bs : List ℕ) (x : Sheet) (h : x ≡ answered (read bs)) (z : x .refusal ≡ 0) where
+  loads : (t : Table) × (read bs ≡ loaded t)
+  loads = go (read bs) refl
+    where
+      go : (a : SheetAnswer) → read bs ≡ a → (t : Table) × (read bs ≡ loaded t)
+      go (malformed n at) e =
+          let d : x .refusal ≡ n = ap (λ (s : Sheet). s .refusal) h ∙ ap (λ a. answered a .refusal) e in
+          let p : 0 < n = refusal-number bs n at e .0 in
+          let q : ⊥ = omega arith in absurd q
+      go (loaded t) e = (t, e)
+
+  valid : So (tableFits (loads .0))
+  unfolding validSheet
+  valid = first (tableFits (loads .0)) _ (loaded-valid bs (loads .0) (loads .1))
+
   abbrev tableOfSheet : Table
   tableOfSheet = tableIn (x .types) (x .links) (x .counts)
 
+  table-is : tableOfSheet ≡ loads .0
+  table-is = ap (λ (s : Sheet). tableIn (s .types) (s .links) (s .counts)) (h ∙ ap answered (loads .1)) ∙ bytes-mean (loads .0) valid
+
   accepted : loaded tableOfSheet ≡ read bs
-  accepted = ap (λ k. cond (eqb k 0) (loaded tableOfSheet) (malformed (x .no) (x .at))) (sym z) ∙ h .answer
+  accepted = ap loaded table-is ∙ sym (loads .1)
 
   fitting : TableFitting tableOfSheet
-  unfolding validSheet
-  fitting = table-fitting tableOfSheet (first (tableFits tableOfSheet) _ (loaded-valid bs tableOfSheet (sym accepted)))
+  fitting = rw table-is (table-fitting (loads .0) valid)
 
   pub sheet-checked : Checked (x .links) (x .counts)
   sheet-checked = fitting-checked (x .types) (x .links) (x .counts) fitting
@@ -93,11 +110,16 @@ module _ (bs : List ℕ) (x : Sheet) (h : SheetIs x (read bs)) (z : x .no ≡ 0)
   accepted-prints l = ap join (pairs-are tableOfSheet sheet-few) ∙ ap (λ a. join (answerLines a)) accepted ∙ rw (le-ltb maxInput (length bs) l)
 
 -- ---- a refused sheet, and an input that is too long
-pub refused-prints : (bs : List ℕ) (x : Sheet) → SheetIs x (read bs) → (x .no ≡ 0 → ⊥) → length bs ≤ maxInput → join (answerLines (malformed (x .no) (x .at))) ≡ pairsOutput bs
+pub refused-prints : (bs : List ℕ) (x : Sheet) → x ≡ answered (read bs) → (x .refusal ≡ 0 → ⊥) → length bs ≤ maxInput
+    → join (answerLines (malformed (x .refusal) (x .at))) ≡ pairsOutput bs
 unfolding pairsOutput
-refused-prints bs x h z l =
-    let e : malformed (x .no) (x .at) ≡ read bs = ap (λ k. cond k (loaded (tableIn (x .types) (x .links) (x .counts))) (malformed (x .no) (x .at))) (sym (ne-eqb (x .no) 0 z)) ∙ h .answer in
-    ap (λ a. join (answerLines a)) e ∙ rw (le-ltb maxInput (length bs) l)
+refused-prints bs x h z l = ap (λ a. join (answerLines a)) (go (read bs) refl) ∙ rw (le-ltb maxInput (length bs) l)
+  where
+    go : (a : SheetAnswer) → read bs ≡ a → malformed (x .refusal) (x .at) ≡ read bs
+    go (malformed n at) e =
+        let s : x ≡ answered (malformed n at) = h ∙ ap answered e in
+        ap (λ (s : Sheet). malformed (s .refusal) (s .at)) s ∙ sym e
+    go (loaded t) e = absurd (z (ap (λ (s : Sheet). s .refusal) (h ∙ ap answered e)))
 
 pub long-prints : (bs : List ℕ) → maxInput < length bs → join (bytes "no=2" ∷ []) ≡ pairsOutput bs
 unfolding pairsOutput

@@ -1,11 +1,11 @@
-// The program `pairs`: a sheet's text in, the four relations of every pair of its types out. `report` takes any bytes and says what is printed
-// (specs/Output.antt). "The writer adds each line in the rest of the same lent buffer."
+// The program `pairs`: a sheet's text in, the four relations of every pair of its types out (P16, P17). `report` takes any bytes and says what is printed
+// (specs/Output.antt). Each line is written in the rest of the same lent buffer.
+use numbers::least;
 use numbers::wide;
-use textwrite::number_line;
 use textwrite::put_decimal;
 use textwrite::put_number;
-use textwrite::text_line;
-use textwrite::upto;
+use textwrite::write_number;
+use textwrite::write_word;
 ghost use mathlib.Core.Path.{_≡_};
 ghost use mathlib.Core.List.{[], _∷_};
 ghost use Prim.Native.Nat.{_≤_, _<_};
@@ -27,12 +27,12 @@ fn put_answers(buf: &mut [u8], code: usize) -> usize
     ensures few { λ r. ⌜ r ≤ 145 ⌝ }
 {
     let a = put_number(buf, b" ", code % 2);
-    let i = upto(a, buf.len());
+    let i = least(a, buf.len());
     let a = a + put_number(&mut buf[i..], b" ", code / 2 % 2);
-    let j = upto(a, buf.len());
+    let j = least(a, buf.len());
     let a = a + put_number(&mut buf[j..], b" ", code / 4 % 2);
-    let k = upto(a, buf.len());
-    a + number_line(&mut buf[k..], b" ", code / 8 % 2)
+    let k = least(a, buf.len());
+    a + write_number(&mut buf[k..], b" ", code / 8 % 2)
 }
 
 // `T S a b c d`
@@ -42,9 +42,9 @@ fn pair_line(buf: &mut [u8], t: usize, s: usize, code: usize) -> usize
     ensures few { λ r. ⌜ r ≤ 14 ⌝ }
 {
     let a = put_decimal(buf, t);
-    let j = upto(a, buf.len());
+    let j = least(a, buf.len());
     let a = a + put_number(&mut buf[j..], b" ", s);
-    let k = upto(a, buf.len());
+    let k = least(a, buf.len());
     a + put_answers(&mut buf[k..], code)
 }
 
@@ -58,9 +58,9 @@ fn row_lines(buf: &mut [u8], pairs: &[u8; 2304], t: usize, n: usize) -> usize
     let mut s: usize = 0;
     while s < n {
         let code = wide(pairs[t * 48 + s]);
-        let k = upto(at, buf.len());
-        let c = pair_line(&mut buf[k..], t, s, code);
-        at += c;
+        let k = least(at, buf.len());
+        let more = pair_line(&mut buf[k..], t, s, code);
+        at += more;
         s += 1;
     }
     at
@@ -75,22 +75,22 @@ fn pair_lines(buf: &mut [u8], pairs: &[u8; 2304], n: usize) -> usize
     let mut at: usize = 0;
     let mut t: usize = 0;
     while t < n {
-        let k = upto(at, buf.len());
-        let c = row_lines(&mut buf[k..], pairs, t, n);
-        at += c;
+        let k = least(at, buf.len());
+        let more = row_lines(&mut buf[k..], pairs, t, n);
+        at += more;
         t += 1;
     }
     at
 }
 
 // `no=N at=OFFSET`
-fn refused_line(buf: &mut [u8], no: usize, at: usize) -> usize
-    ensures is { λ r. ⌜ Lined (now (buf .entry)) (now (buf .exit)) (answerLines (malformed no at)) r ⌝ }
+fn refused_line(buf: &mut [u8], refusal: usize, at: usize) -> usize
+    ensures is { λ r. ⌜ Lined (now (buf .entry)) (now (buf .exit)) (answerLines (malformed refusal at)) r ⌝ }
     ensures few { λ r. ⌜ r ≤ 73 ⌝ }
 {
-    let a = put_number(buf, b"no=", no);
-    let k = upto(a, buf.len());
-    a + number_line(&mut buf[k..], b" at=", at)
+    let a = put_number(buf, b"no=", refusal);
+    let k = least(a, buf.len());
+    a + write_number(&mut buf[k..], b" at=", at)
 }
 
 // The whole output, in front of a lent buffer.
@@ -99,11 +99,11 @@ fn put_report(buf: &mut [u8], s: &[u8]) -> usize
     ensures few { λ r. ⌜ r ≤ 32256 ⌝ }
 {
     if 32768 < s.len() {
-        return text_line(buf, b"no=2");
+        return write_word(buf, b"no=2");
     }
     let x = sheetread::read(s);
-    if x.no != 0 {
-        return refused_line(buf, x.no, x.at);
+    if x.refusal != 0 {
+        return refused_line(buf, x.refusal, x.at);
     }
     let links = x.links;
     let c = x.counts;

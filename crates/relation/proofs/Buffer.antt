@@ -1,6 +1,6 @@
 -- The one array of the search (specs/Found): what its entries say, and what it says once a pair is added.
 use mathlib.Core.Path.{_≡_, refl, ap, sym, _∙_}
-use mathlib.Core.Logic.{inr, ⊎-elim}
+use mathlib.Core.Logic.{⊎-elim}
 use mathlib.Core.Bool.{Bool, true, false}
 use mathlib.Core.List.{List, [], _∷_, map}
 use Prim.Native.Nat.{ℕ, zero, suc, _+_, _*_, _/_, _%_, _≤_, _<_}
@@ -10,6 +10,7 @@ use lib.Dec.{leb}
 use lib.ListN.{length, getD, set, replicate, length-map, List·getD-map}
 use lib.Seq.{map-set-same}
 use Rattle.table.proofs.Lists.{lt-or-ge}
+use Rattle.relation.specs.declared.Step.the-variants.{Tail}
 use Rattle.relation.specs.Found.{marksIn, queueIn, Added, ListedIn, MetIn}
 use Rattle.relation.proofs.Pairs.{pair-new}
 
@@ -81,5 +82,5 @@ module _ (b : List ℕ) (t p : ℕ) (l : p < 32768) where
     added = (added-marks, added-queue)
 
 pub pair-added : (n : ℕ) (b : List ℕ) (t x y : ℕ) → ListedIn n b t → x < n → y < n → getD (marksIn b) (x * 128 + y) false ≡ false
-    → (b′ : List ℕ) (r : ℕ) → (r ≡ t + 1) × Added b t (x * 128 + y) b′ → MetIn n (λ M. M x y) b t b′ r
-pair-added n b t x y h p q e b′ r k = inr (rw (k .0, k .1 .0, k .1 .1) (pair-new n (marksIn b) (queueIn b) t x y h p q e))
+    → (b′ : List ℕ) (r : ℕ) → (r ≡ t + 1) × Added b t (x * 128 + y) b′ → MetIn n (λ M. M x y) b t b′ (Tail r)
+pair-added n b t x y h p q e b′ r k = rw (k .0, k .1 .0, k .1 .1) (pair-new n (marksIn b) (queueIn b) t x y h p q e)

@@ -15,8 +15,8 @@ use Rattle.model.proofs.Tests.{so-ltb}
 use Rattle.model.proofs.Rules.{never, both, rule-test, rule-says}
 use Rattle.model.proofs.Largest.{largest, keeps-related}
 use Rattle.table.proofs.Lists.{same-or}
-use Rattle.relation.specs.Found.{found, Within, Pair, Listed, Met, marksIn, queueIn, Added}
-use Rattle.relation.proofs.Pairs.{found-says, found-test, pair-as, yeses-set, met-zero, met-more}
+use Rattle.relation.specs.Found.{found, Within, Pair, Listed, Grew, Broke, marksIn, queueIn, Added}
+use Rattle.relation.proofs.Pairs.{found-says, found-test, pair-as, yeses-set}
 use Rattle.relation.proofs.Buffer.{none-found, none-queued}
 
 -- ---- the root
@@ -110,11 +110,13 @@ module _ (k : Relation) (T : Table) (n t s : ℕ) (e : size T ≡ n) where
     pub next : head < tail → Pair n marks (getD queue head 0)
     next l = g .listed .back head l
 
-    module _ (l : head < tail) (marks′ : List Bool) (queue′ : List ℕ) (r : ℕ) (m : Met n (λ M. rule k T M (getD queue head 0 / 128) (getD queue head 0 % 128)) marks queue tail marks′ queue′ r) where
-      pub again : (r ≡ 0 → ⊥) → Going k T n t s marks′ queue′ r (head + 1)
+    module _ (l : head < tail) where
+      abbrev Turn : (ℕ → ℕ → Bool) → Bool
+      Turn M = rule k T M (getD queue head 0 / 128) (getD queue head 0 % 128)
+
+      pub again : (marks′ : List Bool) (queue′ : List ℕ) (r : ℕ) → Grew n Turn marks queue tail marks′ queue′ r → Going k T n t s marks′ queue′ r (head + 1)
       unfolding Within
-      again z =
-          let w = met-more n (λ M. rule k T M (getD queue head 0 / 128) (getD queue head 0 % 128)) marks queue tail marks′ queue′ r z m in
+      again marks′ queue′ r w =
           record {
             listed = w .listed;
             within = omega (arith, w .longer);
@@ -129,13 +131,12 @@ module _ (k : Relation) (T : Table) (n t s : ℕ) (e : size T ≡ n) where
                 (g .only q (getD queue head 0 / 128) (getD queue head 0 % 128) (pair-as n marks (getD queue head 0) (next l)))) (g .only q);
           }
 
-      pub broken : r ≡ 0 → false ≡ related k T t s
+      pub broken : Broke n Turn → false ≡ related k T t s
       unfolding Within
-      broken z = go (related k T t s) refl
+      broken w = go (related k T t s) refl
         where
           go : (b : Bool) → related k T t s ≡ b → false ≡ b
-          go true q = absurd (met-zero n (λ M. rule k T M (getD queue head 0 / 128) (getD queue head 0 % 128)) marks queue tail marks′ queue′ r z m .none (related k T) of-table
-              (kept (getD queue head 0 / 128) (getD queue head 0 % 128)
+          go true q = absurd (w .none (related k T) of-table (kept (getD queue head 0 / 128) (getD queue head 0 % 128)
               (unfold Within in (g .only q) (getD queue head 0 / 128) (getD queue head 0 % 128) (pair-as n marks (getD queue head 0) (next l)))))
           go false q = refl
 

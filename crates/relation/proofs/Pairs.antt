@@ -13,6 +13,8 @@ use Rattle.model.proofs.Tests.{ltb-so, so-ltb}
 use Rattle.model.proofs.Rules.{never, both, first, second}
 use Rattle.model.specs.Relations.{bit, yeses}
 use Rattle.table.proofs.Lists.{same-or}
+use Rattle.relation.specs.declared.Step.{Step}
+use Rattle.relation.specs.declared.Step.the-variants.{Broken, Tail}
 use Rattle.relation.specs.Found.{found, Within, Queued, Pair, Listed, Grew, Broke, Met}
 
 pub clash : {A : Type 0} → {b : Bool} → b ≡ true → b ≡ false → A
@@ -143,28 +145,28 @@ module _ (n : ℕ) (s : List Bool) (l : List ℕ) (t x y : ℕ) (h : Listed n s 
     only = only-one;
   }
 
-pub pair-left : (n x y : ℕ) → n ≤ x → Broke n (λ M. M x y) 0
+pub pair-left : (n x y : ℕ) → n ≤ x → Broke n (λ M. M x y)
 unfolding Within
-pair-left n x y l = record { zero = refl; none = λ M i w. let a : x < n = ltb-so (first (ltb x n) _ (i x y w)) in omega arith }
+pair-left n x y l = record { none = λ M i w. let a : x < n = ltb-so (first (ltb x n) _ (i x y w)) in omega arith }
 
-pub pair-right : (n x y : ℕ) → n ≤ y → Broke n (λ M. M x y) 0
+pub pair-right : (n x y : ℕ) → n ≤ y → Broke n (λ M. M x y)
 unfolding Within
-pair-right n x y l = record { zero = refl; none = λ M i w. let a : y < n = ltb-so (second (ltb x n) _ (i x y w)) in omega arith }
+pair-right n x y l = record { none = λ M i w. let a : y < n = ltb-so (second (ltb x n) _ (i x y w)) in omega arith }
 
 -- ---- one after another
 unfoldable pub Mono : ((ℕ → ℕ → Bool) → Bool) → Type 0
 Mono W = (M N : ℕ → ℕ → Bool) → Within M N → So (W M) → So (W N)
 
-pub broke-as : (n : ℕ) (W U : (ℕ → ℕ → Bool) → Bool) (r : ℕ) → ((M : ℕ → ℕ → Bool) → So (U M) → So (W M)) → Broke n W r → Broke n U r
-broke-as n W U r f b = record { zero = b .zero; none = λ M i v. b .none M i (f M v) }
+pub broke-as : (n : ℕ) (W U : (ℕ → ℕ → Bool) → Bool) → ((M : ℕ → ℕ → Bool) → So (U M) → So (W M)) → Broke n W → Broke n U
+broke-as n W U f b = record { none = λ M i v. b .none M i (f M v) }
 
 module _ (n : ℕ) (W U : (ℕ → ℕ → Bool) → Bool) (s : List Bool) (l : List ℕ) (t : ℕ) where
   pub grew-as : (s′ : List Bool) (l′ : List ℕ) (r : ℕ) → ((M : ℕ → ℕ → Bool) → So (W M) → So (U M)) → ((M : ℕ → ℕ → Bool) → So (U M) → So (W M)) → Grew n W s l t s′ l′ r → Grew n U s l t s′ l′ r
   grew-as s′ l′ r f g w = record { listed = w .listed; more = w .more; kept = w .kept; longer = w .longer; has = f (found n s′) (w .has); only = λ M v. w .only M (g M v) }
 
-  pub met-as : (s′ : List Bool) (l′ : List ℕ) (r : ℕ) → ((M : ℕ → ℕ → Bool) → So (W M) → So (U M)) → ((M : ℕ → ℕ → Bool) → So (U M) → So (W M)) → Met n W s l t s′ l′ r → Met n U s l t s′ l′ r
-  met-as s′ l′ r f g (inl b) = inl (broke-as n W U r g b)
-  met-as s′ l′ r f g (inr w) = inr (grew-as s′ l′ r f g w)
+  pub met-as : (s′ : List Bool) (l′ : List ℕ) (r : Step) → ((M : ℕ → ℕ → Bool) → So (W M) → So (U M)) → ((M : ℕ → ℕ → Bool) → So (U M) → So (W M)) → Met n W s l t s′ l′ r → Met n U s l t s′ l′ r
+  met-as s′ l′ Broken f g b = broke-as n W U g b
+  met-as s′ l′ (Tail r) f g w = grew-as s′ l′ r f g w
 
   pub grew-then : (s₁ : List Bool) (l₁ : List ℕ) (t₁ : ℕ) (s₂ : List Bool) (l₂ : List ℕ) (t₂ : ℕ) → Mono W → Grew n W s l t s₁ l₁ t₁ → Grew n U s₁ l₁ t₁ s₂ l₂ t₂ → Grew n
       (λ M. W M && U M) s l t s₂ l₂ t₂
@@ -178,15 +180,7 @@ module _ (n : ℕ) (W U : (ℕ → ℕ → Bool) → Bool) (s : List Bool) (l : 
     only = λ M w i. b .only M (second (W M) _ w) (a .only M (first (W M) _ w) i);
   }
 
-  pub met-then : (s₁ : List Bool) (l₁ : List ℕ) (t₁ : ℕ) (s₂ : List Bool) (l₂ : List ℕ) (t₂ : ℕ) → Mono W → Grew n W s l t s₁ l₁ t₁ → Met n U s₁ l₁ t₁ s₂ l₂ t₂ → Met n (λ M. W M && U M) s l t s₂ l₂ t₂
-  met-then s₁ l₁ t₁ s₂ l₂ t₂ m a (inl b) = inl (broke-as n U (λ M. W M && U M) t₂ (λ M w. second (W M) _ w) b)
-  met-then s₁ l₁ t₁ s₂ l₂ t₂ m a (inr b) = inr (grew-then s₁ l₁ t₁ s₂ l₂ t₂ m a b)
-
--- ---- the answer 0, and any other
-pub met-zero : (n : ℕ) (W : (ℕ → ℕ → Bool) → Bool) (s : List Bool) (l : List ℕ) (t : ℕ) (s′ : List Bool) (l′ : List ℕ) (r : ℕ) → r ≡ 0 → Met n W s l t s′ l′ r → Broke n W 0
-met-zero n W s l t s′ l′ r e (inl b) = record { zero = refl; none = b .none }
-met-zero n W s l t s′ l′ r e (inr g) = let h : 0 < r = g .listed .first in let z : ⊥ = omega arith in absurd z
-
-pub met-more : (n : ℕ) (W : (ℕ → ℕ → Bool) → Bool) (s : List Bool) (l : List ℕ) (t : ℕ) (s′ : List Bool) (l′ : List ℕ) (r : ℕ) → (r ≡ 0 → ⊥) → Met n W s l t s′ l′ r → Grew n W s l t s′ l′ r
-met-more n W s l t s′ l′ r e (inl b) = absurd (e (b .zero))
-met-more n W s l t s′ l′ r e (inr g) = g
+  pub met-then : (s₁ : List Bool) (l₁ : List ℕ) (t₁ : ℕ) (s₂ : List Bool) (l₂ : List ℕ) (r : Step) → Mono W → Grew n W s l t s₁ l₁ t₁ → Met n U s₁ l₁ t₁ s₂ l₂ r
+      → Met n (λ M. W M && U M) s l t s₂ l₂ r
+  met-then s₁ l₁ t₁ s₂ l₂ Broken m a b = broke-as n U (λ M. W M && U M) (λ M w. second (W M) _ w) b
+  met-then s₁ l₁ t₁ s₂ l₂ (Tail t₂) m a b = grew-then s₁ l₁ t₁ s₂ l₂ t₂ m a b

@@ -1,6 +1,5 @@
 -- The rule of a pair of types, by its parts in the bytes: the two heads, and every method of two reference types.
 use mathlib.Core.Path.{_≡_, refl, ap, sym, _∙_}
-use mathlib.Core.Logic.{inl, inr}
 use mathlib.Core.Bool.{Bool, true, false, _&&_, So}
 use mathlib.Core.List.{List}
 use Prim.Native.Nat.{ℕ, zero, _<_}
@@ -19,7 +18,8 @@ use Rattle.table.specs.Store.{typesIn, headOf, tableIn, methodIn}
 use Rattle.table.proofs.Lists.{from-first}
 use Rattle.table.proofs.Tables.{type-is}
 use Rattle.table.proofs.Codes.{number-rep, ref-rep}
-use Rattle.relation.specs.Found.{found, Listed, Met, eachBelow}
+use Rattle.relation.specs.declared.Step.{Step}
+use Rattle.relation.specs.Found.{found, Listed, Grew, Broke, Met, eachBelow}
 use Rattle.rules.specs.Parts.{outerHeads}
 use Rattle.relation.proofs.Pairs.{clash, stay, met-as}
 use Rattle.relation.proofs.Signatures.{each-says, each-test}
@@ -27,8 +27,8 @@ use Rattle.rules.proofs.Outside.{heads-rule, outer-sort}
 
 -- every method of two lists that are as long
 module _ (f : Method → Method → Bool) (z : So (f noMethod noMethod)) (n : ℕ) (x y : ℕ → Method) where
-  all-eachBelow : So (eachBelow n (λ j. f (x j) (y j))) → So (everyMethod f (from n 0 x) (from n 0 y))
-  all-eachBelow w = all-test f (from n 0 x) (from n 0 y) (λ m. go m (decLt m n))
+  all-each : So (eachBelow n (λ j. f (x j) (y j))) → So (everyMethod f (from n 0 x) (from n 0 y))
+  all-each w = all-test f (from n 0 x) (from n 0 y) (λ m. go m (decLt m n))
     where
       go : (m : ℕ) → Dec (m < n) → So (f (getD (from n 0 x) m noMethod) (getD (from n 0 y) m noMethod))
       go m (yes l) = rw (from-first x n m noMethod l, from-first y n m noMethod l) (each-says n (λ j. f (x j) (y j)) w m l)
@@ -60,35 +60,33 @@ module _ (b l : List ℕ) (c : Counts) (k : Relation) (a d : ℕ) (p : a < c .ty
   outer-is : fine ≡ outerRule k (tableIn b l c) (typeOf (c .methods) (c .sheet) a A) (typeOf (c .methods) (c .sheet) d D)
   outer-is = ef ∙ rw (ex, ey) (sym (heads-rule k (tableIn b l c) (c .methods) (c .sheet) a d A D))
 
-  module _ (n : ℕ) (marks : List Bool) (queue : List ℕ) (t : ℕ) where
-    -- the heads break it
-    pub types-broke : (marks′ : List Bool) (queue′ : List ℕ) → fine ≡ false → Met n W marks queue t marks′ queue′ 0
-    types-broke marks′ queue′ e = inl (record {
-      zero = refl;
-      none = λ M i w. clash
-          (first (outerRule k (tableIn b l c) (typeOf (c .methods) (c .sheet) a A) (typeOf (c .methods) (c .sheet) d D)) _ (rw (rule-is M) at w)) (sym outer-is ∙ e);
-    })
+  -- the heads break it
+  pub types-broke : (n : ℕ) → fine ≡ false → Broke n W
+  types-broke n e = record {
+    none = λ M i w. clash (first (outerRule k (tableIn b l c) (typeOf (c .methods) (c .sheet) a A) (typeOf (c .methods) (c .sheet) d D)) _ (rw (rule-is M) at w))
+        (sym outer-is ∙ e);
+  }
 
-    module _ (e : fine ≡ true) where
-      sorts : isRef (repOf (A .rep)) ≡ isRef (repOf (D .rep))
-      sorts = outer-sort k (tableIn b l c) (typeOf (c .methods) (c .sheet) a A) (typeOf (c .methods) (c .sheet) d D) (sym outer-is ∙ e)
+  module _ (e : fine ≡ true) (n : ℕ) (marks : List Bool) (queue : List ℕ) (t : ℕ) where
+    sorts : isRef (repOf (A .rep)) ≡ isRef (repOf (D .rep))
+    sorts = outer-sort k (tableIn b l c) (typeOf (c .methods) (c .sheet) a A) (typeOf (c .methods) (c .sheet) d D) (sym outer-is ∙ e)
 
-      -- two numbers have no methods
-      pub types-numbers : (x .rep ≡ 0 → ⊥) → Listed n marks queue t → Met n W marks queue t marks queue t
-      unfolding everyMethod
-      types-numbers z h =
-          let f : isRef (repOf (A .rep)) ≡ false = number-rep (A .rep) (λ o. z (ap (λ (v : Head). v .rep) ex ∙ o)) in
-          let g : isRef (repOf (D .rep)) ≡ false = sym sorts ∙ f in
-          inr (stay n W marks queue t h (rw (rule-is (found n marks), sym outer-is ∙ e, f, g)))
+    -- two numbers have no methods
+    pub types-numbers : (x .rep ≡ 0 → ⊥) → Listed n marks queue t → Grew n W marks queue t marks queue t
+    unfolding everyMethod
+    types-numbers z h =
+        let f : isRef (repOf (A .rep)) ≡ false = number-rep (A .rep) (λ o. z (ap (λ (v : Head). v .rep) ex ∙ o)) in
+        let g : isRef (repOf (D .rep)) ≡ false = sym sorts ∙ f in
+        stay n W marks queue t h (rw (rule-is (found n marks), sym outer-is ∙ e, f, g))
 
-      -- two references have their methods
-      pub types-methods : (marks′ : List Bool) (queue′ : List ℕ) (r : ℕ) → x .rep ≡ 0 → Met n Methods marks queue t marks′ queue′ r → Met n W marks queue t marks′ queue′ r
-      types-methods marks′ queue′ r z m = met-as n Methods W marks queue t marks′ queue′ r
-          (λ M w. rw (all M) (all-eachBelow (methodRule k M) (denied-fits k M) (c .methods) (methodIn b a) (methodIn b d) w))
-          (λ M w. each-all (methodRule k M) (denied-fits k M) (c .methods) (methodIn b a) (methodIn b d) (rw (all M) at w)) m
-        where
-          all : (M : ℕ → ℕ → Bool) → W M ≡ everyMethod (methodRule k M) (from (c .methods) 0 (methodIn b a)) (from (c .methods) 0 (methodIn b d))
-          all M =
-              let f : isRef (repOf (A .rep)) ≡ true = ref-rep (A .rep) (sym (ap (λ (v : Head). v .rep) ex) ∙ z) in
-              let g : isRef (repOf (D .rep)) ≡ true = sym sorts ∙ f in
-              rw (rule-is M, sym outer-is ∙ e, f, g)
+    -- two references have their methods
+    pub types-methods : (marks′ : List Bool) (queue′ : List ℕ) (r : Step) → x .rep ≡ 0 → Met n Methods marks queue t marks′ queue′ r → Met n W marks queue t marks′ queue′ r
+    types-methods marks′ queue′ r z m = met-as n Methods W marks queue t marks′ queue′ r
+        (λ M w. rw (all M) (all-each (methodRule k M) (denied-fits k M) (c .methods) (methodIn b a) (methodIn b d) w))
+        (λ M w. each-all (methodRule k M) (denied-fits k M) (c .methods) (methodIn b a) (methodIn b d) (rw (all M) at w)) m
+      where
+        all : (M : ℕ → ℕ → Bool) → W M ≡ everyMethod (methodRule k M) (from (c .methods) 0 (methodIn b a)) (from (c .methods) 0 (methodIn b d))
+        all M =
+            let f : isRef (repOf (A .rep)) ≡ true = ref-rep (A .rep) (sym (ap (λ (v : Head). v .rep) ex) ∙ z) in
+            let g : isRef (repOf (D .rep)) ≡ true = sym sorts ∙ f in
+            rw (rule-is M, sym outer-is ∙ e, f, g)

@@ -1,13 +1,14 @@
 -- A relation is the largest that keeps its rules (R3): a pair is in it unless a pair that breaks its rule can be reached from it. So a search finds pairs, each once,
 -- and asks the rule of each, which finds more. Here is what is found so far, and what a step of the search promises.
 use mathlib.Core.Path.{_≡_}
-use mathlib.Core.Logic.{_⊎_}
 use mathlib.Core.Bool.{Bool, true, false, _&&_, So}
 use mathlib.Core.List.{List, map}
 use Prim.Native.Nat.{ℕ, zero, suc, _+_, _*_, _/_, _%_, _≤_, _<_}
 use lib.Dec.{leb, ltb}
 use lib.ListN.{length, getD, set}
 use Rattle.model.specs.Relations.{yeses}
+use Rattle.relation.specs.declared.Step.{Step}
+use Rattle.relation.specs.declared.Step.the-variants.{Broken, Tail}
 
 -- The pair (x, y) has the number x * 128 + y. `marks` says of each number whether its pair is found: a relation of the n types, as the model has them.
 abbrev pub found : ℕ → List Bool → ℕ → ℕ → Bool
@@ -48,14 +49,14 @@ pub record Grew (n : ℕ) (W : (ℕ → ℕ → Bool) → Bool) (marks : List Bo
   pub has : So (W (found n marks′))
   pub only : (M : ℕ → ℕ → Bool) → So (W M) → Within (found n marks) M → Within (found n marks′) M
 
--- Or it answers 0: no relation of the n types passes W.
-pub record Broke (n : ℕ) (W : (ℕ → ℕ → Bool) → Bool) (r : ℕ) : Type 0 where
-  pub zero : r ≡ 0
+-- Or a pair breaks its rule: no relation of the n types passes W.
+pub record Broke (n : ℕ) (W : (ℕ → ℕ → Bool) → Bool) : Type 0 where
   pub none : (M : ℕ → ℕ → Bool) → Within M (λ x y. ltb x n && ltb y n) → So (W M) → ⊥
 
--- what a step promises of its answer r: 0, or how many pairs are found now
-abbrev pub Met : ℕ → ((ℕ → ℕ → Bool) → Bool) → List Bool → List ℕ → ℕ → List Bool → List ℕ → ℕ → Type 0
-Met n W marks queue t marks′ queue′ r = Broke n W r ⊎ Grew n W marks queue t marks′ queue′ r
+-- what a step promises of its answer
+abbrev pub Met : ℕ → ((ℕ → ℕ → Bool) → Bool) → List Bool → List ℕ → ℕ → List Bool → List ℕ → Step → Type 0
+Met n W marks queue t marks′ queue′ Broken = Broke n W
+Met n W marks queue t marks′ queue′ (Tail r) = Grew n W marks queue t marks′ queue′ r
 
 -- a test of every number below m
 unfoldable pub eachBelow : ℕ → (ℕ → Bool) → Bool
@@ -78,5 +79,5 @@ Added b t p b′ = (marksIn b′ ≡ set (marksIn b) p true) × (queueIn b′ �
 abbrev pub ListedIn : ℕ → List ℕ → ℕ → Type 0
 ListedIn n b t = Listed n (marksIn b) (queueIn b) t
 
-abbrev pub MetIn : ℕ → ((ℕ → ℕ → Bool) → Bool) → List ℕ → ℕ → List ℕ → ℕ → Type 0
+abbrev pub MetIn : ℕ → ((ℕ → ℕ → Bool) → Bool) → List ℕ → ℕ → List ℕ → Step → Type 0
 MetIn n W b t b′ r = Met n W (marksIn b) (queueIn b) t (marksIn b′) (queueIn b′) r

@@ -23,6 +23,12 @@ use table::LINK_BYTES;
 use table::Method;
 use table::TYPE_BYTES;
 
+// What a step of the search leads to: a pair that breaks its rule, or so many pairs that are found now.
+enum Step {
+    Broken,
+    Tail(usize),
+}
+
 // Whether an entry of the array says that the pair of its number is found: its top bit.
 fn is_found(entry: u16) -> bool
     ensures { λ r. ⌜ r ≡ leb 32768 entry ⌝ }
@@ -41,22 +47,23 @@ fn add_pair(found: &mut [u16; 16384], tail: usize, p: usize) -> usize
     tail + 1
 }
 
-// The pair (x, y) joins those found, of which there are `tail`, unless it is one of them. 0 if x or y is not in the table.
-fn find_pair(found: &mut [u16; 16384], tail: usize, n: usize, x: usize, y: usize) -> usize
+// The pair (x, y) joins those found, of which there are `tail`, unless it is one of them. It breaks its rule if x or y is not in the table.
+fn find_pair(found: &mut [u16; 16384], tail: usize, n: usize, x: usize, y: usize) -> Step
     requires { ⌜ ListedIn n (now found) tail ⌝ }
     ensures { λ r. ⌜ MetIn n (λ M. M x y) (now (found .entry)) tail (now (found .exit)) r ⌝ }
 {
     if n <= x {
-        return 0;
+        return Step::Broken;
     }
     if n <= y {
-        return 0;
+        return Step::Broken;
     }
     let p = x * 128 + y;
     if is_found(found[p]) {
-        return tail;
+        return Step::Tail(tail);
     }
-    add_pair(found, tail, p)
+    let more = add_pair(found, tail, p);
+    Step::Tail(more)
 }
 
 // How many of the four slots a count of arguments uses. A table that is checked has no count above them.
@@ -67,32 +74,31 @@ fn slots_used(count: u8) -> usize
 }
 
 // R4 and R6: as many arguments, and each related with the sides exchanged.
-fn find_arguments(found: &mut [u16; 16384], tail: usize, n: usize, x: Method, y: Method) -> usize
+fn find_arguments(found: &mut [u16; 16384], tail: usize, n: usize, x: Method, y: Method) -> Step
     requires { ⌜ ListedIn n (now found) tail ⌝ }
     ensures { λ r. ⌜ MetIn n (λ M. argsRule M (take (x .count) (x .args)) (take (y .count) (y .args))) (now (found .entry)) tail (now (found .exit)) r ⌝ }
 {
     let used = slots_used(x.count);
     let other = slots_used(y.count);
     if used != other {
-        return 0;
+        return Step::Broken;
     }
     let mut t = tail;
     let mut i: usize = 0;
     while i < used {
         let a = wide(x.args[i]);
         let d = wide(y.args[i]);
-        let r = find_pair(found, t, n, d, a);
-        if r == 0 {
-            return 0;
-        }
+        let Step::Tail(r) = find_pair(found, t, n, d, a) else {
+            return Step::Broken;
+        };
         t = r;
         i += 1;
     }
-    t
+    Step::Tail(t)
 }
 
 // R4 and R5: both have an answer or neither, and then they are related in the direction of the pair.
-fn find_answer(found: &mut [u16; 16384], tail: usize, n: usize, x: u8, y: u8) -> usize
+fn find_answer(found: &mut [u16; 16384], tail: usize, n: usize, x: u8, y: u8) -> Step
     requires { ⌜ ListedIn n (now found) tail ⌝ }
     ensures { λ r. ⌜ MetIn n (λ M. answerRule M (answerOf x) (answerOf y)) (now (found .entry)) tail (now (found .exit)) r ⌝ }
 {
@@ -100,12 +106,12 @@ fn find_answer(found: &mut [u16; 16384], tail: usize, n: usize, x: u8, y: u8) ->
     let d = wide(y);
     if a == 0 {
         if d == 0 {
-            return tail;
+            return Step::Tail(tail);
         }
-        return 0;
+        return Step::Broken;
     }
     if d == 0 {
-        return 0;
+        return Step::Broken;
     }
     find_pair(found, tail, n, a - 1, d - 1)
 }
@@ -119,22 +125,21 @@ fn find_method(
     square: [[bool; 4]; 4],
     x: Method,
     y: Method,
-) -> usize
+) -> Step
     requires { ⌜ ListedIn n (now found) tail × Says (relationOf k) square ⌝ }
     ensures { λ r. ⌜ MetIn n (λ M. methodRule (relationOf k) M (methodOf (rawMethod x)) (methodOf (rawMethod y))) (now (found .entry)) tail (now (found .exit)) r ⌝ }
 {
     let fine = rules::state_rule(square, k, x.state, y.state);
     if !fine {
-        return 0;
+        return Step::Broken;
     }
     let both = rules::both_permit(x, y);
     if !both {
-        return tail;
+        return Step::Tail(tail);
     }
-    let r = find_arguments(found, tail, n, x, y);
-    if r == 0 {
-        return 0;
-    }
+    let Step::Tail(r) = find_arguments(found, tail, n, x, y) else {
+        return Step::Broken;
+    };
     find_answer(found, r, n, x.answer, y.answer)
 }
 
@@ -149,7 +154,7 @@ fn find_methods(
     square: [[bool; 4]; 4],
     a: usize,
     d: usize,
-) -> usize
+) -> Step
     requires { ⌜ ListedIn n (now found) tail × Says (relationOf k) square × (a < 128) × (d < 128) × (methods ≤ 16) ⌝ }
     ensures { λ r. ⌜ MetIn n (λ M. eachBelow methods (λ j. methodRule (relationOf k) M (methodIn (now (b .entry)) a j) (methodIn (now (b .entry)) d j))) (now (found .entry)) tail (now (found .exit)) r ⌝ }
 {
@@ -158,14 +163,13 @@ fn find_methods(
     while j < methods {
         let x = table::get_method(b, a, j);
         let y = table::get_method(b, d, j);
-        let r = find_method(found, t, n, k, square, x, y);
-        if r == 0 {
-            return 0;
-        }
+        let Step::Tail(r) = find_method(found, t, n, k, square, x, y) else {
+            return Step::Broken;
+        };
         t = r;
         j += 1;
     }
-    t
+    Step::Tail(t)
 }
 
 // The rule of the pair (a, d).
@@ -179,7 +183,7 @@ fn find_types(
     square: [[bool; 4]; 4],
     a: usize,
     d: usize,
-) -> usize
+) -> Step
     requires { ⌜ ListedIn (c .types) (now found) tail × Says (relationOf k) square × Checked (now l) c × (a < c .types) × (d < c .types) ⌝ }
     ensures { λ r. ⌜ MetIn (c .types) (λ M. rule (relationOf k) (tableIn (now (b .entry)) (now (l .entry)) c) M a d) (now (found .entry)) tail (now (found .exit)) r ⌝ }
 {
@@ -187,10 +191,10 @@ fn find_types(
     let y = table::get_head(b, d);
     let fine = rules::outer_rule(l, c, k, x, y);
     if !fine {
-        return 0;
+        return Step::Broken;
     }
     if x.rep != Head::REF {
-        return tail;
+        return Step::Tail(tail);
     }
     find_methods(b, found, tail, c.types, c.methods, k, square, a, d)
 }
@@ -205,7 +209,7 @@ fn find_next(
     c: Counts,
     k: Relation,
     square: [[bool; 4]; 4],
-) -> usize
+) -> Step
     requires { ⌜ ListedIn (c .types) (now found) tail × Says (relationOf k) square × Checked (now l) c × (head < tail) ⌝ }
     ensures { λ r. ⌜ MetIn (c .types) (λ M. rule (relationOf k) (tableIn (now (b .entry)) (now (l .entry)) c) M (getD (queueIn (now (found .entry))) head 0 / 128) (getD (queueIn (now (found .entry))) head 0 % 128)) (now (found .entry)) tail (now (found .exit)) r ⌝ }
 {
@@ -230,10 +234,9 @@ fn search(
     let mut tail = add_pair(&mut found, 0, t * 128 + s);
     let mut head: usize = 0;
     while head < tail {
-        let r = find_next(b, l, &mut found, tail, head, c, k, square);
-        if r == 0 {
+        let Step::Tail(r) = find_next(b, l, &mut found, tail, head, c, k, square) else {
             return false;
-        }
+        };
         tail = r;
         head += 1;
     }

@@ -23,7 +23,8 @@ use Rattle.table.specs.declared.TypeRec.{TypeRec}
 use Rattle.table.specs.Store.{rawMethod, rawOf, typesIn, typesTo, tableIn, withCount, emptyMethod, Put}
 use Rattle.table.specs.Limits.{Limits}
 use Rattle.table.specs.Records.{bytesOf}
-use Rattle.table.proofs.Lists.{lt-or-ge, same-or, from-same}
+use Rattle.model.proofs.Lists.{from-same}
+use Rattle.table.proofs.Lists.{lt-or-ge, same-or}
 use Rattle.table.proofs.Laws.{types-length, methods-length, method-in, put-length, put-types}
 use Rattle.table.proofs.Tables.{types-to-length, types-to-at, types-add, types-put, types-of, size-is}
 use Rattle.restrict.specs.declared.Derived.{Derived}
@@ -44,7 +45,7 @@ module _ (T : Table) where
   by-known : (i : ℕ) (rest : Option (Table × ℕ)) (o : Option ℕ) → o ≡ some i → _≡_ {A = Option (Table × ℕ)} (some (T, i)) (elim o [ some i ↦ some (T, i) | none ↦ rest ])
   by-known i rest o e = sym (ap (λ (z : Option ℕ). elim z as (λ _. Option (Table × ℕ)) [ some i ↦ some (T, i) | none ↦ rest ]) e)
 
-  by-new : (rest : Option (Table × ℕ)) (o : Option ℕ) → o ≡ none → _≡_ {A = Option (Table × ℕ)} (elim o [ some i ↦ some (T, i) | none ↦ rest ]) rest
+  pub by-new : (rest : Option (Table × ℕ)) (o : Option ℕ) → o ≡ none → _≡_ {A = Option (Table × ℕ)} (elim o [ some i ↦ some (T, i) | none ↦ rest ]) rest
   by-new rest o e = ap (λ (z : Option ℕ). elim z as (λ _. Option (Table × ℕ)) [ some i ↦ some (T, i) | none ↦ rest ]) e
 
 by-room : (rest : Option (Table × ℕ)) (b : Bool) → b ≡ false → _≡_ {A = Option (Table × ℕ)} (elim b [ false ↦ none | true ↦ rest ]) none
@@ -61,7 +62,7 @@ module _ (T : Table) (d : Kind) (t s : ℕ) where
   derive-full zero e h = sym (by-new T none (withoutNew T d t s) e)
   derive-full (suc f) e h = sym (by-new T _ (withoutNew T d t s) e ∙ by-room _ (ltb (size T) 128) (le-ltb (size T) 128 h))
 
-size-tabled : (T : Table) (c : Counts) (n : ℕ) (b : List ℕ) → size (tabled T c n b) ≡ n
+pub size-tabled : (T : Table) (c : Counts) (n : ℕ) (b : List ℕ) → size (tabled T c n b) ≡ n
 size-tabled T c n b = types-to-length (c .methods) (c .sheet) (typesIn b) n
 
 abbrev Without : Kind → Counts → ℕ → ℕ → ℕ → List ℕ → Table → Option ℕ

@@ -3,3 +3,4 @@ pub mod Begins
 pub mod Codes
 pub mod Turns
 pub mod Ends
+pub mod Numbers

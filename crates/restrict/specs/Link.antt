@@ -1,6 +1,6 @@
 -- What the code's answers and its bytes mean, in the words of the model.
 use mathlib.Core.Path.{_≡_}
-use mathlib.Core.Bool.{Bool, So, true, _&&_, cond}
+use mathlib.Core.Bool.{Bool, So, true, false, _&&_, cond}
 use mathlib.Core.List.{List, _++_, map, flatten}
 use mathlib.Core.Option.{Option, none, some}
 use Prim.Native.Nat.{ℕ, _+_, _*_, _≤_, _<_}
@@ -9,10 +9,11 @@ use lib.ListN.{length, getD, take, drop}
 use Rattle.model.specs.Basics.{Res, refuse, ok}
 use Rattle.model.specs.Table.{Kind, Table, size, withTypes, isRef}
 use Rattle.model.specs.Restriction.{derive, derived}
-use Rattle.model.specs.Check.{noRawType, repOf, typeOf, rawTypeFits, codesFit}
+use Rattle.model.specs.Check.{RawType, noRawType, repOf, typeOf, rawTypeFits, codesFit}
 use Rattle.table.specs.declared.Counts.{Counts}
+use Rattle.table.specs.declared.Head.{Head}
 use Rattle.table.specs.declared.TypeRec.{TypeRec}
-use Rattle.table.specs.Store.{rawOf, typesIn, typesTo, rawTable, tableIn, withCount, Put}
+use Rattle.table.specs.Store.{rawMethod, rawOf, typesIn, typesTo, rawTable, tableIn, withCount, emptyType, Put}
 use Rattle.table.specs.Limits.{Limits}
 use Rattle.table.specs.Records.{bytesOf}
 use Rattle.slots.specs.declared.Work.{Work}
@@ -36,6 +37,27 @@ Writes n b b′ (ok p) = take (size (p .0) * 128) b′ ≡ take (n * 128) b ++ f
 -- Type t is a reference type of the first n.
 abbrev pub refIn : ℕ → List ℕ → ℕ → Bool
 refIn n b t = ltb t n && isRef (repOf (getD (typesIn b) t noRawType .rep))
+
+-- Type t is a number type of the first n.
+pub record NumberIn (n : ℕ) (b : List ℕ) (t : ℕ) : Type 0 where
+  pub below : t < n
+  pub number : isRef (repOf (getD (typesIn b) t noRawType .rep)) ≡ false
+
+-- Two types of the first n, both references or both numbers, as a pair that a relation holds of.
+pub record Alike (n : ℕ) (b : List ℕ) (r v : ℕ) : Type 0 where
+  pub left : r < n
+  pub right : v < n
+  pub same : isRef (repOf (getD (typesIn b) r noRawType .rep)) ≡ isRef (repOf (getD (typesIn b) v noRawType .rep))
+
+-- A number type's representation by its code, and Closed(R,V) of two number types as it is stored, h being R's head.
+pub record NumberRep (x r : ℕ) : Type 0 where
+  pub is : (x ≡ 0 → ⊥) → repOf r ≡ repOf x
+  pub some : 0 < r
+  pub code : r < 3
+
+pub record NumberType (h : Head) (r v : ℕ) (x : RawType) : Type 0 where
+  pub rep : NumberRep (h .rep) (x .rep)
+  pub is : x ≡ record { rep = x .rep; cat = h .cat; own = 0; kind = 2; left = r; right = v; methods = map rawMethod (emptyType .methods) }
 
 -- What a derivation asks: counts within their limits, n being the types so far, and numbers that a byte can hold.
 pub record Ready (c : Counts) (n t s : ℕ) (b : List ℕ) : Type 0 where

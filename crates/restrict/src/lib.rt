@@ -9,15 +9,17 @@ ghost use lib.ListN.{length};
 ghost use Rattle.model.specs.Table.{sub, sup, closed};
 ghost use Rattle.model.specs.Restriction.{find, withoutNew, mainSide};
 ghost use Rattle.model.specs.Check.{kindOf};
-ghost use Rattle.table.specs.Store.{typesIn, typesTo, withCount};
+ghost use Rattle.table.specs.Store.{rawOf, typesIn, typesTo, withCount};
 ghost use Rattle.table.specs.Limits.{Limits};
-ghost use Rattle.restrict.specs.Link.{Ready, Derives, Gives, Begins, Opened, Stored, foundOf, refIn, tabled};
+ghost use Rattle.restrict.specs.Link.{Alike, NumberIn, NumberRep, NumberType, Ready, Derives, Gives, Begins, Opened, Stored, foundOf, refIn, tabled};
+use numbers::narrow;
 use slots::Slot;
 use slots::Work;
 use table::Counts;
 use table::Head;
 use table::Key;
 use table::TYPE_BYTES;
+use table::TypeRec;
 
 // What a derivation answers: the table is full, or the type's number and how many types there are now.
 pub enum Derived {
@@ -137,7 +139,7 @@ fn finish(b: &mut [u8; TYPE_BYTES], n: usize, w: Work, methods: usize, bytes: [u
 }
 
 // Sub(T,S), n being the types so far: arguments by Sup, answers by Sub (D5, D17).
-fn sub(b: &mut [u8; TYPE_BYTES], c: Counts, n: usize, t: usize, s: usize) -> Derived
+pub fn sub(b: &mut [u8; TYPE_BYTES], c: Counts, n: usize, t: usize, s: usize) -> Derived
     requires { ⌜ Ready c n t s (now b) ⌝ }
     ensures { λ r. ⌜ Gives sub c n t s (now (b .entry)) (now (b .exit)) r ⌝ }
 {
@@ -252,6 +254,72 @@ fn closed(b: &mut [u8; TYPE_BYTES], c: Counts, r: usize, v: usize) -> Derived
     }
     finish(b, n, w, c.methods, bytes);
     Derived::At(n, m)
+}
+
+// A number type's representation as it is stored: a code past the last is read as w64's.
+fn number_rep(x: u8) -> u8
+    ensures { λ r. ⌜ NumberRep x r ⌝ }
+{
+    if x == Head::W32 {
+        return Head::W32;
+    }
+    Head::W64
+}
+
+// Closed(R,V) of two number types, from R's head: no methods.
+fn number_type(h: Head, r: usize, v: usize) -> TypeRec
+    requires { ⌜ (r < 256) × (v < 256) ⌝ }
+    ensures { λ z. ⌜ NumberType h r v (rawOf z) ⌝ }
+{
+    let empty = TypeRec::empty();
+    let methods = empty.methods;
+    let rep = number_rep(h.rep);
+    let left = narrow(r);
+    let right = narrow(v);
+    let head = Head {
+        rep,
+        cat: h.cat,
+        own: 0,
+        kind: Key::CLOSED,
+        left,
+        right,
+    };
+    TypeRec { head, methods }
+}
+
+// Closed(R,V) of two number types. Only derived types that were handed in make a crossing ask for it (H14).
+fn closed_numbers(b: &mut [u8; TYPE_BYTES], c: Counts, r: usize, v: usize) -> Derived
+    requires { ⌜ Ready c (c .types) r v (now b) × NumberIn (c .types) (now b) r × NumberIn (c .types) (now b) v ⌝ }
+    ensures { λ d. ⌜ Gives closed c (c .types) r v (now (b .entry)) (now (b .exit)) d ⌝ }
+{
+    let n = c.types;
+    let key = Key {
+        kind: Key::CLOSED,
+        left: r,
+        right: v,
+    };
+    let found = lookup(b, c, n, key);
+    if found < n {
+        return Derived::At(found, n);
+    }
+    if Counts::TYPES <= n {
+        return Derived::Full;
+    }
+    let h = table::get_head(b, r);
+    let z = number_type(h, r, v);
+    table::put_type(b, n, z);
+    Derived::At(n, n + 1)
+}
+
+// Closed(R,V) of two reference types or of two number types, as a crossing asks for it.
+pub fn closed_any(b: &mut [u8; TYPE_BYTES], c: Counts, r: usize, v: usize) -> Derived
+    requires { ⌜ Ready c (c .types) r v (now b) × Alike (c .types) (now b) r v ⌝ }
+    ensures { λ d. ⌜ Gives closed c (c .types) r v (now (b .entry)) (now (b .exit)) d ⌝ }
+{
+    if is_ref(b, c.types, r) {
+        return closed(b, c, r, v);
+    }
+    closed_numbers(b, c, r, v)
 }
 
 // Sub(T,S), in the table of these bytes and counts.

@@ -16,9 +16,9 @@ use Rattle.model.specs.Basics.{refuse, ok}
 use Rattle.model.specs.Table.{Table, tableFits, validSheet}
 use Rattle.model.specs.Check.{RawTable, tableOf, codesFit, tableAccepted}
 use Rattle.model.proofs.Rules.{second}
-use Rattle.sheet.specs.Lines.{Row, row, split, join, Reading, refused, got, Reader, line, follow, then, nothing}
+use Rattle.sheet.specs.Lines.{Row, row, split, join, Reading, refused, got, Reader, line, follow, bind, endOfInput}
 use Rattle.sheet.specs.Text.{endText, sheetLines, withoutDerived, text, Written, writeText, write}
-use Rattle.sheet.specs.Sheet.{endLine, body, ownInSignature, ending, sheet, malformed, loaded, sheetAnswer, read, emptyTable, tableRead}
+use Rattle.sheet.specs.Sheet.{endLine, body, signaturesStand, ending, sheet, malformed, loaded, sheetAnswer, read}
 use Rattle.sheet.proofs.Steps.{cond-cases, refuse-ok, ok-value}
 use Rattle.sheet.proofs.Lines.{rows, rows-append, split-sound, split-full, clean-lines}
 use Rattle.sheet.proofs.LineKinds.{end-exact}
@@ -32,25 +32,26 @@ malformed-loaded p = let z : _≡_ {A = ℕ} 0 1 = cc in absurd (omega arith)
 loaded-table : {t u : Table} → loaded t ≡ loaded u → t ≡ u
 loaded-table p = cc
 
-nothing-got : (at : ℕ) (rs : List Row) (u : Unit {0}) (at′ : ℕ) (rs′ : List Row) → nothing at rs ≡ got u at′ rs′ → rs ≡ []
-nothing-got at [] u at′ rs′ h = refl
-nothing-got at (r ∷ rs) u at′ rs′ h = refused-got h
+endOfInput-got : (at : ℕ) (rs : List Row) (u : Unit {0}) (at′ : ℕ) (rs′ : List Row) → endOfInput at rs ≡ got u at′ rs′ → rs ≡ []
+endOfInput-got at [] u at′ rs′ h = refl
+endOfInput-got at (r ∷ rs) u at′ rs′ h = refused-got h
 
 -- what stands behind the line `end=sheet` of table t
 abbrev behindEnd : Table → ℕ → Reader Table
-behindEnd t last = then nothing λ u at rs. cond (ownInSignature t) (refused 3 last) (got t at rs)
+behindEnd t last = bind endOfInput λ u at rs. cond (signaturesStand t) (got t at rs) (refused 3 last)
 
-ending-sound : (t : Table) (at : ℕ) (rs : List Row) (u : Table) (at′ : ℕ) (rs′ : List Row) → ending t at rs ≡ got u at′ rs′ → (t ≡ u) × (ownInSignature t ≡ false) × (rs ≡ row endText ∷ [])
+ending-sound : (t : Table) (at : ℕ) (rs : List Row) (u : Table) (at′ : ℕ) (rs′ : List Row) → ending t at rs ≡ got u at′ rs′ → (t ≡ u) × So (signaturesStand t) × (rs ≡ row endText ∷ [])
 unfolding ending
-ending-sound t at rs u at′ rs′ h = follow-got (line endLine at rs) (λ v. behindEnd t at) h λ v a q e₁ e₂. follow-got (nothing a q) (λ v b r. cond (ownInSignature t) (refused 3 at) (got t b r)) e₂ λ w b r e₃ e₄.
-    cond-cases (ownInSignature t) e₄ (λ o e. refused-got e)
-    (λ o e. (got-value e, o, line-exact end-exact .sound at rs v a q e₁ .1 ∙ ap (λ z. row endText ∷ z) (nothing-got a q w b r e₃)))
+ending-sound t at rs u at′ rs′ h = follow-got (line endLine at rs) (λ v. behindEnd t at) h λ v a q e₁ e₂. follow-got (endOfInput a q) (λ v b r. cond (signaturesStand t) (got t b r) (refused 3 at)) e₂ λ w b r e₃ e₄.
+    cond-cases (signaturesStand t) e₄
+    (λ o e. (got-value e, o, line-exact end-exact .sound at rs v a q e₁ .1 ∙ ap (λ z. row endText ∷ z) (endOfInput-got a q w b r e₃)))
+    (λ o e. refused-got e)
 
-ending-full : (t : Table) (at : ℕ) → ownInSignature t ≡ false → (at′ : ℕ) × (ending t at (row endText ∷ []) ≡ got t at′ [])
+ending-full : (t : Table) (at : ℕ) → So (signaturesStand t) → (at′ : ℕ) × (ending t at (row endText ∷ []) ≡ got t at′ [])
 unfolding ending
 ending-full t at o =
     let i = line-exact end-exact .full at tt [] tt in
-    (i .0, ap (λ z. follow z (λ v. behindEnd t at)) (i .1) ∙ ap (λ z. cond z (refused 3 at) (got t (i .0) [])) o)
+    (i .0, ap (λ z. follow z (λ v. behindEnd t at)) (i .1) ∙ ap (λ z. cond z (got t (i .0) []) (refused 3 at)) o)
 
 -- The reader accepts bytes with table t if and only if t is a valid sheet's and the bytes are its text.
 pub read-exact : (bs : List ℕ) (t : Table) → (read bs ≡ loaded t) ↔ (So (validSheet t) × (bs ≡ text t))
@@ -102,10 +103,6 @@ same-table bs t u h k = loaded-table (sym h ∙ k)
 
 pub same-text : (bs cs : List ℕ) (t : Table) → read bs ≡ loaded t → read cs ≡ loaded t → bs ≡ cs
 same-text bs cs t h k = sym (text-of-read bs t h) ∙ text-of-read cs t k
-
--- "the table is always a new one, here with every count 0"
-pub refused-empty : (bs : List ℕ) (n at : ℕ) → read bs ≡ malformed n at → tableRead (read bs) ≡ emptyTable
-refused-empty bs n at h = ap tableRead h
 
 -- The text of a table that keeps the rules, derived types or not, is read back as the table without them (docs/DECISIONS.md S17).
 pub read-of-fitting : (t : Table) → So (tableFits t) → read (text t) ≡ loaded (withoutDerived t)

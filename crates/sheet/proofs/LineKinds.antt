@@ -12,13 +12,13 @@ use borrow.Author.Tests.{ltb-true, leb-true, eqb-true, lt-ltb, le-leb, ne-eqb}
 use Rattle.model.specs.Basics.{Res, ok, try, need, all, unlessMissing}
 use Rattle.model.specs.Table.{State, denied, optional, avail, unavail, Rep, ref, w32, w64, Method, between, linksFit, permit, isNil, isNone, maxArguments}
 use Rattle.model.proofs.Rules.{both, first, second, never}
-use Rattle.sheet.specs.Lines.{bytes, starts, same, keyed, oneOf}
-use Rattle.sheet.specs.Numbers.{took, andThen, whole, isDigit, number, numbers, decimal, tails, commas}
+use Rattle.sheet.specs.Lines.{bytes, starts, same, keyed, choice}
+use Rattle.sheet.specs.Numbers.{took, bindScan, whole, isDigit, number, numbers, decimal, tails, commas}
 use Rattle.sheet.specs.Text.{numberText, underText, repText, ownText, stateText, answerText, signatureText, methodTextBy, methodText, endText}
 use Rattle.sheet.specs.Sheet.{numberLine, underLine, repLine, ownLine, endLine, closing, arguments, answer, below, signature, unsigned, methodLine}
-use Rattle.sheet.proofs.Steps.{cond-cases, refuse-ok, ok-value, try-ok, need-ok, fail-took, took-value, took-rest, andThen-took, whole-ok}
+use Rattle.sheet.proofs.Steps.{cond-cases, refuse-ok, ok-value, try-ok, need-ok, fail-took, took-value, took-rest, bindScan-took, whole-ok}
 use Rattle.sheet.proofs.Numbers.{isDigit-low, number-sound, number-full, decimal-head, small, numbers-sound, numbers-full}
-use Rattle.sheet.proofs.Lines.{notLF, clean, all-append, decimal-clean, commas-clean, starts-sound, same-sound, keyed-sound, keyed-full, LineExact, Any, oneOf-exact}
+use Rattle.sheet.proofs.Lines.{notLF, clean, all-append, decimal-clean, commas-clean, starts-sound, same-sound, keyed-sound, keyed-full, LineExact, Any, choice-exact}
 
 -- ranges and bounds
 pub between-low : (low high n : ℕ) → So (between low high n) → low ≤ n
@@ -30,7 +30,7 @@ between-high low high n h = leb-true n high (second (leb low n) (leb n high) h)
 pub in-between : (low high n : ℕ) → low ≤ n → n ≤ high → So (between low high n)
 in-between low high n l h = both (le-leb low n l) (le-leb n high h)
 
-pub all-weaken : (f g : ℕ → Bool) (xs : List ℕ) → ((n : ℕ) → So (f n) → So (g n)) → So (all f xs) → So (all g xs)
+pub all-weaken : {A : Type 0} (f g : A → Bool) (xs : List A) → ((n : A) → So (f n) → So (g n)) → So (all f xs) → So (all g xs)
 all-weaken f g [] k h = refl
 all-weaken f g (x ∷ xs) k h = both (k x (first (f x) (all f xs) h)) (all-weaken f g xs k (second (f x) (all f xs) h))
 
@@ -106,9 +106,9 @@ under-exact c k h kc = record { sound = from; full = to; lf = λ links b. all-ap
 -- lines with one word
 pub rep-exact : LineExact repLine Any repText
 unfolding repLine starts
-rep-exact = oneOf-exact repText (ref ∷ w32 ∷ w64 ∷ []) full lf
+rep-exact = choice-exact repText (ref ∷ w32 ∷ w64 ∷ []) full lf
   where
-    full : (r : Rep) → oneOf repText (ref ∷ w32 ∷ w64 ∷ []) (repText r) ≡ ok r
+    full : (r : Rep) → choice repText (ref ∷ w32 ∷ w64 ∷ []) (repText r) ≡ ok r
     full ref = refl
     full w32 = refl
     full w64 = refl
@@ -120,9 +120,9 @@ rep-exact = oneOf-exact repText (ref ∷ w32 ∷ w64 ∷ []) full lf
 
 pub own-exact : LineExact ownLine Any ownText
 unfolding ownLine starts
-own-exact = oneOf-exact ownText (true ∷ false ∷ []) full lf
+own-exact = choice-exact ownText (true ∷ false ∷ []) full lf
   where
-    full : (b : Bool) → oneOf ownText (true ∷ false ∷ []) (ownText b) ≡ ok b
+    full : (b : Bool) → choice ownText (true ∷ false ∷ []) (ownText b) ≡ ok b
     full true = refl
     full false = refl
 
@@ -132,7 +132,7 @@ own-exact = oneOf-exact ownText (true ∷ false ∷ []) full lf
 
 pub end-exact : LineExact endLine Any (λ u. endText)
 unfolding endLine starts
-end-exact = oneOf-exact (λ u. endText) (tt ∷ []) (λ u. refl) (λ u. refl)
+end-exact = choice-exact (λ u. endText) (tt ∷ []) (λ u. refl) (λ u. refl)
 
 -- What the line of a method may hold where there are n types; own is tested at the sheet's end.
 abbrev pub signatureInBy : State → ℕ → Method → Bool
@@ -142,13 +142,13 @@ abbrev pub signatureIn : ℕ → Method → Bool
 signatureIn n m = signatureInBy (m .state) n m
 
 -- a number begins neither with a bracket nor with a dash
-arguments-digit : (b : ℕ) (l : List ℕ) → So (isDigit b) → arguments (b ∷ l) ≡ andThen (numbers maxArguments [] (b ∷ l)) closing
+arguments-digit : (b : ℕ) (l : List ℕ) → So (isDigit b) → arguments (b ∷ l) ≡ bindScan (numbers maxArguments [] (b ∷ l)) closing
 unfolding arguments
-arguments-digit b l h = let low : 48 ≤ b = isDigit-low b h in ap (λ z. cond z (took [] l) (andThen (numbers maxArguments [] (b ∷ l)) closing)) (ne-eqb b 41 (λ q. omega arith))
+arguments-digit b l h = let low : 48 ≤ b = isDigit-low b h in ap (λ z. cond z (took [] l) (bindScan (numbers maxArguments [] (b ∷ l)) closing)) (ne-eqb b 41 (λ q. omega arith))
 
-answer-digit : (b : ℕ) (l : List ℕ) → So (isDigit b) → answer (b ∷ l) ≡ andThen (number (b ∷ l)) (λ n r. took (some n) r)
+answer-digit : (b : ℕ) (l : List ℕ) → So (isDigit b) → answer (b ∷ l) ≡ bindScan (number (b ∷ l)) (λ n r. took (some n) r)
 unfolding answer
-answer-digit b l h = let low : 48 ≤ b = isDigit-low b h in ap (λ z. cond z (took none l) (andThen (number (b ∷ l)) (λ n r. took (some n) r))) (ne-eqb b 45 (λ q. omega arith))
+answer-digit b l h = let low : 48 ≤ b = isDigit-low b h in ap (λ z. cond z (took none l) (bindScan (number (b ∷ l)) (λ n r. took (some n) r))) (ne-eqb b 45 (λ q. omega arith))
 
 arguments-sound : (l xs r : List ℕ) → arguments l ≡ took xs r → (length xs ≤ maxArguments) × (So (all small xs) → l ≡ commas xs ++ code ")" ∷ r)
 unfolding arguments
@@ -156,7 +156,7 @@ arguments-sound [] xs r h = absurd (fail-took h)
 arguments-sound (b ∷ bs) xs r h = cond-cases (eqb b 41) h
     (λ t v. subst (λ z. (length z ≤ maxArguments) × (So (all small z) → b ∷ bs ≡ commas z ++ 41 ∷ r)) (took-value v)
     (omega arith, λ s. ap (λ z. z ∷ bs) (eqb-true b 41 t) ∙ ap (λ z. 41 ∷ z) (took-rest v)))
-    (λ t v. andThen-took (numbers maxArguments [] (b ∷ bs)) closing v shut)
+    (λ t v. bindScan-took (numbers maxArguments [] (b ∷ bs)) closing v shut)
   where
     shut : (ys q : List ℕ) → numbers maxArguments [] (b ∷ bs) ≡ took ys q → closing ys q ≡ took xs r → (length xs ≤ maxArguments) × (So (all small xs) → b ∷ bs ≡ commas xs ++ 41 ∷ r)
     shut ys [] s c = absurd (fail-took c)
@@ -175,7 +175,7 @@ unfolding answer
 answer-sound [] o r h s = absurd (fail-took h)
 answer-sound (b ∷ bs) o r h s = cond-cases (eqb b 45) h
     (λ t v. ap (λ z. z ∷ bs) (eqb-true b 45 t) ∙ ap (λ z. 45 ∷ z) (took-rest v) ∙ ap (λ z. answerText z ++ r) (took-value v))
-    (λ t v. andThen-took (number (b ∷ bs)) (λ n r. took (some n) r) v
+    (λ t v. bindScan-took (number (b ∷ bs)) (λ n r. took (some n) r) v
     (λ n q e w. let u : some n ≡ o = took-value w in
     let g : So (unlessMissing (some n) small) = subst (λ z. So (unlessMissing z small)) (sym u) s in
     number-sound (b ∷ bs) n q e (ltb-true n 10000 g) ∙ ap (λ z. decimal n ++ z) (took-rest w) ∙ ap (λ z. answerText z ++ r) u))
@@ -187,8 +187,8 @@ arguments-full (a ∷ xs) r h s =
     let i = decimal-head a (ltb-true a 10000 (first (small a) (all small xs) s)) in
     let q : List ℕ = tails xs ++ 41 ∷ r in
     ap arguments (append-assoc (decimal a) (tails xs) (41 ∷ r)) ∙ ap (λ z. arguments (z ++ q)) (i .2) ∙ arguments-digit (i .0) (i .1 ++ q) (i .3)
-    ∙ ap (λ z. andThen (numbers maxArguments [] (z ++ q)) closing) (sym (i .2))
-    ∙ ap (λ z. andThen z closing) (numbers-full maxArguments [] a xs (41 ∷ r) h s refl)
+    ∙ ap (λ z. bindScan (numbers maxArguments [] (z ++ q)) closing) (sym (i .2))
+    ∙ ap (λ z. bindScan z closing) (numbers-full maxArguments [] a xs (41 ∷ r) h s refl)
 
 answer-full : (o : Option ℕ) → So (unlessMissing o small) → answer (answerText o) ≡ took o []
 unfolding answer
@@ -196,8 +196,8 @@ answer-full none s = refl
 answer-full (some n) s =
     let l : n < 10000 = ltb-true n 10000 s in
     let i = decimal-head n l in
-    ap answer (i .2) ∙ answer-digit (i .0) (i .1) (i .3) ∙ ap (λ z. andThen (number z) (λ n r. took (some n) r)) (sym (i .2) ∙ sym (append-nil (decimal n)))
-    ∙ ap (λ z. andThen z (λ n r. took (some n) r)) (number-full n [] l refl)
+    ap answer (i .2) ∙ answer-digit (i .0) (i .1) (i .3) ∙ ap (λ z. bindScan (number z) (λ n r. took (some n) r)) (sym (i .2) ∙ sym (append-nil (decimal n)))
+    ∙ ap (λ z. bindScan z (λ n r. took (some n) r)) (number-full n [] l refl)
 
 -- a signature behind its state
 abbrev permitted : ℕ → Method → Bool
@@ -220,8 +220,8 @@ answer-small n m h b = missing-weaken (below n) small (m .answer) (below-small n
 
 signature-sound : (n : ℕ) (s : State) (l : List ℕ) (m : Method) → n ≤ 10000 → signature n s l ≡ ok m → SignatureOf n s l m
 unfolding signature
-signature-sound n s l m h e = try-ok (whole (andThen (arguments l) _)) (named n) e λ y e₁ e. need-ok (all (below n) (y .args) && unlessMissing (y .answer) (below n)) 2 _ e λ b e.
-    andThen-took (arguments l) _ (whole-ok _ e₁) λ xs q a e₂. andThen-took (answer q) _ e₂ λ o p w e₃. go y b (ok-value e) xs q a o p w (took-value e₃) (took-rest e₃)
+signature-sound n s l m h e = try-ok (whole (bindScan (arguments l) _)) (named n) e λ y e₁ e. need-ok (all (below n) (y .args) && unlessMissing (y .answer) (below n)) 2 _ e λ b e.
+    bindScan-took (arguments l) _ (whole-ok _ e₁) λ xs q a e₂. bindScan-took (answer q) _ e₂ λ o p w e₃. go y b (ok-value e) xs q a o p w (took-value e₃) (took-rest e₃)
   where
     go : (y : Method) → So (all (below n) (y .args) && unlessMissing (y .answer) (below n)) → y ≡ m →
         (xs q : List ℕ) → arguments l ≡ took xs q → (o : Option ℕ) (p : List ℕ) → answer q ≡ took o p → method s xs o ≡ y → p ≡ [] → SignatureOf n s l m
@@ -238,9 +238,9 @@ signature-sound n s l m h e = try-ok (whole (andThen (arguments l) _)) (named n)
 signature-full : (n : ℕ) (m : Method) → n ≤ 10000 → So (permitted n m) → signature n (m .state) (signatureText m) ≡ ok m
 unfolding signature
 signature-full n m h b =
-    ap (λ z. try (whole (andThen z λ xs r. andThen (answer r) λ o q. took (method (m .state) xs o) q)) (named n))
+    ap (λ z. try (whole (bindScan z λ xs r. bindScan (answer r) λ o q. took (method (m .state) xs o) q)) (named n))
     (arguments-full (m .args) (answerText (m .answer)) (leb-true (length (m .args)) maxArguments (first (leb (length (m .args)) maxArguments) _ b)) (args-small n m h b))
-    ∙ ap (λ z. try (whole (andThen z λ o q. took (method (m .state) (m .args) o) q)) (named n)) (answer-full (m .answer) (answer-small n m h b))
+    ∙ ap (λ z. try (whole (bindScan z λ o q. took (method (m .state) (m .args) o) q)) (named n)) (answer-full (m .answer) (answer-small n m h b))
     ∙ ap (λ z. need z 2 λ u. ok m) (second (leb (length (m .args)) maxArguments) _ b)
 
 answer-clean : (o : Option ℕ) → So (unlessMissing o small) → So (clean (answerText o))

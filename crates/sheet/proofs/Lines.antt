@@ -10,7 +10,7 @@ use lib.Seq.{drop-append-seam}
 use borrow.Author.Tests.{eqb-true, eq-eqb, ne-eqb, ltb-true}
 use Rattle.model.specs.Basics.{Res, ok, all, need}
 use Rattle.model.proofs.Rules.{both, first, second, never}
-use Rattle.sheet.specs.Lines.{Row, row, cut, push, split, join, starts, same, keyed, oneOf}
+use Rattle.sheet.specs.Lines.{Row, row, cut, push, split, join, starts, same, keyed, choice}
 use Rattle.sheet.specs.Numbers.{isDigit, decimal, tails, commas}
 use Rattle.sheet.proofs.Steps.{clash, cond-cases, ok-value, refuse-ok, need-ok}
 use Rattle.sheet.proofs.Numbers.{isDigit-low, decimal-digits, small}
@@ -144,10 +144,10 @@ pub record LineExact {A : Type 0} (f : List ℕ → Res A) (fit : A → Type 0) 
 abbrev pub Any : {A : Type 0} → A → Type 0
 Any x = Unit {0}
 
-pub oneOf-exact : {A : Type 0} (tx : A → List ℕ) (xs : List A) → ((x : A) → oneOf tx xs (tx x) ≡ ok x) → ((x : A) → So (clean (tx x))) → LineExact (oneOf tx xs) Any tx
-unfolding oneOf
-oneOf-exact tx xs f c = record { sound = λ l x e. (tt, from xs l x e); full = λ x u. f x; lf = λ x u. c x }
+pub choice-exact : {A : Type 0} (tx : A → List ℕ) (xs : List A) → ((x : A) → choice tx xs (tx x) ≡ ok x) → ((x : A) → So (clean (tx x))) → LineExact (choice tx xs) Any tx
+unfolding choice
+choice-exact tx xs f c = record { sound = λ l x e. (tt, from xs l x e); full = λ x u. f x; lf = λ x u. c x }
   where
-    from : (xs : List _) (l : List ℕ) (x : _) → oneOf tx xs l ≡ ok x → l ≡ tx x
+    from : (xs : List _) (l : List ℕ) (x : _) → choice tx xs l ≡ ok x → l ≡ tx x
     from [] l x e = refuse-ok e
     from (y ∷ xs) l x e = cond-cases (same (tx y) l) e (λ t v. same-sound (tx y) l t ∙ ap tx (ok-value v)) (λ t v. from xs l x v)

@@ -10,7 +10,7 @@ use lib.ListN.{length}
 use borrow.Author.Tests.{ltb-true, ltb-false, leb-true, eqb-true, eqb-false, lt-ltb, le-ltb, le-leb, ne-eqb}
 use Rattle.model.specs.Basics.{all}
 use Rattle.model.proofs.Rules.{both, first, second}
-use Rattle.sheet.specs.Numbers.{Scan, fail, took, andThen, isDigit, limit, digits, number, comma, numbers, decimalIn, decimal, tails}
+use Rattle.sheet.specs.Numbers.{Scan, fail, took, bindScan, isDigit, limit, digits, number, comma, numbers, decimalIn, decimal, tails}
 use Rattle.sheet.proofs.Steps.{clash, cond-cases, fail-took, took-value, took-rest}
 
 pub isDigit-low : (b : ℕ) → isDigit b ≡ true → 48 ≤ b
@@ -252,7 +252,7 @@ numbers-sound (suc k) acc l ns r h = go (λ b q h. numbers-sound k b q ns r h) (
         ))
         (λ t k₁. (a, [], sym (took-value k₁), omega arith, last a (b ∷ q) e (took-rest k₁)))
 
-    go : ((b q : List ℕ) → numbers k b q ≡ took ns r → Listed k b q ns r) → (s : Scan ℕ) → number l ≡ s → andThen s (λ a r. comma (acc ++ a ∷ []) (λ q. numbers k (acc ++ a ∷ []) q) r) ≡ took ns r → Listed (suc k) acc l ns r
+    go : ((b q : List ℕ) → numbers k b q ≡ took ns r → Listed k b q ns r) → (s : Scan ℕ) → number l ≡ s → bindScan s (λ a r. comma (acc ++ a ∷ []) (λ q. numbers k (acc ++ a ∷ []) q) r) ≡ took ns r → Listed (suc k) acc l ns r
     go ih fail e h = absurd (fail-took h)
     go ih (took a r₁) e h = come ih a r₁ e h
 
@@ -264,10 +264,10 @@ pub numbers-full : (k : ℕ) (acc : List ℕ) (a : ℕ) (xs r : List ℕ) → su
 unfolding numbers
 numbers-full zero acc a xs r h s f = absurd (not-suc-le-zero h)
 numbers-full (suc k) acc a [] r h s f =
-    ap (λ z. andThen z (λ a r. comma (acc ++ a ∷ []) (λ q. numbers k (acc ++ a ∷ []) q) r)) (number-full a r (ltb-true a 10000 (first (small a) true s)) (free-stops r f))
+    ap (λ z. bindScan z (λ a r. comma (acc ++ a ∷ []) (λ q. numbers k (acc ++ a ∷ []) q) r)) (number-full a r (ltb-true a 10000 (first (small a) true s)) (free-stops r f))
     ∙ comma-free (acc ++ a ∷ []) (λ q. numbers k (acc ++ a ∷ []) q) r f
 numbers-full (suc k) acc a (x ∷ xs) r h s f =
-    ap (λ z. andThen z (λ a r. comma (acc ++ a ∷ []) (λ q. numbers k (acc ++ a ∷ []) q) r)) (number-full a (44 ∷ (decimal x ++ tails xs) ++ r) (ltb-true a 10000 (first (small a) _ s)) refl)
+    ap (λ z. bindScan z (λ a r. comma (acc ++ a ∷ []) (λ q. numbers k (acc ++ a ∷ []) q) r)) (number-full a (44 ∷ (decimal x ++ tails xs) ++ r) (ltb-true a 10000 (first (small a) _ s)) refl)
     ∙ ap (λ z. numbers k (acc ++ a ∷ []) z) (append-assoc (decimal x) (tails xs) r)
     ∙ numbers-full k (acc ++ a ∷ []) x xs r (le-of-suc-le-suc h) (second (small a) _ s) f
     ∙ ap (λ z. took z r) (append-assoc acc (a ∷ []) (x ∷ xs))

@@ -7,8 +7,8 @@ use native.Mathlib.Omega.{arith}
 use lib.ListN.{length, length-append}
 use Rattle.model.specs.Basics.{Res, refuse, ok}
 use Rattle.model.specs.Table.{Rep, ref, w32, w64, Table}
-use Rattle.sheet.specs.Lines.{Row, row, cut, split, join, Reading, refused, got, Reader, lineAt, line, follow, then, many, nothing}
-use Rattle.sheet.specs.Sheet.{underLine, ownLine, endLine, methodLine, members, oneType, body, ownInSignature, ending, sheet, malformed, loaded, sheetAnswer, read}
+use Rattle.sheet.specs.Lines.{Row, row, cut, split, join, Reading, refused, got, Reader, lineAt, line, follow, bind, times, endOfInput}
+use Rattle.sheet.specs.Sheet.{underLine, ownLine, endLine, methodLine, members, oneType, body, signaturesStand, ending, sheet, malformed, loaded, sheetAnswer, read}
 use Rattle.sheet.proofs.Lines.{unsplit, unsplit-split, rows, rows-append}
 
 -- from offset at with rows rs, whole lines lead to offset at′ with rows rs′
@@ -68,44 +68,44 @@ follow-places : {A B : Type 0} (at : ℕ) (rs : List Row) (r : Reading A) (k : A
 follow-places at rs (refused n a) k h f = h
 follow-places at rs (got x a q) k h f = placed-more at rs (k x a q) h (f x a q)
 
-then-places : {A B : Type 0} (p : Reader A) (k : A → Reader B) → Places p → ((x : A) → Places (k x)) → Places (then p k)
-then-places p k h f at rs = follow-places at rs (p at rs) k (h at rs) f
+bind-places : {A B : Type 0} (p : Reader A) (k : A → Reader B) → Places p → ((x : A) → Places (k x)) → Places (bind p k)
+bind-places p k h f at rs = follow-places at rs (p at rs) k (h at rs) f
 
-many-places : {A : Type 0} (p : ℕ → Reader A) → ((i : ℕ) → Places (p i)) → (n i : ℕ) (acc : List A) → Places (many p n i acc)
-unfolding many
-many-places p h zero i acc at rs = ahead-none at rs
-many-places p h (suc n) i acc at rs = follow-places at rs (p i at rs) _ (h i at rs) (λ x. many-places p h n (suc i) (acc ++ x ∷ []))
+times-places : {A : Type 0} (p : ℕ → Reader A) → ((i : ℕ) → Places (p i)) → (n i : ℕ) (acc : List A) → Places (times p n i acc)
+unfolding times
+times-places p h zero i acc at rs = ahead-none at rs
+times-places p h (suc n) i acc at rs = follow-places at rs (p i at rs) _ (h i at rs) (λ x. times-places p h n (suc i) (acc ++ x ∷ []))
 
 members-places : (m n : ℕ) (r : Rep) (c : ℕ) → Places (members m n r c)
 unfolding members
-members-places m n ref c = then-places (line ownLine) _ (line-places ownLine) λ o. then-places (many (λ j. line (methodLine n)) m 0 []) _ (many-places (λ j. line (methodLine n)) (λ j. line-places (methodLine n)) m 0 []) λ ms. ahead-none
+members-places m n ref c = bind-places (line ownLine) _ (line-places ownLine) λ o. bind-places (times (λ j. line (methodLine n)) m 0 []) _ (times-places (λ j. line (methodLine n)) (λ j. line-places (methodLine n)) m 0 []) λ ms. ahead-none
 members-places m n w32 c = ahead-none
 members-places m n w64 c = ahead-none
 
 type-places : (m c n i : ℕ) → Places (oneType m c n i)
 unfolding oneType
-type-places m c n i = then-places (line _) _ (line-places _) λ x. then-places (line _) _ (line-places _) λ r. then-places (line _) _ (line-places _) λ k. members-places m n r k
+type-places m c n i = bind-places (line _) _ (line-places _) λ x. bind-places (line _) _ (line-places _) λ r. bind-places (line _) _ (line-places _) λ k. members-places m n r k
 
 body-places : Places body
 unfolding body
-body-places = then-places (line _) _ (line-places _) λ g. then-places (line _) _ (line-places _) λ s. then-places (line _) _ (line-places _) λ m. then-places (line _) _ (line-places _) λ c.
-    then-places (many (λ k. line (underLine c k)) c 1 []) _ (many-places (λ k. line (underLine c k)) (λ k. line-places (underLine c k)) c 1 []) λ us. then-places (line _) _ (line-places _) λ n.
-    then-places (many (oneType m c n) n 0 []) _ (many-places (oneType m c n) (type-places m c n) n 0 []) λ ts. ahead-none
+body-places = bind-places (line _) _ (line-places _) λ g. bind-places (line _) _ (line-places _) λ s. bind-places (line _) _ (line-places _) λ m. bind-places (line _) _ (line-places _) λ c.
+    bind-places (times (λ k. line (underLine c k)) c 1 []) _ (times-places (λ k. line (underLine c k)) (λ k. line-places (underLine c k)) c 1 []) λ us. bind-places (line _) _ (line-places _) λ n.
+    bind-places (times (oneType m c n) n 0 []) _ (times-places (oneType m c n) (type-places m c n) n 0 []) λ ts. ahead-none
 
 -- own in a signature is refused at the last line's offset, where `ending` started
 ending-places : (t : Table) → Places (ending t)
 unfolding ending
 ending-places t last rs = go (line endLine last rs) (line-places endLine last rs)
   where
-    own : (b : Bool) (a : ℕ) (q : List Row) → Ahead last rs a q → Placed last rs (cond b (refused 3 last) (got t a q))
-    own true a q h = (rs, ahead-none last rs)
-    own false a q h = h
+    own : (b : Bool) (a : ℕ) (q : List Row) → Ahead last rs a q → Placed last rs (cond b (got t a q) (refused 3 last))
+    own true a q h = h
+    own false a q h = (rs, ahead-none last rs)
 
-    behind : (a : ℕ) (q : List Row) → Ahead last rs a q → Placed last rs (follow (nothing a q) λ u at rs. cond (ownInSignature t) (refused 3 last) (got t at rs))
-    behind a [] h = own (ownInSignature t) a [] h
+    behind : (a : ℕ) (q : List Row) → Ahead last rs a q → Placed last rs (follow (endOfInput a q) λ u at rs. cond (signaturesStand t) (got t at rs) (refused 3 last))
+    behind a [] h = own (signaturesStand t) a [] h
     behind a (r ∷ q) h = (r ∷ q, h)
 
-    go : (r : Reading (Unit {0})) → Placed last rs r → Placed last rs (follow r λ u. then nothing λ u at rs. cond (ownInSignature t) (refused 3 last) (got t at rs))
+    go : (r : Reading (Unit {0})) → Placed last rs r → Placed last rs (follow r λ u. bind endOfInput λ u at rs. cond (signaturesStand t) (got t at rs) (refused 3 last))
     go (refused n k) h = h
     go (got u a q) h = behind a q h
 

@@ -5,7 +5,7 @@ use mathlib.Core.List.{List, [], _∷_}
 use Prim.Native.Nat.{ℕ}
 use native.Mathlib.Omega.{arith}
 use Rattle.model.specs.Basics.{Res, refuse, ok, try, need}
-use Rattle.sheet.specs.Numbers.{Scan, fail, took, andThen, whole}
+use Rattle.sheet.specs.Numbers.{Scan, fail, took, bindScan, whole}
 
 pub clash : {A : Type 0} → true ≡ false → A
 clash p = let z : _≡_ {A = ℕ} 0 1 = cc in absurd (omega arith)
@@ -39,9 +39,9 @@ took-value p = cc
 pub took-rest : {A : Type 0} {x y : A} {r q : List ℕ} → took x r ≡ took y q → r ≡ q
 took-rest p = cc
 
-pub andThen-took : {A B C : Type 0} {y : B} {r : List ℕ} (s : Scan A) (k : A → List ℕ → Scan B) → andThen s k ≡ took y r → ((x : A) (q : List ℕ) → s ≡ took x q → k x q ≡ took y r → C) → C
-andThen-took fail k h c = absurd (fail-took h)
-andThen-took (took x q) k h c = c x q refl h
+pub bindScan-took : {A B C : Type 0} {y : B} {r : List ℕ} (s : Scan A) (k : A → List ℕ → Scan B) → bindScan s k ≡ took y r → ((x : A) (q : List ℕ) → s ≡ took x q → k x q ≡ took y r → C) → C
+bindScan-took fail k h c = absurd (fail-took h)
+bindScan-took (took x q) k h c = c x q refl h
 
 pub whole-ok : {A : Type 0} {x : A} (s : Scan A) → whole s ≡ ok x → s ≡ took x []
 whole-ok fail h = refuse-ok h

@@ -11,11 +11,11 @@ use borrow.Author.Tests.{le-leb, eqb-true, eq-eqb}
 use Rattle.model.specs.Basics.{_⇒_, all, every}
 use Rattle.model.specs.Table.{Rep, ref, w32, w64, Key, Method, Ty, Table, isRef, isNone, between, linksFit, methodCount, maxSubjects, maxMethods, maxCategories, maxSheetTypes}
 use Rattle.model.proofs.Rules.{both, first, second, never}
-use Rattle.sheet.specs.Lines.{bytes, give, line}
+use Rattle.sheet.specs.Lines.{bytes, pure, line}
 use Rattle.sheet.specs.Text.{newestForm, underText, methodText, each, memberLines, typeLines, sheetLines}
 use Rattle.sheet.specs.Sheet.{underLine, methodLine, sheetType, members, oneType, body}
 use Rattle.sheet.proofs.LineKinds.{between-low, between-high, in-between, number-exact, under-exact, rep-exact, own-exact, signatureIn, method-exact}
-use Rattle.sheet.proofs.Readers.{Exact, line-exact, give-exact, then-exact, exact-lines, many-exact}
+use Rattle.sheet.proofs.Readers.{Exact, line-exact, pure-exact, bind-exact, exact-lines, times-exact}
 
 -- What the lines of a type say where there are m methods, c categories and n types.
 unfoldable pub typeRight : ℕ → ℕ → ℕ → Ty → Bool
@@ -80,11 +80,11 @@ module _ (m c n : ℕ) (hm : m ≤ maxMethods) (hc : c ≤ maxCategories) (hn : 
 
   ref-exact : (Q : Type 0) → Q → (k : ℕ) → So (leb k c) → Exact (members m n ref k) (Rest Q ref k) (memberLines ref)
   unfolding members memberLines
-  ref-exact Q q k hk = then-exact (λ y. y .own) (line-exact own-exact) (λ y o. tt) λ o u.
+  ref-exact Q q k hk = bind-exact (λ y. y .own) (line-exact own-exact) (λ y o. tt) λ o u.
       exact-lines (λ y f. append-nil (each (λ j x. methodText x ∷ []) 0 (y .methods)))
-      (then-exact (λ y. y .methods) (many-exact (λ j. line (methodLine n)) (λ j. signatureIn n) (λ j x. methodText x ∷ []) 10000 one-method m 0 (omega arith))
+      (bind-exact (λ y. y .methods) (times-exact (λ j. line (methodLine n)) (λ j. signatureIn n) (λ j x. methodText x ∷ []) 10000 one-method m 0 (omega arith))
       (λ y f. let p = type-parts m c n y (f .1 .1 .1 .1) in (p .count ∙ ap (λ z. methodCount z m) (f .1 .1 .0), every-all (signatureIn n) 0 (y .methods) ∙ p .methods))
-      λ ms g. give-exact (
+      λ ms g. pure-exact (
         refl,
         (
           refl,
@@ -103,8 +103,8 @@ module _ (m c n : ℕ) (hm : m ≤ maxMethods) (hc : c ≤ maxCategories) (hn : 
       )
       λ y f. type-is y (f .1 .1 .1 .0) (f .1 .1 .0) (f .1 .0) (f .0) (type-parts m c n y (f .1 .1 .1 .1 .1) .key))
 
-  number-type : (r : Rep) → isRef r ≡ false → methodCount r m ≡ 0 → (Q : Type 0) → Q → (k : ℕ) → So (leb k c) → Exact (give (sheetType r k false [])) (Rest Q r k) (λ y. [])
-  number-type r er em Q q k hk = give-exact
+  number-type : (r : Rep) → isRef r ≡ false → methodCount r m ≡ 0 → (Q : Type 0) → Q → (k : ℕ) → So (leb k c) → Exact (pure (sheetType r k false [])) (Rest Q r k) (λ y. [])
+  number-type r er em Q q k hk = pure-exact
       (refl, (refl, (q, from-parts m c n (sheetType r k false []) (record { cat = hk; own = refl; count = sym em; methods = refl; key = refl }))))
       λ y f. let p = type-parts m c n y (f .1 .1 .1) in
       type-is y (f .1 .0) (f .0) (no-own (y .own) (subst (λ z. So (y .own ⇒ z)) (ap isRef (f .1 .0) ∙ er) (p .own))) (nil-methods (y .methods) (p .count ∙ ap (λ z. methodCount z m) (f .1 .0) ∙ em)) (p .key)
@@ -120,9 +120,9 @@ module _ (m c n : ℕ) (hm : m ≤ maxMethods) (hc : c ≤ maxCategories) (hn : 
 
   pub type-exact : (i : ℕ) → i < 10000 → Exact (oneType m c n i) (λ y. So (typeRight m c n y)) (typeLines i)
   unfolding oneType typeLines
-  type-exact i hi = then-exact (λ y. i) (line-exact (number-exact (bytes "type=") i i hi refl)) (λ y f. in-between i i i (omega arith) (omega arith)) λ x hx.
-      then-exact (λ y. y .rep) (line-exact rep-exact) (λ y f. tt) λ r u.
-      then-exact (λ y. y .cat) (line-exact (number-exact (bytes "cat=") 0 c (omega arith) refl)) (λ y f. both (le-leb 0 (y .cat) (omega arith)) (type-parts m c n y (f .1 .1) .cat)) λ k hk.
+  type-exact i hi = bind-exact (λ y. i) (line-exact (number-exact (bytes "type=") i i hi refl)) (λ y f. in-between i i i (omega arith) (omega arith)) λ x hx.
+      bind-exact (λ y. y .rep) (line-exact rep-exact) (λ y f. tt) λ r u.
+      bind-exact (λ y. y .cat) (line-exact (number-exact (bytes "cat=") 0 c (omega arith) refl)) (λ y f. both (le-leb 0 (y .cat) (omega arith)) (type-parts m c n y (f .1 .1) .cat)) λ k hk.
       members-exact (i ≡ x) (only i x hx) r k (second (leb 0 k) _ hk)
 
 -- What the lines of a sheet say, own in signatures aside.
@@ -147,19 +147,19 @@ right-at t p q r h = rw (p, q, r) at h
 
 pub body-exact : Exact body LinesRight sheetLines
 unfolding body sheetLines
-body-exact = then-exact (λ t. newestForm) (line-exact (number-exact (bytes "guide=") 1 newestForm (omega arith) refl)) (λ t f. refl) λ g hg.
-    then-exact (λ t. t .subjects) (line-exact (number-exact (bytes "subjects=") 1 maxSubjects (omega arith) refl)) (λ t f. f .1 .subjects) λ s hs.
-    then-exact (λ t. t .methods) (line-exact (number-exact (bytes "methods=") 1 maxMethods (omega arith) refl)) (λ t f. f .1 .1 .methods) λ m hm.
-    then-exact (λ t. length (t .cats)) (line-exact (number-exact (bytes "cats=") 0 maxCategories (omega arith) refl)) (λ t f. in-between 0 maxCategories (length (t .cats)) (omega arith) (f .1 .1 .1 .cats)) λ c hc.
-    then-exact (λ t. t .cats) (many-exact (λ k. line (underLine c k)) linksFit (λ k us. underText us ∷ []) (suc c) (one-under c (between-high 0 maxCategories c hc)) c 1 (omega arith)) (λ t f. (f .0, f .1 .1 .1 .1 .links)) λ us hu.
-    then-exact (λ t. t .sheet) (line-exact (number-exact (bytes "types=") 1 maxSheetTypes (omega arith) refl)) (λ t f. f .1 .1 .1 .1 .1 .sheet) λ n hn.
+body-exact = bind-exact (λ t. newestForm) (line-exact (number-exact (bytes "guide=") 1 newestForm (omega arith) refl)) (λ t f. refl) λ g hg.
+    bind-exact (λ t. t .subjects) (line-exact (number-exact (bytes "subjects=") 1 maxSubjects (omega arith) refl)) (λ t f. f .1 .subjects) λ s hs.
+    bind-exact (λ t. t .methods) (line-exact (number-exact (bytes "methods=") 1 maxMethods (omega arith) refl)) (λ t f. f .1 .1 .methods) λ m hm.
+    bind-exact (λ t. length (t .cats)) (line-exact (number-exact (bytes "cats=") 0 maxCategories (omega arith) refl)) (λ t f. in-between 0 maxCategories (length (t .cats)) (omega arith) (f .1 .1 .1 .cats)) λ c hc.
+    bind-exact (λ t. t .cats) (times-exact (λ k. line (underLine c k)) linksFit (λ k us. underText us ∷ []) (suc c) (one-under c (between-high 0 maxCategories c hc)) c 1 (omega arith)) (λ t f. (f .0, f .1 .1 .1 .1 .links)) λ us hu.
+    bind-exact (λ t. t .sheet) (line-exact (number-exact (bytes "types=") 1 maxSheetTypes (omega arith) refl)) (λ t f. f .1 .1 .1 .1 .1 .sheet) λ n hn.
     exact-lines (λ t f. append-nil (each typeLines 0 (t .types)))
-    (then-exact (λ t. t .types) (many-exact (oneType m c n) (λ i. typeRight m c n) typeLines 10000 (type-exact m c n (between-high 1 maxMethods m hm) (between-high 0 maxCategories c hc) (between-high 1 maxSheetTypes n hn)) n 0 (small n hn))
+    (bind-exact (λ t. t .types) (times-exact (oneType m c n) (λ i. typeRight m c n) typeLines 10000 (type-exact m c n (between-high 1 maxMethods m hm) (between-high 0 maxCategories c hc) (between-high 1 maxSheetTypes n hn)) n 0 (small n hn))
     (λ t f. (
       f .1 .1 .1 .1 .1 .1 .count ∙ f .0,
       right-at t (f .1 .1 .1 .0) (f .1 .1 .0) (f .0) (f .1 .1 .1 .1 .1 .1 .types),
     ))
-    λ ts ht. give-exact (
+    λ ts ht. pure-exact (
       refl,
       (
         refl,

@@ -1,6 +1,6 @@
--- What the reader tests, line by line and own in signatures last, is what the model asks of a sheet's table (`validSheet`).
+-- What the reader tests, line by line and the types in signatures last, is what the model asks of a sheet's table (`validSheet`).
 use mathlib.Core.Path.{_≡_, refl, sym, ap, _∙_, subst}
-use mathlib.Core.Bool.{Bool, true, false, not, _&&_, _||_, So, cond}
+use mathlib.Core.Bool.{Bool, true, false, _&&_, So, cond}
 use mathlib.Core.List.{List, [], _∷_}
 use mathlib.Core.Option.{Option, none, some}
 use Prim.Native.Nat.{ℕ, zero, suc, _+_, _≤_, _<_}
@@ -9,23 +9,23 @@ use native.Mathlib.Omega.{arith}
 use lib.Dec.{eqb, ltb, leb}
 use lib.ListN.{length, getD, take}
 use lib.Seq.{take-all, length-take-le, getD-take}
-use borrow.Author.Tests.{leb-true, eqb-true, lt-ltb, le-leb, lt-leb, eq-eqb, not-true}
-use Rattle.model.specs.Basics.{_⇒_, any, all, every, over, unlessMissing}
-use Rattle.model.specs.Table.{Key, Method, Ty, Table, noType, size, typeAt, withTypes, isRef, permit, isNil, isNone, between, countsFit, linksFit, standsIn, signatureFits, methodCount, keyFits, typeFits, tableFits, validSheet, maxSubjects, maxMethods, maxCategories, maxSheetTypes, maxTypes, maxArguments}
+use borrow.Author.Tests.{leb-true, eqb-true, lt-ltb, le-leb, lt-leb, eq-eqb}
+use Rattle.model.specs.Basics.{_⇒_, all, every, unlessMissing}
+use Rattle.model.specs.Table.{Key, Method, Ty, Table, noType, size, typeAt, withTypes, isRef, permit, isNil, isNone, between, countsFit, linksFit, mayStand, standsIn, signatureFits, methodCount, keyFits, typeFits, tableFits, validSheet, maxSubjects, maxMethods, maxCategories, maxSheetTypes, maxTypes, maxArguments}
 use Rattle.model.proofs.Rules.{both, first, second, never}
 use Rattle.sheet.specs.Text.{withoutDerived}
-use Rattle.sheet.specs.Sheet.{below, ownIn, ownInSignature}
-use Rattle.sheet.proofs.LineKinds.{between-high, signatureIn}
+use Rattle.sheet.specs.Sheet.{below, stands, signaturesStand}
+use Rattle.sheet.proofs.LineKinds.{between-high, signatureIn, all-weaken}
 use Rattle.sheet.proofs.Types.{typeRight, LinesRight, every-all}
 
--- the own test taken out of a conjunction
-pair-out : (a b c d : Bool) → (a && not b) && (c && not d) ≡ (a && c) && not (b || d)
+-- the test of signatures taken out of a conjunction
+pair-out : (a b c d : Bool) → (a && b) && (c && d) ≡ (a && c) && (b && d)
 pair-out false b c d = refl
-pair-out true true true d = refl
-pair-out true true false d = refl
-pair-out true false c d = refl
+pair-out true false true d = refl
+pair-out true false false d = refl
+pair-out true true c d = refl
 
-type-out : (a b c d k o : Bool) → a && (b && (c && ((d && not o) && k))) ≡ (a && (b && (c && (d && k)))) && not o
+type-out : (a b c d k o : Bool) → a && (b && (c && ((d && o) && k))) ≡ (a && (b && (c && (d && k)))) && o
 type-out false b c d k o = refl
 type-out true false c d k o = refl
 type-out true true false d k o = refl
@@ -35,48 +35,48 @@ type-out true true true true true false = refl
 type-out true true true true false true = refl
 type-out true true true true false false = refl
 
-behind-out : (a b o : Bool) → a && (b && not o) ≡ (a && b) && not o
+behind-out : (a b o : Bool) → a && (b && o) ≡ (a && b) && o
 behind-out true b o = refl
 behind-out false b o = refl
 
-module _ {A : Type 0} (g : ℕ → A → Bool) (f o : A → Bool) (end : ℕ) (e : (i : ℕ) (x : A) → i < end → g i x ≡ f x && not (o x)) where
-  every-out : (i : ℕ) (xs : List A) → i + length xs ≤ end → every g i xs ≡ all f xs && not (any o xs)
+module _ {A : Type 0} (g : ℕ → A → Bool) (f o : A → Bool) (end : ℕ) (e : (i : ℕ) (x : A) → i < end → g i x ≡ f x && o x) where
+  every-out : (i : ℕ) (xs : List A) → i + length xs ≤ end → every g i xs ≡ all f xs && all o xs
   every-out i [] h = refl
-  every-out i (x ∷ xs) h = ap (λ z. z && every g (suc i) xs) (e i x (omega arith)) ∙ ap (λ z. (f x && not (o x)) && z) (every-out (suc i) xs (omega arith)) ∙ pair-out (f x) (o x) (all f xs) (any o xs)
+  every-out i (x ∷ xs) h = ap (λ z. z && every g (suc i) xs) (e i x (omega arith)) ∙ ap (λ z. (f x && o x) && z) (every-out (suc i) xs (omega arith)) ∙ pair-out (f x) (o x) (all f xs) (all o xs)
 
-all-out : {A : Type 0} (g f o : A → Bool) → ((x : A) → g x ≡ f x && not (o x)) → (xs : List A) → all g xs ≡ all f xs && not (any o xs)
+all-out : {A : Type 0} (g f o : A → Bool) → ((x : A) → g x ≡ f x && o x) → (xs : List A) → all g xs ≡ all f xs && all o xs
 all-out g f o e [] = refl
-all-out g f o e (x ∷ xs) = ap (λ z. z && all g xs) (e x) ∙ ap (λ z. (f x && not (o x)) && z) (all-out g f o e xs) ∙ pair-out (f x) (o x) (all f xs) (any o xs)
+all-out g f o e (x ∷ xs) = ap (λ z. z && all g xs) (e x) ∙ ap (λ z. (f x && o x) && z) (all-out g f o e xs) ∙ pair-out (f x) (o x) (all f xs) (all o xs)
 
 module _ (t : Table) where
-  abbrev ownAt : ℕ → Bool
-  ownAt a = typeAt t a .own
+  abbrev may : ℕ → Bool
+  may a = mayStand (typeAt t a)
 
-  answer-out : (n : ℕ) (o : Option ℕ) → unlessMissing o (standsIn t n) ≡ unlessMissing o (below n) && not (over o ownAt)
+  answer-out : (n : ℕ) (o : Option ℕ) → unlessMissing o (standsIn t n) ≡ unlessMissing o (below n) && unlessMissing o may
   answer-out n none = refl
   answer-out n (some a) = refl
 
-  unsigned-out : (xs : List ℕ) (o : Option ℕ) → isNil xs && isNone o ≡ (isNil xs && isNone o) && not (any ownAt xs || over o ownAt)
+  unsigned-out : (xs : List ℕ) (o : Option ℕ) → isNil xs && isNone o ≡ (isNil xs && isNone o) && (all may xs && unlessMissing o may)
   unsigned-out [] none = refl
   unsigned-out [] (some a) = refl
   unsigned-out (x ∷ xs) o = refl
 
   signed-out : (n : ℕ) (m : Method) → leb (length (m .args)) maxArguments && (all (standsIn t n) (m .args) && unlessMissing (m .answer) (standsIn t n))
-      ≡ (leb (length (m .args)) maxArguments && (all (below n) (m .args) && unlessMissing (m .answer) (below n))) && not (ownIn ownAt m)
+      ≡ (leb (length (m .args)) maxArguments && (all (below n) (m .args) && unlessMissing (m .answer) (below n))) && stands may m
   signed-out n m =
-      ap (λ z. leb (length (m .args)) maxArguments && z) (ap (λ z. z && unlessMissing (m .answer) (standsIn t n)) (all-out (standsIn t n) (below n) ownAt (λ a. refl) (m .args))
-      ∙ ap (λ z. (all (below n) (m .args) && not (any ownAt (m .args))) && z) (answer-out n (m .answer))
-      ∙ pair-out (all (below n) (m .args)) (any ownAt (m .args)) (unlessMissing (m .answer) (below n)) (over (m .answer) ownAt))
-      ∙ behind-out (leb (length (m .args)) maxArguments) (all (below n) (m .args) && unlessMissing (m .answer) (below n)) (ownIn ownAt m)
+      ap (λ z. leb (length (m .args)) maxArguments && z) (ap (λ z. z && unlessMissing (m .answer) (standsIn t n)) (all-out (standsIn t n) (below n) may (λ a. refl) (m .args))
+      ∙ ap (λ z. (all (below n) (m .args) && all may (m .args)) && z) (answer-out n (m .answer))
+      ∙ pair-out (all (below n) (m .args)) (all may (m .args)) (unlessMissing (m .answer) (below n)) (unlessMissing (m .answer) may))
+      ∙ behind-out (leb (length (m .args)) maxArguments) (all (below n) (m .args) && unlessMissing (m .answer) (below n)) (stands may m)
 
-  signature-out : (n : ℕ) (m : Method) → signatureFits t n m ≡ signatureIn n m && not (ownIn ownAt m)
+  signature-out : (n : ℕ) (m : Method) → signatureFits t n m ≡ signatureIn n m && stands may m
   signature-out n m = go (permit (m .state))
     where
       go : (b : Bool) → elim b [
         | true ↦ leb (length (m .args)) maxArguments && (all (standsIn t n) (m .args) && unlessMissing (m .answer) (standsIn t n))
         | false ↦ isNil (m .args) && isNone (m .answer)
       ]
-          ≡ cond b (leb (length (m .args)) maxArguments && (all (below n) (m .args) && unlessMissing (m .answer) (below n))) (isNil (m .args) && isNone (m .answer)) && not (ownIn ownAt m)
+          ≡ cond b (leb (length (m .args)) maxArguments && (all (below n) (m .args) && unlessMissing (m .answer) (below n))) (isNil (m .args) && isNone (m .answer)) && stands may m
       go true = signed-out n m
       go false = unsigned-out (m .args) (m .answer)
 
@@ -87,35 +87,35 @@ module _ (t : Table) where
   abbrev rightAt : Ty → Bool
   rightAt x = typeRight (t .methods) (length (t .cats)) (t .sheet) x
 
-  abbrev ownInType : Ty → Bool
-  ownInType x = any (ownIn ownAt) (x .methods)
+  abbrev typeStands : Ty → Bool
+  typeStands x = all (stands may) (x .methods)
 
-  type-fits-out : (i : ℕ) (x : Ty) → i < t .sheet → typeFits t i x ≡ rightAt x && not (ownInType x)
+  type-fits-out : (i : ℕ) (x : Ty) → i < t .sheet → typeFits t i x ≡ rightAt x && typeStands x
   unfolding typeRight
   type-fits-out i x h =
       let A : Bool = leb (x .cat) (length (t .cats)) in
       let B : Bool = x .own ⇒ isRef (x .rep) in
       let C : Bool = eqb (length (x .methods)) (methodCount (x .rep) (t .methods)) in
       ap (λ z. A && (B && (C && (all (signatureFits t (cond z (t .sheet) (size t))) (x .methods) && keyFits t i (x .key))))) (lt-ltb i (t .sheet) h)
-      ∙ ap (λ z. A && (B && (C && (z && keyFits t i (x .key))))) (all-out (signatureFits t (t .sheet)) (signatureIn (t .sheet)) (ownIn ownAt) (signature-out (t .sheet)) (x .methods))
-      ∙ ap (λ z. A && (B && (C && ((all (signatureIn (t .sheet)) (x .methods) && not (ownInType x)) && z)))) (key-none i (x .key) h)
-      ∙ type-out A B C (all (signatureIn (t .sheet)) (x .methods)) (isNone (x .key)) (ownInType x)
+      ∙ ap (λ z. A && (B && (C && (z && keyFits t i (x .key))))) (all-out (signatureFits t (t .sheet)) (signatureIn (t .sheet)) (stands may) (signature-out (t .sheet)) (x .methods))
+      ∙ ap (λ z. A && (B && (C && ((all (signatureIn (t .sheet)) (x .methods) && typeStands x) && z)))) (key-none i (x .key) h)
+      ∙ type-out A B C (all (signatureIn (t .sheet)) (x .methods)) (isNone (x .key)) (typeStands x)
 
-  types-fit-out : (xs : List Ty) → length xs ≤ t .sheet → every (typeFits t) 0 xs ≡ all rightAt xs && not (any ownInType xs)
-  types-fit-out xs h = every-out (typeFits t) rightAt ownInType (t .sheet) type-fits-out 0 xs (omega arith)
+  types-fit-out : (xs : List Ty) → length xs ≤ t .sheet → every (typeFits t) 0 xs ≡ all rightAt xs && all typeStands xs
+  types-fit-out xs h = every-out (typeFits t) rightAt typeStands (t .sheet) type-fits-out 0 xs (omega arith)
 
 -- a table without derived types is its own
 pub without-none : (t : Table) → length (t .types) ≡ t .sheet → withoutDerived t ≡ t
 without-none t h = ap (withTypes t) (take-all (t .sheet) (t .types) (omega (arith, h)))
 
--- from the lines and the own test to the model's test
-pub valid-test : (t : Table) → LinesRight t → ownInSignature t ≡ false → So (validSheet t)
-unfolding validSheet tableFits ownInSignature
+-- from the lines and the test of signatures to the model's test
+pub valid-test : (t : Table) → LinesRight t → So (signaturesStand t) → So (validSheet t)
+unfolding validSheet tableFits signaturesStand
 valid-test t r o =
     let n : t .sheet ≤ maxSheetTypes = between-high 1 maxSheetTypes (t .sheet) (r .sheet) in
     let e : length (t .types) ≡ t .sheet = r .count in
     both (both (both (r .subjects) (both (r .methods) (both (le-leb (length (t .cats)) maxCategories (r .cats)) (both (r .sheet) (both (le-leb (t .sheet) (size t) (omega arith)) (le-leb (size t) maxTypes (omega arith)))))))
-    (both (r .links) (types-fit-out t (t .types) (omega arith) ∙ both (sym (every-all (rightAt t) 0 (t .types)) ∙ r .types) (ap not o))))
+    (both (r .links) (types-fit-out t (t .types) (omega arith) ∙ both (sym (every-all (rightAt t) 0 (t .types)) ∙ r .types) o)))
     (eq-eqb (t .sheet) (size t) (sym e))
 
 every-take : {A : Type 0} (f : ℕ → A → Bool) (n i : ℕ) (xs : List A) → So (every f i xs) → So (every f i (take n xs))
@@ -123,30 +123,17 @@ every-take f zero i xs h = refl
 every-take f (suc n) i [] h = refl
 every-take f (suc n) i (x ∷ xs) h = both (first (f i x) _ h) (every-take f n (suc i) xs (second (f i x) _ h))
 
-or-weaken : (a b c d : Bool) → (So a → So c) → (So b → So d) → So (a || b) → So (c || d)
-or-weaken true b c d f g h = ap (λ z. z || d) (f refl)
-or-weaken false b true d f g h = refl
-or-weaken false b false d f g h = g h
+missing-weaken : (f g : ℕ → Bool) (o : Option ℕ) → ((x : ℕ) → So (f x) → So (g x)) → So (unlessMissing o f) → So (unlessMissing o g)
+missing-weaken f g none k h = refl
+missing-weaken f g (some x) k h = k x h
 
-any-weaken : {A : Type 0} (f g : A → Bool) (xs : List A) → ((x : A) → So (f x) → So (g x)) → So (any f xs) → So (any g xs)
-any-weaken f g [] k h = h
-any-weaken f g (x ∷ xs) k h = or-weaken (f x) (any f xs) (g x) (any g xs) (k x) (any-weaken f g xs k) h
-
-over-weaken : (f g : ℕ → Bool) (o : Option ℕ) → ((x : ℕ) → So (f x) → So (g x)) → So (over o f) → So (over o g)
-over-weaken f g none k h = h
-over-weaken f g (some x) k h = k x h
-
-none-of : (a b : Bool) → (So a → So b) → b ≡ false → a ≡ false
-none-of true b f e = sym (f refl) ∙ e
-none-of false b f e = refl
-
--- a type that is own in the sheet is own in the table
-own-kept : (t : Table) (a : ℕ) → So (typeAt (withoutDerived t) a .own) → So (typeAt t a .own)
-own-kept t a h = go (decLt a (t .sheet))
+-- a type that may stand in the table's signatures may stand in the sheet's
+stands-kept : (t : Table) (a : ℕ) → So (may t a) → So (may (withoutDerived t) a)
+stands-kept t a h = go (decLt a (t .sheet))
   where
-    go : Dec (a < t .sheet) → So (typeAt t a .own)
-    go (yes l) = sym (ap (λ (x : Ty). x .own) (getD-take (t .sheet) (t .types) a noType l)) ∙ h
-    go (no l) = never (sym (ap (λ (x : Ty). x .own) (out (t .sheet) a (t .types) (omega arith))) ∙ h)
+    go : Dec (a < t .sheet) → So (may (withoutDerived t) a)
+    go (yes l) = ap mayStand (getD-take (t .sheet) (t .types) a noType l) ∙ h
+    go (no l) = ap mayStand (out (t .sheet) a (t .types) (omega arith))
       where
         out : (n a : ℕ) (xs : List Ty) → n ≤ a → getD (take n xs) a noType ≡ noType
         out zero a xs h = refl
@@ -154,9 +141,9 @@ own-kept t a h = go (decLt a (t .sheet))
         out (suc n) zero (x ∷ xs) h = absurd (omega arith)
         out (suc n) (suc a) (x ∷ xs) h = out n a xs (omega arith)
 
--- from the model's test of any table to its sheet's lines and the own test
-pub fits-says : (t : Table) → So (tableFits t) → LinesRight (withoutDerived t) × (ownInSignature (withoutDerived t) ≡ false)
-unfolding tableFits ownInSignature
+-- from the model's test of any table to its sheet's lines and the test of signatures
+pub fits-says : (t : Table) → So (tableFits t) → LinesRight (withoutDerived t) × So (signaturesStand (withoutDerived t))
+unfolding tableFits signaturesStand
 fits-says t h =
     let counts = first (countsFit t) _ h in
     let c₁ = second (between 1 maxSubjects (t .subjects)) _ counts in
@@ -167,7 +154,7 @@ fits-says t h =
     let short : t .sheet ≤ length (t .types) = leb-true (t .sheet) (size t) (first (leb (t .sheet) (size t)) _ c₄) in
     let ts : List Ty = take (t .sheet) (t .types) in
     let n : length ts ≡ t .sheet = length-take-le (t .sheet) (t .types) short in
-    let q : So (all (rightAt t) ts && not (any (ownInType t) ts)) = sym (types-fit-out t ts (omega arith)) ∙ every-take (typeFits t) (t .sheet) 0 (t .types) (second (every linksFit 1 (t .cats)) _ rest) in (
+    let q : So (all (rightAt t) ts && all (typeStands t) ts) = sym (types-fit-out t ts (omega arith)) ∙ every-take (typeFits t) (t .sheet) 0 (t .types) (second (every linksFit 1 (t .cats)) _ rest) in (
       record {
         subjects = first (between 1 maxSubjects (t .subjects)) _ counts;
         methods = first (between 1 maxMethods (t .methods)) _ c₁;
@@ -177,11 +164,11 @@ fits-says t h =
         count = n;
         types = every-all (rightAt t) 0 ts ∙ first (all (rightAt t) ts) _ q;
       },
-      none-of (any (ownInType (withoutDerived t)) ts) (any (ownInType t) ts)
-          (any-weaken (ownInType (withoutDerived t)) (ownInType t) ts λ x. any-weaken (ownIn (ownAt (withoutDerived t))) (ownIn (ownAt t)) (x .methods) λ m.
-          or-weaken (any (ownAt (withoutDerived t)) (m .args)) (over (m .answer) (ownAt (withoutDerived t))) (any (ownAt t) (m .args)) (over (m .answer) (ownAt t))
-          (any-weaken (ownAt (withoutDerived t)) (ownAt t) (m .args) (own-kept t)) (over-weaken (ownAt (withoutDerived t)) (ownAt t) (m .answer) (own-kept t)))
-          (not-true (any (ownInType t) ts) (second (all (rightAt t) ts) _ q)),
+      all-weaken (typeStands t) (typeStands (withoutDerived t)) ts
+          (λ x. all-weaken (stands (may t)) (stands (may (withoutDerived t))) (x .methods)
+          (λ m k. both (all-weaken (may t) (may (withoutDerived t)) (m .args) (stands-kept t) (first (all (may t) (m .args)) _ k))
+          (missing-weaken (may t) (may (withoutDerived t)) (m .answer) (stands-kept t) (second (all (may t) (m .args)) _ k))))
+          (second (all (rightAt t) ts) _ q),
     )
 
 -- The sheet of a table that keeps the rules is a valid one.
@@ -192,6 +179,6 @@ pub valid-whole : (t : Table) → So (validSheet t) → withoutDerived t ≡ t
 unfolding validSheet
 valid-whole t h = without-none t (sym (eqb-true (t .sheet) (size t) (second (tableFits t) _ h)))
 
-pub valid-says : (t : Table) → So (validSheet t) → LinesRight t × (ownInSignature t ≡ false)
+pub valid-says : (t : Table) → So (validSheet t) → LinesRight t × So (signaturesStand t)
 unfolding validSheet
-valid-says t h = subst (λ z. LinesRight z × (ownInSignature z ≡ false)) (valid-whole t h) (fits-says t (first (tableFits t) _ h))
+valid-says t h = subst (λ z. LinesRight z × So (signaturesStand z)) (valid-whole t h) (fits-says t (first (tableFits t) _ h))

@@ -42,9 +42,10 @@ pub data Reading (A : Type 0) : Type 0 where
 abbrev pub Reader : Type 0 → Type 0
 Reader A = ℕ → List Row → Reading A
 
+-- The combinators have their usual names: pure, bind, choice, end of input; `times` is one reader so many times.
 -- a value, without reading
-abbrev pub give : {A : Type 0} → A → Reader A
-give x at rs = got x at rs
+abbrev pub pure : {A : Type 0} → A → Reader A
+pure x at rs = got x at rs
 
 -- the answer for one line: a refusal stands at its offset
 abbrev pub lineAt : {A : Type 0} → Res A → ℕ → List ℕ → List Row → Reading A
@@ -57,23 +58,30 @@ line f at [] = refused 1 at
 line f at (cut l ∷ rs) = refused 1 at
 line f at (row l ∷ rs) = lineAt (f l) at l rs
 
+-- The line that stands first, without its LF; empty where no LF ends one. Every line kind refuses an empty line with 1, so a missing line and a cut one are refused by the same reading.
+abbrev pub firstLine : List Row → List ℕ
+firstLine [] = []
+firstLine (cut l ∷ rs) = []
+firstLine (row l ∷ rs) = l
+
+-- go on behind what was read
 abbrev pub follow : {A B : Type 0} → Reading A → (A → Reader B) → Reading B
 follow (refused n at) k = refused n at
 follow (got x at rs) k = k x at rs
 
 -- one reader and then another; the first refusal is the answer
-abbrev pub then : {A B : Type 0} → Reader A → (A → Reader B) → Reader B
-then p k at rs = follow (p at rs) k
+abbrev pub bind : {A B : Type 0} → Reader A → (A → Reader B) → Reader B
+bind p k at rs = follow (p at rs) k
 
 -- n things, numbered from i on, behind those of acc
-unfoldable pub many : {A : Type 0} → (ℕ → Reader A) → ℕ → ℕ → List A → Reader (List A)
-many p zero i acc at rs = got acc at rs
-many p (suc n) i acc at rs = follow (p i at rs) (λ x. many p n (suc i) (acc ++ x ∷ []))
+unfoldable pub times : {A : Type 0} → (ℕ → Reader A) → ℕ → ℕ → List A → Reader (List A)
+times p zero i acc at rs = got acc at rs
+times p (suc n) i acc at rs = follow (p i at rs) (λ x. times p n (suc i) (acc ++ x ∷ []))
 
 -- "nothing after": "a missing or extra line .. is 1", an extra one with or without LF
-abbrev pub nothing : Reader (Unit {0})
-nothing at [] = got tt at []
-nothing at (r ∷ rs) = refused 1 at
+abbrev pub endOfInput : Reader (Unit {0})
+endOfInput at [] = got tt at []
+endOfInput at (r ∷ rs) = refused 1 at
 
 -- Inside a line: whether it begins with a word, and whether it is that word.
 unfoldable pub starts : List ℕ → List ℕ → Bool
@@ -90,7 +98,7 @@ unfolding starts
 keyed key l = need (starts key l) 1 λ _. ok (drop (length key) l)
 
 -- the value whose text the line is
-unfoldable pub oneOf : {A : Type 0} → (A → List ℕ) → List A → List ℕ → Res A
+unfoldable pub choice : {A : Type 0} → (A → List ℕ) → List A → List ℕ → Res A
 unfolding starts
-oneOf f [] l = refuse 1
-oneOf f (x ∷ xs) l = cond (same (f x) l) (ok x) (oneOf f xs l)
+choice f [] l = refuse 1
+choice f (x ∷ xs) l = cond (same (f x) l) (ok x) (choice f xs l)

@@ -11,9 +11,9 @@ pub data Scan (A : Type 0) : Type 0 where
   fail : Scan A
   took : A → List ℕ → Scan A
 
-abbrev pub andThen : {A B : Type 0} → Scan A → (A → List ℕ → Scan B) → Scan B
-andThen fail k = fail
-andThen (took x r) k = k x r
+abbrev pub bindScan : {A B : Type 0} → Scan A → (A → List ℕ → Scan B) → Scan B
+bindScan fail k = fail
+bindScan (took x r) k = k x r
 
 -- "each line by 1 (form)": the scan must have gone right, to the line's end
 abbrev pub whole : {A : Type 0} → Scan A → Res A
@@ -48,7 +48,7 @@ comma xs k (b ∷ r) = cond (eqb b (code ",")) (k r) (took xs (b ∷ r))
 unfoldable pub numbers : ℕ → List ℕ → List ℕ → Scan (List ℕ)
 unfolding number
 numbers zero acc l = fail
-numbers (suc n) acc l = andThen (number l) (λ a r. comma (acc ++ a ∷ []) (λ q. numbers n (acc ++ a ∷ []) q) r)
+numbers (suc n) acc l = bindScan (number l) (λ a r. comma (acc ++ a ∷ []) (λ q. numbers n (acc ++ a ∷ []) q) r)
 
 -- The decimal of a number, with at most f digits.
 unfoldable pub decimalIn : ℕ → ℕ → List ℕ

@@ -1,16 +1,16 @@
 -- Document 01, "Sheet read" and "Sheet text": the reader's answer for every string of bytes.
 -- "Sheet read: each line by 1 (form), 2 (number outside its range), 3 (broader category not below)": in each line kind the tests stand in this order, over the whole line (docs/DECISIONS.md S5).
-use mathlib.Core.Bool.{Bool, true, false, _&&_, _||_, cond}
+use mathlib.Core.Bool.{Bool, true, false, _&&_, cond}
 use mathlib.Core.List.{List, [], _∷_}
 use mathlib.Core.Option.{Option, none, some}
 use Prim.Native.Nat.{ℕ}
 use Prim.Native.Char.{code}
 use lib.Dec.{eqb, ltb, leb}
 use lib.ListN.{length, drop}
-use Rattle.model.specs.Basics.{Res, refuse, ok, try, need, any, all, over, unlessMissing}
-use Rattle.model.specs.Table.{State, denied, optional, avail, unavail, Rep, ref, w32, w64, Method, Ty, Table, typeAt, between, maxSubjects, maxMethods, maxCategories, maxSheetTypes, maxArguments}
-use Rattle.sheet.specs.Lines.{bytes, split, Reading, refused, got, Reader, give, line, then, many, nothing, starts, same, keyed, oneOf}
-use Rattle.sheet.specs.Numbers.{Scan, fail, took, andThen, whole, number, numbers}
+use Rattle.model.specs.Basics.{Res, refuse, ok, try, need, all, unlessMissing}
+use Rattle.model.specs.Table.{State, denied, optional, avail, unavail, Rep, ref, w32, w64, Method, Ty, Table, typeAt, between, mayStand, maxSubjects, maxMethods, maxCategories, maxSheetTypes, maxArguments}
+use Rattle.sheet.specs.Lines.{bytes, split, Reading, refused, got, Reader, pure, line, bind, times, endOfInput, starts, same, keyed, choice}
+use Rattle.sheet.specs.Numbers.{Scan, fail, took, bindScan, whole, number, numbers}
 use Rattle.sheet.specs.Text.{newestForm, repText, ownText, stateText, endText}
 
 -- a line of a key and one number; "2 (number outside its range)". A `guide=` number that isn't known is 2 as well (S1).
@@ -18,25 +18,25 @@ unfoldable pub numberLine : List ℕ → ℕ → ℕ → List ℕ → Res ℕ
 unfolding keyed number
 numberLine key low high l = try (keyed key l) λ r. try (whole (number r)) λ n. need (between low high n) 2 λ _. ok n
 
--- The line of category k of c. "one `under=` line (one or two numbers, comma) for each category"; "a broader category above the last, is 2", else "3 (broader category not below)" (S12).
+-- The line of category k of cats. "one `under=` line (one or two numbers, comma) for each category"; "a broader category above the last, is 2", else "3 (broader category not below)" (S12).
 unfoldable pub underLine : ℕ → ℕ → List ℕ → Res (List ℕ)
 unfolding keyed numbers
-underLine c k l = try (keyed (bytes "under=") l) λ r. try (whole (numbers 2 [] r)) λ links. need (all (λ n. leb n c) links) 2 λ _. need (all (λ n. ltb n k) links) 3 λ _. ok links
+underLine cats k l = try (keyed (bytes "under=") l) λ r. try (whole (numbers 2 [] r)) λ links. need (all (λ n. leb n cats) links) 2 λ _. need (all (λ n. ltb n k) links) 3 λ _. ok links
 
 -- "A type has a representation: ref, w32 or w64"; another word is 1
 unfoldable pub repLine : List ℕ → Res Rep
-unfolding oneOf
-repLine = oneOf repText (ref ∷ w32 ∷ w64 ∷ [])
+unfolding choice
+repLine = choice repText (ref ∷ w32 ∷ w64 ∷ [])
 
 -- "`own=`(yes or no)"
 unfoldable pub ownLine : List ℕ → Res Bool
-unfolding oneOf
-ownLine = oneOf ownText (true ∷ false ∷ [])
+unfolding choice
+ownLine = choice ownText (true ∷ false ∷ [])
 
 -- "`end=sheet`, nothing after"
 unfoldable pub endLine : List ℕ → Res (Unit {0})
-unfolding oneOf
-endLine = oneOf (λ u. endText) (tt ∷ [])
+unfolding choice
+endLine = choice (λ u. endText) (tt ∷ [])
 
 -- "A state with signature is written `avail(0,3)2`": the arguments to the bracket that closes them. "more than two arguments is 1"
 abbrev pub closing : List ℕ → List ℕ → Scan (List ℕ)
@@ -46,13 +46,13 @@ closing xs (b ∷ r) = cond (eqb b (code ")")) (took xs r) fail
 unfoldable pub arguments : List ℕ → Scan (List ℕ)
 unfolding numbers
 arguments [] = fail
-arguments (b ∷ bs) = cond (eqb b (code ")")) (took [] bs) (andThen (numbers maxArguments [] (b ∷ bs)) closing)
+arguments (b ∷ bs) = cond (eqb b (code ")")) (took [] bs) (bindScan (numbers maxArguments [] (b ∷ bs)) closing)
 
 -- "a missing answer `-`"
 unfoldable pub answer : List ℕ → Scan (Option ℕ)
 unfolding number
 answer [] = fail
-answer (b ∷ bs) = cond (eqb b (code "-")) (took none bs) (andThen (number (b ∷ bs)) (λ n r. took (some n) r))
+answer (b ∷ bs) = cond (eqb b (code "-")) (took none bs) (bindScan (number (b ∷ bs)) (λ n r. took (some n) r))
 
 -- one of n types
 abbrev pub below : ℕ → ℕ → Bool
@@ -61,7 +61,7 @@ below n a = ltb a n
 -- a signature behind its state; a type number that isn't below n is 2
 unfoldable pub signature : ℕ → State → List ℕ → Res Method
 unfolding arguments answer
-signature n s l = try (whole (andThen (arguments l) λ xs r. andThen (answer r) λ o q. took (record { state = s; args = xs; answer = o }) q))
+signature n s l = try (whole (bindScan (arguments l) λ xs r. bindScan (answer r) λ o q. took (record { state = s; args = xs; answer = o }) q))
     λ (m : Method). need (all (below n) (m .args) && unlessMissing (m .answer) (below n)) 2 λ _. ok m
 
 -- denied and unavail have no signature
@@ -78,48 +78,49 @@ methodLine n l = cond (starts (stateText avail) l) (signature n avail (drop (len
 
 -- a type of the sheet: "A derived type is known by kind, left and right number", this one has none
 abbrev pub sheetType : Rep → ℕ → Bool → List Method → Ty
-sheetType r c o ms = record { rep = r; cat = c; own = o; methods = ms; key = none }
+sheetType r k o ms = record { rep = r; cat = k; own = o; methods = ms; key = none }
 
 -- "and for ref `own=`(yes or no) and an `m=` line for each method"; a number type has neither. m methods, n types.
 unfoldable pub members : ℕ → ℕ → Rep → ℕ → Reader Ty
-unfolding many ownLine methodLine
-members m n ref c = then (line ownLine) λ o. then (many (λ j. line (methodLine n)) m 0 []) λ ms. give (sheetType ref c o ms)
-members m n w32 c = give (sheetType w32 c false [])
-members m n w64 c = give (sheetType w64 c false [])
+unfolding times ownLine methodLine
+members m n ref k = bind (line ownLine) λ o. bind (times (λ j. line (methodLine n)) m 0 []) λ ms. pure (sheetType ref k o ms)
+members m n w32 k = pure (sheetType w32 k false [])
+members m n w64 k = pure (sheetType w64 k false [])
 
--- "for each type `type=`, `rep=`, `cat=`"; "A type number out of turn .. is 2". m methods, c categories, n types; this one is number i.
+-- "for each type `type=`, `rep=`, `cat=`"; "A type number out of turn .. is 2". m methods, cats categories, n types; this one is number i.
 unfoldable pub oneType : ℕ → ℕ → ℕ → ℕ → Reader Ty
 unfolding numberLine repLine members
-oneType m c n i = then (line (numberLine (bytes "type=") i i)) λ x. then (line repLine) λ r. then (line (numberLine (bytes "cat=") 0 c)) λ k. members m n r k
+oneType m cats n i = bind (line (numberLine (bytes "type=") i i)) λ x. bind (line repLine) λ r. bind (line (numberLine (bytes "cat=") 0 cats)) λ k. members m n r k
 
 -- "Fixed order: `guide=1`, `subjects=`, `methods=`, `cats=`, one `under=` line .. for each category, `types=`; for each type ..": all lines but the last
 unfoldable pub body : Reader Table
-unfolding numberLine underLine many oneType
-body = then (line (numberLine (bytes "guide=") 1 newestForm)) λ g.
-    then (line (numberLine (bytes "subjects=") 1 maxSubjects)) λ s.
-    then (line (numberLine (bytes "methods=") 1 maxMethods)) λ m.
-    then (line (numberLine (bytes "cats=") 0 maxCategories)) λ c.
-    then (many (λ k. line (underLine c k)) c 1 []) λ links.
-    then (line (numberLine (bytes "types=") 1 maxSheetTypes)) λ n.
-    then (many (oneType m c n) n 0 []) λ ts.
-    give (record { subjects = s; methods = m; cats = links; sheet = n; types = ts })
+unfolding numberLine underLine times oneType
+body = bind (line (numberLine (bytes "guide=") 1 newestForm)) λ g.
+    bind (line (numberLine (bytes "subjects=") 1 maxSubjects)) λ s.
+    bind (line (numberLine (bytes "methods=") 1 maxMethods)) λ m.
+    bind (line (numberLine (bytes "cats=") 0 maxCategories)) λ cats.
+    bind (times (λ k. line (underLine cats k)) cats 1 []) λ links.
+    bind (line (numberLine (bytes "types=") 1 maxSheetTypes)) λ n.
+    bind (times (oneType m cats n) n 0 []) λ ts.
+    pure (record { subjects = s; methods = m; cats = links; sheet = n; types = ts })
 
--- own in a signature of the table
-abbrev pub ownIn : (ℕ → Bool) → Method → Bool
-ownIn own m = any own (m .args) || over (m .answer) own
+-- the types of a method's signature are among those that may stand in one
+abbrev pub stands : (ℕ → Bool) → Method → Bool
+stands may m = all may (m .args) && unlessMissing (m .answer) may
 
-unfoldable pub ownInSignature : Table → Bool
-ownInSignature t = any (λ (x : Ty). any (ownIn (λ a. typeAt t a .own)) (x .methods)) (t .types)
+-- every type in a signature of the table may stand in one (the model's `mayStand`, docs/SPEC.md T14)
+unfoldable pub signaturesStand : Table → Bool
+signaturesStand t = all (λ (x : Ty). all (stands (λ a. mayStand (typeAt t a))) (x .methods)) (t .types)
 
--- "`end=sheet`, nothing after"; "then, every line being right, 3 for own in a signature, at the last line" (S6, S13)
+-- the last line, and nothing behind it; then, every line being right, 3 at its offset where a type stands in a signature that may not (docs/SPEC.md S6, S10, S13)
 unfoldable pub ending : Table → Reader Table
-unfolding endLine ownInSignature
-ending t last = then (line endLine) (λ u. then nothing λ u at rs. cond (ownInSignature t) (refused 3 last) (got t at rs)) last
+unfolding endLine signaturesStand
+ending t last = bind (line endLine) (λ u. bind endOfInput λ u at rs. cond (signaturesStand t) (got t at rs) (refused 3 last)) last
 
 -- the whole sheet
 unfoldable pub sheet : Reader Table
 unfolding body ending
-sheet = then body ending
+sheet = bind body ending
 
 -- The reader's answer: a table, or the number of a refusal and the byte offset of the line.
 pub data SheetAnswer : Type 0 where
@@ -134,11 +135,3 @@ sheetAnswer (got t at rs) = loaded t
 unfoldable pub read : List ℕ → SheetAnswer
 unfolding sheet split
 read bs = sheetAnswer (sheet 0 (split bs))
-
--- "the table is always a new one, here with every count 0"
-abbrev pub emptyTable : Table
-emptyTable = record { subjects = 0; methods = 0; cats = []; sheet = 0; types = [] }
-
-abbrev pub tableRead : SheetAnswer → Table
-tableRead (malformed n at) = emptyTable
-tableRead (loaded t) = t

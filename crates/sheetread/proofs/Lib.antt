@@ -1,5 +1,4 @@
 pub mod Readings
 pub mod Stored
-pub mod Owned
-pub mod Named
+pub mod Standing
 pub mod Accepted

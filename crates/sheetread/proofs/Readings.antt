@@ -1,5 +1,5 @@
 -- Laws of readings: one reader behind another, several in a row, the groups of a sheet's lines, and what the code's answers say of them.
-use mathlib.Core.Path.{_≡_, refl, sym, ap, _∙_}
+use mathlib.Core.Path.{_≡_, refl, sym, ap, _∙_, subst}
 use mathlib.Core.Bool.{Bool, true, false, cond}
 use mathlib.Core.List.{List, [], _∷_, _++_}
 use Prim.Native.Nat.{ℕ, zero, suc, _+_, _-_, _≤_, _<_}
@@ -9,13 +9,24 @@ use lib.ListN.{length, getD, drop}
 use borrow.Author.Tests.{eq-eqb, ne-eqb}
 use Rattle.model.specs.Basics.{refuse, ok}
 use Rattle.model.specs.Table.{Rep, ref, Method, Ty, Table, maxSubjects, maxMethods, maxCategories, maxSheetTypes}
-use Rattle.model.specs.Check.{repOf}
-use Rattle.sheet.specs.Lines.{bytes, Row, row, cut, push, split, Reading, refused, got, Reader, give, line, follow, then, many, nothing, same, oneOf}
+use Rattle.model.specs.Check.{repOf, linksOf}
+use Rattle.sheet.specs.Lines.{bytes, Row, row, cut, push, split, Reading, refused, got, Reader, pure, line, follow, bind, times, endOfInput, same, choice}
 use Rattle.sheet.specs.Text.{newestForm, endText}
-use Rattle.sheet.specs.Sheet.{numberLine, repLine, ownLine, methodLine, endLine, sheetType, members, oneType, body, ownInSignature, ending, sheet, sheetAnswer, read}
-use Rattle.textread.specs.View.{result, reading}
+use Rattle.sheet.specs.Sheet.{numberLine, repLine, ownLine, methodLine, endLine, sheetType, members, oneType, body, signaturesStand, ending, sheet, sheetAnswer, read}
+use Rattle.textread.specs.View.{reading, readBy, GotAtMost}
 use Rattle.textread.proofs.Laws.{from-here, at-end}
-use Rattle.sheetread.specs.View.{eachUnder, eachMethod, membersRead, Counted, first₁, first, afterCats, afterFirst}
+use Rattle.textread.specs.declared.Cursor.{Cursor}
+use Rattle.textread.specs.declared.Got.{Got}
+use Rattle.textread.specs.declared.Got.the-variants.{Refused, At}
+use Rattle.lineread.specs.declared.UnderGot.{UnderGot}
+use Rattle.lineread.specs.declared.UnderGot.the-variants.{Refused as Refusedᵘ, At as Atᵘ}
+use Rattle.lineread.specs.View.{underRead}
+use Rattle.table.specs.declared.Links.{Links}
+use Rattle.table.specs.Store.{rawLinks}
+use Rattle.sheetread.specs.declared.Front.{Front}
+use Rattle.sheetread.specs.declared.Done.{Done}
+use Rattle.sheetread.specs.declared.Done.the-variants.{Refused as Refusedᵈ, At as Atᵈ}
+use Rattle.sheetread.specs.View.{OnDone, eachUnder, eachMethod, membersRead, first₁, first, afterCount, afterCats, afterFirst, doneBy}
 
 -- What a reading's number says.
 module _ {A : Type 0} (s : List ℕ) (nr : ℕ) (x : A) (at : ℕ) (R : Reading A) (is : reading s nr x at ≡ R) where
@@ -28,6 +39,37 @@ module _ {A : Type 0} (s : List ℕ) (nr : ℕ) (x : A) (at : ℕ) (R : Reading 
 pub refused-is : {A : Type 0} (s : List ℕ) (nr k at a : ℕ) (x : A) (R : Reading A) → (k ≡ 0 → ⊥) → nr ≡ k → at ≡ a → refused k a ≡ R → reading s nr x at ≡ R
 refused-is s nr k at a x R h e f q =
     ap (λ (z : ℕ). reading s z x at) e ∙ ap (λ (z : ℕ). reading s k x z) f ∙ ap (λ z. cond z (got x a (split (drop a s))) (refused k a)) (ne-eqb k 0 h) ∙ q
+
+-- What the cases of an answer say.
+module _ {A : Type 0} (f : ℕ → A) (s : List ℕ) (at : ℕ) (g : Got) (R : Reading A) (is : readBy f s at g ≡ R) where
+  pub got-no : (k : ℕ) → g ≡ Refused k → refused k at ≡ R
+  got-no k e = ap (readBy f s at) (sym e) ∙ is
+
+  pub got-ok : (n : ℕ) (c : Cursor) → g ≡ At n c → got (f n) (c .at) (split (drop (c .at) s)) ≡ R
+  got-ok n c e = ap (readBy f s at) (sym e) ∙ is
+
+pub got-refusal : (high : ℕ) (g : Got) (k : ℕ) → g ≡ Refused k → GotAtMost high g → k ≡ 0 → ⊥
+got-refusal high g k e h z = let p : 0 < k = subst (GotAtMost high) e h in omega arith
+
+pub got-at-most : (high : ℕ) (g : Got) (n : ℕ) (c : Cursor) → g ≡ At n c → GotAtMost high g → n ≤ high
+got-at-most high g n c e h = subst (GotAtMost high) e h
+
+module _ (s : List ℕ) (at : ℕ) (g : UnderGot) (R : Reading (List ℕ)) (is : underRead s at g ≡ R) where
+  pub under-no : (k : ℕ) → g ≡ Refusedᵘ k → refused k at ≡ R
+  under-no k e = ap (underRead s at) (sym e) ∙ is
+
+  pub under-ok : (x : Links) (c : Cursor) → g ≡ Atᵘ x c → got (linksOf (rawLinks x)) (c .at) (split (drop (c .at) s)) ≡ R
+  under-ok x c e = ap (underRead s at) (sym e) ∙ is
+
+module _ {A : Type 0} (s : List ℕ) (x : A) (r : Done) (R : Reading A) (is : doneBy s x r ≡ R) where
+  pub done-no : (k : ℕ) (c : Cursor) → r ≡ Refusedᵈ k c → refused k (c .at) ≡ R
+  done-no k c e = ap (doneBy s x) (sym e) ∙ is
+
+  pub done-ok : (c : Cursor) → r ≡ Atᵈ c → got x (c .at) (split (drop (c .at) s)) ≡ R
+  done-ok c e = ap (doneBy s x) (sym e) ∙ is
+
+pub on-done : (r : Done) (c : Cursor) (P : Type 0) → r ≡ Atᵈ c → OnDone r P → P
+on-done r c P e h = subst (λ (z : Done). OnDone z P) e h
 
 -- One reader behind another.
 module _ {A B : Type 0} (R : Reading A) (k : A → Reader B) where
@@ -43,33 +85,33 @@ regroup (refused n at) k e f h = refl
 regroup (got x at rs) k e f h = h x at rs
 
 -- Several in a row: j of n are read, the next has number i.
-module _ {A : Type 0} (p : ℕ → Reader A) (n j i : ℕ) (acc : List A) (at : ℕ) (rs : List Row) (R : Reading (List A)) (inv : many p (n - j) i acc at rs ≡ R) where
-  pub many-done : n ≤ j → got acc at rs ≡ R
-  unfolding many
-  many-done h = let e : n - j ≡ 0 = omega arith in ap (λ z. many p z i acc at rs) (sym e) ∙ inv
+module _ {A : Type 0} (p : ℕ → Reader A) (n j i : ℕ) (acc : List A) (at : ℕ) (rs : List Row) (R : Reading (List A)) (inv : times p (n - j) i acc at rs ≡ R) where
+  pub times-done : n ≤ j → got acc at rs ≡ R
+  unfolding times
+  times-done h = let e : n - j ≡ 0 = omega arith in ap (λ z. times p z i acc at rs) (sym e) ∙ inv
 
   module _ (h : j < n) where
-    one-more : follow (p i at rs) (λ x. many p (n - (j + 1)) (suc i) (acc ++ x ∷ [])) ≡ R
-    unfolding many
-    one-more = let e : n - j ≡ suc (n - (j + 1)) = omega arith in ap (λ z. many p z i acc at rs) (sym e) ∙ inv
+    one-more : follow (p i at rs) (λ x. times p (n - (j + 1)) (suc i) (acc ++ x ∷ [])) ≡ R
+    unfolding times
+    one-more = let e : n - j ≡ suc (n - (j + 1)) = omega arith in ap (λ z. times p z i acc at rs) (sym e) ∙ inv
 
-    pub many-stop : (k a : ℕ) → refused k a ≡ p i at rs → refused k a ≡ R
-    many-stop k a e = ap (λ z. follow z (λ x. many p (n - (j + 1)) (suc i) (acc ++ x ∷ []))) e ∙ one-more
+    pub times-stop : (k a : ℕ) → refused k a ≡ p i at rs → refused k a ≡ R
+    times-stop k a e = ap (λ z. follow z (λ x. times p (n - (j + 1)) (suc i) (acc ++ x ∷ []))) e ∙ one-more
 
-    pub many-next : (x : A) (a : ℕ) (q : List Row) (i′ : ℕ) (acc′ : List A) → got x a q ≡ p i at rs → i′ ≡ suc i → acc′ ≡ acc ++ x ∷ [] → many p (n - (j + 1)) i′ acc′ a q ≡ R
-    many-next x a q i′ acc′ e f g =
-        ap (λ z. many p (n - (j + 1)) z acc′ a q) f ∙ ap (λ z. many p (n - (j + 1)) (suc i) z a q) g
-        ∙ ap (λ z. follow z (λ x. many p (n - (j + 1)) (suc i) (acc ++ x ∷ []))) e ∙ one-more
+    pub times-next : (x : A) (a : ℕ) (q : List Row) (i′ : ℕ) (acc′ : List A) → got x a q ≡ p i at rs → i′ ≡ suc i → acc′ ≡ acc ++ x ∷ [] → times p (n - (j + 1)) i′ acc′ a q ≡ R
+    times-next x a q i′ acc′ e f g =
+        ap (λ z. times p (n - (j + 1)) z acc′ a q) f ∙ ap (λ z. times p (n - (j + 1)) (suc i) z a q) g
+        ∙ ap (λ z. follow z (λ x. times p (n - (j + 1)) (suc i) (acc ++ x ∷ []))) e ∙ one-more
 
 -- A type's lines.
 module _ (m c n i at : ℕ) (rs : List Row) where
   after-rep : Rep → Reader Ty
   unfolding numberLine members
-  after-rep r = then (line (numberLine (bytes "cat=") 0 c)) λ k. members m n r k
+  after-rep r = bind (line (numberLine (bytes "cat=") 0 c)) λ k. members m n r k
 
   after-number : ℕ → Reader Ty
   unfolding repLine after-rep
-  after-number x = then (line repLine) after-rep
+  after-number x = bind (line repLine) after-rep
 
   type-of : follow (line (numberLine (bytes "type=") i i) at rs) after-number ≡ oneType m c n i at rs
   unfolding oneType after-number after-rep
@@ -100,11 +142,11 @@ module _ (m c n i at : ℕ) (rs : List Row) where
 -- the lines of a reference type
 module _ (m n c at : ℕ) (rs : List Row) where
   typed : Bool → List Method → Reader Ty
-  typed o ms = give (sheetType ref c o ms)
+  typed o ms = pure (sheetType ref c o ms)
 
   after-own : Bool → Reader Ty
-  unfolding many methodLine typed
-  after-own o = then (many (eachMethod n) m 0 []) (typed o)
+  unfolding times methodLine typed
+  after-own o = bind (times (eachMethod n) m 0 []) (typed o)
 
   members-of : follow (line ownLine at rs) after-own ≡ membersRead m n c at rs
   unfolding membersRead after-own typed
@@ -114,16 +156,16 @@ module _ (m n c at : ℕ) (rs : List Row) where
   member-own-no k a e = follow-no (line ownLine at rs) after-own k a e ∙ members-of
 
   module _ (o : Bool) (at₁ : ℕ) (rs₁ : List Row) (e₁ : got o at₁ rs₁ ≡ line ownLine at rs) where
-    to-list : follow (many (eachMethod n) m 0 [] at₁ rs₁) (typed o) ≡ membersRead m n c at rs
+    to-list : follow (times (eachMethod n) m 0 [] at₁ rs₁) (typed o) ≡ membersRead m n c at rs
     unfolding after-own
     to-list = follow-ok (line ownLine at rs) after-own o at₁ rs₁ e₁ ∙ members-of
 
-    pub member-methods-no : (k a : ℕ) → refused k a ≡ many (eachMethod n) m 0 [] at₁ rs₁ → refused k a ≡ membersRead m n c at rs
-    member-methods-no k a e = follow-no (many (eachMethod n) m 0 [] at₁ rs₁) (typed o) k a e ∙ to-list
+    pub member-methods-no : (k a : ℕ) → refused k a ≡ times (eachMethod n) m 0 [] at₁ rs₁ → refused k a ≡ membersRead m n c at rs
+    member-methods-no k a e = follow-no (times (eachMethod n) m 0 [] at₁ rs₁) (typed o) k a e ∙ to-list
 
-    pub member-ok : (ms : List Method) (at₂ : ℕ) (rs₂ : List Row) → got ms at₂ rs₂ ≡ many (eachMethod n) m 0 [] at₁ rs₁ → got (sheetType ref c o ms) at₂ rs₂ ≡ membersRead m n c at rs
+    pub member-ok : (ms : List Method) (at₂ : ℕ) (rs₂ : List Row) → got ms at₂ rs₂ ≡ times (eachMethod n) m 0 [] at₁ rs₁ → got (sheetType ref c o ms) at₂ rs₂ ≡ membersRead m n c at rs
     unfolding typed
-    member-ok ms at₂ rs₂ e = follow-ok (many (eachMethod n) m 0 [] at₁ rs₁) (typed o) ms at₂ rs₂ e ∙ to-list
+    member-ok ms at₂ rs₂ e = follow-ok (times (eachMethod n) m 0 [] at₁ rs₁) (typed o) ms at₂ rs₂ e ∙ to-list
 
 pub members-ref : (m n r c at : ℕ) (rs : List Row) → r ≡ 0 → membersRead m n c at rs ≡ members m n (repOf r) c at rs
 unfolding membersRead members
@@ -136,16 +178,16 @@ members-number m n (suc zero) c at rs h = refl
 members-number m n (suc (suc r)) c at rs h = refl
 
 -- The first four lines, and the whole sheet behind them.
-counted : ℕ → ℕ → ℕ → Reader Counted
-counted s m c = give (record { subjects = s; methods = m; cats = c })
+counted : ℕ → ℕ → ℕ → Reader Front
+counted s m c = pure (record { subjects = s; methods = m; cats = c })
 
-cats-next : ℕ → ℕ → Reader Counted
+cats-next : ℕ → ℕ → Reader Front
 unfolding numberLine counted
-cats-next s m = then (line (numberLine (bytes "cats=") 0 maxCategories)) (counted s m)
+cats-next s m = bind (line (numberLine (bytes "cats=") 0 maxCategories)) (counted s m)
 
-methods-next : ℕ → Reader Counted
+methods-next : ℕ → Reader Front
 unfolding numberLine cats-next
-methods-next s = then (line (numberLine (bytes "methods=") 1 maxMethods)) (cats-next s)
+methods-next s = bind (line (numberLine (bytes "methods=") 1 maxMethods)) (cats-next s)
 
 module _ (at : ℕ) (rs : List Row) where
   first-of : follow (line (numberLine (bytes "guide=") 1 newestForm) at rs) first₁ ≡ first at rs
@@ -184,7 +226,7 @@ module _ (at : ℕ) (rs : List Row) where
         first-ok c at₄ rs₄ e = follow-ok (line (numberLine (bytes "cats=") 0 maxCategories) at₃ rs₃) (counted s m) c at₄ rs₄ e ∙ to-cats
 
 pub first-body : (at : ℕ) (rs : List Row) → body at rs ≡ follow (first at rs) afterFirst
-unfolding body first afterFirst afterCats
+unfolding body first afterFirst afterCats afterCount
 first-body at rs =
     regroup (line (numberLine (bytes "guide=") 1 newestForm) at rs) first₁ afterFirst _
     (λ g at rs. regroup (line (numberLine (bytes "subjects=") 1 maxSubjects) at rs) _ afterFirst _
@@ -196,97 +238,92 @@ unfolding read sheet
 sheet-of s = ap (λ z. sheetAnswer (follow z ending)) (sym (first-body 0 (split s)))
 
 -- The groups of lines behind the first four.
-module _ (h : Counted) (at : ℕ) (rs : List Row) where
-  tabled : List (List ℕ) → ℕ → List Ty → Reader Table
-  tabled links n ts = give (record { subjects = h .subjects; methods = h .methods; cats = links; sheet = n; types = ts })
-
-  listed : List (List ℕ) → ℕ → Reader Table
-  unfolding many oneType tabled
-  listed links n = then (many (oneType (h .methods) (h .cats) n) n 0 []) (tabled links n)
-
-  all-of : follow (follow (many (eachUnder (h .cats)) (h .cats) 1 [] at rs) (afterCats h)) ending ≡ then (afterFirst h) ending at rs
+module _ (h : Front) (at : ℕ) (rs : List Row) where
+  all-of : follow (follow (times (eachUnder (h .cats)) (h .cats) 1 [] at rs) (afterCats h)) ending ≡ bind (afterFirst h) ending at rs
   unfolding afterFirst
   all-of = refl
 
-  pub links-no : (k a : ℕ) → refused k a ≡ many (eachUnder (h .cats)) (h .cats) 1 [] at rs → refused k a ≡ then (afterFirst h) ending at rs
+  pub links-no : (k a : ℕ) → refused k a ≡ times (eachUnder (h .cats)) (h .cats) 1 [] at rs → refused k a ≡ bind (afterFirst h) ending at rs
   links-no k a e = ap (λ z. follow (follow z (afterCats h)) ending) e ∙ all-of
 
-  module _ (links : List (List ℕ)) (at₁ : ℕ) (rs₁ : List Row) (e₁ : got links at₁ rs₁ ≡ many (eachUnder (h .cats)) (h .cats) 1 [] at rs) where
-    to-count : follow (follow (line (numberLine (bytes "types=") 1 maxSheetTypes) at₁ rs₁) (listed links)) ending ≡ then (afterFirst h) ending at rs
-    unfolding afterCats listed tabled
+  module _ (links : List (List ℕ)) (at₁ : ℕ) (rs₁ : List Row) (e₁ : got links at₁ rs₁ ≡ times (eachUnder (h .cats)) (h .cats) 1 [] at rs) where
+    to-count : follow (follow (line (numberLine (bytes "types=") 1 maxSheetTypes) at₁ rs₁) (afterCount h links)) ending ≡ bind (afterFirst h) ending at rs
+    unfolding afterCats
     to-count = ap (λ z. follow (follow z (afterCats h)) ending) e₁ ∙ all-of
 
-    pub count-no : (k a : ℕ) → refused k a ≡ line (numberLine (bytes "types=") 1 maxSheetTypes) at₁ rs₁ → refused k a ≡ then (afterFirst h) ending at rs
-    count-no k a e = ap (λ z. follow (follow z (listed links)) ending) e ∙ to-count
+    pub count-no : (k a : ℕ) → refused k a ≡ line (numberLine (bytes "types=") 1 maxSheetTypes) at₁ rs₁ → refused k a ≡ bind (afterFirst h) ending at rs
+    count-no k a e = ap (λ z. follow (follow z (afterCount h links)) ending) e ∙ to-count
 
-    module _ (n at₂ : ℕ) (rs₂ : List Row) (e₂ : got n at₂ rs₂ ≡ line (numberLine (bytes "types=") 1 maxSheetTypes) at₁ rs₁) where
-      to-types : follow (follow (many (oneType (h .methods) (h .cats) n) n 0 [] at₂ rs₂) (tabled links n)) ending ≡ then (afterFirst h) ending at rs
-      unfolding listed
-      to-types = ap (λ z. follow (follow z (listed links)) ending) e₂ ∙ to-count
+    pub count-ok : (n at₂ : ℕ) (rs₂ : List Row) → got n at₂ rs₂ ≡ line (numberLine (bytes "types=") 1 maxSheetTypes) at₁ rs₁ → bind (afterCount h links n) ending at₂ rs₂ ≡ bind (afterFirst h) ending at rs
+    count-ok n at₂ rs₂ e = ap (λ z. follow (follow z (afterCount h links)) ending) e ∙ to-count
 
-      pub types-no : (k a : ℕ) → refused k a ≡ many (oneType (h .methods) (h .cats) n) n 0 [] at₂ rs₂ → refused k a ≡ then (afterFirst h) ending at rs
-      types-no k a e = ap (λ z. follow (follow z (tabled links n)) ending) e ∙ to-types
+-- the table that is read
+abbrev pub tableWith : Front → List (List ℕ) → ℕ → List Ty → Table
+tableWith h links n ts = record { subjects = h .subjects; methods = h .methods; cats = links; sheet = n; types = ts }
 
-      pub to-ending : (ts : List Ty) (at₃ : ℕ) (rs₃ : List Row) → got ts at₃ rs₃ ≡ many (oneType (h .methods) (h .cats) n) n 0 [] at₂ rs₂ → ending (record { subjects = h .subjects; methods = h .methods; cats = links; sheet = n; types = ts }) at₃ rs₃ ≡ then (afterFirst h) ending at rs
-      unfolding tabled
-      to-ending ts at₃ rs₃ e = ap (λ z. follow (follow z (tabled links n)) ending) e ∙ to-types
+-- the types and the last line
+module _ (h : Front) (links : List (List ℕ)) (n at : ℕ) (rs : List Row) where
+  tabled : List Ty → Reader Table
+  tabled ts = pure (tableWith h links n ts)
 
--- The `end=sheet` line.
-pub end-yes : (l : List ℕ) → same endText l ≡ true → result 0 tt ≡ endLine l
-unfolding endLine oneOf
-end-yes l e = ap (λ z. cond z (ok tt) (refuse 1)) (sym e)
+  count-of : follow (follow (times (oneType (h .methods) (h .cats) n) n 0 [] at rs) tabled) ending ≡ bind (afterCount h links n) ending at rs
+  unfolding afterCount tabled
+  count-of = refl
 
-pub end-no : (l : List ℕ) → same endText l ≡ false → result 1 tt ≡ endLine l
-unfolding endLine oneOf
-end-no l e = ap (λ z. cond z (ok tt) (refuse 1)) (sym e)
+  pub types-no : (k a : ℕ) → refused k a ≡ times (oneType (h .methods) (h .cats) n) n 0 [] at rs → refused k a ≡ bind (afterCount h links n) ending at rs
+  types-no k a e = ap (λ z. follow (follow z tabled) ending) e ∙ count-of
 
--- bytes that are left make a row
-push-some : (at b : ℕ) (rs : List Row) → nothing at (push b rs) ≡ refused 1 at
+  pub to-ending : (ts : List Ty) (at₁ : ℕ) (rs₁ : List Row) → got ts at₁ rs₁ ≡ times (oneType (h .methods) (h .cats) n) n 0 [] at rs → ending (tableWith h links n ts) at₁ rs₁ ≡ bind (afterCount h links n) ending at rs
+  unfolding tabled
+  to-ending ts at₁ rs₁ e = ap (λ z. follow (follow z tabled) ending) e ∙ count-of
+
+-- The last line: bytes that are left make a row
+push-some : (at b : ℕ) (rs : List Row) → endOfInput at (push b rs) ≡ refused 1 at
 push-some at b [] = refl
 push-some at b (row l ∷ rs) = refl
 push-some at b (cut l ∷ rs) = refl
 
-more-left : (at b : ℕ) (l : List ℕ) → nothing at (split (b ∷ l)) ≡ refused 1 at
+more-left : (at b : ℕ) (l : List ℕ) → endOfInput at (split (b ∷ l)) ≡ refused 1 at
 unfolding split
 more-left at b l = go (eqb b 10)
   where
-    go : (t : Bool) → nothing at (cond t (row [] ∷ split l) (push b (split l))) ≡ refused 1 at
+    go : (t : Bool) → endOfInput at (cond t (row [] ∷ split l) (push b (split l))) ≡ refused 1 at
     go true = refl
     go false = push-some at b (split l)
 
 module _ (t : Table) (s : List ℕ) (last : ℕ) where
-  after-nothing : Unit {0} → Reader Table
-  unfolding ownInSignature
-  after-nothing u at rs = cond (ownInSignature t) (refused 3 last) (got t at rs)
+  after-endOfInput : Unit {0} → Reader Table
+  unfolding signaturesStand
+  after-endOfInput u at rs = cond (signaturesStand t) (got t at rs) (refused 3 last)
 
   after-end : Unit {0} → Reader Table
-  unfolding after-nothing
-  after-end u = then nothing after-nothing
+  unfolding after-endOfInput
+  after-end u = bind endOfInput after-endOfInput
 
   ending-of : follow (line endLine last (split (drop last s))) after-end ≡ ending t last (split (drop last s))
-  unfolding ending after-end after-nothing
+  unfolding ending after-end after-endOfInput
   ending-of = refl
 
   pub ending-no : (k a : ℕ) → refused k a ≡ line endLine last (split (drop last s)) → refused k a ≡ ending t last (split (drop last s))
   ending-no k a e = follow-no (line endLine last (split (drop last s))) after-end k a e ∙ ending-of
 
   module _ (a : ℕ) (e : got tt a (split (drop a s)) ≡ line endLine last (split (drop last s))) where
-    to-nothing : follow (nothing a (split (drop a s))) after-nothing ≡ ending t last (split (drop last s))
+    to-endOfInput : follow (endOfInput a (split (drop a s))) after-endOfInput ≡ ending t last (split (drop last s))
     unfolding after-end
-    to-nothing = follow-ok (line endLine last (split (drop last s))) after-end tt a (split (drop a s)) e ∙ ending-of
+    to-endOfInput = follow-ok (line endLine last (split (drop last s))) after-end tt a (split (drop a s)) e ∙ ending-of
 
     pub ending-more : a < length s → refused 1 a ≡ ending t last (split (drop last s))
-    ending-more h = follow-no (nothing a (split (drop a s))) after-nothing 1 a (sym (ap (λ z. nothing a (split z)) (from-here s a h) ∙ more-left a (getD s a 0) (drop (a + 1) s))) ∙ to-nothing
+    ending-more h = follow-no (endOfInput a (split (drop a s))) after-endOfInput 1 a (sym (ap (λ z. endOfInput a (split z)) (from-here s a h) ∙ more-left a (getD s a 0) (drop (a + 1) s))) ∙ to-endOfInput
 
     module _ (h : length s ≤ a) where
-      alone : cond (ownInSignature t) (refused 3 last) (got t a (split (drop a s))) ≡ ending t last (split (drop last s))
-      unfolding after-nothing split
+      alone : cond (signaturesStand t) (got t a (split (drop a s))) (refused 3 last) ≡ ending t last (split (drop last s))
+      unfolding after-endOfInput split
       alone =
-          ap (λ z. cond (ownInSignature t) (refused 3 last) (got t a (split z))) (at-end s a h)
-          ∙ ap (λ z. follow (nothing a (split z)) after-nothing) (sym (at-end s a h)) ∙ to-nothing
+          ap (λ z. cond (signaturesStand t) (got t a (split z)) (refused 3 last)) (at-end s a h)
+          ∙ ap (λ z. follow (endOfInput a (split z)) after-endOfInput) (sym (at-end s a h)) ∙ to-endOfInput
 
-      pub ending-own : ownInSignature t ≡ true → refused 3 last ≡ ending t last (split (drop last s))
-      ending-own q = ap (λ z. cond z (refused 3 last) (got t a (split (drop a s)))) (sym q) ∙ alone
+      pub ending-own : signaturesStand t ≡ false → refused 3 last ≡ ending t last (split (drop last s))
+      ending-own q = ap (λ z. cond z (got t a (split (drop a s))) (refused 3 last)) (sym q) ∙ alone
 
-      pub ending-good : ownInSignature t ≡ false → got t a (split (drop a s)) ≡ ending t last (split (drop last s))
-      ending-good q = ap (λ z. cond z (refused 3 last) (got t a (split (drop a s)))) (sym q) ∙ alone
+      pub ending-good : signaturesStand t ≡ true → got t a (split (drop a s)) ≡ ending t last (split (drop last s))
+      ending-good q = ap (λ z. cond z (got t a (split (drop a s))) (refused 3 last)) (sym q) ∙ alone

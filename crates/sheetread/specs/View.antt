@@ -1,20 +1,44 @@
 -- What the reader's answers say, in the words of crate `sheet`: the code's records as the model's, and the lines of a sheet in the groups in which the code reads them.
 use mathlib.Core.Path.{_≡_}
-use mathlib.Core.Bool.{Bool, true, false, _&&_, cond}
-use mathlib.Core.List.{List, []}
-use Prim.Native.Nat.{ℕ}
-use lib.Dec.{eqb, ltb}
-use lib.ListN.{getD}
-use Rattle.model.specs.Basics.{any, all, every, from}
-use Rattle.model.specs.Table.{ref, Method as Methodᵐ, Ty, Table, isRef, between, maxSubjects, maxMethods, maxCategories, maxSheetTypes}
-use Rattle.model.specs.Check.{RawType, RawLinks, noRawType, noRawMethod, noRawLinks, repOf, methodOf, linksOf, rawMethodFits, rawTypeFits, codesFit}
+use mathlib.Core.Bool.{Bool, true, _&&_, cond}
+use mathlib.Core.List.{List, [], _∷_, map}
+use Prim.Native.Nat.{ℕ, _≤_, _<_}
+use lib.Dec.{ltb}
+use lib.ListN.{getD, drop}
+use Rattle.model.specs.Basics.{all, from}
+use Rattle.model.specs.Table.{ref, Method as Methodᵐ, Ty, Table, isRef, maxSubjects, maxMethods, maxCategories, maxSheetTypes}
+use Rattle.model.specs.Check.{RawMethod, RawType, RawLinks, noRawType, noRawMethod, noRawLinks, repOf, methodOf, linksOf}
 use Rattle.table.specs.declared.Method.{Method}
-use Rattle.table.specs.Store.{rawMethod, rawTable, tableIn}
-use Rattle.sheet.specs.Lines.{bytes, Reader, give, line, then, many}
+use Rattle.table.specs.Store.{rawMethod, mayStandAs, emptyTypes, emptyLinks, emptyCounts}
+use Rattle.table.specs.Records.{MethodExact, typeBytes, linkBytes, countsOf}
+use Rattle.sheet.specs.Lines.{bytes, split, Reading, refused, got, Reader, pure, line, bind, times}
 use Rattle.sheet.specs.Text.{newestForm}
-use Rattle.sheet.specs.Sheet.{numberLine, underLine, ownLine, methodLine, sheetType, oneType, ownIn, SheetAnswer, malformed, loaded, tableRead}
+use Rattle.sheet.specs.Sheet.{numberLine, underLine, ownLine, methodLine, sheetType, oneType, stands, SheetAnswer, malformed, loaded}
+use Rattle.textread.specs.declared.Cursor.{Cursor}
+use Rattle.sheetread.specs.declared.Done.{Done}
+use Rattle.sheetread.specs.declared.Done.the-variants.{Refused, At}
+use Rattle.sheetread.specs.declared.Front.{Front}
 use Rattle.sheetread.specs.declared.First.{First}
+use Rattle.sheetread.specs.declared.First.the-variants.{Refused as Refusedᶠ, At as Atᶠ}
 use Rattle.sheetread.specs.declared.Sheet.{Sheet}
+
+-- Several lines of s, read as x; and what holds where they are accepted.
+abbrev pub doneBy : {A : Type 0} → List ℕ → A → Done → Reading A
+doneBy s x (Refused k c) = refused k (c .at)
+doneBy s x (At c) = got x (c .at) (split (drop (c .at) s))
+
+abbrev pub OnDone : Done → Type 0 → Type 0
+OnDone (Refused k c) P = Unit {0}
+OnDone (At c) P = P
+
+-- the first four lines of s
+abbrev pub firstBy : List ℕ → First → Reading Front
+firstBy s (Refusedᶠ k c) = refused k (c .at)
+firstBy s (Atᶠ f c) = got f (c .at) (split (drop (c .at) s))
+
+abbrev pub FirstWithin : First → Type 0
+FirstWithin (Refusedᶠ k c) = Unit {0}
+FirstWithin (Atᶠ f c) = (f .methods ≤ 16) × (f .cats ≤ 31)
 
 -- The broader categories of categories 1 to n.
 unfoldable pub linksTo : ℕ → List RawLinks → List (List ℕ)
@@ -24,19 +48,18 @@ linksTo n ls = from n 1 (λ k. linksOf (getD ls k noRawLinks))
 abbrev pub methodIs : Method → Methodᵐ
 methodIs m = methodOf (rawMethod m)
 
--- Every stored code names something (the parts of the model's `codesFit`): in methods, in the links of categories 1 to n, and in the first n types.
-abbrev pub methodsNamed : List Method → Bool
-methodsNamed ms = all (λ m. rawMethodFits (rawMethod m)) ms
+-- a method that isn't there: every byte of it is 0
+abbrev pub blankMethod : RawMethod
+blankMethod = record { state = 0; count = 0; args = 0 ∷ 0 ∷ 0 ∷ 0 ∷ []; answer = 0 }
 
-unfoldable pub linksNamed : ℕ → List RawLinks → Bool
-linksNamed n ls = all (λ x. between 1 2 (x .count)) (from n 1 (λ k. getD ls k noRawLinks))
+-- Of sixteen methods the first m are the records that stand for what they mean, and the bytes of the others are 0.
+pub record MethodsExact (m : ℕ) (ms : List Method) : Type 0 where
+  pub exact : (j : ℕ) → j < m → MethodExact (getD (map rawMethod ms) j noRawMethod)
+  pub rest : (j : ℕ) → m ≤ j → j < 16 → getD (map rawMethod ms) j noRawMethod ≡ blankMethod
 
-unfoldable pub typesNamed : ℕ → ℕ → ℕ → List RawType → Bool
-typesNamed methods sheet n rs = every (rawTypeFits methods sheet) 0 (from n 0 (λ i. getD rs i noRawType))
-
--- "one `under=` line .. for each category"; "an `m=` line for each method"
+-- the `under=` line of a category, and the `m=` line of a method
 abbrev pub eachUnder : ℕ → ℕ → Reader (List ℕ)
-eachUnder c k = line (underLine c k)
+eachUnder cats k = line (underLine cats k)
 
 abbrev pub eachMethod : ℕ → ℕ → Reader Methodᵐ
 eachMethod n j = line (methodLine n)
@@ -47,51 +70,43 @@ methodsOf m x = cond (isRef (repOf (x .rep))) (from m 0 (λ j. methodOf (getD (x
 
 -- the lines of a reference type behind its `cat=` line
 unfoldable pub membersRead : ℕ → ℕ → ℕ → Reader Ty
-unfolding many ownLine methodLine
-membersRead m n c = then (line ownLine) λ o. then (many (eachMethod n) m 0 []) λ ms. give (sheetType ref c o ms)
+unfolding times ownLine methodLine
+membersRead m n k = bind (line ownLine) λ o. bind (times (eachMethod n) m 0 []) λ ms. pure (sheetType ref k o ms)
 
--- Own among the first n records.
-abbrev pub ownAt : List RawType → ℕ → ℕ → Bool
-ownAt rs n a = cond (ltb a n) (isRef (repOf (getD rs a noRawType .rep)) && eqb (getD rs a noRawType .own) 1) false
+-- What may stand in a signature, among the first n records: a number behind them names no type that may not.
+abbrev pub standsAt : List RawType → ℕ → ℕ → Bool
+standsAt rs n a = cond (ltb a n) (mayStandAs (getD rs a noRawType)) true
 
--- own in the signatures of a type's methods
-abbrev pub ownInMethods : (ℕ → Bool) → List Methodᵐ → Bool
-ownInMethods own ms = any (ownIn own) ms
+-- the signatures of methods, and of a type's, with the first n records
+abbrev pub methodsStand : (ℕ → Bool) → List Methodᵐ → Bool
+methodsStand may ms = all (stands may) ms
 
--- own in the signatures of a type, among the first n records
-abbrev pub ownInType : List RawType → ℕ → Ty → Bool
-ownInType rs n x = ownInMethods (ownAt rs n) (x .methods)
+abbrev pub typeStands : List RawType → ℕ → Ty → Bool
+typeStands rs n x = methodsStand (standsAt rs n) (x .methods)
 
--- What the first four lines say.
-pub record Counted : Type 0 where
-  pub subjects : ℕ
-  pub methods : ℕ
-  pub cats : ℕ
+-- The lines of `body` in groups: the first four, the `under=` lines, the number of types, and the rest.
+abbrev pub first₁ : ℕ → Reader Front
+first₁ g = bind (line (numberLine (bytes "subjects=") 1 maxSubjects)) λ s. bind (line (numberLine (bytes "methods=") 1 maxMethods)) λ m. bind (line (numberLine (bytes "cats=") 0 maxCategories)) λ cats.
+    pure (record { subjects = s; methods = m; cats = cats })
 
-abbrev pub countedIn : First → Counted
-countedIn h = record { subjects = h .subjects; methods = h .methods; cats = h .cats }
-
--- The lines of `body` in three groups: the first four, the `under=` lines, and the rest.
-abbrev pub first₁ : ℕ → Reader Counted
-first₁ g = then (line (numberLine (bytes "subjects=") 1 maxSubjects)) λ s. then (line (numberLine (bytes "methods=") 1 maxMethods)) λ m. then (line (numberLine (bytes "cats=") 0 maxCategories)) λ c. give (record { subjects = s; methods = m; cats = c })
-
-unfoldable pub first : Reader Counted
+unfoldable pub first : Reader Front
 unfolding numberLine
-first = then (line (numberLine (bytes "guide=") 1 newestForm)) first₁
+first = bind (line (numberLine (bytes "guide=") 1 newestForm)) first₁
 
-unfoldable pub afterCats : Counted → List (List ℕ) → Reader Table
-unfolding numberLine many oneType
-afterCats h links = then (line (numberLine (bytes "types=") 1 maxSheetTypes)) λ n. then (many (oneType (h .methods) (h .cats) n) n 0 []) λ ts.
-    give (record { subjects = h .subjects; methods = h .methods; cats = links; sheet = n; types = ts })
+unfoldable pub afterCount : Front → List (List ℕ) → ℕ → Reader Table
+unfolding times oneType
+afterCount h links n = bind (times (oneType (h .methods) (h .cats) n) n 0 []) λ ts.
+    pure (record { subjects = h .subjects; methods = h .methods; cats = links; sheet = n; types = ts })
 
-unfoldable pub afterFirst : Counted → Reader Table
-unfolding many underLine afterCats
-afterFirst h = then (many (eachUnder (h .cats)) (h .cats) 1 []) (afterCats h)
+unfoldable pub afterCats : Front → List (List ℕ) → Reader Table
+unfolding numberLine afterCount
+afterCats h links = bind (line (numberLine (bytes "types=") 1 maxSheetTypes)) (afterCount h links)
 
--- The reader's answer as the definition's: number and offset, or the table in the bytes. The table that is returned is the one that the definition gives: with every count 0 where it refuses.
--- Every counted code names something, so that no counted record is open: `tableIn` alone reads a code that names nothing as one that does. With `answer` it follows that
--- an accepted table passes the check that gives 2 (proofs/Accepted).
-pub record SheetIs (r : Sheet) (a : SheetAnswer) : Type 0 where
-  pub answer : cond (eqb (r .no) 0) (loaded (tableIn (r .types) (r .links) (r .counts))) (malformed (r .no) (r .at)) ≡ a
-  pub table : tableIn (r .types) (r .links) (r .counts) ≡ tableRead a
-  pub codes : codesFit (rawTable (r .types) (r .links) (r .counts)) ≡ true
+unfoldable pub afterFirst : Front → Reader Table
+unfolding times underLine afterCats
+afterFirst h = bind (times (eachUnder (h .cats)) (h .cats) 1 []) (afterCats h)
+
+-- The reader's answer for the definition's, every byte of it: the bytes that stand for the table; or number and offset of the refusal, with a table that holds nothing (docs/SPEC.md B21).
+abbrev pub answered : SheetAnswer → Sheet
+answered (malformed n at) = record { refusal = n; at = at; types = emptyTypes; links = emptyLinks; counts = emptyCounts }
+answered (loaded t) = record { refusal = 0; at = 0; types = typeBytes (t .types); links = linkBytes (t .cats); counts = countsOf t }

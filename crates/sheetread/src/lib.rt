@@ -1,98 +1,103 @@
-// Document 01, "Sheet read": the sheet reader. `read` takes any bytes and answers with a table, or with the number of a refusal and the byte offset of the line.
-// What it answers is crate `sheet`'s definition `read` (specs/View.antt says how the answer is read). The table stands in flat bytes, as crate `table` has it.
+// The sheet reader (docs/SPEC.md S). `read` takes any bytes and answers with a table, or with the number of a refusal and the byte offset of the line.
+// What it answers is crate `sheet`'s definition `read`, and every byte of the answer is determined by it (specs/View.antt, `answered`).
+// Lines are found by crate `textread` and read by `lineread`; here they are put together and stored, as crate `table` has it.
 ghost use mathlib.Core.Path.{_≡_};
 ghost use mathlib.Core.Bool.{true, false};
-ghost use mathlib.Core.List.{[], map};
+ghost use mathlib.Core.List.{List, [], map};
 ghost use Prim.Native.Nat.{ℕ, _≤_, _<_};
 ghost use lib.ListN.{length, getD, take, drop};
-ghost use Rattle.model.specs.Basics.{any};
+ghost use Rattle.model.specs.Basics.{all};
 ghost use Rattle.model.specs.Table.{Table};
-ghost use Rattle.model.specs.Check.{noRawType, repOf, typeOf, rawTypeFits};
-ghost use Rattle.table.specs.Store.{typesIn, linksIn, rawOf, typesTo};
-ghost use Rattle.sheet.specs.Lines.{split, line, then, many};
-ghost use Rattle.sheet.specs.Sheet.{malformed, sheetAnswer, endLine, sheetType, oneType, ownIn, ending, read as readSheet};
+ghost use Rattle.model.specs.Check.{noRawType, repOf, typeOf};
+ghost use Rattle.table.specs.Store.{typesIn, linksIn, rawOf, typesTo, emptyTypes, emptyLinks};
+ghost use Rattle.table.specs.Records.{TypeExact, typeBytes, linkBytes};
+ghost use Rattle.sheet.specs.Lines.{split, bind, times};
+ghost use Rattle.sheet.specs.Sheet.{malformed, sheetAnswer, sheetType, oneType, stands, ending, read as readSheet};
 ghost use Rattle.textread.specs.View.{reading};
-ghost use Rattle.sheetread.specs.View.{linksTo, methodIs, methodsNamed, linksNamed, typesNamed, eachUnder, eachMethod, methodsOf, membersRead, ownAt, ownInMethods, ownInType, countedIn, first, afterFirst, SheetIs};
+ghost use Rattle.sheetread.specs.View.{doneBy, OnDone, firstBy, FirstWithin, linksTo, methodIs, MethodsExact, eachUnder, eachMethod, methodsOf, membersRead, standsAt, methodsStand, typeStands, first, afterCount, afterFirst, answered};
+use lineread::UnderGot;
 use numbers::narrow;
 use numbers::wide;
 use table::Counts;
+use table::Head;
 use table::LINK_BYTES;
-use table::Links;
 use table::Method;
 use table::TYPE_BYTES;
 use table::TypeRec;
-use table::permits;
 use table::put_links;
 use textread::Cursor;
+use textread::Got;
 
-// Lines read into lent bytes: the number of a refusal, or 0. The cursor stands behind the lines, or at the line that is refused.
-pub struct Done {
-    pub no: usize,
-    pub next: Cursor,
+// Several lines read: the number of a refusal and the cursor at its line, or the cursor behind the lines.
+pub enum Done {
+    Refused(usize, Cursor),
+    At(Cursor),
 }
 
-// The `m=` lines of a type.
+// The `m=` lines of a type: the number of a refusal, or 0. The cursor stands behind the lines, or at the line that is refused.
 pub struct MethodsGot {
-    pub no: usize,
+    pub refusal: usize,
     pub list: [Method; 16],
     pub next: Cursor,
 }
 
-// A type.
+// The lines of a type, in the same way.
 pub struct TypeGot {
-    pub no: usize,
+    pub refusal: usize,
     pub t: TypeRec,
     pub next: Cursor,
 }
 
-// The first four lines.
-pub struct First {
-    pub no: usize,
+// What the first four lines say.
+pub struct Front {
     pub subjects: usize,
     pub methods: usize,
     pub cats: usize,
-    pub next: Cursor,
 }
 
-// The reader's answer: 0 and the table, or the number of a refusal and the byte offset of the line, with a table whose every count is 0.
+pub enum First {
+    Refused(usize, Cursor),
+    At(Front, Cursor),
+}
+
+// The reader's answer: 0, 0 and the table; or the number of a refusal and the byte offset of its line, with a table that holds nothing.
 pub struct Sheet {
-    pub no: usize,
+    pub refusal: usize,
     pub at: usize,
     pub types: [u8; TYPE_BYTES],
     pub links: [u8; LINK_BYTES],
     pub counts: Counts,
 }
 
-// "one `under=` line (one or two numbers, comma) for each category"
+// The `under=` lines of the categories (S22), stored in lent bytes that hold nothing.
 fn links_into(s: &[u8], c: Cursor, cats: usize, l: &mut [u8; LINK_BYTES]) -> Done
-    requires { ⌜ (c .at ≤ length (now s)) × (cats ≤ 31) × (length (now l) ≡ 96) ⌝ }
-    ensures is { λ r. ⌜ reading (now (s .entry)) (r .no) (linksTo cats (linksIn (now (l .exit)))) (r .next .at) ≡ many (eachUnder cats) cats 1 [] (c .at) (split (drop (c .at) (now (s .entry)))) ⌝ }
-    ensures within { λ r. ⌜ (r .next .at ≤ length (now (s .entry))) × (length (now (l .exit)) ≡ 96) × (r .no ≡ 0 → linksNamed cats (linksIn (now (l .exit))) ≡ true) ⌝ }
+    requires { ⌜ (cats ≤ 31) × (now l ≡ emptyLinks) ⌝ }
+    ensures is { λ r. ⌜ doneBy (now (s .entry)) (linksTo cats (linksIn (now (l .exit)))) r ≡ times (eachUnder cats) cats 1 [] (c .at) (split (drop (c .at) (now (s .entry)))) ⌝ }
+    ensures exact { λ r. ⌜ OnDone r (now (l .exit) ≡ linkBytes (linksTo cats (linksIn (now (l .exit))))) ⌝ }
 {
     let mut j: usize = 0;
     let mut at = c.at;
     while j < cats {
         let g = lineread::next_under(s, Cursor { at }, cats, j + 1);
-        let next = g.next;
-        if g.no != 0 {
-            return Done { no: g.no, next };
+        match g {
+            UnderGot::Refused(k) => {
+                return Done::Refused(k, Cursor { at });
+            }
+            UnderGot::At(x, next) => {
+                put_links(l, j + 1, x);
+                at = next.at;
+                j += 1;
+            }
         }
-        let x = g.links;
-        put_links(l, j + 1, x);
-        at = next.at;
-        j += 1;
     }
-    Done {
-        no: 0,
-        next: Cursor { at },
-    }
+    Done::At(Cursor { at })
 }
 
-// "an `m=` line for each method": m of them, of a sheet with n types.
+// The `m=` lines of a type: m of them, of a sheet with n types.
 fn methods_at(s: &[u8], c: Cursor, m: usize, n: usize) -> MethodsGot
-    requires { ⌜ (c .at ≤ length (now s)) × (m ≤ 16) × (n ≤ 48) ⌝ }
-    ensures is { λ r. ⌜ reading (now (s .entry)) (r .no) (map methodIs (take m (r .list))) (r .next .at) ≡ many (eachMethod n) m 0 [] (c .at) (split (drop (c .at) (now (s .entry)))) ⌝ }
-    ensures within { λ r. ⌜ (r .next .at ≤ length (now (s .entry))) × (length (r .list) ≡ 16) × (methodsNamed (r .list) ≡ true) ⌝ }
+    requires { ⌜ (m ≤ 16) × (n ≤ 48) ⌝ }
+    ensures is { λ r. ⌜ reading (now (s .entry)) (r .refusal) (map methodIs (take m (r .list))) (r .next .at) ≡ times (eachMethod n) m 0 [] (c .at) (split (drop (c .at) (now (s .entry)))) ⌝ }
+    ensures exact { λ r. ⌜ (r .refusal ≡ 0 → MethodsExact m (r .list)) × (length (r .list) ≡ 16) ⌝ }
 {
     let none = Method::empty();
     let mut list = [none; 16];
@@ -101,9 +106,9 @@ fn methods_at(s: &[u8], c: Cursor, m: usize, n: usize) -> MethodsGot
     while j < m {
         let g = lineread::next_method(s, Cursor { at }, n);
         let next = g.next;
-        if g.no != 0 {
+        if g.refusal != 0 {
             return MethodsGot {
-                no: g.no,
+                refusal: g.refusal,
                 list,
                 next,
             };
@@ -114,90 +119,111 @@ fn methods_at(s: &[u8], c: Cursor, m: usize, n: usize) -> MethodsGot
         j += 1;
     }
     MethodsGot {
-        no: 0,
+        refusal: 0,
         list,
         next: Cursor { at },
     }
 }
 
 // a type that is refused
-fn no_type(no: usize, next: Cursor) -> TypeGot
-    ensures { λ r. ⌜ (r .no ≡ no) × (r .next .at ≡ next .at) ⌝ }
+fn no_type(refusal: usize, next: Cursor) -> TypeGot
+    ensures { λ r. ⌜ (r .refusal ≡ refusal) × (r .next .at ≡ next .at) ⌝ }
 {
     let t = TypeRec::empty();
-    TypeGot { no, t, next }
+    TypeGot { refusal, t, next }
 }
 
-// A number type: neither own nor methods.
-fn number_type(rep: usize, cat: usize) -> TypeRec
-    requires { ⌜ (0 < rep) × (rep ≤ 2) × (cat ≤ 31) ⌝ }
-    ensures is { λ r. ⌜ ((m n i : ℕ) → i < n → typeOf m n i (rawOf r) ≡ sheetType (repOf rep) cat false []) ⌝ }
-    ensures within { λ r. ⌜ ((m n i : ℕ) → i < n → rawTypeFits m n i (rawOf r) ≡ true) ⌝ }
+// The head of a sheet type: kind, left and right are 0 (B14).
+fn sheet_head(rep: usize, cat: usize, own: usize) -> Head
+    requires { ⌜ (rep ≤ 2) × (cat ≤ 31) × (own ≤ 1) ⌝ }
+    ensures { λ r. ⌜ r ≡ record { rep = rep; cat = cat; own = own; kind = 0; left = 0; right = 0 } ⌝ }
 {
-    let mut t = TypeRec::empty();
-    t.rep = narrow(rep);
-    t.cat = narrow(cat);
-    t
-}
-
-// "and for ref `own=`(yes or no) and an `m=` line for each method": m methods, of a sheet with n types.
-fn ref_type(s: &[u8], c: Cursor, cat: usize, m: usize, n: usize) -> TypeGot
-    requires { ⌜ (c .at ≤ length (now s)) × (cat ≤ 31) × (m ≤ 16) × (n ≤ 48) ⌝ }
-    ensures is { λ r. ⌜ ((i : ℕ) → i < n → reading (now (s .entry)) (r .no) (typeOf m n i (rawOf (r .t))) (r .next .at) ≡ membersRead m n cat (c .at) (split (drop (c .at) (now (s .entry))))) ⌝ }
-    ensures within { λ r. ⌜ (r .next .at ≤ length (now (s .entry))) × ((i : ℕ) → i < n → r .no ≡ 0 → rawTypeFits m n i (rawOf (r .t)) ≡ true) ⌝ }
-{
-    let o = lineread::next_own(s, c);
-    let a = o.next;
-    if o.no != 0 {
-        return no_type(o.no, a);
-    }
-    let g = methods_at(s, a, m, n);
-    let next = g.next;
-    if g.no != 0 {
-        return no_type(g.no, next);
-    }
-    let methods = g.list;
-    let t = TypeRec {
-        rep: 0,
+    Head {
+        rep: narrow(rep),
         cat: narrow(cat),
-        own: narrow(o.n),
+        own: narrow(own),
         kind: 0,
         left: 0,
         right: 0,
-        methods,
-    };
-    TypeGot { no: 0, t, next }
+    }
 }
 
-// "for each type `type=`, `rep=`, `cat=`": type i of n. "A type number out of turn .. is 2".
-fn one_type(s: &[u8], c: Cursor, i: usize, m: usize, cats: usize, n: usize) -> TypeGot
-    requires { ⌜ (c .at ≤ length (now s)) × (i < n) × (n ≤ 48) × (m ≤ 16) × (cats ≤ 31) ⌝ }
-    ensures is { λ r. ⌜ reading (now (s .entry)) (r .no) (typeOf m n i (rawOf (r .t))) (r .next .at) ≡ oneType m cats n i (c .at) (split (drop (c .at) (now (s .entry)))) ⌝ }
-    ensures within { λ r. ⌜ (r .next .at ≤ length (now (s .entry))) × (r .no ≡ 0 → rawTypeFits m n i (rawOf (r .t)) ≡ true) ⌝ }
+// A number type: neither own nor methods (B15).
+fn number_type(rep: usize, cat: usize) -> TypeRec
+    requires { ⌜ (0 < rep) × (rep ≤ 2) × (cat ≤ 31) ⌝ }
+    ensures is { λ r. ⌜ ((m n i : ℕ) → i < n → typeOf m n i (rawOf r) ≡ sheetType (repOf rep) cat false []) ⌝ }
+    ensures exact { λ r. ⌜ ((m n i : ℕ) → i < n → TypeExact m n i (rawOf r)) ⌝ }
 {
-    let a = textread::next_number(s, c, b"type=", i, i);
-    let b = a.next;
-    if a.no != 0 {
-        return no_type(a.no, b);
-    }
-    let r = lineread::next_rep(s, b);
-    let d = r.next;
-    if r.no != 0 {
-        return no_type(r.no, d);
-    }
-    let k = textread::next_number(s, d, b"cat=", 0, cats);
-    let e = k.next;
-    if k.no != 0 {
-        return no_type(k.no, e);
-    }
-    if r.n == 0 {
-        return ref_type(s, e, k.n, m, n);
-    }
-    let t = number_type(r.n, k.n);
-    TypeGot { no: 0, t, next: e }
+    let none = Method::empty();
+    let methods = [none; 16];
+    let head = sheet_head(rep, cat, 0);
+    TypeRec { head, methods }
 }
 
-// The n types of a sheet, stored in the lent bytes.
+// What a reference type has behind its `cat=` line (S25): m methods, of a sheet with n types.
+fn ref_type(s: &[u8], c: Cursor, cat: usize, m: usize, n: usize) -> TypeGot
+    requires { ⌜ (cat ≤ 31) × (m ≤ 16) × (n ≤ 48) ⌝ }
+    ensures is { λ r. ⌜ ((i : ℕ) → i < n → reading (now (s .entry)) (r .refusal) (typeOf m n i (rawOf (r .t))) (r .next .at) ≡ membersRead m n cat (c .at) (split (drop (c .at) (now (s .entry))))) ⌝ }
+    ensures exact { λ r. ⌜ ((i : ℕ) → i < n → r .refusal ≡ 0 → TypeExact m n i (rawOf (r .t))) ⌝ }
+{
+    let o = lineread::next_own(s, c);
+    match o {
+        Got::Refused(k) => no_type(k, c),
+        Got::At(own, a) => {
+            let g = methods_at(s, a, m, n);
+            let next = g.next;
+            if g.refusal != 0 {
+                return no_type(g.refusal, next);
+            }
+            let methods = g.list;
+            let head = sheet_head(0, cat, own);
+            let t = TypeRec { head, methods };
+            TypeGot {
+                refusal: 0,
+                t,
+                next,
+            }
+        }
+    }
+}
+
+// The block of type i of n (S25). A number out of turn is 2 (S30).
+fn one_type(s: &[u8], c: Cursor, i: usize, m: usize, cats: usize, n: usize) -> TypeGot
+    requires { ⌜ (i < n) × (n ≤ 48) × (m ≤ 16) × (cats ≤ 31) ⌝ }
+    ensures is { λ r. ⌜ reading (now (s .entry)) (r .refusal) (typeOf m n i (rawOf (r .t))) (r .next .at) ≡ oneType m cats n i (c .at) (split (drop (c .at) (now (s .entry)))) ⌝ }
+    ensures exact { λ r. ⌜ (r .refusal ≡ 0 → TypeExact m n i (rawOf (r .t))) ⌝ }
+{
+    let x = textread::next_number(s, c, b"type=", i, i);
+    let a = match x {
+        Got::Refused(k) => {
+            return no_type(k, c);
+        }
+        Got::At(_, a) => a,
+    };
+    let r = lineread::next_rep(s, a);
+    match r {
+        Got::Refused(k) => no_type(k, a),
+        Got::At(rep, b) => {
+            let y = textread::next_number(s, b, b"cat=", 0, cats);
+            match y {
+                Got::Refused(k) => no_type(k, b),
+                Got::At(cat, e) => {
+                    if rep == 0 {
+                        return ref_type(s, e, cat, m, n);
+                    }
+                    let t = number_type(rep, cat);
+                    TypeGot {
+                        refusal: 0,
+                        t,
+                        next: e,
+                    }
+                }
+            }
+        }
+    }
+}
+
+// The n types of a sheet, stored in lent bytes that hold nothing.
 fn types_into(
     s: &[u8],
     c: Cursor,
@@ -206,216 +232,178 @@ fn types_into(
     n: usize,
     b: &mut [u8; TYPE_BYTES],
 ) -> Done
-    requires { ⌜ (c .at ≤ length (now s)) × (m ≤ 16) × (cats ≤ 31) × (n ≤ 48) × (length (now b) ≡ 16384) ⌝ }
-    ensures is { λ r. ⌜ reading (now (s .entry)) (r .no) (typesTo m n n (typesIn (now (b .exit)))) (r .next .at) ≡ many (oneType m cats n) n 0 [] (c .at) (split (drop (c .at) (now (s .entry)))) ⌝ }
-    ensures within { λ r. ⌜ (r .next .at ≤ length (now (s .entry))) × (length (now (b .exit)) ≡ 16384) × (r .no ≡ 0 → typesNamed m n n (typesIn (now (b .exit))) ≡ true) ⌝ }
+    requires { ⌜ (m ≤ 16) × (cats ≤ 31) × (n ≤ 48) × (now b ≡ emptyTypes) ⌝ }
+    ensures is { λ r. ⌜ doneBy (now (s .entry)) (typesTo m n n (typesIn (now (b .exit)))) r ≡ times (oneType m cats n) n 0 [] (c .at) (split (drop (c .at) (now (s .entry)))) ⌝ }
+    ensures exact { λ r. ⌜ OnDone r (now (b .exit) ≡ typeBytes (typesTo m n n (typesIn (now (b .exit))))) ⌝ }
 {
     let mut i: usize = 0;
     let mut at = c.at;
     while i < n {
         let g = one_type(s, Cursor { at }, i, m, cats, n);
         let next = g.next;
-        if g.no != 0 {
-            return Done { no: g.no, next };
+        if g.refusal != 0 {
+            return Done::Refused(g.refusal, next);
         }
         let t = g.t;
         table::put_type(b, i, t);
         at = next.at;
         i += 1;
     }
-    Done {
-        no: 0,
-        next: Cursor { at },
-    }
+    Done::At(Cursor { at })
 }
 
-// Whether type a of n is own.
-fn is_own(b: &[u8; TYPE_BYTES], n: usize, a: usize) -> bool
+// Whether type a, if it is one of n, may stand in a signature.
+fn stands_at(b: &[u8; TYPE_BYTES], n: usize, a: usize) -> bool
     requires { ⌜ n ≤ 128 ⌝ }
-    ensures { λ r. ⌜ r ≡ ownAt (typesIn (now (b .entry))) n a ⌝ }
+    ensures { λ r. ⌜ r ≡ standsAt (typesIn (now (b .entry))) n a ⌝ }
 {
     if n <= a {
-        return false;
-    }
-    let h = table::get_head(b, a);
-    if h.rep != 0 {
-        return false;
-    }
-    if h.own == 1 {
         return true;
     }
-    false
+    table::may_stand(b, a)
 }
 
-// Whether an argument of a signature is own.
-fn own_in_args(b: &[u8; TYPE_BYTES], n: usize, m: Method) -> bool
+// Whether every argument of a signature may stand there.
+fn args_stand(b: &[u8; TYPE_BYTES], n: usize, m: Method) -> bool
     requires { ⌜ n ≤ 128 ⌝ }
-    ensures { λ r. ⌜ r ≡ any (ownAt (typesIn (now (b .entry))) n) (take (m .count) (m .args)) ⌝ }
+    ensures { λ r. ⌜ r ≡ all (standsAt (typesIn (now (b .entry))) n) (take (m .count) (m .args)) ⌝ }
 {
     let count = wide(m.count);
     let mut i: usize = 0;
     while i < 4 {
         if i == count {
-            return false;
+            return true;
         }
         let a = wide(m.args[i]);
-        if is_own(b, n, a) {
-            return true;
+        if !stands_at(b, n, a) {
+            return false;
         }
         i += 1;
     }
-    false
+    true
 }
 
-// "A type with own=yes stands in no signature": whether one stands in a method's.
-fn own_in_method(b: &[u8; TYPE_BYTES], n: usize, m: Method) -> bool
+// Whether every type of a method's signature may stand there (T14).
+fn method_stands(b: &[u8; TYPE_BYTES], n: usize, m: Method) -> bool
     requires { ⌜ n ≤ 128 ⌝ }
-    ensures { λ r. ⌜ r ≡ ownIn (ownAt (typesIn (now (b .entry))) n) (methodIs m) ⌝ }
+    ensures { λ r. ⌜ r ≡ stands (standsAt (typesIn (now (b .entry))) n) (methodIs m) ⌝ }
 {
-    if !permits(m.state) {
-        return false;
-    }
-    if own_in_args(b, n, m) {
+    if !table::permits(m.state) {
         return true;
+    }
+    if !args_stand(b, n, m) {
+        return false;
     }
     let a = wide(m.answer);
     if a == 0 {
-        return false;
+        return true;
     }
-    is_own(b, n, a - 1)
+    stands_at(b, n, a - 1)
 }
 
-// whether one stands in a signature of type i, of m methods
-fn own_in_type(b: &[u8; TYPE_BYTES], n: usize, m: usize, i: usize) -> bool
+// whether the signatures of type i do, of m methods
+fn type_stands(b: &[u8; TYPE_BYTES], n: usize, m: usize, i: usize) -> bool
     requires { ⌜ (n ≤ 128) × (m ≤ 16) × (i < 128) ⌝ }
-    ensures { λ r. ⌜ r ≡ ownInMethods (ownAt (typesIn (now (b .entry))) n) (methodsOf m (getD (typesIn (now (b .entry))) i noRawType)) ⌝ }
+    ensures { λ r. ⌜ r ≡ methodsStand (standsAt (typesIn (now (b .entry))) n) (methodsOf m (getD (typesIn (now (b .entry))) i noRawType)) ⌝ }
 {
     let h = table::get_head(b, i);
-    if h.rep != 0 {
-        return false;
+    if h.rep != Head::REF {
+        return true;
     }
     let mut j: usize = 0;
     while j < m {
         let x = table::get_method(b, i, j);
-        if own_in_method(b, n, x) {
-            return true;
+        if !method_stands(b, n, x) {
+            return false;
         }
         j += 1;
     }
-    false
+    true
 }
 
-// whether one stands in a signature of the n types
-fn own_in_types(b: &[u8; TYPE_BYTES], n: usize, m: usize) -> bool
+// whether those of the n types do
+fn types_stand(b: &[u8; TYPE_BYTES], n: usize, m: usize) -> bool
     requires { ⌜ (n ≤ 128) × (m ≤ 16) ⌝ }
-    ensures { λ r. ⌜ r ≡ any (ownInType (typesIn (now (b .entry))) n) (typesTo m n n (typesIn (now (b .entry)))) ⌝ }
+    ensures { λ r. ⌜ r ≡ all (typeStands (typesIn (now (b .entry))) n) (typesTo m n n (typesIn (now (b .entry)))) ⌝ }
 {
     let mut i: usize = 0;
     while i < n {
-        if own_in_type(b, n, m, i) {
-            return true;
+        if !type_stands(b, n, m, i) {
+            return false;
         }
         i += 1;
     }
-    false
+    true
 }
 
-// "`end=sheet`"
-fn next_end(s: &[u8], c: Cursor) -> Done
-    requires { ⌜ c .at ≤ length (now s) ⌝ }
-    ensures is { λ r. ⌜ reading (now (s .entry)) (r .no) tt (r .next .at) ≡ line endLine (c .at) (split (drop (c .at) (now (s .entry)))) ⌝ }
-    ensures within { λ r. ⌜ r .next .at ≤ length (now (s .entry)) ⌝ }
-{
-    let e = textread::line_end(s, c);
-    if e == s.len() {
-        return Done { no: 1, next: c };
-    }
-    let at = c.at;
-    if textread::is_word(&s[at..e], b"end=sheet") {
-        return Done {
-            no: 0,
-            next: Cursor { at: e + 1 },
-        };
-    }
-    Done { no: 1, next: c }
-}
-
-// "`end=sheet`, nothing after"; "then, every line being right, 3 for own in a signature, at the last line"
+// The last line, and nothing behind it (S10); then, every line being right, 3 at its offset where a type stands in a signature that may not (S13).
 fn last_line(s: &[u8], c: Cursor, b: &[u8; TYPE_BYTES], n: usize, m: usize) -> Done
-    requires { ⌜ (c .at ≤ length (now s)) × (n ≤ 128) × (m ≤ 16) ⌝ }
-    ensures is { λ r. ⌜ ((t : Table) → t .types ≡ typesTo m n n (typesIn (now (b .entry))) → reading (now (s .entry)) (r .no) t (r .next .at) ≡ ending t (c .at) (split (drop (c .at) (now (s .entry))))) ⌝ }
+    requires { ⌜ (n ≤ 128) × (m ≤ 16) ⌝ }
+    ensures { λ r. ⌜ ((t : Table) → t .types ≡ typesTo m n n (typesIn (now (b .entry))) → doneBy (now (s .entry)) t r ≡ ending t (c .at) (split (drop (c .at) (now (s .entry))))) ⌝ }
 {
-    let g = next_end(s, c);
-    let next = g.next;
-    if g.no != 0 {
-        return Done { no: g.no, next };
-    }
-    if next.at < s.len() {
-        return Done { no: 1, next };
-    }
-    if own_in_types(b, n, m) {
-        return Done { no: 3, next: c };
-    }
-    Done { no: 0, next }
-}
-
-// the first lines, refused
-fn no_first(no: usize, next: Cursor) -> First
-    ensures { λ r. ⌜ (r .no ≡ no) × (r .next .at ≡ next .at) × (r .methods ≡ 0) × (r .cats ≡ 0) ⌝ }
-{
-    First {
-        no,
-        subjects: 0,
-        methods: 0,
-        cats: 0,
-        next,
+    let g = lineread::next_end(s, c);
+    match g {
+        Got::Refused(k) => Done::Refused(k, c),
+        Got::At(_, next) => {
+            if next.at < s.len() {
+                return Done::Refused(1, next);
+            }
+            if !types_stand(b, n, m) {
+                return Done::Refused(3, c);
+            }
+            Done::At(next)
+        }
     }
 }
 
-// "Fixed order: `guide=1`, `subjects=`, `methods=`, `cats=`"
+// The first four lines (S22).
 fn first_lines(s: &[u8]) -> First
-    ensures is { λ r. ⌜ reading (now (s .entry)) (r .no) (countedIn r) (r .next .at) ≡ first 0 (split (now (s .entry))) ⌝ }
-    ensures within { λ r. ⌜ (r .next .at ≤ length (now (s .entry))) × (r .methods ≤ 16) × (r .cats ≤ 31) ⌝ }
+    ensures is { λ r. ⌜ firstBy (now (s .entry)) r ≡ first 0 (split (now (s .entry))) ⌝ }
+    ensures within { λ r. ⌜ FirstWithin r ⌝ }
 {
-    let g = textread::next_number(s, Cursor::start(), b"guide=", 1, 1);
-    let a = g.next;
-    if g.no != 0 {
-        return no_first(g.no, a);
-    }
+    let c = Cursor::start();
+    let g = textread::next_number(s, c, b"guide=", 1, 1);
+    let a = match g {
+        Got::Refused(k) => {
+            return First::Refused(k, c);
+        }
+        Got::At(_, a) => a,
+    };
     let u = textread::next_number(s, a, b"subjects=", 1, Counts::SUBJECTS);
-    let b = u.next;
-    if u.no != 0 {
-        return no_first(u.no, b);
-    }
-    let m = textread::next_number(s, b, b"methods=", 1, Counts::METHODS);
-    let d = m.next;
-    if m.no != 0 {
-        return no_first(m.no, d);
-    }
-    let k = textread::next_number(s, d, b"cats=", 0, Counts::CATEGORIES);
-    let e = k.next;
-    if k.no != 0 {
-        return no_first(k.no, e);
-    }
-    First {
-        no: 0,
-        subjects: u.n,
-        methods: m.n,
-        cats: k.n,
-        next: e,
+    match u {
+        Got::Refused(k) => First::Refused(k, a),
+        Got::At(subjects, b) => {
+            let m = textread::next_number(s, b, b"methods=", 1, Counts::METHODS);
+            match m {
+                Got::Refused(k) => First::Refused(k, b),
+                Got::At(methods, d) => {
+                    let y = textread::next_number(s, d, b"cats=", 0, Counts::CATEGORIES);
+                    match y {
+                        Got::Refused(k) => First::Refused(k, d),
+                        Got::At(cats, e) => First::At(
+                            Front {
+                                subjects,
+                                methods,
+                                cats,
+                            },
+                            e,
+                        ),
+                    }
+                }
+            }
+        }
     }
 }
 
-// "It returns number and byte offset of that line ..; the table is always a new one, here with every count 0."
-fn refused(no: usize, at: usize) -> Sheet
-    requires { ⌜ (no ≡ 0 → ⊥) ⌝ }
-    ensures { λ r. ⌜ SheetIs r (malformed no at) ⌝ }
+// A refusal: its number, the offset of its line, and a table that holds nothing (S31, S32).
+fn refused(refusal: usize, at: usize) -> Sheet
+    ensures { λ r. ⌜ r ≡ answered (malformed refusal at) ⌝ }
 {
     let types = table::empty_types();
     let links = table::empty_links();
     let counts = Counts::empty();
     Sheet {
-        no,
+        refusal,
         at,
         types,
         links,
@@ -423,58 +411,68 @@ fn refused(no: usize, at: usize) -> Sheet
     }
 }
 
-// The lines behind the first four, and the table.
-fn after_first(s: &[u8], h: First) -> Sheet
-    requires { ⌜ (h .next .at ≤ length (now s)) × (h .methods ≤ 16) × (h .cats ≤ 31) ⌝ }
-    ensures { λ r. ⌜ SheetIs r (sheetAnswer (then (afterFirst (countedIn h)) ending (h .next .at) (split (drop (h .next .at) (now (s .entry)))))) ⌝ }
+// The n types and the last line, with the links of the categories: the table.
+fn after_count(s: &[u8], c: Cursor, h: Front, links: [u8; LINK_BYTES], n: usize) -> Sheet
+    requires { ⌜ (h .methods ≤ 16) × (h .cats ≤ 31) × (n ≤ 48) ⌝ }
+    ensures { λ r. ⌜ ((cs : List (List ℕ)) → links ≡ linkBytes cs → length cs ≡ h .cats → r ≡ answered (sheetAnswer (bind (afterCount h cs n) ending (c .at) (split (drop (c .at) (now (s .entry))))))) ⌝ }
 {
-    let c = h.next;
-    let mut links = table::empty_links();
-    let u = links_into(s, c, h.cats, &mut links);
-    let d = u.next;
-    if u.no != 0 {
-        return refused(u.no, d.at);
-    }
-    let k = textread::next_number(s, d, b"types=", 1, Counts::SHEET_TYPES);
-    let e = k.next;
-    if k.no != 0 {
-        return refused(k.no, e.at);
-    }
     let mut types = table::empty_types();
-    let t = types_into(s, e, h.methods, h.cats, k.n, &mut types);
-    let f = t.next;
-    if t.no != 0 {
-        return refused(t.no, f.at);
-    }
-    let g = last_line(s, f, &types, k.n, h.methods);
-    let z = g.next;
-    if g.no != 0 {
-        return refused(g.no, z.at);
-    }
-    let counts = Counts {
-        subjects: h.subjects,
-        methods: h.methods,
-        cats: h.cats,
-        sheet: k.n,
-        types: k.n,
+    let t = types_into(s, c, h.methods, h.cats, n, &mut types);
+    let f = match t {
+        Done::Refused(k, f) => {
+            return refused(k, f.at);
+        }
+        Done::At(f) => f,
     };
-    Sheet {
-        no: 0,
-        at: 0,
-        types,
-        links,
-        counts,
+    let g = last_line(s, f, &types, n, h.methods);
+    match g {
+        Done::Refused(k, z) => refused(k, z.at),
+        Done::At(_) => {
+            let counts = Counts {
+                subjects: h.subjects,
+                methods: h.methods,
+                cats: h.cats,
+                sheet: n,
+                types: n,
+            };
+            Sheet {
+                refusal: 0,
+                at: 0,
+                types,
+                links,
+                counts,
+            }
+        }
     }
 }
 
-// "Sheet read", for any bytes. Where a sheet is accepted there is no line to point at: `at` is 0, and the contract leaves it open.
-pub fn read(s: &[u8]) -> Sheet
-    ensures { λ r. ⌜ SheetIs r (readSheet (now (s .entry))) ⌝ }
+// The lines behind the first four.
+fn after_first(s: &[u8], c: Cursor, h: Front) -> Sheet
+    requires { ⌜ (h .methods ≤ 16) × (h .cats ≤ 31) ⌝ }
+    ensures { λ r. ⌜ r ≡ answered (sheetAnswer (bind (afterFirst h) ending (c .at) (split (drop (c .at) (now (s .entry)))))) ⌝ }
 {
-    let h = first_lines(s);
-    let c = h.next;
-    if h.no != 0 {
-        return refused(h.no, c.at);
+    let mut links = table::empty_links();
+    let u = links_into(s, c, h.cats, &mut links);
+    let d = match u {
+        Done::Refused(k, d) => {
+            return refused(k, d.at);
+        }
+        Done::At(d) => d,
+    };
+    let y = textread::next_number(s, d, b"types=", 1, Counts::SHEET_TYPES);
+    match y {
+        Got::Refused(k) => refused(k, d.at),
+        Got::At(n, e) => after_count(s, e, h, links, n),
     }
-    after_first(s, h)
+}
+
+// Sheet read, for any bytes. Where a sheet is accepted there is no line to point at, and `at` is 0 (S33).
+pub fn read(s: &[u8]) -> Sheet
+    ensures { λ r. ⌜ r ≡ answered (readSheet (now (s .entry))) ⌝ }
+{
+    let g = first_lines(s);
+    match g {
+        First::Refused(k, c) => refused(k, c.at),
+        First::At(h, c) => after_first(s, c, h),
+    }
 }

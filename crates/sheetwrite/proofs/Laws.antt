@@ -23,7 +23,8 @@ module _ (i m s : ℕ) (x : RawType) where
   abbrev firstThree : ℕ → ℕ → List (List ℕ)
   firstThree r k = numberText (bytes "type=") i ∷ repText (repOf r) ∷ numberText (bytes "cat=") k ∷ []
 
-  pub ref-lines : x .rep ≡ 0 → firstThree (x .rep) (x .cat) ++ (ownText (eqb (x .own) 1) ∷ each (λ j m. methodText m ∷ []) 0 (from m 0 (λ j. methodOf (getD (x .methods) j noRawMethod)))) ≡ typeLines i (typeOf m s i x)
+  pub ref-lines : x .rep ≡ 0 → firstThree (x .rep) (x .cat) ++ (ownText (eqb (x .own) 1) ∷ each (λ j m. methodText m ∷ []) 0 (from m 0 (λ j. methodOf (getD (x .methods) j noRawMethod))))
+      ≡ typeLines i (typeOf m s i x)
   unfolding typeLines memberLines
   ref-lines e = rw e
 
@@ -68,7 +69,8 @@ each-last f g (suc c) i k =
     ∙ ap (λ z. f i (g k) ++ (each f (suc i) (from c (suc k) g) ++ f (suc i + c) (g z))) q
     ∙ ap (λ z. f i (g k) ++ z) (each-last f g c (suc i) (suc k))
 
-pub method-next : (b : List ℕ) (i j : ℕ) (m : Method) → rawMethod m ≡ getD (getD (typesIn b) i noRawType .methods) j noRawMethod → methodLines b i j ++ (methodText (methodOf (rawMethod m)) ∷ []) ≡ methodLines b i (j + 1)
+pub method-next : (b : List ℕ) (i j : ℕ) (m : Method) → rawMethod m ≡ getD (getD (typesIn b) i noRawType .methods) j noRawMethod
+    → methodLines b i j ++ (methodText (methodOf (rawMethod m)) ∷ []) ≡ methodLines b i (j + 1)
 unfolding methodLines
 method-next b i j m e =
     ap (λ (z : RawMethod). methodLines b i j ++ (methodText (methodOf z) ∷ [])) e

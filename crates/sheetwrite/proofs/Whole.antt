@@ -1,18 +1,17 @@
--- The parts together are the text of the table's sheet; what the check of 2 says of the counts; and the writer's two answers.
-use mathlib.Core.Path.{_≡_, refl, sym, ap, _∙_, subst}
-use mathlib.Core.Bool.{true, false, So}
+-- The parts together are the text of the table's sheet; and the writer's answers.
+use mathlib.Core.Path.{_≡_, refl, sym, ap, _∙_}
+use mathlib.Core.Bool.{true, false}
 use mathlib.Core.List.{List, [], _∷_, _++_, append-assoc}
 use Prim.Native.Nat.{ℕ, zero, suc, _≤_, _<_}
 use native.Mathlib.Nat.{le-of-suc-le-suc}
 use native.Mathlib.Omega.{arith}
-use lib.Dec.{leb}
 use lib.ListN.{length, take}
-use borrow.Author.Tests.{leb-true, le-leb, lt-leb}
+use borrow.Author.Tests.{le-leb, lt-leb}
 use Rattle.model.specs.Basics.{from}
-use Rattle.model.specs.Table.{Ty, Table, size, between, countsFit, tableFits, maxSubjects, maxMethods, maxCategories, maxSheetTypes}
-use Rattle.model.specs.Check.{RawTable, codesFit, tableOf, tableAccepted}
-use Rattle.model.proofs.Rules.{first, second}
+use Rattle.model.specs.Table.{Ty}
+use Rattle.model.specs.Check.{RawTable, tableOf, tableAccepted}
 use Rattle.table.specs.declared.Counts.{Counts}
+use Rattle.table.specs.Limits.{Limits}
 use Rattle.table.specs.Store.{rawTable, broaderOf}
 use Rattle.table.proofs.Lists.{length-from}
 use Rattle.sheet.specs.Lines.{bytes, join}
@@ -20,7 +19,7 @@ use Rattle.sheet.specs.Text.{newestForm, numberText, each, typeLines, endText, 
 use Rattle.textwrite.specs.Fill.{Filled, Lined}
 use Rattle.textwrite.proofs.Laws.{counted, fill-is}
 use Rattle.sheetwrite.specs.declared.Wrote.the-variants.{UnfitTable, ShortBuffer, Length}
-use Rattle.sheetwrite.specs.Parts.{typeIn, typeLinesTo, underLines, countLines, frontLines, backLines, Writable}
+use Rattle.sheetwrite.specs.Parts.{typeIn, typeLinesTo, underLines, countLines, frontLines, backLines}
 use Rattle.sheetwrite.specs.Answer.{writtenOf}
 
 take-from : {A : Type 0} (f : ℕ → A) (n c i : ℕ) → n ≤ c → take n (from c i f) ≡ from n i f
@@ -45,30 +44,12 @@ module _ (b l : List ℕ) (c : Counts) where
       ∙ ap (λ z. join (linesWith z (from (c .sheet) 0 (typeIn b c)))) (sym (length-from (broaderOf l) (c .cats) 1))
       ∙ ap (λ z. join (linesWith (length (from (c .cats) 1 (broaderOf l))) z)) (sym (take-from (typeIn b c) (c .sheet) (c .types) 0 h))
 
-  pub sheet-is : {old new : List ℕ} {r : ℕ} → Writable c → Lined old new (frontLines l c ++ backLines b c) r → Filled old new (text (tableOf (rawTable b l c))) r
-  sheet-is g f = fill-is (parts-are (g .types)) (f .filled)
+  pub sheet-is : {old new : List ℕ} {r : ℕ} → Limits c → Lined old new (frontLines l c ++ backLines b c) r → Filled old new (text (tableOf (rawTable b l c))) r
+  sheet-is g f = fill-is (parts-are (g .counted)) (f .filled)
 
-  -- what passed the check has counts within their limits
-  pub accepted-limited : tableAccepted (rawTable b l c) ≡ true → Writable c
-  unfolding tableAccepted tableFits tableOf
-  accepted-limited h =
-      let t : Table = tableOf (rawTable b l c) in
-      let k : So (countsFit t) = first (countsFit t) _ (second (codesFit (rawTable b l c)) _ h) in
-      let k₁ = second (between 1 maxSubjects (t .subjects)) _ k in
-      let k₂ = second (between 1 maxMethods (t .methods)) _ k₁ in
-      let k₃ = second (leb (length (t .cats)) maxCategories) _ k₂ in
-      let k₄ = second (between 1 maxSheetTypes (t .sheet)) _ k₃ in
-      let high : (n m : ℕ) → So (between 1 n m) → m ≤ n = λ n m q. leb-true m n (second (leb 1 m) _ q) in
-      record {
-        subjects = high maxSubjects (t .subjects) (first (between 1 maxSubjects (t .subjects)) _ k);
-        methods = high maxMethods (t .methods) (first (between 1 maxMethods (t .methods)) _ k₁);
-        cats = subst (λ z. z ≤ 31) (length-from (broaderOf l) (c .cats) 1) (leb-true (length (t .cats)) maxCategories (first (leb (length (t .cats)) maxCategories) _ k₂));
-        sheet = high maxSheetTypes (t .sheet) (first (between 1 maxSheetTypes (t .sheet)) _ k₃);
-        types = subst (λ z. c .sheet ≤ z) (length-from (typeIn b c) (c .types) 0) (leb-true (t .sheet) (size t) (first (leb (t .sheet) (size t)) _ k₄));
-      }
-
--- "4 if the buffer is short, buffer unchanged": the sheet was counted on an empty part of the buffer
-pub short-is : {tl : List ℕ} {n : ℕ} (r : RawTable) (buf : List ℕ) → tableAccepted r ≡ true → Filled [] tl (text (tableOf r)) n → length (tl ++ buf) < n → writtenOf ShortBuffer (tl ++ buf) ≡ write r buf
+-- a short buffer (W2, W3): the sheet was counted on an empty part of it
+pub short-is : {tl : List ℕ} {n : ℕ} (r : RawTable) (buf : List ℕ) → tableAccepted r ≡ true → Filled [] tl (text (tableOf r)) n → length (tl ++ buf) < n
+    → writtenOf ShortBuffer (tl ++ buf) ≡ write r buf
 unfolding write writeText
 short-is {tl} {n} r buf h f s =
     let e : tl ++ buf ≡ buf = counted f in
@@ -76,8 +57,9 @@ short-is {tl} {n} r buf h f s =
     let w = f .said in
     rw (e, h, lt-leb (length (text (tableOf r))) (length buf) (omega arith))
 
--- "else the length, with the bytes behind it unchanged"
-pub length-is : {tl new : List ℕ} {n m : ℕ} (r : RawTable) (buf : List ℕ) → tableAccepted r ≡ true → Filled [] tl (text (tableOf r)) n → n ≤ length (tl ++ buf) → Filled (tl ++ buf) new (text (tableOf r)) m → writtenOf (Length m) new ≡ write r buf
+-- the length (W4)
+pub length-is : {tl new : List ℕ} {n m : ℕ} (r : RawTable) (buf : List ℕ) → tableAccepted r ≡ true → Filled [] tl (text (tableOf r)) n → n ≤ length (tl ++ buf)
+    → Filled (tl ++ buf) new (text (tableOf r)) m → writtenOf (Length m) new ≡ write r buf
 unfolding write writeText
 length-is {tl} {new} {n} {m} r buf h f s g =
     let e : tl ++ buf ≡ buf = counted f in
@@ -86,7 +68,7 @@ length-is {tl} {new} {n} {m} r buf h f s g =
     let k : length (text (tableOf r)) ≤ length buf = omega arith in
     rw (g .said, g .text (omega arith), e, h, le-leb (length (text (tableOf r))) (length buf) k)
 
--- "A .. table handed in gets 2 before all else", and the buffer is unchanged
+-- an unfit table (W1, W3)
 pub unfit-is : (r : RawTable) (buf : List ℕ) → tableAccepted r ≡ false → writtenOf UnfitTable buf ≡ write r buf
 unfolding write
 unfit-is r buf h = rw h

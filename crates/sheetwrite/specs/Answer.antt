@@ -1,4 +1,4 @@
--- Document 01: "If an answer is an enum, a definition gives this paper's number and values for each of its cases." Here for the writer's answer.
+-- The number and value of each case of the writer's answer (E4).
 use Prim.Native.Nat.{ℕ}
 use mathlib.Core.List.{List}
 use Rattle.model.specs.Basics.{Res, refuse, ok}
@@ -6,7 +6,7 @@ use Rattle.sheet.specs.Text.{Written}
 use Rattle.sheetwrite.specs.declared.Wrote.{Wrote}
 use Rattle.sheetwrite.specs.declared.Wrote.the-variants.{UnfitTable, ShortBuffer, Length}
 
--- "A .. table handed in gets 2"; "4 if the buffer is short .. else the length"
+-- W1, W2, W4
 abbrev pub wroteAnswer : Wrote → Res ℕ
 wroteAnswer UnfitTable = refuse 2
 wroteAnswer ShortBuffer = refuse 4

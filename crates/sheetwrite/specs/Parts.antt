@@ -1,6 +1,6 @@
--- The lines of a sheet by the parts in which they are written, over the bytes of the table. That together they are the text of document 01 is proved in proofs/Whole.antt.
+-- The lines of a sheet by the parts in which they are written, over the bytes of the table. That together they are the text of the sheet is proved in proofs/Whole.antt.
 use mathlib.Core.List.{List, [], _∷_, _++_}
-use Prim.Native.Nat.{ℕ, _≤_}
+use Prim.Native.Nat.{ℕ}
 use lib.ListN.{getD}
 use Rattle.model.specs.Basics.{from}
 use Rattle.model.specs.Table.{Ty}
@@ -31,14 +31,6 @@ countLines c = numberText (bytes "guide=") newestForm ∷ numberText (bytes "sub
 unfoldable pub frontLines : List ℕ → Counts → List (List ℕ)
 frontLines l c = countLines c ++ (underLines l (c .cats) ++ (numberText (bytes "types=") (c .sheet) ∷ []))
 
--- "Derived types aren't written": the lines of the sheet types, and the last line
+-- the lines of the sheet types, without derived ones (W5), and the last line
 unfoldable pub backLines : List ℕ → Counts → List (List ℕ)
 backLines b c = typeLinesTo b c (c .sheet) ++ (endText ∷ [])
-
--- Counts within the limits of document 01, as far as the writer needs them.
-pub record Writable (c : Counts) : Type 0 where
-  pub subjects : c .subjects ≤ 16
-  pub methods : c .methods ≤ 16
-  pub cats : c .cats ≤ 31
-  pub sheet : c .sheet ≤ 48
-  pub types : c .sheet ≤ c .types

@@ -12,7 +12,8 @@ use borrow.Author.Tests.{ltb-true, ltb-false}
 use lib.ListN.{length, getD, set, replicate, length-set, length-replicate, replicate-append-replicate}
 use lib.Seq.{sets, ext-getD, getD-set-same, getD-set-other}
 use Rattle.model.specs.Basics.{from}
-use Rattle.model.proofs.Largest.{getD-from}
+pub use Rattle.model.proofs.Lists.{length-from, from-first, from-same}
+use Rattle.model.proofs.Lists.{is-from as from-is}
 
 -- Numbers are below or not, the same or not.
 pub lt-or-ge : (a b : ℕ) → (a < b) ⊎ (b ≤ a)
@@ -25,16 +26,8 @@ lt-or-ge a b = go (ltb a b) refl
 pub same-or : (k i : ℕ) → (k ≡ i) ⊎ (k ≡ i → ⊥)
 same-or k i = ⊎-elim (λ (lt : k < i). inr (λ e. omega arith)) (λ (ge : i ≤ k). ⊎-elim (λ (lt : i < k). inr (λ e. omega arith)) (λ (le : k ≤ i). inl (omega arith)) (lt-or-ge i k)) (lt-or-ge k i)
 
--- The first c values of a rule.
+-- The first c values of a rule (the model's laws), and one more of them.
 module _ {A : Type 0} (f : ℕ → A) where
-  pub length-from : (c i : ℕ) → length (from c i f) ≡ c
-  unfolding from
-  length-from zero i = refl
-  length-from (suc c) i = ap suc (length-from c (suc i))
-
-  pub from-first : (c j : ℕ) (d : A) → j < c → getD (from c 0 f) j d ≡ f j
-  from-first c j d h = getD-from f d c 0 j h ∙ ap f (zero-add j)
-
   pub from-last : (c i : ℕ) → from (suc c) i f ≡ from c i f ++ (f (i + c) ∷ [])
   unfolding from
   from-last zero i = let e : i ≡ i + 0 = omega arith in ap (λ (k : ℕ). f k ∷ []) e
@@ -42,14 +35,7 @@ module _ {A : Type 0} (f : ℕ → A) where
 
   -- a list is known by its elements
   pub is-from : (n : ℕ) (d : A) (l : List A) → length l ≡ n → ((i : ℕ) → i < n → getD l i d ≡ f i) → l ≡ from n 0 f
-  is-from n d l e h =
-      ext-getD d l (from n 0 f) (e ∙ sym (length-from n 0))
-      (λ i p. let q : i < n = subst (λ (k : ℕ). i < k) e p in h i q ∙ sym (from-first n i d q))
-
-pub from-same : {A : Type 0} (f g : ℕ → A) (c i : ℕ) → ((j : ℕ) → i ≤ j → j < i + c → f j ≡ g j) → from c i f ≡ from c i g
-unfolding from
-from-same f g zero i h = refl
-from-same f g (suc c) i h = rw (h i (omega arith) (omega arith), from-same f g c (suc i) (λ j p q. h j (omega arith) (omega arith)))
+  is-from n d l e h = sym (from-is f n d l e h)
 
 -- Several stores in a row.
 module _ {A : Type 0} where

@@ -1,5 +1,5 @@
 -- Laws over plain values: what a byte more means for a word, a decimal, a list of numbers and a line. The proofs of the functions cite them.
-use mathlib.Core.Path.{_≡_, refl, sym, ap, _∙_}
+use mathlib.Core.Path.{_≡_, refl, sym, ap, _∙_, subst}
 use mathlib.Core.Bool.{Bool, true, false, _&&_, So, cond}
 use mathlib.Core.List.{List, [], _∷_, _++_}
 use Prim.Native.Nat.{ℕ, suc, _+_, _-_, _*_, _≤_, _<_}
@@ -9,16 +9,23 @@ use lib.Dec.{eqb, leb}
 use lib.ListN.{length, getD, set, take, drop, length-drop, drop-of-length-le, length-append, take-append-drop}
 use lib.Seq.{drop-cons, take-suc, getD-drop, drop-drop, take-all, length-take-le, take-suc-set}
 use borrow.Author.Tests.{le-leb, lt-leb, eq-eqb, ne-eqb}
-use Rattle.model.specs.Basics.{Res, refuse, ok, try, need}
+use Rattle.model.specs.Basics.{Res, refuse, ok, try, need, all}
 use Rattle.model.specs.Table.{between}
 use Rattle.model.proofs.Rules.{both, first, second}
-use Rattle.sheet.specs.Lines.{row, cut, push, split, refused, got, line, lineAt, starts, same, keyed}
-use Rattle.sheet.specs.Numbers.{Scan, fail, took, andThen, whole, isDigit, limit, digits, number, comma, numbers}
+use Rattle.sheet.specs.Lines.{Row, row, cut, push, split, refused, got, line, lineAt, firstLine, starts, same, keyed}
+use Rattle.sheet.specs.Numbers.{Scan, fail, took, bindScan, whole, isDigit, limit, digits, number, comma, numbers}
 use Rattle.sheet.specs.Sheet.{numberLine}
-use Rattle.sheet.proofs.Steps.{clash, cond-cases}
+use Rattle.sheet.proofs.Steps.{clash, cond-cases, refuse-ok}
 use Rattle.sheet.proofs.Numbers.{isDigit-of}
 use Rattle.sheet.proofs.Lines.{all-append, starts-sound}
-use Rattle.textread.specs.View.{scanned, result, reading, passed, unbroken}
+use Rattle.textread.specs.View.{scanned, scanBy, ScanWithin, valueBy, AtMost, readBy, GotAtMost, result, reading, LineAt, Passable, passedBy}
+use Rattle.textread.specs.declared.Value.{Value}
+use Rattle.textread.specs.declared.Value.the-variants.{Refused, Is}
+use Rattle.textread.specs.declared.Got.{Got}
+use Rattle.textread.specs.declared.Got.the-variants.{Refused as Refusedᵍ, At}
+use Rattle.textread.specs.declared.Cursor.{Cursor}
+use Rattle.textread.specs.declared.Number.{Number}
+use Rattle.textread.specs.declared.Number.the-variants.{Wrong, Right}
 
 -- A list from one of its places on.
 pub from-here : (l : List ℕ) (i : ℕ) → i < length l → drop i l ≡ getD l i 0 ∷ drop (i + 1) l
@@ -122,6 +129,17 @@ module _ (l : List ℕ) (at b : ℕ) (h : at < length l) (e : b ≡ getD l at 0)
   pub number-more : (b ≡ 48 → ⊥) → 48 ≤ b → b ≤ 57 → digits (b - 48) (drop (at + 1) l) ≡ number (drop at l)
   number-more q j k = sym (other q ∙ ap (λ z. cond z (digits (b - 48) (drop (at + 1) l)) fail) (isDigit-of b j k))
 
+-- A number scanned, by its case.
+module _ {A : Type 0} (f : ℕ → A) (l : List ℕ) (t : Number) (S : Scan A) (is : scanBy f l t ≡ S) where
+  pub number-scan-wrong : t ≡ Wrong → fail ≡ S
+  number-scan-wrong e = ap (scanBy f l) (sym e) ∙ is
+
+  pub number-scan-right : (n next : ℕ) → t ≡ Right n next → took (f n) (drop next l) ≡ S
+  number-scan-right n next e = ap (scanBy f l) (sym e) ∙ is
+
+pub right-within : (size : ℕ) (t : Number) (n next : ℕ) → t ≡ Right n next → ScanWithin size t → (next ≤ size) × (n ≤ 10000)
+right-within size t n next e h = subst (ScanWithin size) e h
+
 -- A scan whose form is right, and one whose form is wrong.
 module _ {A : Type 0} (l : List ℕ) (right : Bool) (x : A) (next : ℕ) (S : Scan A) (is : scanned l right x next ≡ S) where
   pub scan-right : right ≡ true → took x (drop next l) ≡ S
@@ -140,12 +158,12 @@ module _ (l items : List ℕ) (max count i : ℕ) (R : Scan (List ℕ)) (inv : n
   numbers-many h = let e : max - count ≡ 0 = omega arith in ap (λ z. numbers z (take count items) (drop i l)) (sym e) ∙ inv
 
   module _ (h : count < max) where
-    numbers-step : andThen (number (drop i l)) (λ a r. comma (take count items ++ a ∷ []) (λ q. numbers (max - (count + 1)) (take count items ++ a ∷ []) q) r) ≡ R
+    numbers-step : bindScan (number (drop i l)) (λ a r. comma (take count items ++ a ∷ []) (λ q. numbers (max - (count + 1)) (take count items ++ a ∷ []) q) r) ≡ R
     unfolding numbers
     numbers-step = let e : max - count ≡ suc (max - (count + 1)) = omega arith in ap (λ z. numbers z (take count items) (drop i l)) (sym e) ∙ inv
 
     pub numbers-fail : fail ≡ number (drop i l) → fail ≡ R
-    numbers-fail q = ap (λ z. andThen z (λ a r. comma (take count items ++ a ∷ []) (λ q. numbers (max - (count + 1)) (take count items ++ a ∷ []) q) r)) q ∙ numbers-step
+    numbers-fail q = ap (λ z. bindScan z (λ a r. comma (take count items ++ a ∷ []) (λ q. numbers (max - (count + 1)) (take count items ++ a ∷ []) q) r)) q ∙ numbers-step
 
     module _ (k : count < length items) (n e : ℕ) (q : took n (drop e l) ≡ number (drop i l)) where
       kept : take (count + 1) (set items count n) ≡ take count items ++ n ∷ []
@@ -154,7 +172,7 @@ module _ (l items : List ℕ) (max count i : ℕ) (R : Scan (List ℕ)) (inv : n
       after : comma (take (count + 1) (set items count n)) (λ q. numbers (max - (count + 1)) (take (count + 1) (set items count n)) q) (drop e l) ≡ R
       after =
           ap (λ z. comma z (λ q. numbers (max - (count + 1)) z q) (drop e l)) kept
-          ∙ ap (λ z. andThen z (λ a r. comma (take count items ++ a ∷ []) (λ q. numbers (max - (count + 1)) (take count items ++ a ∷ []) q) r)) q ∙ numbers-step
+          ∙ ap (λ z. bindScan z (λ a r. comma (take count items ++ a ∷ []) (λ q. numbers (max - (count + 1)) (take count items ++ a ∷ []) q) r)) q ∙ numbers-step
 
       pub numbers-end : e ≡ length l → took (take (count + 1) (set items count n)) (drop e l) ≡ R
       numbers-end b =
@@ -220,7 +238,10 @@ module _ (key l : List ℕ) (low high : ℕ) where
       unfolding ranged
       number-good k i j = ap (λ z. need z 2 λ _. ok n) (sym (le-leb n high j)) ∙ ap (λ z. need (z && leb n high) 2 λ _. ok n) (sym (le-leb low n i)) ∙ alone k
 
--- Lines.
+-- Lines. No LF in it:
+abbrev pub unbroken : List ℕ → Bool
+unbroken l = all (λ b. cond (eqb b 10) false true) l
+
 pub unbroken-none : (s : List ℕ) (at : ℕ) → So (unbroken (take (at - at) (drop at s)))
 unbroken-none s at = let e : at - at ≡ 0 = omega arith in ap (λ z. unbroken (take z (drop at s))) e
 
@@ -252,44 +273,139 @@ split-cut b (d ∷ l) h =
     ap (λ z. cond z (row [] ∷ split (d ∷ l)) (push b (split (d ∷ l)))) (unbroken-first b (d ∷ l) h)
     ∙ ap (push b) (split-cut d l (second (cond (eqb b 10) false true) (unbroken (d ∷ l)) h))
 
-line-cut : {A : Type 0} (f : List ℕ → Res A) (at : ℕ) (l : List ℕ) → So (unbroken l) → line f at (split l) ≡ refused 1 at
+first-cut : (l : List ℕ) → So (unbroken l) → firstLine (split l) ≡ []
 unfolding split
-line-cut f at [] h = refl
-line-cut f at (b ∷ l) h = ap (line f at) (split-cut b l h)
+first-cut [] h = refl
+first-cut (b ∷ l) h = ap firstLine (split-cut b l h)
 
--- a line that the text ends is refused, whatever reads it
-pub line-none : {A : Type 0} (f : List ℕ → Res A) (s : List ℕ) (at e : ℕ) → at ≤ e → e ≡ length s → So (unbroken (take (e - at) (drop at s))) → refused 1 at ≡ line f at (split (drop at s))
-line-none f s at e k q h =
+-- The text ends before an LF: there is no line.
+pub line-none : (s : List ℕ) (at e : ℕ) → at ≤ e → length s ≤ e → So (unbroken (take (e - at) (drop at s))) → LineAt s at []
+line-none s at e k q h =
     let d : length (drop at s) ≡ length s - at = length-drop at s in
     let w : take (e - at) (drop at s) ≡ drop at s = take-all (e - at) (drop at s) (omega arith) in
-    sym (line-cut f at (drop at s) (ap unbroken (sym w) ∙ h))
+    record { is = sym (first-cut (drop at s) (ap unbroken (sym w) ∙ h)); ended = λ n. absurd (omega arith) }
 
+-- An LF at e ends the line.
 module _ (s : List ℕ) (at e : ℕ) (k : at ≤ e) (q : e < length s) (h : So (unbroken (take (e - at) (drop at s)))) (g : getD s e 0 ≡ 10) where
-  pub one-line : split (drop at s) ≡ row (take (e - at) (drop at s)) ∷ split (drop (e + 1) s)
+  one-line : split (drop at s) ≡ row (take (e - at) (drop at s)) ∷ split (drop (e + 1) s)
   one-line =
       let f : at + (e - at) ≡ e = omega arith in
       let w : drop (e - at) (drop at s) ≡ 10 ∷ drop (e + 1) s = drop-drop (e - at) at s ∙ ap (λ z. drop z s) f ∙ from-here s e q ∙ ap (λ z. z ∷ drop (e + 1) s) g in
       ap split (sym (take-append-drop (e - at) (drop at s)) ∙ ap (λ z. take (e - at) (drop at s) ++ z) w) ∙ split-line (take (e - at) (drop at s)) (drop (e + 1) s) h
 
-  -- a line that LF ends is read as f reads it
-  pub line-read : {A : Type 0} (f : List ℕ → Res A) (nr : ℕ) (x : A) (next : ℕ) → result nr x ≡ f (take (e - at) (drop at s)) → next ≡ passed nr at e → reading s nr x next ≡ line f at (split (drop at s))
-  line-read f nr x next r p = ap (reading s nr x) p ∙ go (eqb nr 0) r
-    where
-      here : line f at (split (drop at s)) ≡ lineAt (f (take (e - at) (drop at s))) at (take (e - at) (drop at s)) (split (drop (e + 1) s))
-      here = ap (line f at) one-line
+  pub line-found : LineAt s at (take (e - at) (drop at s))
+  line-found =
+      let d : length (drop at s) ≡ length s - at = length-drop at s in
+      let l : length (take (e - at) (drop at s)) ≡ e - at = length-take-le (e - at) (drop at s) (omega arith) in
+      record { is = sym (ap firstLine one-line); ended = λ n. omega arith }
 
-      go : (t : Bool) → cond t (ok x) (refuse nr) ≡ f (take (e - at) (drop at s)) → cond t (got x (cond t (e + 1) at) (split (drop (cond t (e + 1) at) s))) (refused nr (cond t (e + 1) at)) ≡ line f at (split (drop at s))
-      go true b =
-          let d : length (drop at s) ≡ length s - at = length-drop at s in
-          let l : length (take (e - at) (drop at s)) ≡ e - at = length-take-le (e - at) (drop at s) (omega arith) in
-          let m : e + 1 ≡ at + (length (take (e - at) (drop at s)) + 1) = omega arith in
-          sym (here ∙ ap (λ z. lineAt z at (take (e - at) (drop at s)) (split (drop (e + 1) s))) (sym b) ∙ ap (λ z. got x z (split (drop (e + 1) s))) (sym m))
-      go false b = sym (here ∙ ap (λ z. lineAt z at (take (e - at) (drop at s)) (split (drop (e + 1) s))) (sym b))
-
--- the cursor stays within the text
-pub passed-within : (nr at e n : ℕ) → at ≤ e → e < n → passed nr at e ≤ n
-passed-within nr at e n h k = go (eqb nr 0)
+-- the rows behind the first line are those of the bytes behind its LF
+behind-first : (l xs : List ℕ) (rs : List Row) → split xs ≡ row l ∷ rs → rs ≡ split (drop (length l + 1) xs)
+unfolding split
+behind-first l [] rs e = row-none e
   where
-    go : (t : Bool) → cond t (e + 1) at ≤ n
-    go true = omega arith
-    go false = omega arith
+    row-none : {C : Type 0} → [] ≡ row l ∷ rs → C
+    row-none p = let z : _≡_ {A = ℕ} 0 1 = cc in absurd (omega arith)
+behind-first l (b ∷ xs) rs e = cond-cases (eqb b 10) e (λ t q. lf (row-value q) (rows-rest q)) (λ t q. pushed (split xs) refl q (λ m qs p. behind-first m xs qs p))
+  where
+    row-value : {k m : List ℕ} {qs ps : List Row} → row k ∷ qs ≡ row m ∷ ps → k ≡ m
+    row-value p = cc
+
+    rows-rest : {k m : Row} {qs ps : List Row} → k ∷ qs ≡ m ∷ ps → qs ≡ ps
+    rows-rest p = cc
+
+    cut-row : {C : Type 0} {k m : List ℕ} {qs ps : List Row} → cut k ∷ qs ≡ row m ∷ ps → C
+    cut-row p = let z : _≡_ {A = ℕ} 0 1 = cc in absurd (omega arith)
+
+    lf : [] ≡ l → split xs ≡ rs → rs ≡ split (drop (length l + 1) (b ∷ xs))
+    lf p q = sym q ∙ ap (λ (z : List ℕ). split (drop (length z + 1) (b ∷ xs))) p
+
+    pushed : (qs : List Row) → split xs ≡ qs → push b qs ≡ row l ∷ rs → ((m : List ℕ) (ps : List Row) → split xs ≡ row m ∷ ps → ps ≡ split (drop (length m + 1) xs)) → rs ≡ split (drop (length l + 1) (b ∷ xs))
+    pushed [] p q rec = cut-row q
+    pushed (cut m ∷ qs) p q rec = cut-row q
+    pushed (row m ∷ qs) p q rec =
+        let f : suc (length m) + 1 ≡ suc (length m + 1) = omega arith in
+        sym (rows-rest q) ∙ rec m qs p ∙ ap (λ (z : ℕ). split (drop z (b ∷ xs))) (sym f)
+        ∙ ap (λ (z : List ℕ). split (drop (length z + 1) (b ∷ xs))) (row-value q)
+
+-- What the number of an answer says.
+module _ {A : Type 0} (nr : ℕ) (x : A) (R : Res A) (is : result nr x ≡ R) where
+  pub result-no : (nr ≡ 0 → ⊥) → refuse nr ≡ R
+  result-no h = ap (λ z. cond z (ok x) (refuse nr)) (sym (ne-eqb nr 0 h)) ∙ is
+
+  pub result-ok : nr ≡ 0 → ok x ≡ R
+  result-ok h = ap (λ z. cond z (ok x) (refuse nr)) (sym (eq-eqb nr 0 h)) ∙ is
+
+-- The one law of reading a line: what f gives of the line at `at` is the reading there, for every f that refuses an empty line with 1.
+module _ {A : Type 0} (f : List ℕ → Res A) (empty : f [] ≡ refuse 1) (s : List ℕ) (at : ℕ) (l : List ℕ) (h : LineAt s at l) where
+  by-first : (rs : List Row) → l ≡ firstLine rs → (k : ℕ) → refuse k ≡ f l → refused k at ≡ line f at rs
+  by-first [] e k q = ap (λ z. lineAt z at [] []) (q ∙ ap f e ∙ empty)
+  by-first (cut m ∷ rs) e k q = ap (λ z. lineAt z at [] []) (q ∙ ap f e ∙ empty)
+  by-first (row m ∷ rs) e k q = ap (λ z. lineAt z at m rs) (q ∙ ap f e)
+
+  pub line-refused : (k : ℕ) → refuse k ≡ f l → refused k at ≡ line f at (split (drop at s))
+  line-refused k q = by-first (split (drop at s)) (h .is) k q
+
+  no-line : {C : Type 0} (x : A) → ok x ≡ f l → l ≡ [] → C
+  no-line x q e = refuse-ok (sym empty ∙ ap f (sym e) ∙ sym q)
+
+  some-bytes : (x : A) → ok x ≡ f l → 0 < length l
+  some-bytes x q = go l refl
+    where
+      go : (m : List ℕ) → l ≡ m → 0 < length m
+      go [] e = no-line x q e
+      go (b ∷ m) e = omega arith
+
+  -- the place behind it is within the text
+  pub line-fits : (x : A) → ok x ≡ f l → at + (length l + 1) ≤ length s
+  line-fits x q = let k : at + length l < length s = h .ended (some-bytes x q) in omega arith
+
+  pub line-accepted : (x : A) → ok x ≡ f l → got x (at + (length l + 1)) (split (drop (at + (length l + 1)) s)) ≡ line f at (split (drop at s))
+  line-accepted x q = go (split (drop at s)) refl
+    where
+      go : (rs : List Row) → split (drop at s) ≡ rs → got x (at + (length l + 1)) (split (drop (at + (length l + 1)) s)) ≡ line f at rs
+      go [] e = no-line x q (h .is ∙ ap firstLine e)
+      go (cut m ∷ rs) e = no-line x q (h .is ∙ ap firstLine e)
+      go (row m ∷ rs) e =
+          let w : l ≡ m = h .is ∙ ap firstLine e in
+          let r : split (drop (at + (length l + 1)) s) ≡ rs =
+          ap split (sym (drop-drop (length l + 1) at s)) ∙ ap (λ (z : List ℕ). split (drop (length z + 1) (drop at s))) w ∙ sym (behind-first m (drop at s) rs e) in
+          ap (λ (z : List Row). got x (at + (length l + 1)) z) r ∙ ap (λ (z : List ℕ). got x (at + (length z + 1)) rs) w ∙ ap (λ z. lineAt z at m rs) (q ∙ ap f w)
+
+  -- the same for an answer with a refusal's number
+  pub line-result-no : (nr : ℕ) (x : A) → result nr x ≡ f l → (nr ≡ 0 → ⊥) → reading s nr x at ≡ line f at (split (drop at s))
+  line-result-no nr x q n = ap (λ z. cond z (got x at (split (drop at s))) (refused nr at)) (ne-eqb nr 0 n) ∙ line-refused nr (result-no nr x (f l) q n)
+
+  pub line-result-ok : (nr : ℕ) (x : A) (next : ℕ) → result nr x ≡ f l → nr ≡ 0 → next ≡ at + (length l + 1) → reading s 0 x next ≡ line f at (split (drop at s))
+  line-result-ok nr x next q n e = ap (λ (z : ℕ). got x z (split (drop z s))) e ∙ line-accepted x (result-ok nr x (f l) q n)
+
+  -- and for one whose number g reads
+  module _ (g : ℕ → A) where
+    pub line-passable : (v : Value) → valueBy g v ≡ f l → length s < 18446744073709551616 → Passable v at (length l)
+    line-passable (Refused k) q k′ = tt
+    line-passable (Is n) q k′ = let w : at + (length l + 1) ≤ length s = line-fits (g n) q in omega arith
+
+    pub line-read : (v : Value) (r : Got) → valueBy g v ≡ f l → r ≡ passedBy v at (length l) → readBy g s at r ≡ line f at (split (drop at s))
+    line-read (Refused k) r q e = ap (readBy g s at) e ∙ line-refused k q
+    line-read (Is n) r q e = ap (readBy g s at) e ∙ line-accepted (g n) q
+
+-- A line's answer by its case.
+module _ (v : Value) (at size : ℕ) where
+  pub pass-refused : (k : ℕ) → v ≡ Refused k → Refusedᵍ k ≡ passedBy v at size
+  pass-refused k e = sym (ap (λ (z : Value). passedBy z at size) e)
+
+  module _ (n : ℕ) (e : v ≡ Is n) where
+    pub pass-fits : Passable v at size → at + (size + 1) < 18446744073709551616
+    pass-fits h = subst (λ (z : Value). Passable z at size) e h
+
+    pub pass-is : (c : Cursor) → c .at ≡ at + (size + 1) → At n c ≡ passedBy v at size
+    pass-is c q = ap (λ (z : ℕ). At n (record { at = z })) q ∙ sym (ap (λ (z : Value). passedBy z at size) e)
+
+pub passed-at-most : (high at size : ℕ) (v : Value) (r : Got) → AtMost high v → r ≡ passedBy v at size → GotAtMost high r
+passed-at-most high at size (Refused k) r h e = subst (GotAtMost high) (sym e) h
+passed-at-most high at size (Is n) r h e = subst (GotAtMost high) (sym e) h
+
+pub number-empty : (key : List ℕ) (low high : ℕ) → numberLine key low high [] ≡ refuse 1
+unfolding numberLine keyed starts number
+number-empty [] low high = refl
+number-empty (b ∷ key) low high = refl

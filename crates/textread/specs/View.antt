@@ -1,37 +1,70 @@
--- What the answers of code that reads text say, in the words of crate `sheet`. A function's answer is a record of numbers; these views make scans, line answers and readings of it.
+-- What the answers of code that reads text say, in the words of crate `sheet`: scans, answers for a line, and readings of the lines from an offset on.
 use mathlib.Core.Path.{_≡_}
-use mathlib.Core.Bool.{Bool, true, false, So, cond}
+use mathlib.Core.Bool.{Bool, cond}
 use mathlib.Core.List.{List}
-use Prim.Native.Nat.{ℕ, _+_, _-_, _≤_, _<_}
+use Prim.Native.Nat.{ℕ, _+_, _≤_, _<_}
 use lib.Dec.{eqb}
-use lib.ListN.{length, getD, take, drop}
-use Rattle.model.specs.Basics.{Res, refuse, ok, all}
-use Rattle.sheet.specs.Lines.{Reading, refused, got, split}
+use lib.ListN.{length, drop}
+use Rattle.model.specs.Basics.{Res, refuse, ok}
+use Rattle.sheet.specs.Lines.{Reading, refused, got, split, firstLine}
 use Rattle.sheet.specs.Numbers.{Scan, fail, took}
+use Rattle.textread.specs.declared.Cursor.{Cursor}
+use Rattle.textread.specs.declared.Number.{Number}
+use Rattle.textread.specs.declared.Number.the-variants.{Wrong, Right}
+use Rattle.textread.specs.declared.Value.{Value}
+use Rattle.textread.specs.declared.Value.the-variants.{Refused as Refusedᵛ, Is}
+use Rattle.textread.specs.declared.Got.{Got}
+use Rattle.textread.specs.declared.Got.the-variants.{Refused as Refusedᵍ, At}
 
--- A scan of l: whether the form is right, the value, and where the bytes behind it start.
+-- A scan of l that holds a list: whether the form is right, the value, and where the bytes behind it start.
 abbrev pub scanned : {A : Type 0} → List ℕ → Bool → A → ℕ → Scan A
 scanned l right x next = cond right (took x (drop next l)) fail
 
--- The answer for one line: the number of a refusal, or 0 and the value.
+-- A number scanned in l; f says what the number means.
+abbrev pub scanBy : {A : Type 0} → (ℕ → A) → List ℕ → Number → Scan A
+scanBy f l Wrong = fail
+scanBy f l (Right n next) = took (f n) (drop next l)
+
+abbrev pub ScanWithin : ℕ → Number → Type 0
+ScanWithin size Wrong = Unit {0}
+ScanWithin size (Right n next) = (next ≤ size) × (n ≤ 10000)
+
+-- The answer for one line; f says what the line's number means.
+abbrev pub valueBy : {A : Type 0} → (ℕ → A) → Value → Res A
+valueBy f (Refusedᵛ k) = refuse k
+valueBy f (Is n) = ok (f n)
+
+-- a refusal's number isn't 0, and a value is at most so large
+abbrev pub AtMost : ℕ → Value → Type 0
+AtMost high (Refusedᵛ k) = 0 < k
+AtMost high (Is n) = n ≤ high
+
+-- A reading of s from `at` on: a line that is refused begins there.
+abbrev pub readBy : {A : Type 0} → (ℕ → A) → List ℕ → ℕ → Got → Reading A
+readBy f s at (Refusedᵍ k) = refused k at
+readBy f s at (At n c) = got (f n) (c .at) (split (drop (c .at) s))
+
+abbrev pub GotAtMost : ℕ → Got → Type 0
+GotAtMost high (Refusedᵍ k) = 0 < k
+GotAtMost high (At n c) = n ≤ high
+
+-- The same for answers that hold an array: the number of a refusal, or 0 and the value.
 abbrev pub result : {A : Type 0} → ℕ → A → Res A
 result nr x = cond (eqb nr 0) (ok x) (refuse nr)
 
--- A reading of s: the same, and the offset where it goes on, or of the line that is refused.
 abbrev pub reading : {A : Type 0} → List ℕ → ℕ → A → ℕ → Reading A
 reading s nr x at = cond (eqb nr 0) (got x at (split (drop at s))) (refused nr at)
 
--- the offset behind a line that begins at `at` and ends at e, or `at` where the line is refused
-abbrev pub passed : ℕ → ℕ → ℕ → ℕ
-passed nr at e = cond (eqb nr 0) (e + 1) at
+-- l is the line of s that begins at `at`, without its LF; where it isn't empty the LF stands behind it.
+pub record LineAt (s : List ℕ) (at : ℕ) (l : List ℕ) : Type 0 where
+  pub is : l ≡ firstLine (split (drop at s))
+  pub ended : 0 < length l → at + length l < length s
 
--- no LF in it
-abbrev pub unbroken : List ℕ → Bool
-unbroken l = all (λ b. cond (eqb b 10) false true) l
+-- An accepted line of so many bytes at `at`, passed: the sum is no larger than a number can be.
+abbrev pub Passable : Value → ℕ → ℕ → Type 0
+Passable (Refusedᵛ k) at size = Unit {0}
+Passable (Is n) at size = at + (size + 1) < 18446744073709551616
 
--- The line of s that begins at `at` ends at e: no LF before e, and one at e unless s ends there.
-pub record LineEnd (s : List ℕ) (at e : ℕ) : Type 0 where
-  pub behind : at ≤ e
-  pub within : e ≤ length s
-  pub before : So (unbroken (take (e - at) (drop at s)))
-  pub found : e < length s → getD s e 0 ≡ 10
+abbrev pub passedBy : Value → ℕ → ℕ → Got
+passedBy (Refusedᵛ k) at size = Refusedᵍ k
+passedBy (Is n) at size = At n (record { at = at + (size + 1) })

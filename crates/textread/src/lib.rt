@@ -1,14 +1,15 @@
-// Document 01, "Sheet text": "ASCII lines ended by LF, decimal without leading zeros." Lines and decimals, for every program that reads text.
+// Lines and decimals (docs/SPEC.md S20, S21), for every program that reads text.
 // Contracts say what is read in the words of crate `sheet`: scans of a line, and readings of the lines from a byte offset on (specs/View.antt).
 ghost use mathlib.Core.Path.{_≡_};
 ghost use mathlib.Core.Bool.{true, false};
 ghost use mathlib.Core.List.{[]};
-ghost use Prim.Native.Nat.{_+_, _-_, _≤_, _<_, min};
+ghost use Prim.Native.Nat.{_+_, _≤_, _<_};
 ghost use lib.ListN.{length, take, drop};
 ghost use Rattle.sheet.specs.Lines.{split, line, starts, same};
 ghost use Rattle.sheet.specs.Numbers.{digits, number, numbers};
 ghost use Rattle.sheet.specs.Sheet.{numberLine};
-ghost use Rattle.textread.specs.View.{LineEnd, scanned, result, reading, passed};
+ghost use Rattle.textread.specs.View.{scanned, scanBy, ScanWithin, valueBy, AtMost, readBy, GotAtMost, LineAt, Passable, passedBy};
+use numbers::least;
 use numbers::wide;
 
 // Where the next line begins: its byte offset.
@@ -25,14 +26,13 @@ impl Cursor {
     }
 }
 
-// A number scanned: whether its form is right, the number, and where the bytes behind it start.
-pub struct Number {
-    pub right: bool,
-    pub n: usize,
-    pub next: usize,
+// A number scanned: the form is wrong, or the number and where the bytes behind it start.
+pub enum Number {
+    Wrong,
+    Right(usize, usize),
 }
 
-// Up to four numbers with commas between, scanned.
+// Up to four numbers with commas between, scanned: whether the form is right, how many, and where the bytes behind them start.
 pub struct Numbers {
     pub right: bool,
     pub count: usize,
@@ -40,28 +40,20 @@ pub struct Numbers {
     pub next: usize,
 }
 
-// The answer for one line: the number of a refusal, or 0 and the line's value.
-pub struct Value {
-    pub no: usize,
-    pub n: usize,
+// The answer for one line: the number of a refusal, or the line's value.
+pub enum Value {
+    Refused(usize),
+    Is(usize),
 }
 
-// A line read: the number of a refusal, or 0 and the line's value. The cursor stands behind the line, or at a line that is refused.
-pub struct Got {
-    pub no: usize,
-    pub n: usize,
-    pub next: Cursor,
+// The next line of a text: the number of a refusal, which stands at the cursor that was handed in; or the line's value and the cursor behind it.
+pub enum Got {
+    Refused(usize),
+    At(usize, Cursor),
 }
 
-// A longer number counts as 10,000, so that digits of any length are read without overflow.
-fn limit(n: usize) -> usize
-    ensures { λ r. ⌜ (r ≡ min n 10000) × (r ≤ 10000) ⌝ }
-{
-    if n < 10000 {
-        return n;
-    }
-    10000
-}
+// A longer number counts as this one, so that digits of any length are read without overflow.
+const LIMIT: usize = 10000;
 
 // Whether a line begins with a word.
 pub fn begins(l: &[u8], word: &[u8]) -> bool
@@ -93,71 +85,43 @@ pub fn is_word(l: &[u8], word: &[u8]) -> bool
 // The digits from `at` on, behind those that made a.
 fn digits_at(l: &[u8], at: usize, a: usize) -> Number
     requires { ⌜ (at ≤ length (now l)) × (a ≤ 10000) ⌝ }
-    ensures is { λ r. ⌜ scanned (now (l .entry)) (r .right) (r .n) (r .next) ≡ digits a (drop at (now (l .entry))) ⌝ }
-    ensures within { λ r. ⌜ (r .next ≤ length (now (l .entry))) × (r .n ≤ 10000) ⌝ }
+    ensures is { λ r. ⌜ scanBy (λ n. n) (now (l .entry)) r ≡ digits a (drop at (now (l .entry))) ⌝ }
+    ensures within { λ r. ⌜ ScanWithin (length (now (l .entry))) r ⌝ }
 {
     let mut i = at;
     let mut n = a;
     while i < l.len() {
         let b = wide(l[i]);
         if b < 48 {
-            return Number {
-                right: true,
-                n,
-                next: i,
-            };
+            return Number::Right(n, i);
         }
         if 57 < b {
-            return Number {
-                right: true,
-                n,
-                next: i,
-            };
+            return Number::Right(n, i);
         }
-        n = limit(n * 10 + (b - 48));
+        n = least(n * 10 + (b - 48), LIMIT);
         i += 1;
     }
-    Number {
-        right: true,
-        n,
-        next: i,
-    }
+    Number::Right(n, i)
 }
 
 // The number that stands at `at`. A 0 is the whole number: what follows it is not its digit.
 pub fn number_at(l: &[u8], at: usize) -> Number
     requires { ⌜ at ≤ length (now l) ⌝ }
-    ensures is { λ r. ⌜ scanned (now (l .entry)) (r .right) (r .n) (r .next) ≡ number (drop at (now (l .entry))) ⌝ }
-    ensures within { λ r. ⌜ (r .next ≤ length (now (l .entry))) × (r .n ≤ 10000) ⌝ }
+    ensures is { λ r. ⌜ scanBy (λ n. n) (now (l .entry)) r ≡ number (drop at (now (l .entry))) ⌝ }
+    ensures within { λ r. ⌜ ScanWithin (length (now (l .entry))) r ⌝ }
 {
     if at == l.len() {
-        return Number {
-            right: false,
-            n: 0,
-            next: at,
-        };
+        return Number::Wrong;
     }
     let b = wide(l[at]);
     if b == 48 {
-        return Number {
-            right: true,
-            n: 0,
-            next: at + 1,
-        };
+        return Number::Right(0, at + 1);
     }
     if b < 48 {
-        return Number {
-            right: false,
-            n: 0,
-            next: at,
-        };
+        return Number::Wrong;
     }
     if 57 < b {
-        return Number {
-            right: false,
-            n: 0,
-            next: at,
-        };
+        return Number::Wrong;
     }
     digits_at(l, at + 1, b - 48)
 }
@@ -185,11 +149,10 @@ pub fn numbers_at(l: &[u8], at: usize, max: usize) -> Numbers
     let mut count: usize = 0;
     while count < max {
         let t = number_at(l, i);
-        if !t.right {
+        let Number::Right(n, e) = t else {
             return no_numbers(at);
-        }
-        let e = t.next;
-        items[count] = t.n;
+        };
+        items[count] = n;
         count += 1;
         if e == l.len() {
             return Numbers {
@@ -212,76 +175,72 @@ pub fn numbers_at(l: &[u8], at: usize, max: usize) -> Numbers
     no_numbers(at)
 }
 
-// Where the line that begins at the cursor ends: the place of its LF, or the length of the text.
-pub fn line_end(s: &[u8], c: Cursor) -> usize
-    requires { ⌜ c .at ≤ length (now s) ⌝ }
-    ensures { λ r. ⌜ LineEnd (now (s .entry)) (c .at) r ⌝ }
+// The line at the cursor, without its LF; empty where no LF ends a line there. Only this function and `past` know how a line is found.
+pub fn line_at(s: &[u8], c: Cursor) -> &[u8]
+    ensures { λ r. ⌜ LineAt (now (s .entry)) (c .at) (now r) ⌝ }
 {
-    let mut i = c.at;
-    while i < s.len() {
-        if s[i] == b'\n' {
-            return i;
+    let at = c.at;
+    let mut e = at;
+    while e < s.len() {
+        if s[e] == b'\n' {
+            return &s[at..e];
         }
-        i += 1;
+        e += 1;
     }
-    i
+    &s[..0]
 }
 
-// The cursor behind a line that ends at e; a line that is refused isn't passed.
-pub fn past(no: usize, c: Cursor, e: usize) -> Cursor
-    requires { ⌜ e + 1 < 18446744073709551616 ⌝ }
-    ensures { λ r. ⌜ r .at ≡ passed no (c .at) e ⌝ }
+// The cursor behind a line and its LF.
+pub fn past(c: Cursor, l: &[u8]) -> Cursor
+    requires { ⌜ c .at + (length (now l) + 1) < 18446744073709551616 ⌝ }
+    ensures { λ r. ⌜ r .at ≡ c .at + (length (now (l .entry)) + 1) ⌝ }
 {
-    if no == 0 {
-        return Cursor { at: e + 1 };
+    Cursor {
+        at: c.at + (l.len() + 1),
     }
-    c
+}
+
+// A line's answer with the cursor behind the line: a line that is refused isn't passed.
+pub fn passed(v: Value, c: Cursor, l: &[u8]) -> Got
+    requires { ⌜ Passable v (c .at) (length (now l)) ⌝ }
+    ensures { λ r. ⌜ r ≡ passedBy v (c .at) (length (now (l .entry))) ⌝ }
+{
+    match v {
+        Value::Refused(k) => Got::Refused(k),
+        Value::Is(n) => Got::At(n, past(c, l)),
+    }
 }
 
 // A line of a key and one number from low to high.
-pub fn number_line(l: &[u8], key: &[u8], low: usize, high: usize) -> Value
-    ensures is { λ r. ⌜ result (r .no) (r .n) ≡ numberLine (now (key .entry)) low high (now (l .entry)) ⌝ }
-    ensures within { λ r. ⌜ r .n ≤ high ⌝ }
+pub fn read_number(l: &[u8], key: &[u8], low: usize, high: usize) -> Value
+    ensures is { λ r. ⌜ valueBy (λ n. n) r ≡ numberLine (now (key .entry)) low high (now (l .entry)) ⌝ }
+    ensures within { λ r. ⌜ AtMost high r ⌝ }
 {
     if !begins(l, key) {
-        return Value { no: 1, n: 0 };
+        return Value::Refused(1);
     }
     let t = number_at(l, key.len());
-    if !t.right {
-        return Value { no: 1, n: 0 };
+    let Number::Right(n, next) = t else {
+        return Value::Refused(1);
+    };
+    if next < l.len() {
+        return Value::Refused(1);
     }
-    if t.next < l.len() {
-        return Value { no: 1, n: 0 };
+    if n < low {
+        return Value::Refused(2);
     }
-    if t.n < low {
-        return Value { no: 2, n: 0 };
+    if high < n {
+        return Value::Refused(2);
     }
-    if high < t.n {
-        return Value { no: 2, n: 0 };
-    }
-    Value { no: 0, n: t.n }
+    Value::Is(n)
 }
 
 // The next line: a key and one number from low to high.
 pub fn next_number(s: &[u8], c: Cursor, key: &[u8], low: usize, high: usize) -> Got
-    requires { ⌜ c .at ≤ length (now s) ⌝ }
-    ensures is { λ r. ⌜ reading (now (s .entry)) (r .no) (r .n) (r .next .at) ≡ line (numberLine (now (key .entry)) low high) (c .at) (split (drop (c .at) (now (s .entry)))) ⌝ }
-    ensures within { λ r. ⌜ (r .next .at ≤ length (now (s .entry))) × (r .n ≤ high) ⌝ }
+    ensures is { λ r. ⌜ readBy (λ n. n) (now (s .entry)) (c .at) r ≡ line (numberLine (now (key .entry)) low high) (c .at) (split (drop (c .at) (now (s .entry)))) ⌝ }
+    ensures within { λ r. ⌜ GotAtMost high r ⌝ }
 {
-    let e = line_end(s, c);
-    if e == s.len() {
-        return Got {
-            no: 1,
-            n: 0,
-            next: c,
-        };
-    }
-    let at = c.at;
-    let g = number_line(&s[at..e], key, low, high);
-    let next = past(g.no, c, e);
-    Got {
-        no: g.no,
-        n: g.n,
-        next,
-    }
+    let l = line_at(s, c);
+    let v = read_number(l, key, low, high);
+    passed(v, c, l)
 }

@@ -62,12 +62,15 @@ fill-more old mid tl new xs ys a b k f e g n =
           let m : mid ≡ xs ++ drop (length xs) old = f .text (omega arith) in
           let dm : drop k mid ≡ drop (length xs) old = ap (λ z. drop z mid) q ∙ ap (drop (length xs)) m ∙ drop-append-seam xs (drop (length xs) old) in
           let tm : take k mid ≡ xs = ap (λ z. take z mid) q ∙ ap (take (length xs)) m ∙ take-append-seam xs (drop (length xs) old) in
-          n ∙ ap (λ z. z ++ tl) tm ∙ ap (λ z. xs ++ z) (g .text (omega arith) ∙ ap (λ z. ys ++ drop (length ys) z) dm ∙ ap (λ z. ys ++ z) (drop-drop (length ys) (length xs) old) ∙ ap (λ z. ys ++ drop z old) (sym p))
+          let t : tl ≡ ys ++ drop (length (xs ++ ys)) old =
+          g .text (omega arith) ∙ ap (λ z. ys ++ drop (length ys) z) dm ∙ ap (λ z. ys ++ z) (drop-drop (length ys) (length xs) old) ∙ ap (λ z. ys ++ drop z old) (sym p) in
+          n ∙ ap (λ z. z ++ tl) tm ∙ ap (λ z. xs ++ z) t
           ∙ sym (append-assoc xs ys (drop (length (xs ++ ys)) old));
     }
 
 -- THE LAW: a writer, and another on the part of the buffer from the first one's end on, lent and given back
-pub fill-rest : {old mid tl xs ys : List ℕ} {a b k : ℕ} → Filled old mid xs a → k ≡ min a (length mid) → Filled (midOf k (length mid - k) mid) tl ys b → Filled old (putMid k (length mid - k) mid tl) (xs ++ ys) (a + b)
+pub fill-rest : {old mid tl xs ys : List ℕ} {a b k : ℕ} → Filled old mid xs a → k ≡ min a (length mid)
+    → Filled (midOf k (length mid - k) mid) tl ys b → Filled old (putMid k (length mid - k) mid tl) (xs ++ ys) (a + b)
 fill-rest {old} {mid} {tl} {xs} {ys} {a} {b} {k} f e g =
     let d : length (drop k mid) ≡ length mid - k = length-drop k mid in
     let m : take (length mid - k) (drop k mid) ≡ drop k mid = take-all (length mid - k) (drop k mid) (omega arith) in
@@ -85,7 +88,8 @@ unfolding join
 ended f = record { filled = f }
 
 -- lines, and lines in the rest of the buffer
-pub lines-rest : {old mid tl : List ℕ} {xs ys : List (List ℕ)} {a b k : ℕ} → Lined old mid xs a → k ≡ min a (length mid) → Lined (midOf k (length mid - k) mid) tl ys b → Lined old (putMid k (length mid - k) mid tl) (xs ++ ys) (a + b)
+pub lines-rest : {old mid tl : List ℕ} {xs ys : List (List ℕ)} {a b k : ℕ} → Lined old mid xs a → k ≡ min a (length mid)
+    → Lined (midOf k (length mid - k) mid) tl ys b → Lined old (putMid k (length mid - k) mid tl) (xs ++ ys) (a + b)
 lines-rest {xs = xs} {ys = ys} f e g = record { filled = fill-is (sym (join-append xs ys)) (fill-rest (f .filled) e (g .filled)) }
 
 pub lines-none : (l : List ℕ) → Lined l l [] 0

@@ -1,4 +1,4 @@
--- Document 01: "The writer adds each line in the rest of the same lent buffer." What a writer does to the part of the buffer that it is lent.
+-- What a writer does to the part of the buffer that it is lent (W4, F2).
 use Prim.Native.Nat.{ℕ, _≤_}
 use mathlib.Core.Path.{_≡_}
 use mathlib.Core.List.{List, _++_}

@@ -1,22 +1,14 @@
-// Document 01, "Sheet text": bytes, decimals and lines, written in front of a buffer that is lent. A writer is total: it says how long its text is, and where
-// the buffer has room for it, writes it and leaves the bytes behind it. On an empty part of a buffer it only counts.
+// Bytes, decimals and lines, written in front of a buffer that is lent: `put_..` writes a piece of a line, `write_..` whole lines with their LF. A writer is total:
+// it says how long its text is, and where the buffer has room for it, writes it and leaves the bytes behind it. On an empty part of a buffer it only counts.
+// The rest of the buffer, lent to the next writer, begins at `least` of what was written and the buffer's length: at its end, where the text was too long.
+use numbers::least;
 ghost use mathlib.Core.Path.{_≡_};
 ghost use mathlib.Core.List.{[], _∷_};
-ghost use Prim.Native.Nat.{_+_, _≤_, _<_, min};
+ghost use Prim.Native.Nat.{_+_, _≤_, _<_};
 ghost use lib.ListN.{length};
 ghost use Rattle.sheet.specs.Numbers.{decimal};
 ghost use Rattle.sheet.specs.Text.{numberText};
 ghost use Rattle.textwrite.specs.Fill.{Filled, Lined};
-
-// Where the rest of a buffer of n bytes begins behind a text of a bytes: at its end, where the text was too long.
-pub fn upto(a: usize, n: usize) -> usize
-    ensures { λ r. ⌜ (r ≡ min a n) × (r ≤ n) ⌝ }
-{
-    if a < n {
-        return a;
-    }
-    n
-}
 
 // One byte.
 pub fn put_byte(buf: &mut [u8], b: u8) -> usize
@@ -51,7 +43,7 @@ fn digit(d: usize) -> u8
     48 + (d as u8)
 }
 
-// "decimal without leading zeros": the digits in front of the last, and the last in the rest of the buffer.
+// A decimal (S21): the digits in front of the last, and the last in the rest of the buffer.
 pub fn put_decimal(buf: &mut [u8], n: usize) -> usize
     ensures is { λ r. ⌜ Filled (now (buf .entry)) (now (buf .exit)) (decimal n) r ⌝ }
     ensures few { λ r. ⌜ r ≤ 20 ⌝ }
@@ -60,7 +52,7 @@ pub fn put_decimal(buf: &mut [u8], n: usize) -> usize
         return put_byte(buf, digit(n));
     }
     let a = put_decimal(buf, n / 10);
-    let k = upto(a, buf.len());
+    let k = least(a, buf.len());
     let c = put_byte(&mut buf[k..], digit(n % 10));
     a + c
 }
@@ -72,31 +64,31 @@ pub fn put_number(buf: &mut [u8], key: &[u8], n: usize) -> usize
     ensures few { λ r. ⌜ r ≤ 36 ⌝ }
 {
     let a = put_bytes(buf, key);
-    let k = upto(a, buf.len());
+    let k = least(a, buf.len());
     let b = put_decimal(&mut buf[k..], n);
     a + b
 }
 
-// "ASCII lines ended by LF": a line of a key and a number.
-pub fn number_line(buf: &mut [u8], key: &[u8], n: usize) -> usize
+// A line of a key and a number (W6).
+pub fn write_number(buf: &mut [u8], key: &[u8], n: usize) -> usize
     requires { ⌜ length (now key) ≤ 16 ⌝ }
     ensures is { λ r. ⌜ Lined (now (buf .entry)) (now (buf .exit)) (numberText (now (key .entry)) n ∷ []) r ⌝ }
     ensures few { λ r. ⌜ r ≤ 37 ⌝ }
 {
     let a = put_number(buf, key, n);
-    let k = upto(a, buf.len());
+    let k = least(a, buf.len());
     let b = put_byte(&mut buf[k..], 10);
     a + b
 }
 
 // A line of fixed bytes.
-pub fn text_line(buf: &mut [u8], t: &[u8]) -> usize
+pub fn write_word(buf: &mut [u8], t: &[u8]) -> usize
     requires { ⌜ length (now t) ≤ 16 ⌝ }
     ensures is { λ r. ⌜ Lined (now (buf .entry)) (now (buf .exit)) (now (t .entry) ∷ []) r ⌝ }
     ensures few { λ r. ⌜ r ≤ 17 ⌝ }
 {
     let a = put_bytes(buf, t);
-    let k = upto(a, buf.len());
+    let k = least(a, buf.len());
     let b = put_byte(&mut buf[k..], 10);
     a + b
 }

@@ -6,6 +6,9 @@ use Rattle.exports.specs.Codes.{comparedCode}
 use Rattle.exports.proofs.pilgonca_compare.Statement.{statement}
 use Rattle.exports.proofs.pilgonca_compare.Tie as tie
 
+counts-of-requires : tie.Need-counts-of-requires
+counts-of-requires c κs = search needs
+
 compare-types-requires : tie.Need-compare-types-requires
 compare-types-requires c κs = search needs
 
@@ -14,8 +17,8 @@ compared-code-requires c κs = search needs
 
 returns : tie.Need-returns
 returns c =
-    let f = c .before .before .fits in
-    c .compared-code .ensures ∙ ap comparedCode (rw (toZ-ofZ (f .t), toZ-ofZ (f .s)) at (c .before .compare-types .ensures))
+    let f = c .before .before .before .before .fits in
+    c .compared-code .ensures ∙ ap comparedCode (rw (toZ-ofZ (f .t), toZ-ofZ (f .s), c .before .before .counts-of .ensures) at (c .before .compare-types .ensures))
 
 pub pilgonca-compare-spec : {M : Type 1} → statement M
-pilgonca-compare-spec = tie.close (tie.spec compare-types-requires compared-code-requires returns)
+pilgonca-compare-spec = tie.close (tie.spec counts-of-requires compare-types-requires compared-code-requires returns)

@@ -1,25 +1,31 @@
 -- Rests on the pair table's contract, by whether the table fits.
+use Rattle.compare.specs.Pairs.{pairsHanded}
+use Rattle.compare.specs.Answered.{pairsGiven}
+use mathlib.Core.Path.{ap, _∙_}
 use borrow.Author.Needs.{needs}
 use Rattle.table.specs.Store.{rawTable}
-use Rattle.exports.specs.Codes.{countsOf}
+use Rattle.exports.specs.Codes.{countsIn}
 use Rattle.exports.proofs.Handing.{pairs-new, pairs-old}
 use Rattle.exports.proofs.pilgonca_pairs.Statement.{statement}
 use Rattle.exports.proofs.pilgonca_pairs.Tie as tie
+
+counts-of-requires : tie.Need-counts-of-requires
+counts-of-requires c κs = search needs
 
 pairs-of-requires : tie.Need-pairs-of-requires
 pairs-of-requires c κs = search needs
 
 returns : tie.Need-returns
 returns c =
-    let a = c .before .before .before .args in
+    let a = c .before .before .before .before .before .args in
     let r = c .before .before .pairs-of in
-    pairs-new (rawTable (a .types .now) (a .links .now) (countsOf (a .subjects) (a .methods) (a .cats) (a .sheet) (a .count))) (a .out .now) (r .result) (r .ensures) (c .before .if1 .taken)
+    pairs-new (rawTable (a .types .now) (a .links .now) (countsIn (a .counts .now))) (a .out .now) (r .result) (r .ensures ∙ ap (λ z. pairsGiven (pairsHanded (rawTable (a .types .now) (a .links .now) z))) (c .before .before .before .counts-of .ensures)) (c .before .if1 .taken)
 
 returns-2 : tie.Need-returns-2
 returns-2 c =
-    let a = c .before .before .args in
+    let a = c .before .before .before .before .args in
     let r = c .before .pairs-of in
-    pairs-old (rawTable (a .types .now) (a .links .now) (countsOf (a .subjects) (a .methods) (a .cats) (a .sheet) (a .count))) (a .out .now) (r .result) (r .ensures) (c .if1 .left)
+    pairs-old (rawTable (a .types .now) (a .links .now) (countsIn (a .counts .now))) (a .out .now) (r .result) (r .ensures ∙ ap (λ z. pairsGiven (pairsHanded (rawTable (a .types .now) (a .links .now) z))) (c .before .before .counts-of .ensures)) (c .if1 .left)
 
 pub pilgonca-pairs-spec : {M : Type 1} → statement M
-pilgonca-pairs-spec = tie.close (tie.spec pairs-of-requires returns returns-2)
+pilgonca-pairs-spec = tie.close (tie.spec counts-of-requires pairs-of-requires returns returns-2)

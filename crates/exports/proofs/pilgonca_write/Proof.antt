@@ -1,8 +1,14 @@
 -- Rests on the writer: its answer and the buffer that it leaves are the definition's.
+use mathlib.Core.Path.{ap, _∙_}
 use borrow.Author.Needs.{needs}
+use Rattle.table.specs.Store.{rawTable}
+use Rattle.sheet.specs.Text.{write}
 use Rattle.exports.proofs.Leaving.{written-is}
 use Rattle.exports.proofs.pilgonca_write.Statement.{statement}
 use Rattle.exports.proofs.pilgonca_write.Tie as tie
+
+counts-of-requires : tie.Need-counts-of-requires
+counts-of-requires c κs = search needs
 
 write-sheet-requires : tie.Need-write-sheet-requires
 write-sheet-requires c κs = search needs
@@ -14,7 +20,11 @@ same-length : tie.Need-same-length
 same-length c = search needs
 
 returns : tie.Need-returns
-returns c = written-is _ _ (c .before .before .before .before .write-sheet .ensures) (c .wrote-code .ensures .0) (c .wrote-code .ensures .1)
+returns c =
+    let a = c .before .before .before .before .before .before .before .before .before .args in
+    written-is _ _ (c .before .before .before .before .write-sheet .ensures ∙ ap (λ z. write (rawTable (a .types .now) (a .links .now) z) (a .buffer .now)) (c .before .before .before .before .before .before .counts-of .ensures)) (c .wrote-code .ensures .0) (c .wrote-code .ensures .1)
 
 pub pilgonca-write-spec : {M : Type 1} → statement M
-pilgonca-write-spec = tie.close (tie.spec write-sheet-requires wrote-code-requires same-length returns)
+pilgonca-write-spec =
+    tie.close
+    (tie.spec counts-of-requires write-sheet-requires wrote-code-requires same-length returns)

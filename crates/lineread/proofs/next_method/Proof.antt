@@ -1,57 +1,51 @@
--- Rests on `line-none` and `line-read`; the empty method denies.
-use mathlib.Core.Path.{ap, subst, sym}
-use Prim.Native.Nat.{ℕ, _≤_, _<_}
+-- Rests on `line-fits`, `line-result-no`, `line-result-ok`, `result-ok` and `method-empty`.
 use native.Mathlib.Omega.{arith}
-use lib.ListN.{length}
 use borrow.Author.Needs.{needs}
-use Rattle.model.specs.Check.{methodOf, rawMethodFits}
+use Rattle.model.specs.Check.{methodOf}
 use Rattle.table.specs.Store.{rawMethod}
-use Rattle.table.specs.declared.Method.{Method}
 use Rattle.sheet.specs.Sheet.{methodLine}
-use Rattle.textread.proofs.Laws.{line-none, line-read, passed-within}
+use Rattle.textread.proofs.Laws.{line-fits, line-result-no, line-result-ok, result-ok}
+use Rattle.lineread.proofs.Laws.{method-empty}
 use Rattle.lineread.proofs.next_method.Statement.{statement}
 use Rattle.lineread.proofs.next_method.Tie as tie
 
-line-end-requires : tie.Need-line-end-requires
-line-end-requires c κs = search needs
+line-at-requires : tie.Need-line-at-requires
+line-at-requires c κs = search needs
 
-empty-requires : tie.Need-empty-requires
-empty-requires c κs = search needs
+read-method-requires : tie.Need-read-method-requires
+read-method-requires c κs = search needs
 
 returns : tie.Need-returns
-returns c = let a = c .before .before .before .before .args in let e = c .before .before .line-end in (line-none (methodLine (a .n)) (a .s .now) (a .c .at) (e .result) (e .ensures .behind) (c .before .if1 .taken) (e .ensures .before), (c .before .before .before .before .pre .0, ap (λ (m : Method). rawMethodFits (rawMethod m)) (c .empty .ensures)))
-
-sub-method-line : tie.Need-sub-method-line
-sub-method-line c = search needs
-
-part-method-line-start : tie.Need-part-method-line-start
-part-method-line-start c = search needs
-
-part-method-line-end : tie.Need-part-method-line-end
-part-method-line-end c = search needs
-
-method-line-requires : tie.Need-method-line-requires
-method-line-requires c κs = search needs
+returns c =
+    let c3 = c .before .before .before in
+    let c4 = c3 .before in
+    let c6 = c4 .before .before in
+    let a = c6 .args in
+    let g = c3 .read-method in
+    (line-result-no (methodLine (a .n)) (method-empty (a .n)) (a .s .now) (a .c .at) _ (c4 .line-at .ensures) (g .result .refusal) (methodOf (rawMethod (g .result .m))) (g .ensures .0) (c .if1 .taken), g .ensures .1)
 
 past-requires : tie.Need-past-requires
-past-requires c κs = search needs
+past-requires c κs =
+    let c3 = c .before .before .before in
+    let c4 = c3 .before in
+    let c6 = c4 .before .before in
+    let a = c6 .args in
+    let g = c3 .read-method in
+    let x = methodOf (rawMethod (g .result .m)) in
+    omega (arith, line-fits (methodLine (a .n)) (method-empty (a .n)) (a .s .now) (a .c .at) _ (c4 .line-at .ensures) x (result-ok (g .result .refusal) x _ (g .ensures .0) (c .if1 .left)))
 
 returns-2 : tie.Need-returns-2
-returns-2 c = let a = c .before .before .before .before .before .before .before .args in let e = c .before .before .before .before .before .line-end in let h : e .result < length (a .s .now) = omega arith in let g = c .before .before .method-line in (
-  line-read (a .s .now) (a .c .at) (e .result) (e .ensures .behind) h (e .ensures .before) (e .ensures .found h) (methodLine (a .n)) (g .result .no) (methodOf (rawMethod (g .result .m))) (c .before .past .result .at) (g .ensures .0) (c .before .past .ensures),
-  (subst (λ (z : ℕ). z ≤ length (a .s .now)) (sym (c .before .past .ensures)) (passed-within (g .result .no) (a .c .at) (e .result) (length (a .s .now)) (e .ensures .behind) h), g .ensures .1),
-)
+returns-2 c =
+    let c4 = c .before .before .before .before in
+    let c5 = c4 .before in
+    let c7 = c5 .before .before in
+    let a = c7 .args in
+    let g = c4 .read-method in (
+      line-result-ok (methodLine (a .n)) (method-empty (a .n)) (a .s .now) (a .c .at) _ (c5 .line-at .ensures) (g .result .refusal) (methodOf (rawMethod (g .result .m))) (c .past .result .at)
+          (g .ensures .0) (c .before .if1 .left) (c .past .ensures),
+      g .ensures .1,
+    )
 
 pub next-method-spec : {M : Type 1} → statement M
 next-method-spec =
-    tie.close
-    (tie.spec
-    line-end-requires
-    empty-requires
-    returns
-    sub-method-line
-    part-method-line-start
-    part-method-line-end
-    method-line-requires
-    past-requires
-    returns-2)
+    tie.close (tie.spec line-at-requires read-method-requires returns past-requires returns-2)

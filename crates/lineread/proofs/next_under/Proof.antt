@@ -1,52 +1,71 @@
--- Rests on `line-none` and `line-read`.
-use mathlib.Core.Path.{subst, sym}
-use Prim.Native.Nat.{ℕ, _≤_, _<_}
+-- Rests on `line-refused`, `line-fits`, `line-accepted` and `under-empty`.
+use mathlib.Core.Path.{ap, sym, subst, _∙_}
+use Prim.Native.Nat.{ℕ}
 use native.Mathlib.Omega.{arith}
-use lib.ListN.{length}
+use lib.ListN.{drop}
 use borrow.Author.Needs.{needs}
 use Rattle.model.specs.Check.{linksOf}
 use Rattle.table.specs.Store.{rawLinks}
+use Rattle.sheet.specs.Lines.{got, split}
 use Rattle.sheet.specs.Sheet.{underLine}
-use Rattle.textread.proofs.Laws.{line-none, line-read, passed-within}
+use Rattle.textread.proofs.Laws.{line-refused, line-fits, line-accepted}
+use Rattle.lineread.proofs.Laws.{under-empty}
+use Rattle.lineread.specs.View.{underBy, UnderExact}
 use Rattle.lineread.proofs.next_under.Statement.{statement}
 use Rattle.lineread.proofs.next_under.Tie as tie
 
-line-end-requires : tie.Need-line-end-requires
-line-end-requires c κs = search needs
+line-at-requires : tie.Need-line-at-requires
+line-at-requires c κs = search needs
 
-returns : tie.Need-returns
-returns c = let a = c .before .before .before .args in let e = c .before .line-end in (line-none (underLine (a .cats) (a .k)) (a .s .now) (a .c .at) (e .result) (e .ensures .behind) (c .if1 .taken) (e .ensures .before), (c .before .before .before .pre .0, λ z. absurd (omega arith)))
+read-under-requires : tie.Need-read-under-requires
+read-under-requires c κs = search needs
 
-sub-under-line : tie.Need-sub-under-line
-sub-under-line c = search needs
+enum-known-v : tie.Need-enum-known-v
+enum-known-v c = search needs
 
-part-under-line-start : tie.Need-part-under-line-start
-part-under-line-start c = search needs
-
-part-under-line-end : tie.Need-part-under-line-end
-part-under-line-end c = search needs
-
-under-line-requires : tie.Need-under-line-requires
-under-line-requires c κs = search needs
+enum-known-v-2 : tie.Need-enum-known-v-2
+enum-known-v-2 c = search needs
 
 past-requires : tie.Need-past-requires
-past-requires c κs = search needs
+past-requires c κs =
+    let c3 = c .before .before .before in
+    let c4 = c3 .before in
+    let c6 = c4 .before .before in
+    let a = c6 .args in
+    let v = c3 .read-under in
+    omega (arith, line-fits (underLine (a .cats) (a .k)) (under-empty (a .cats) (a .k)) (a .s .now) (a .c .at) _ (c4 .line-at .ensures) _ (ap underBy (sym (c .before .v2 .given .1)) ∙ v .ensures .0))
+
+returns : tie.Need-returns
+returns c =
+    let c3 = c .before .before .before in
+    let c4 = c3 .before in
+    let c6 = c4 .before .before in
+    let a = c6 .args in
+    let v = c3 .read-under in
+    (line-refused (underLine (a .cats) (a .k)) (under-empty (a .cats) (a .k)) (a .s .now) (a .c .at) _ (c4 .line-at .ensures) _ (ap underBy (sym (c .before .v .given .1)) ∙ v .ensures .0), tt)
 
 returns-2 : tie.Need-returns-2
-returns-2 c = let a = c .before .before .before .before .before .before .before .args in let e = c .before .before .before .before .before .line-end in let h : e .result < length (a .s .now) = omega arith in let g = c .before .before .under-line in (
-  line-read (a .s .now) (a .c .at) (e .result) (e .ensures .behind) h (e .ensures .before) (e .ensures .found h) (underLine (a .cats) (a .k)) (g .result .no) (linksOf (rawLinks (g .result .links))) (c .before .past .result .at) (g .ensures .0) (c .before .past .ensures),
-  (subst (λ (z : ℕ). z ≤ length (a .s .now)) (sym (c .before .past .ensures)) (passed-within (g .result .no) (a .c .at) (e .result) (length (a .s .now)) (e .ensures .behind) h), g .ensures .1),
-)
+returns-2 c =
+    let c2 = c .before .before in
+    let c4 = c2 .before .before in
+    let c5 = c4 .before in
+    let c7 = c5 .before .before in
+    let a = c7 .args in
+    let v = c4 .read-under in
+    let x = linksOf (rawLinks (c2 .v2 .given .0 .0)) in (
+      ap (λ (z : ℕ). got x z (split (drop z (a .s .now)))) (c .past .ensures)
+          ∙ line-accepted (underLine (a .cats) (a .k)) (under-empty (a .cats) (a .k)) (a .s .now) (a .c .at) _ (c5 .line-at .ensures) x (ap underBy (sym (c2 .v2 .given .1)) ∙ v .ensures .0),
+      subst UnderExact (c2 .v2 .given .1) (v .ensures .1),
+    )
 
 pub next-under-spec : {M : Type 1} → statement M
 next-under-spec =
     tie.close
     (tie.spec
-    line-end-requires
-    returns
-    sub-under-line
-    part-under-line-start
-    part-under-line-end
-    under-line-requires
+    line-at-requires
+    read-under-requires
+    enum-known-v
+    enum-known-v-2
     past-requires
+    returns
     returns-2)

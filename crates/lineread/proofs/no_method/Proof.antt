@@ -1,7 +1,9 @@
--- Rests on `result-refused`; the empty method denies.
-use mathlib.Core.Path.{ap}
+-- Rests on `unsigned-exact` and `result-refused`.
+use mathlib.Core.Path.{refl, subst, sym}
+use native.Mathlib.Omega.{arith}
 use borrow.Author.Needs.{needs}
-use Rattle.model.specs.Check.{rawMethodFits}
+use Rattle.table.proofs.Exact.{unsigned-exact}
+use Rattle.table.specs.Records.{MethodExact}
 use Rattle.table.specs.Store.{rawMethod}
 use Rattle.table.specs.declared.Method.{Method}
 use Rattle.lineread.proofs.Laws.{result-refused}
@@ -12,7 +14,7 @@ empty-requires : tie.Need-empty-requires
 empty-requires c κs = search needs
 
 returns : tie.Need-returns
-returns c = (result-refused (c .before .args .no) _ (c .before .pre), ap (λ (m : Method). rawMethodFits (rawMethod m)) (c .empty .ensures))
+returns c = (result-refused (c .before .args .refusal) _ (c .before .pre), subst (λ (m : Method). MethodExact (rawMethod m)) (sym (c .empty .ensures)) (unsigned-exact 0 (omega arith) refl))
 
 pub no-method-spec : {M : Type 1} → statement M
 no-method-spec = tie.close (tie.spec empty-requires returns)

@@ -13,7 +13,11 @@ same-length : tie.Need-same-length
 same-length c = search needs
 
 returns : tie.Need-returns
-returns c = (fill-is (answer-none (c .before .before .before .before .before .before .args .answer) (c .before .before .before .before .if1 .taken)) (c .before .before .put-byte .ensures), omega (arith, c .before .before .put-byte .ensures .said))
+returns c =
+    let a = c .before .before .before .before .before .before .args in
+    let if1 = c .before .before .before .before .if1 in
+    let put-byte = c .before .before .put-byte in
+    (fill-is (answer-none (a .answer) (if1 .taken)) (put-byte .ensures), omega (arith, put-byte .ensures .said))
 
 sub-wide : tie.Need-sub-wide
 sub-wide c = search needs
@@ -28,7 +32,12 @@ same-length-2 : tie.Need-same-length-2
 same-length-2 c = search needs
 
 returns-2 : tie.Need-returns-2
-returns-2 c = (fill-is (answer-some (c .before .before .before .before .before .before .before .args .answer) (c .before .before .before .before .wide .result) (c .before .before .before .before .before .if1 .left) (c .before .before .before .before .wide .ensures .0)) (c .before .before .put-decimal .ensures .0), c .before .before .put-decimal .ensures .1)
+returns-2 c =
+    let a = c .before .before .before .before .before .before .before .args in
+    let if1 = c .before .before .before .before .before .if1 in
+    let wide = c .before .before .before .before .wide in
+    let put-decimal = c .before .before .put-decimal in
+    (fill-is (answer-some (a .answer) (wide .result) (if1 .left) (wide .ensures .0)) (put-decimal .ensures .0), put-decimal .ensures .1)
 
 pub put-answer-spec : {M : Type 1} → statement M
 put-answer-spec =

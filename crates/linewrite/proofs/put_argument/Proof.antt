@@ -13,7 +13,11 @@ same-length : tie.Need-same-length
 same-length c = search needs
 
 returns : tie.Need-returns
-returns c = (fill-is (argument-first (c .before .before .before .before .before .before .args .i) (c .before .before .before .before .before .before .args .n) (c .before .before .before .before .if1 .taken)) (c .before .before .put-decimal .ensures .0), omega (arith, c .before .before .put-decimal .ensures .1))
+returns c =
+    let a = c .before .before .before .before .before .before .args in
+    let if1 = c .before .before .before .before .if1 in
+    let put-decimal = c .before .before .put-decimal in
+    (fill-is (argument-first (a .i) (a .n) (if1 .taken)) (put-decimal .ensures .0), omega (arith, put-decimal .ensures .1))
 
 slice-aggregate-put-number : tie.Need-slice-aggregate-put-number
 slice-aggregate-put-number c = search needs
@@ -25,7 +29,11 @@ same-length-2 : tie.Need-same-length-2
 same-length-2 c = search needs
 
 returns-2 : tie.Need-returns-2
-returns-2 c = (fill-is (argument-later (c .before .before .before .before .before .before .before .args .i) (c .before .before .before .before .before .before .before .args .n) (c .before .before .before .before .before .if1 .left)) (c .before .before .put-number .ensures .0), c .before .before .put-number .ensures .1)
+returns-2 c =
+    let a = c .before .before .before .before .before .before .before .args in
+    let if1 = c .before .before .before .before .before .if1 in
+    let put-number = c .before .before .put-number in
+    (fill-is (argument-later (a .i) (a .n) (if1 .left)) (put-number .ensures .0), put-number .ensures .1)
 
 pub put-argument-spec : {M : Type 1} → statement M
 put-argument-spec =

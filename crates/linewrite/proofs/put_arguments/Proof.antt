@@ -17,8 +17,8 @@ Inv-loop buf₀ count args n at₀ i₀ buf at i = (i ≤ n) × (at ≤ 36 * i) 
 abbrev μ-loop : tie.MeasureT-loop
 μ-loop buf₀ count args n at₀ i₀ buf at i = n - i
 
-upto-requires : tie.Need-upto-requires Inv-loop μ-loop
-upto-requires c κs = search needs
+least-requires : tie.Need-least-requires Inv-loop μ-loop
+least-requires c κs = search needs
 
 loop-holds : tie.Need-loop-holds Inv-loop μ-loop
 loop-holds c = (omega arith, omega arith, fill-none (c .before .before .args .buf .now))
@@ -29,8 +29,8 @@ array-read-wide c = search needs
 wide-requires : tie.Need-wide-requires Inv-loop μ-loop
 wide-requires c κs = search needs
 
-upto-requires-2 : tie.Need-upto-requires-2 Inv-loop μ-loop
-upto-requires-2 c κs = search needs
+least-requires-2 : tie.Need-least-requires-2 Inv-loop μ-loop
+least-requires-2 c κs = search needs
 
 sub-put-argument : tie.Need-sub-put-argument Inv-loop μ-loop
 sub-put-argument c = search needs
@@ -45,7 +45,11 @@ put-argument-requires : tie.Need-put-argument-requires Inv-loop μ-loop
 put-argument-requires c κs = search needs
 
 add-at : tie.Need-add-at Inv-loop μ-loop
-add-at c = omega (arith, c .before .before .before .before .before .before .before .before .upto .ensures .1, c .before .before .before .before .before .before .before .loop .inv .0, c .before .before .before .before .before .before .before .loop .inv .1, c .before .before .put-argument .ensures .1)
+add-at c =
+    let least = c .before .before .before .before .before .before .before .before .least in
+    let loop = c .before .before .before .before .before .before .before .loop in
+    let put-argument = c .before .before .put-argument in
+    omega (arith, least .ensures .2, loop .inv .0, loop .inv .1, put-argument .ensures .1)
 
 add-i : tie.Need-add-i Inv-loop μ-loop
 add-i c = search needs
@@ -54,20 +58,33 @@ loop-less : tie.Need-loop-less Inv-loop μ-loop
 loop-less c = search needs
 
 loop-again : tie.Need-loop-again Inv-loop μ-loop
-loop-again c = let l : length (c .before .before .before .before .before .before .before .before .before .before .args .t3) ≡ 4 = search needs in (
-  omega arith,
-  omega (arith, c .before .before .before .before .before .before .before .loop .inv .1, c .before .before .put-argument .ensures .1),
-  fill-is (argument-next (c .before .before .before .before .before .before .before .before .before .before .args .t3) (c .before .before .before .before .before .before .before .loop .i) (c .before .before .before .before .before .wide .result) (omega (arith, c .before .before .before .before .before .before .before .before .upto .ensures .1, c .before .before .before .before .before .before .loop-test .taken)) (c .before .before .before .before .before .wide .ensures .0)) (fill-rest (c .before .before .before .before .before .before .before .loop .inv .2) (c .before .before .before .before .upto2 .ensures .0) (c .before .before .put-argument .ensures .0)),
-)
+loop-again c =
+    let a = c .before .before .before .before .before .before .before .before .before .before .args in
+    let least = c .before .before .before .before .before .before .before .before .least in
+    let loop = c .before .before .before .before .before .before .before .loop in
+    let loop-test = c .before .before .before .before .before .before .loop-test in
+    let wide = c .before .before .before .before .before .wide in
+    let least2 = c .before .before .before .before .least2 in
+    let put-argument = c .before .before .put-argument in
+    let l : length (a .t3) ≡ 4 = search needs in
+    let next = argument-next (a .t3) (loop .i) (wide .result) (omega (arith, least .ensures .2, loop-test .taken)) (wide .ensures .0) in (
+      omega arith,
+      omega (arith, loop .inv .1, put-argument .ensures .1),
+      fill-is next (fill-rest (loop .inv .2) (least2 .ensures .0) (put-argument .ensures .0)),
+    )
 
 same-length : tie.Need-same-length Inv-loop μ-loop
 same-length c = c .before .loop .inv .2 .size
 
 returns : tie.Need-returns Inv-loop μ-loop
-returns c = let l : length (c .before .before .before .before .args .t3) ≡ 4 = search needs in
-    let n = c .before .before .upto .result in
-    let e : c .before .loop .i ≡ n = omega (arith, c .before .loop .inv .0, c .loop-test .left) in
-    (fill-is (ap (λ z. commas (take z (c .before .before .before .before .args .t3))) e ∙ ap commas (slots (c .before .before .before .before .args .t3) (c .before .before .before .before .args .count) n l (c .before .before .upto .ensures .0))) (c .before .loop .inv .2), omega (arith, c .before .before .upto .ensures .1, c .before .loop .inv .0, c .before .loop .inv .1))
+returns c =
+    let a = c .before .before .before .before .args in
+    let least = c .before .before .least in
+    let loop = c .before .loop in
+    let l : length (a .t3) ≡ 4 = search needs in
+    let n = least .result in
+    let e : loop .i ≡ n = omega (arith, loop .inv .0, c .loop-test .left) in
+    (fill-is (ap (λ z. commas (take z (a .t3))) e ∙ ap commas (slots (a .t3) (a .count) n l (least .ensures .0))) (loop .inv .2), omega (arith, least .ensures .2, loop .inv .0, loop .inv .1))
 
 pub put-arguments-spec : {M : Type 1} → statement M
 put-arguments-spec =
@@ -75,11 +92,11 @@ put-arguments-spec =
     (tie.spec
     Inv-loop
     μ-loop
-    upto-requires
+    least-requires
     loop-holds
     array-read-wide
     wide-requires
-    upto-requires-2
+    least-requires-2
     sub-put-argument
     part-put-argument-start
     part-put-argument-end

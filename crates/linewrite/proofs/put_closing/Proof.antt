@@ -9,8 +9,8 @@ use Rattle.linewrite.proofs.put_closing.Tie as tie
 put-byte-requires : tie.Need-put-byte-requires
 put-byte-requires c κs = search needs
 
-upto-requires : tie.Need-upto-requires
-upto-requires c κs = search needs
+least-requires : tie.Need-least-requires
+least-requires c κs = search needs
 
 sub-put-answer : tie.Need-sub-put-answer
 sub-put-answer c = search needs
@@ -27,8 +27,8 @@ put-answer-requires c κs = search needs
 add-d : tie.Need-add-d
 add-d c = search needs
 
-upto-requires-2 : tie.Need-upto-requires-2
-upto-requires-2 c κs = search needs
+least-requires-2 : tie.Need-least-requires-2
+least-requires-2 c κs = search needs
 
 sub-put-byte : tie.Need-sub-put-byte
 sub-put-byte c = search needs
@@ -49,20 +49,28 @@ same-length : tie.Need-same-length
 same-length c = search needs
 
 returns : tie.Need-returns
-returns c = (fill-is (closing-is (c .before .before .before .before .before .before .before .before .before .before .before .before .before .before .before .args .answer)) (fill-rest (fill-rest (c .before .before .before .before .before .before .before .before .before .before .before .before .put-byte .ensures) (c .before .before .before .before .before .before .before .before .before .upto .ensures .0) (c .before .before .before .before .before .before .before .put-answer .ensures .0)) (c .before .before .before .before .upto2 .ensures .0) (c .before .before .put-byte2 .ensures)), omega (arith, c .before .before .before .before .before .before .before .before .before .before .before .before .put-byte .ensures .said, c .before .before .before .before .before .before .before .put-answer .ensures .1, c .before .before .put-byte2 .ensures .said))
+returns c =
+    let a = c .before .before .before .before .before .before .before .before .before .before .before .before .before .before .before .args in
+    let put-byte = c .before .before .before .before .before .before .before .before .before .before .before .before .put-byte in
+    let least = c .before .before .before .before .before .before .before .before .before .least in
+    let put-answer = c .before .before .before .before .before .before .before .put-answer in
+    let least2 = c .before .before .before .before .least2 in
+    let put-byte2 = c .before .before .put-byte2 in
+    let all = fill-rest (fill-rest (put-byte .ensures) (least .ensures .0) (put-answer .ensures .0)) (least2 .ensures .0) (put-byte2 .ensures) in
+    (fill-is (closing-is (a .answer)) all, omega (arith, put-byte .ensures .said, put-answer .ensures .1, put-byte2 .ensures .said))
 
 pub put-closing-spec : {M : Type 1} → statement M
 put-closing-spec =
     tie.close
     (tie.spec
     put-byte-requires
-    upto-requires
+    least-requires
     sub-put-answer
     part-put-answer-start
     part-put-answer-end
     put-answer-requires
     add-d
-    upto-requires-2
+    least-requires-2
     sub-put-byte
     part-put-byte-start
     part-put-byte-end

@@ -6,20 +6,25 @@ use borrow.Author.Needs.{needs}
 use Rattle.linewrite.proofs.put_second.Statement.{statement}
 use Rattle.linewrite.proofs.put_second.Tie as tie
 
-slice-aggregate-number-line : tie.Need-slice-aggregate-number-line
-slice-aggregate-number-line c = search needs
+slice-aggregate-write-number : tie.Need-slice-aggregate-write-number
+slice-aggregate-write-number c = search needs
 
 wide-requires : tie.Need-wide-requires
 wide-requires c κs = search needs
 
-number-line-requires : tie.Need-number-line-requires
-number-line-requires c κs = search needs
+write-number-requires : tie.Need-write-number-requires
+write-number-requires c κs = search needs
 
 same-length : tie.Need-same-length
 same-length c = search needs
 
 returns : tie.Need-returns
-returns c = (fill-is (second-is (c .before .before .before .before .before .before .before .before .before .args .x) (c .before .before .before .wide .result) (c .before .before .before .before .before .before .if1 .taken) (c .before .before .before .wide .ensures .0)) (c .before .before .number-line .ensures .0 .filled), c .before .before .number-line .ensures .1)
+returns c =
+    let a = c .before .before .before .before .before .before .before .before .before .args in
+    let if1 = c .before .before .before .before .before .before .if1 in
+    let wide = c .before .before .before .wide in
+    let write-number = c .before .before .write-number in
+    (fill-is (second-is (a .x) (wide .result) (if1 .taken) (wide .ensures .0)) (write-number .ensures .0 .filled), write-number .ensures .1)
 
 put-byte-requires : tie.Need-put-byte-requires
 put-byte-requires c κs = search needs
@@ -28,15 +33,19 @@ same-length-2 : tie.Need-same-length-2
 same-length-2 c = search needs
 
 returns-2 : tie.Need-returns-2
-returns-2 c = (fill-is (second-none (c .before .before .before .before .before .before .before .args .x) (c .before .before .before .before .if1 .left)) (c .before .before .put-byte .ensures), omega (arith, c .before .before .put-byte .ensures .said))
+returns-2 c =
+    let a = c .before .before .before .before .before .before .before .args in
+    let if1 = c .before .before .before .before .if1 in
+    let put-byte = c .before .before .put-byte in
+    (fill-is (second-none (a .x) (if1 .left)) (put-byte .ensures), omega (arith, put-byte .ensures .said))
 
 pub put-second-spec : {M : Type 1} → statement M
 put-second-spec =
     tie.close
     (tie.spec
-    slice-aggregate-number-line
+    slice-aggregate-write-number
     wide-requires
-    number-line-requires
+    write-number-requires
     same-length
     returns
     put-byte-requires

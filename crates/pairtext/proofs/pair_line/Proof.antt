@@ -9,8 +9,8 @@ use Rattle.pairtext.proofs.pair_line.Tie as tie
 put-decimal-requires : tie.Need-put-decimal-requires
 put-decimal-requires c κs = search needs
 
-upto-requires : tie.Need-upto-requires
-upto-requires c κs = search needs
+least-requires : tie.Need-least-requires
+least-requires c κs = search needs
 
 sub-put-number : tie.Need-sub-put-number
 sub-put-number c = search needs
@@ -30,8 +30,8 @@ put-number-requires c κs = search needs
 add-a : tie.Need-add-a
 add-a c = search needs
 
-upto-requires-2 : tie.Need-upto-requires-2
-upto-requires-2 c κs = search needs
+least-requires-2 : tie.Need-least-requires-2
+least-requires-2 c κs = search needs
 
 sub-put-answers : tie.Need-sub-put-answers
 sub-put-answers c = search needs
@@ -54,7 +54,7 @@ same-length c = search needs
 returns : tie.Need-returns
 returns c =
     let a = c .before .before .before .before .before .before .before .before .before .before .before .before .before .before .before .before .args in
-    let f = fill-is (line-is (a .t) (a .s) (a .code)) (fill-rest (fill-rest (c .before .before .before .before .before .before .before .before .before .before .before .before .before .put-decimal .ensures .0) (c .before .before .before .before .before .before .before .before .before .before .upto .ensures .0) (c .before .before .before .before .before .before .before .put-number .ensures .0)) (c .before .before .before .before .upto2 .ensures .0) (c .before .before .put-answers .ensures .0)) in
+    let f = fill-is (line-is (a .t) (a .s) (a .code)) (fill-rest (fill-rest (c .before .before .before .before .before .before .before .before .before .before .before .before .before .put-decimal .ensures .0) (c .before .before .before .before .before .before .before .before .before .before .least .ensures .0) (c .before .before .before .before .before .before .before .put-number .ensures .0)) (c .before .before .before .before .least2 .ensures .0) (c .before .before .put-answers .ensures .0)) in
     (ended f, omega (arith, f .said, line-short (a .t) (a .s) (a .code) (c .before .before .before .before .before .before .before .before .before .before .before .before .before .before .before .before .pre .0) (c .before .before .before .before .before .before .before .before .before .before .before .before .before .before .before .before .pre .1)))
 
 pub pair-line-spec : {M : Type 1} → statement M
@@ -62,14 +62,14 @@ pair-line-spec =
     tie.close
     (tie.spec
     put-decimal-requires
-    upto-requires
+    least-requires
     sub-put-number
     part-put-number-start
     part-put-number-end
     slice-aggregate-put-number
     put-number-requires
     add-a
-    upto-requires-2
+    least-requires-2
     sub-put-answers
     part-put-answers-start
     part-put-answers-end

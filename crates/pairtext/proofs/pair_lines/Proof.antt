@@ -18,8 +18,8 @@ abbrev μ-loop : tie.MeasureT-loop
 loop-holds : tie.Need-loop-holds Inv-loop μ-loop
 loop-holds c = (omega arith, omega arith, lines-are (rows-none (c .before .args .pairs .now) (c .before .args .n)) (lines-none (c .before .args .buf .now)))
 
-upto-requires : tie.Need-upto-requires Inv-loop μ-loop
-upto-requires c κs = search needs
+least-requires : tie.Need-least-requires Inv-loop μ-loop
+least-requires c κs = search needs
 
 sub-row-lines : tie.Need-sub-row-lines Inv-loop μ-loop
 sub-row-lines c = search needs
@@ -48,7 +48,7 @@ loop-again c =
     let loop = c .before .before .before .before .before .before .loop in (
       omega arith,
       omega (arith, loop .inv .1, c .before .before .row-lines .ensures .1),
-      lines-are (rows-next (a .pairs .now) (a .n) (loop .t)) (lines-rest (loop .inv .2) (c .before .before .before .before .upto .ensures .0) (c .before .before .row-lines .ensures .0)),
+      lines-are (rows-next (a .pairs .now) (a .n) (loop .t)) (lines-rest (loop .inv .2) (c .before .before .before .before .least .ensures .0) (c .before .before .row-lines .ensures .0)),
     )
 
 same-length : tie.Need-same-length Inv-loop μ-loop
@@ -64,7 +64,7 @@ pair-lines-spec =
     Inv-loop
     μ-loop
     loop-holds
-    upto-requires
+    least-requires
     sub-row-lines
     part-row-lines-start
     part-row-lines-end

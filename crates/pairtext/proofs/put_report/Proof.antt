@@ -9,17 +9,17 @@ use borrow.Author.Needs.{needs}
 use Rattle.pairtext.proofs.put_report.Statement.{statement}
 use Rattle.pairtext.proofs.put_report.Tie as tie
 
-slice-aggregate-text-line : tie.Need-slice-aggregate-text-line
-slice-aggregate-text-line c = search needs
+slice-aggregate-write-word : tie.Need-slice-aggregate-write-word
+slice-aggregate-write-word c = search needs
 
-text-line-requires : tie.Need-text-line-requires
-text-line-requires c κs = search needs
+write-word-requires : tie.Need-write-word-requires
+write-word-requires c κs = search needs
 
 same-length : tie.Need-same-length
 same-length c = search needs
 
 returns : tie.Need-returns
-returns c = (fill-is (long-prints (c .before .before .before .before .before .before .before .before .args .s .now) (c .before .before .before .before .before .if1 .taken)) (c .before .before .text-line .ensures .0 .filled), omega (arith, c .before .before .text-line .ensures .1))
+returns c = (fill-is (long-prints (c .before .before .before .before .before .before .before .before .args .s .now) (c .before .before .before .before .before .if1 .taken)) (c .before .before .write-word .ensures .0 .filled), omega (arith, c .before .before .write-word .ensures .1))
 
 read-requires : tie.Need-read-requires
 read-requires c κs = search needs
@@ -56,8 +56,8 @@ pub put-report-spec : {M : Type 1} → statement M
 put-report-spec =
     tie.close
     (tie.spec
-    slice-aggregate-text-line
-    text-line-requires
+    slice-aggregate-write-word
+    write-word-requires
     same-length
     returns
     read-requires

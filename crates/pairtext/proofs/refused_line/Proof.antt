@@ -13,23 +13,23 @@ slice-aggregate-put-number c = search needs
 put-number-requires : tie.Need-put-number-requires
 put-number-requires c κs = search needs
 
-upto-requires : tie.Need-upto-requires
-upto-requires c κs = search needs
+least-requires : tie.Need-least-requires
+least-requires c κs = search needs
 
-sub-number-line : tie.Need-sub-number-line
-sub-number-line c = search needs
+sub-write-number : tie.Need-sub-write-number
+sub-write-number c = search needs
 
-part-number-line-start : tie.Need-part-number-line-start
-part-number-line-start c = search needs
+part-write-number-start : tie.Need-part-write-number-start
+part-write-number-start c = search needs
 
-part-number-line-end : tie.Need-part-number-line-end
-part-number-line-end c = search needs
+part-write-number-end : tie.Need-part-write-number-end
+part-write-number-end c = search needs
 
-slice-aggregate-number-line : tie.Need-slice-aggregate-number-line
-slice-aggregate-number-line c = search needs
+slice-aggregate-write-number : tie.Need-slice-aggregate-write-number
+slice-aggregate-write-number c = search needs
 
-number-line-requires : tie.Need-number-line-requires
-number-line-requires c κs = search needs
+write-number-requires : tie.Need-write-number-requires
+write-number-requires c κs = search needs
 
 add-result : tie.Need-add-result
 add-result c = search needs
@@ -40,8 +40,8 @@ same-length c = search needs
 returns : tie.Need-returns
 unfolding answerLines
 returns c = (
-  ended (fill-is (refused-is (c .before .before .before .before .before .before .before .before .before .before .before .before .args .no) (c .before .before .before .before .before .before .before .before .before .before .before .before .args .at)) (fill-rest (c .before .before .before .before .before .before .before .before .put-number .ensures .0) (c .before .before .before .before .before .upto .ensures .0) (c .before .before .number-line .ensures .0 .filled))),
-  omega (arith, c .before .before .before .before .before .before .before .before .put-number .ensures .1, c .before .before .number-line .ensures .1),
+  ended (fill-is (refused-is (c .before .before .before .before .before .before .before .before .before .before .before .before .args .refusal) (c .before .before .before .before .before .before .before .before .before .before .before .before .args .at)) (fill-rest (c .before .before .before .before .before .before .before .before .put-number .ensures .0) (c .before .before .before .before .before .least .ensures .0) (c .before .before .write-number .ensures .0 .filled))),
+  omega (arith, c .before .before .before .before .before .before .before .before .put-number .ensures .1, c .before .before .write-number .ensures .1),
 )
 
 pub refused-line-spec : {M : Type 1} → statement M
@@ -50,12 +50,12 @@ refused-line-spec =
     (tie.spec
     slice-aggregate-put-number
     put-number-requires
-    upto-requires
-    sub-number-line
-    part-number-line-start
-    part-number-line-end
-    slice-aggregate-number-line
-    number-line-requires
+    least-requires
+    sub-write-number
+    part-write-number-start
+    part-write-number-end
+    slice-aggregate-write-number
+    write-number-requires
     add-result
     same-length
     returns)

@@ -30,8 +30,8 @@ element-copy-out-wide c = search needs
 wide-requires : tie.Need-wide-requires Inv-loop μ-loop
 wide-requires c κs = search needs
 
-upto-requires : tie.Need-upto-requires Inv-loop μ-loop
-upto-requires c κs = search needs
+least-requires : tie.Need-least-requires Inv-loop μ-loop
+least-requires c κs = search needs
 
 sub-pair-line : tie.Need-sub-pair-line Inv-loop μ-loop
 sub-pair-line c = search needs
@@ -60,7 +60,7 @@ loop-again c =
     let loop = c .before .before .before .before .before .before .before .before .loop in (
       omega arith,
       omega (arith, loop .inv .1, c .before .before .pair-line .ensures .1),
-      lines-are (row-next (a .pairs .now) (a .t) (loop .s) (c .before .before .before .before .before .wide .result) (c .before .before .before .before .before .wide .ensures .0)) (lines-rest (loop .inv .2) (c .before .before .before .before .upto .ensures .0) (c .before .before .pair-line .ensures .0)),
+      lines-are (row-next (a .pairs .now) (a .t) (loop .s) (c .before .before .before .before .before .wide .result) (c .before .before .before .before .before .wide .ensures .0)) (lines-rest (loop .inv .2) (c .before .before .before .before .least .ensures .0) (c .before .before .pair-line .ensures .0)),
     )
 
 same-length : tie.Need-same-length Inv-loop μ-loop
@@ -80,7 +80,7 @@ row-lines-spec =
     add-wide
     element-copy-out-wide
     wide-requires
-    upto-requires
+    least-requires
     sub-pair-line
     part-pair-line-start
     part-pair-line-end

@@ -19,7 +19,8 @@ returns c =
     let pre = c .before .before .before .before .pre in
     let if1 = c .before .if1 in
     let if2 = c .if2 in
-    answers-none (a .n) (marksIn (a .found .now)) (queueIn (a .found .now)) (a .tail) (a .x) (a .y) (wide .result) (wide2 .result) (wide .ensures .0) (wide2 .ensures .0) pre (if1 .taken) (if2 .taken)
+    answers-none (a .n) (a .x) (a .y) (wide .result) (wide2 .result) (wide .ensures .0) (wide2 .ensures .0) (marksIn (a .found .now)) (queueIn (a .found .now)) (a .tail)
+    pre (if1 .taken) (if2 .taken)
 
 returns-2 : tie.Need-returns-2
 returns-2 c =
@@ -28,8 +29,7 @@ returns-2 c =
     let wide2 = c .before .before .wide2 in
     let if1 = c .before .if1 in
     let if2 = c .if2 in
-    answers-left (a .n) (marksIn (a .found .now)) (queueIn (a .found .now)) (a .tail) (a .x) (a .y) (wide .result) (wide2 .result) (wide .ensures .0) (wide2 .ensures .0)
-    (marksIn (a .found .now)) (queueIn (a .found .now)) (if1 .taken) (if2 .left)
+    answers-left (a .n) (a .x) (a .y) (wide .result) (wide2 .result) (wide .ensures .0) (wide2 .ensures .0) (if1 .taken) (if2 .left)
 
 returns-3 : tie.Need-returns-3
 returns-3 c =
@@ -38,8 +38,7 @@ returns-3 c =
     let wide2 = c .before .before .wide2 in
     let if1 = c .before .if1 in
     let if3 = c .if3 in
-    answers-right (a .n) (marksIn (a .found .now)) (queueIn (a .found .now)) (a .tail) (a .x) (a .y) (wide .result) (wide2 .result) (wide .ensures .0) (wide2 .ensures .0)
-    (marksIn (a .found .now)) (queueIn (a .found .now)) (if1 .left) (if3 .taken)
+    answers-right (a .n) (a .x) (a .y) (wide .result) (wide2 .result) (wide .ensures .0) (wide2 .ensures .0) (if1 .left) (if3 .taken)
 
 sub-find-pair : tie.Need-sub-find-pair
 sub-find-pair c = search needs
@@ -58,7 +57,7 @@ returns-4 c =
     let find-pair = c .find-pair in
     let if1 = c .before .before .before .if1 in
     let if3 = c .before .before .if3 in
-    answers-both (a .n) (marksIn (a .found .now)) (queueIn (a .found .now)) (a .tail) (a .x) (a .y) (wide .result) (wide2 .result) (wide .ensures .0) (wide2 .ensures .0)
+    answers-both (a .n) (a .x) (a .y) (wide .result) (wide2 .result) (wide .ensures .0) (wide2 .ensures .0) (marksIn (a .found .now)) (queueIn (a .found .now)) (a .tail)
     (marksIn (find-pair .last .0)) (queueIn (find-pair .last .0)) (find-pair .result) (if1 .left) (if3 .left) (find-pair .ensures)
 
 pub find-answer-spec : {M : Type 1} → statement M

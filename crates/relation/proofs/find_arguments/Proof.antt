@@ -11,8 +11,8 @@ use Rattle.relation.proofs.find_arguments.Statement.{statement}
 use Rattle.relation.proofs.find_arguments.Tie as tie
 
 abbrev Inv-loop : tie.InvT-loop
-Inv-loop found₀ tail n x y used other t₀ i₀ found t i = (i ≤ used) × Grew n (λ M. argsRule M (take i (x .args)) (take i (y .args))) (marksIn found₀) (queueIn found₀) tail
-    (marksIn found) (queueIn found) t
+Inv-loop found₀ tail n x y used other t₀ i₀ found t i =
+    (i ≤ used) × Grew n (λ M. argsRule M (take i (x .args)) (take i (y .args))) (marksIn found₀) (queueIn found₀) tail (marksIn found) (queueIn found) t
 
 abbrev μ-loop : tie.MeasureT-loop
 μ-loop found₀ tail n x y used other t₀ i₀ found t i = used - i
@@ -28,26 +28,15 @@ returns c =
     let a = c .before .before .before .args in
     let lx : length (a .t4 .args) ≡ 4 = search needs in
     let ly : length (a .t5 .args) ≡ 4 = search needs in
-    let slots-used = c .before .before .slots-used in
-    let slots-used2 = c .before .slots-used2 in
-    let if1 = c .if1 in
-    arguments-differ (a .n) (marksIn (a .found .now)) (queueIn (a .found .now)) (a .tail) (a .t4 .args) (a .t5 .args) lx ly (a .t4 .count) (a .t5 .count) (slots-used .result)
-    (slots-used2 .result) (slots-used .ensures .0) (slots-used2 .ensures .0) (slots-used .ensures .1 (a .t4 .args) lx) (slots-used2 .ensures .1 (a .t5 .args) ly)
-    (marksIn (a .found .now)) (queueIn (a .found .now)) (if1 .taken)
+    let used = c .before .before .slots-used in
+    let other = c .before .slots-used2 in
+    arguments-differ (a .n) (a .t4 .args) (a .t5 .args) lx ly (a .t4 .count) (a .t5 .count) (used .result) (other .result) (used .ensures .0) (other .ensures .0)
+    (used .ensures .1 (a .t4 .args) lx) (other .ensures .1 (a .t5 .args) ly) (c .if1 .taken)
 
 loop-holds : tie.Need-loop-holds Inv-loop μ-loop
 loop-holds c =
     let a = c .before .before .before .args in
-    let lx : length (a .t4 .args) ≡ 4 = search needs in
-    let ly : length (a .t5 .args) ≡ 4 = search needs in
-    let slots-used = c .before .before .slots-used in
-    let slots-used2 = c .before .slots-used2 in
-    let pre = c .before .before .before .pre in (
-      omega arith,
-      arguments-start (a .n) (marksIn (a .found .now)) (queueIn (a .found .now)) (a .tail) (a .t4 .args) (a .t5 .args) lx ly (a .t4 .count) (a .t5 .count)
-          (slots-used .result) (slots-used2 .result) (slots-used .ensures .0) (slots-used2 .ensures .0) (slots-used .ensures .1 (a .t4 .args) lx)
-          (slots-used2 .ensures .1 (a .t5 .args) ly) pre,
-    )
+    (omega arith, arguments-start (a .n) (a .t4 .args) (a .t5 .args) (marksIn (a .found .now)) (queueIn (a .found .now)) (a .tail) (c .before .before .before .pre))
 
 element-copy-out-wide : tie.Need-element-copy-out-wide Inv-loop μ-loop
 element-copy-out-wide c = search needs
@@ -64,24 +53,27 @@ wide-requires-2 c κs = search needs
 find-pair-requires : tie.Need-find-pair-requires Inv-loop μ-loop
 find-pair-requires c κs = c .before .before .before .before .before .before .loop .inv .1 .listed
 
+enum-known-r : tie.Need-enum-known-r Inv-loop μ-loop
+enum-known-r c = search needs
+
+enum-told : tie.Need-enum-told Inv-loop μ-loop
+enum-told c = search needs
+
 returns-2 : tie.Need-returns-2 Inv-loop μ-loop
 returns-2 c =
-    let a = c .before .before .before .before .before .before .before .before .before .before .before .before .args in
+    let a = c .before .before .before .before .before .before .before .before .before .before .before .before .before .args in
     let lx : length (a .t4 .args) ≡ 4 = search needs in
     let ly : length (a .t5 .args) ≡ 4 = search needs in
-    let slots-used = c .before .before .before .before .before .before .before .before .before .before .before .slots-used in
-    let slots-used2 = c .before .before .before .before .before .before .before .before .before .before .slots-used2 in
-    let if1 = c .before .before .before .before .before .before .before .before .before .if1 in
-    let loop = c .before .before .before .before .before .before .before .before .loop in
-    let loop-test = c .before .before .before .before .before .before .before .loop-test in
-    let wide = c .before .before .before .before .before .wide in
-    let wide2 = c .before .before .before .wide2 in
-    let find-pair = c .before .find-pair in
-    let if2 = c .if2 in
-    arguments-broke (a .n) (marksIn (a .found .now)) (queueIn (a .found .now)) (a .tail) (a .t4 .args) (a .t5 .args) lx ly (a .t4 .count) (a .t5 .count) (slots-used .result)
-    (slots-used2 .result) (slots-used .ensures .0) (slots-used2 .ensures .0) (slots-used .ensures .1 (a .t4 .args) lx) (slots-used2 .ensures .1 (a .t5 .args) ly) (if1 .left)
-    (loop .i) (marksIn (loop .found)) (queueIn (loop .found)) (loop .t) (loop .inv .1) (loop-test .taken) (wide .result) (wide2 .result) (wide .ensures .0) (wide2 .ensures .0)
-    (marksIn (find-pair .last .0)) (queueIn (find-pair .last .0)) (find-pair .result) (find-pair .ensures) (if2 .taken)
+    let used = c .before .before .before .before .before .before .before .before .before .before .before .before .slots-used in
+    let other = c .before .before .before .before .before .before .before .before .before .before .before .slots-used2 in
+    let loop = c .before .before .before .before .before .before .before .before .before .loop in
+    let wide = c .before .before .before .before .before .before .wide in
+    let wide2 = c .before .before .before .before .wide2 in
+    arguments-broke (a .n) (a .t4 .args) (a .t5 .args) lx ly (a .t4 .count) (a .t5 .count) (used .result) (other .result) (used .ensures .0) (other .ensures .0)
+    (used .ensures .1 (a .t4 .args) lx) (other .ensures .1 (a .t5 .args) ly)
+    (c .before .before .before .before .before .before .before .before .before .before .if1 .left) (loop .i)
+    (c .before .before .before .before .before .before .before .before .loop-test .taken) (wide .result) (wide2 .result) (wide .ensures .0) (wide2 .ensures .0)
+    (rw (c .enum-told .given .1) at (c .before .before .find-pair .ensures))
 
 add-i : tie.Need-add-i Inv-loop μ-loop
 add-i c = search needs
@@ -91,23 +83,23 @@ loop-less c = search needs
 
 loop-again : tie.Need-loop-again Inv-loop μ-loop
 loop-again c =
-    let a = c .before .before .before .before .before .before .before .before .before .before .before .before .args in
+    let a = c .before .before .before .before .before .before .before .before .before .before .before .before .before .before .args in
     let lx : length (a .t4 .args) ≡ 4 = search needs in
     let ly : length (a .t5 .args) ≡ 4 = search needs in
-    let loop-test = c .before .before .before .before .before .before .before .loop-test in
-    let slots-used = c .before .before .before .before .before .before .before .before .before .before .before .slots-used in
-    let slots-used2 = c .before .before .before .before .before .before .before .before .before .before .slots-used2 in
-    let if1 = c .before .before .before .before .before .before .before .before .before .if1 in
-    let loop = c .before .before .before .before .before .before .before .before .loop in
-    let wide = c .before .before .before .before .before .wide in
-    let wide2 = c .before .before .before .wide2 in
-    let find-pair = c .before .find-pair in
-    let if2 = c .if2 in (
+    let used = c .before .before .before .before .before .before .before .before .before .before .before .before .before .slots-used in
+    let other = c .before .before .before .before .before .before .before .before .before .before .before .before .slots-used2 in
+    let loop = c .before .before .before .before .before .before .before .before .before .before .loop in
+    let loop-test = c .before .before .before .before .before .before .before .before .before .loop-test in
+    let wide = c .before .before .before .before .before .before .before .wide in
+    let wide2 = c .before .before .before .before .before .wide2 in
+    let find-pair = c .before .before .before .find-pair in (
       omega (arith, loop-test .taken),
-      arguments-more (a .n) (marksIn (a .found .now)) (queueIn (a .found .now)) (a .tail) (a .t4 .args) (a .t5 .args) lx ly (a .t4 .count)
-          (a .t5 .count) (slots-used .result) (slots-used2 .result) (slots-used .ensures .0) (slots-used2 .ensures .0) (slots-used .ensures .1 (a .t4 .args) lx)
-          (slots-used2 .ensures .1 (a .t5 .args) ly) (if1 .left) (loop .i) (marksIn (loop .found)) (queueIn (loop .found)) (loop .t) (loop .inv .1) (loop-test .taken) (wide .result)
-          (wide2 .result) (wide .ensures .0) (wide2 .ensures .0) (marksIn (find-pair .last .0)) (queueIn (find-pair .last .0)) (find-pair .result) (find-pair .ensures) (if2 .left),
+      arguments-more (a .n) (a .t4 .args) (a .t5 .args) lx ly (a .t4 .count) (a .t5 .count) (used .result) (other .result) (used .ensures .0) (other .ensures .0)
+          (used .ensures .1 (a .t4 .args) lx) (other .ensures .1 (a .t5 .args) ly)
+          (c .before .before .before .before .before .before .before .before .before .before .before .if1 .left) (marksIn (a .found .now)) (queueIn (a .found .now)) (a .tail)
+          (loop .i) (marksIn (loop .found)) (queueIn (loop .found)) (loop .t) (loop .inv .1)
+          (loop-test .taken) (wide .result) (wide2 .result) (wide .ensures .0) (wide2 .ensures .0) (marksIn (find-pair .last .0)) (queueIn (find-pair .last .0))
+          (c .before .r .given .0 .0) (rw (c .before .r .given .1) at (find-pair .ensures)),
     )
 
 returns-3 : tie.Need-returns-3 Inv-loop μ-loop
@@ -115,14 +107,13 @@ returns-3 c =
     let a = c .before .before .before .before .before .args in
     let lx : length (a .t4 .args) ≡ 4 = search needs in
     let ly : length (a .t5 .args) ≡ 4 = search needs in
-    let slots-used = c .before .before .before .before .slots-used in
-    let slots-used2 = c .before .before .before .slots-used2 in
-    let if1 = c .before .before .if1 in
+    let used = c .before .before .before .before .slots-used in
+    let other = c .before .before .before .slots-used2 in
     let loop = c .before .loop in
-    let loop-test = c .loop-test in
-    arguments-end (a .n) (marksIn (a .found .now)) (queueIn (a .found .now)) (a .tail) (a .t4 .args) (a .t5 .args) lx ly (a .t4 .count) (a .t5 .count) (slots-used .result)
-    (slots-used2 .result) (slots-used .ensures .0) (slots-used2 .ensures .0) (slots-used .ensures .1 (a .t4 .args) lx) (slots-used2 .ensures .1 (a .t5 .args) ly) (if1 .left)
-    (loop .i) (marksIn (loop .found)) (queueIn (loop .found)) (loop .t) (loop .inv .1) (loop-test .left) (loop .inv .0)
+    arguments-end (a .n) (a .t4 .args) (a .t5 .args) lx ly (a .t4 .count) (a .t5 .count) (used .result) (other .result) (used .ensures .0) (other .ensures .0)
+    (used .ensures .1 (a .t4 .args) lx) (other .ensures .1 (a .t5 .args) ly)
+    (c .before .before .if1 .left) (marksIn (a .found .now)) (queueIn (a .found .now)) (a .tail) (loop .i) (marksIn (loop .found)) (queueIn (loop .found)) (loop .t)
+    (loop .inv .1) (c .loop-test .left) (loop .inv .0)
 
 pub find-arguments-spec : {M : Type 1} → statement M
 find-arguments-spec =
@@ -139,6 +130,8 @@ find-arguments-spec =
     element-copy-out-wide-2
     wide-requires-2
     find-pair-requires
+    enum-known-r
+    enum-told
     returns-2
     add-i
     loop-less

@@ -6,15 +6,15 @@ use borrow.Author.Needs.{needs}
 use Rattle.model.specs.Relations.{methodRule}
 use Rattle.model.specs.Check.{methodOf}
 use Rattle.table.specs.Store.{rawMethod, methodIn}
+use Rattle.rules.specs.Asked.{relationOf}
 use Rattle.relation.specs.Found.{Grew, eachBelow, marksIn, queueIn}
 use Rattle.relation.proofs.Steps.{methods-start, methods-broke, methods-more, methods-end}
-use Rattle.rules.specs.Asked.{relationOf}
 use Rattle.relation.proofs.find_methods.Statement.{statement}
 use Rattle.relation.proofs.find_methods.Tie as tie
 
 abbrev Inv-loop : tie.InvT-loop
-Inv-loop b found₀ tail n methods k square a d t₀ j₀ found t j = (j ≤ methods) × Grew n (λ M. eachBelow j (λ i. methodRule (relationOf k) M (methodIn b a i) (methodIn b d i)))
-    (marksIn found₀) (queueIn found₀) tail (marksIn found) (queueIn found) t
+Inv-loop b found₀ tail n methods k square a d t₀ j₀ found t j =
+    (j ≤ methods) × Grew n (λ M. eachBelow j (λ i. methodRule (relationOf k) M (methodIn b a i) (methodIn b d i))) (marksIn found₀) (queueIn found₀) tail (marksIn found) (queueIn found) t
 
 abbrev μ-loop : tie.MeasureT-loop
 μ-loop b found₀ tail n methods k square a d t₀ j₀ found t j = methods - j
@@ -22,8 +22,7 @@ abbrev μ-loop : tie.MeasureT-loop
 loop-holds : tie.Need-loop-holds Inv-loop μ-loop
 loop-holds c =
     let a = c .args in
-    let pre = c .pre in
-    (omega arith, methods-start (a .n) (relationOf (a .k)) (methodIn (a .b .now) (a .a)) (methodIn (a .b .now) (a .d)) (marksIn (a .found .now)) (queueIn (a .found .now)) (a .tail) (pre .0))
+    (omega arith, methods-start (a .n) (relationOf (a .k)) (methodIn (a .b .now) (a .a)) (methodIn (a .b .now) (a .d)) (marksIn (a .found .now)) (queueIn (a .found .now)) (a .tail) (c .pre .0))
 
 get-method-requires : tie.Need-get-method-requires Inv-loop μ-loop
 get-method-requires c κs = search needs
@@ -34,19 +33,21 @@ get-method-requires-2 c κs = search needs
 find-method-requires : tie.Need-find-method-requires Inv-loop μ-loop
 find-method-requires c κs = (c .before .before .before .before .loop .inv .1 .listed, c .before .before .before .before .before .pre .1)
 
+enum-known-r : tie.Need-enum-known-r Inv-loop μ-loop
+enum-known-r c = search needs
+
+enum-told : tie.Need-enum-told Inv-loop μ-loop
+enum-told c = search needs
+
 returns : tie.Need-returns Inv-loop μ-loop
 returns c =
-    let a = c .before .before .before .before .before .before .before .args in
-    let loop = c .before .before .before .before .before .before .loop in
-    let get-method = c .before .before .before .before .get-method in
-    let get-method2 = c .before .before .before .get-method2 in
-    let find-method = c .before .find-method in
-    let loop-test = c .before .before .before .before .before .loop-test in
-    let if1 = c .if1 in
-    methods-broke (a .n) (relationOf (a .k)) (methodIn (a .b .now) (a .a)) (methodIn (a .b .now) (a .d)) (marksIn (a .found .now)) (queueIn (a .found .now)) (a .tail) (loop .j)
-    (marksIn (loop .found)) (queueIn (loop .found)) (loop .t) (loop .inv .1) (methodOf (rawMethod (get-method .result))) (methodOf (rawMethod (get-method2 .result)))
-    (ap methodOf (get-method .ensures)) (ap methodOf (get-method2 .ensures)) (marksIn (find-method .last .0)) (queueIn (find-method .last .0)) (find-method .result)
-    (find-method .ensures) (a .methods) (loop-test .taken) (if1 .taken)
+    let a = c .before .before .before .before .before .before .before .before .args in
+    let x = c .before .before .before .before .before .get-method in
+    let y = c .before .before .before .before .get-method2 in
+    methods-broke (a .n) (relationOf (a .k)) (methodIn (a .b .now) (a .a)) (methodIn (a .b .now) (a .d)) (c .before .before .before .before .before .before .before .loop .j)
+    (methodOf (rawMethod (x .result))) (methodOf (rawMethod (y .result))) (ap methodOf (x .ensures)) (ap methodOf (y .ensures)) (a .methods)
+    (c .before .before .before .before .before .before .loop-test .taken)
+    (rw (c .enum-told .given .1) at (c .before .before .find-method .ensures))
 
 add-j : tie.Need-add-j Inv-loop μ-loop
 add-j c = search needs
@@ -56,27 +57,24 @@ loop-less c = search needs
 
 loop-again : tie.Need-loop-again Inv-loop μ-loop
 loop-again c =
-    let a = c .before .before .before .before .before .before .before .args in
-    let loop-test = c .before .before .before .before .before .loop-test in
-    let loop = c .before .before .before .before .before .before .loop in
-    let get-method = c .before .before .before .before .get-method in
-    let get-method2 = c .before .before .before .get-method2 in
-    let find-method = c .before .find-method in
-    let if1 = c .if1 in (
-      omega (arith, loop-test .taken),
-      methods-more (a .n) (relationOf (a .k)) (methodIn (a .b .now) (a .a)) (methodIn (a .b .now) (a .d)) (marksIn (a .found .now))
-          (queueIn (a .found .now)) (a .tail) (loop .j) (marksIn (loop .found)) (queueIn (loop .found)) (loop .t) (loop .inv .1) (methodOf (rawMethod (get-method .result)))
-          (methodOf (rawMethod (get-method2 .result))) (ap methodOf (get-method .ensures)) (ap methodOf (get-method2 .ensures)) (marksIn (find-method .last .0))
-          (queueIn (find-method .last .0)) (find-method .result) (find-method .ensures) (if1 .left),
+    let a = c .before .before .before .before .before .before .before .before .before .args in
+    let loop = c .before .before .before .before .before .before .before .before .loop in
+    let x = c .before .before .before .before .before .before .get-method in
+    let y = c .before .before .before .before .before .get-method2 in
+    let m = c .before .before .before .find-method in (
+      omega (arith, c .before .before .before .before .before .before .before .loop-test .taken),
+      methods-more (a .n) (relationOf (a .k)) (methodIn (a .b .now) (a .a)) (methodIn (a .b .now) (a .d)) (loop .j)
+          (methodOf (rawMethod (x .result))) (methodOf (rawMethod (y .result))) (ap methodOf (x .ensures)) (ap methodOf (y .ensures))
+          (marksIn (a .found .now)) (queueIn (a .found .now)) (a .tail) (marksIn (loop .found)) (queueIn (loop .found)) (loop .t) (loop .inv .1)
+          (marksIn (m .last .0)) (queueIn (m .last .0)) (c .before .r .given .0 .0) (rw (c .before .r .given .1) at (m .ensures)),
     )
 
 returns-2 : tie.Need-returns-2 Inv-loop μ-loop
 returns-2 c =
     let a = c .before .before .args in
     let loop = c .before .loop in
-    let loop-test = c .loop-test in
-    methods-end (a .n) (relationOf (a .k)) (methodIn (a .b .now) (a .a)) (methodIn (a .b .now) (a .d)) (marksIn (a .found .now)) (queueIn (a .found .now)) (a .tail) (loop .j)
-    (marksIn (loop .found)) (queueIn (loop .found)) (loop .t) (loop .inv .1) (a .methods) (loop-test .left) (loop .inv .0)
+    methods-end (a .n) (relationOf (a .k)) (methodIn (a .b .now) (a .a)) (methodIn (a .b .now) (a .d)) (loop .j) (a .methods) (marksIn (a .found .now)) (queueIn (a .found .now)) (a .tail)
+    (marksIn (loop .found)) (queueIn (loop .found)) (loop .t) (loop .inv .1) (c .loop-test .left) (loop .inv .0)
 
 pub find-methods-spec : {M : Type 1} → statement M
 find-methods-spec =
@@ -88,6 +86,8 @@ find-methods-spec =
     get-method-requires
     get-method-requires-2
     find-method-requires
+    enum-known-r
+    enum-told
     returns
     add-j
     loop-less

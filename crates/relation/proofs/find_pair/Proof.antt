@@ -1,5 +1,4 @@
 -- Rests on the laws of one pair more; `room`: a pair that is not found yet leaves room in the queue.
-use mathlib.Core.Logic.{inl, inr}
 use mathlib.Core.Bool.{true, false}
 use Prim.Native.Nat.{_+_, _*_}
 use native.Mathlib.Omega.{arith}
@@ -11,10 +10,10 @@ use Rattle.relation.proofs.find_pair.Statement.{statement}
 use Rattle.relation.proofs.find_pair.Tie as tie
 
 returns : tie.Need-returns
-returns c = let a = c .before .args in inl (pair-left (a .n) (a .x) (a .y) (c .if1 .taken))
+returns c = let a = c .before .args in pair-left (a .n) (a .x) (a .y) (c .if1 .taken)
 
 returns-2 : tie.Need-returns-2
-returns-2 c = let a = c .before .before .args in inl (pair-right (a .n) (a .x) (a .y) (c .if2 .taken))
+returns-2 c = let a = c .before .before .args in pair-right (a .n) (a .x) (a .y) (c .if2 .taken)
 
 mul-p : tie.Need-mul-p
 mul-p c = search needs
@@ -40,7 +39,7 @@ returns-3 c =
     let is-found = c .before .is-found in
     let if3 = c .if3 in
     let known = mark-at (a .found .now) (a .x * 128 + a .y) (is-found .result) true (is-found .ensures) (if3 .taken) in
-    inr (pair-known (a .n) (marksIn (a .found .now)) (queueIn (a .found .now)) (a .tail) (a .x) (a .y) pre (if1 .left) (if2 .left) known)
+    pair-known (a .n) (marksIn (a .found .now)) (queueIn (a .found .now)) (a .tail) (a .x) (a .y) pre (if1 .left) (if2 .left) known
 
 add-pair-requires : tie.Need-add-pair-requires
 add-pair-requires c κs =

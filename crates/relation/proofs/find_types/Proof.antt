@@ -20,26 +20,22 @@ returns : tie.Need-returns
 returns c =
     let a = c .before .before .before .before .args in
     let pre = c .before .before .before .before .pre in
-    let get-head = c .before .before .before .get-head in
-    let get-head2 = c .before .before .get-head2 in
-    let outer-rule = c .before .outer-rule in
-    let if1 = c .if1 in
-    types-broke (a .b .now) (a .l .now) (a .c) (relationOf (a .k)) (a .a) (a .d) (pre .3) (pre .4) (get-head .result) (get-head2 .result) (get-head .ensures) (get-head2 .ensures)
-    (outer-rule .result) (outer-rule .ensures (a .b .now)) (a .c .types) (marksIn (a .found .now)) (queueIn (a .found .now)) (a .tail) (marksIn (a .found .now))
-    (queueIn (a .found .now)) (not-true (outer-rule .result) (if1 .taken))
+    let x = c .before .before .before .get-head in
+    let y = c .before .before .get-head2 in
+    let fine = c .before .outer-rule in
+    types-broke (a .b .now) (a .l .now) (a .c) (relationOf (a .k)) (a .a) (a .d) (pre .3) (pre .4) (x .result) (y .result) (x .ensures) (y .ensures) (fine .result)
+    (fine .ensures (a .b .now)) (a .c .types) (not-true (fine .result) (c .if1 .taken))
 
 returns-2 : tie.Need-returns-2
 returns-2 c =
     let a = c .before .before .before .before .before .before .args in
     let pre = c .before .before .before .before .before .before .pre in
-    let get-head = c .before .before .before .before .before .get-head in
-    let get-head2 = c .before .before .before .before .get-head2 in
-    let outer-rule = c .before .before .before .outer-rule in
-    let if1 = c .before .before .if1 in
-    let if2 = c .if2 in
-    types-numbers (a .b .now) (a .l .now) (a .c) (relationOf (a .k)) (a .a) (a .d) (pre .3) (pre .4) (get-head .result) (get-head2 .result) (get-head .ensures) (get-head2 .ensures)
-    (outer-rule .result) (outer-rule .ensures (a .b .now)) (a .c .types) (marksIn (a .found .now)) (queueIn (a .found .now)) (a .tail)
-    (not-false (outer-rule .result) (if1 .left)) (if2 .taken) (pre .0)
+    let x = c .before .before .before .before .before .get-head in
+    let y = c .before .before .before .before .get-head2 in
+    let fine = c .before .before .before .outer-rule in
+    types-numbers (a .b .now) (a .l .now) (a .c) (relationOf (a .k)) (a .a) (a .d) (pre .3) (pre .4) (x .result) (y .result) (x .ensures) (y .ensures) (fine .result)
+    (fine .ensures (a .b .now)) (not-false (fine .result) (c .before .before .if1 .left))
+    (a .c .types) (marksIn (a .found .now)) (queueIn (a .found .now)) (a .tail) (c .if2 .taken) (pre .0)
 
 find-methods-requires : tie.Need-find-methods-requires
 find-methods-requires c κs =
@@ -50,16 +46,13 @@ returns-3 : tie.Need-returns-3
 returns-3 c =
     let a = c .before .before .before .before .before .before .before .before .args in
     let pre = c .before .before .before .before .before .before .before .before .pre in
-    let get-head = c .before .before .before .before .before .before .before .get-head in
-    let get-head2 = c .before .before .before .before .before .before .get-head2 in
-    let outer-rule = c .before .before .before .before .before .outer-rule in
-    let if1 = c .before .before .before .before .if1 in
-    let find-methods = c .find-methods in
-    let if2 = c .before .before .if2 in
-    types-methods (a .b .now) (a .l .now) (a .c) (relationOf (a .k)) (a .a) (a .d) (pre .3) (pre .4) (get-head .result) (get-head2 .result) (get-head .ensures) (get-head2 .ensures)
-    (outer-rule .result) (outer-rule .ensures (a .b .now)) (a .c .types) (marksIn (a .found .now)) (queueIn (a .found .now)) (a .tail)
-    (not-false (outer-rule .result) (if1 .left)) (marksIn (find-methods .last .1 .0)) (queueIn (find-methods .last .1 .0)) (find-methods .result) (if2 .left)
-    (find-methods .ensures)
+    let x = c .before .before .before .before .before .before .before .get-head in
+    let y = c .before .before .before .before .before .before .get-head2 in
+    let fine = c .before .before .before .before .before .outer-rule in
+    let m = c .find-methods in
+    types-methods (a .b .now) (a .l .now) (a .c) (relationOf (a .k)) (a .a) (a .d) (pre .3) (pre .4) (x .result) (y .result) (x .ensures) (y .ensures) (fine .result)
+    (fine .ensures (a .b .now)) (not-false (fine .result) (c .before .before .before .before .if1 .left))
+    (a .c .types) (marksIn (a .found .now)) (queueIn (a .found .now)) (a .tail) (marksIn (m .last .1 .0)) (queueIn (m .last .1 .0)) (m .result) (c .before .before .if2 .left) (m .ensures)
 
 pub find-types-spec : {M : Type 1} → statement M
 find-types-spec =

@@ -1,19 +1,13 @@
--- Group by group. Rests on the laws of the groups of lines, `table-of` and `codes-of`.
-use mathlib.Core.Path.{refl, ap, subst, _∙_}
-use native.Mathlib.Omega.{arith}
-use lib.ListN.{length, drop}
+-- Rests on `got-no`, `got-ok`, `got-at-most`, `done-no`, `done-ok` and `on-done` and what stands beside them.
+use mathlib.Core.Path.{ap, _∙_}
+use lib.ListN.{drop}
 use borrow.Author.Needs.{needs}
-use Rattle.model.specs.Table.{Table}
-use Rattle.table.proofs.Laws.{empty-types-length, empty-links-length}
-use Rattle.table.specs.Store.{typesIn, linksIn, typesTo}
-use Rattle.table.specs.declared.Counts.{Counts}
+use Rattle.table.specs.Store.{linksIn}
 use Rattle.sheet.specs.Lines.{split}
-use Rattle.sheet.specs.Sheet.{sheetAnswer, loaded}
-use Rattle.sheetread.proofs.Readings.{read-no, read-ok, links-no, count-no, types-no, to-ending}
-use Rattle.sheetread.proofs.Stored.{table-of}
-use Rattle.sheetread.proofs.Named.{codes-of}
-use Rattle.sheetread.specs.View.{linksTo, countedIn, SheetIs}
-use Rattle.sheetread.specs.declared.Sheet.{Sheet}
+use Rattle.sheet.specs.Sheet.{sheetAnswer}
+use Rattle.sheetread.proofs.Readings.{got-no, got-ok, got-at-most, done-no, done-ok, on-done, links-no, count-no, count-ok}
+use Rattle.sheetread.proofs.Stored.{links-count}
+use Rattle.sheetread.specs.View.{linksTo, answered}
 use Rattle.sheetread.proofs.after_first.Statement.{statement}
 use Rattle.sheetread.proofs.after_first.Tie as tie
 
@@ -21,14 +15,26 @@ empty-links-requires : tie.Need-empty-links-requires
 empty-links-requires c κs = search needs
 
 links-into-requires : tie.Need-links-into-requires
-links-into-requires c κs = (c .before .before .before .before .pre .0, c .before .before .before .before .pre .2, ap length (c .before .empty-links .ensures) ∙ empty-links-length)
+links-into-requires c κs = (c .before .before .before .pre .1, c .before .empty-links .ensures)
+
+enum-known-u : tie.Need-enum-known-u
+enum-known-u c = search needs
 
 refused-requires : tie.Need-refused-requires
-refused-requires c κs = c .if1 .taken
+refused-requires c κs = search needs
 
 returns : tie.Need-returns
-returns c = let h = c .before .before .before .before .before .before .before .before .before .args .h in let s = c .before .before .before .before .before .before .before .before .before .args .s .now in let at = h .next .at in let rs = split (drop at s) in let u = c .before .before .before .before .links-into in let links = linksTo (h .cats) (linksIn (u .last .1 .1 .1 .0)) in
-    subst (SheetIs (c .refused .result)) (ap sheetAnswer (links-no (countedIn h) at rs (u .result .no) (u .result .next .at) (read-no s (u .result .no) links (u .result .next .at) _ (u .ensures .0) (c .before .if1 .taken)))) (c .refused .ensures)
+returns c =
+    let c2 = c .before .before in
+    let c4 = c2 .before .before in
+    let c8 = c4 .before .before .before .before in
+    let a = c8 .args in
+    let s = a .s .now in
+    let u = c4 .links-into in
+    c .refused .ensures ∙ ap (λ z. answered (sheetAnswer z)) (links-no (a .h) (a .c .at) (split (drop (a .c .at) s)) _ _ (done-no s _ (u .result) _ (u .ensures .0) _ _ (c2 .u .given .1)))
+
+enum-known-u-2 : tie.Need-enum-known-u-2
+enum-known-u-2 c = search needs
 
 slice-aggregate-next-number : tie.Need-slice-aggregate-next-number
 slice-aggregate-next-number c = search needs
@@ -36,59 +42,57 @@ slice-aggregate-next-number c = search needs
 next-number-requires : tie.Need-next-number-requires
 next-number-requires c κs = search needs
 
+enum-known-y : tie.Need-enum-known-y
+enum-known-y c = search needs
+
 refused-requires-2 : tie.Need-refused-requires-2
-refused-requires-2 c κs = c .if2 .taken
+refused-requires-2 c κs = search needs
+
+enum-known-y-2 : tie.Need-enum-known-y-2
+enum-known-y-2 c = search needs
+
+after-count-requires : tie.Need-after-count-requires
+after-count-requires c κs =
+    let c3 = c .before .before .before in
+    let c12 = c3 .before .before .before .before .before .before .before .before .before in
+    (c12 .pre .0, c12 .pre .1, got-at-most 48 (c3 .next-number .result) _ _ (c .before .y2 .given .1) (c3 .next-number .ensures .1))
 
 returns-2 : tie.Need-returns-2
-returns-2 c = let h = c .before .before .before .before .before .before .before .before .before .before .before .before .before .before .args .h in let s = c .before .before .before .before .before .before .before .before .before .before .before .before .before .before .args .s .now in let at = h .next .at in let rs = split (drop at s) in let u = c .before .before .before .before .before .before .before .before .before .links-into in let links = linksTo (h .cats) (linksIn (u .last .1 .1 .1 .0)) in let k = c .before .before .before .before .next-number in
-    subst (SheetIs (c .refused2 .result))
-    (ap sheetAnswer (count-no (countedIn h) at rs links (u .result .next .at) (split (drop (u .result .next .at) s)) (read-ok s (u .result .no) links (u .result .next .at) _ (u .ensures .0) (c .before .before .before .before .before .before .if1 .left))
-    (k .result .no) (k .result .next .at) (read-no s (k .result .no) (k .result .n) (k .result .next .at) _ (k .ensures .0) (c .before .if2 .taken)))) (c .refused2 .ensures)
-
-empty-types-requires : tie.Need-empty-types-requires
-empty-types-requires c κs = search needs
-
-types-into-requires : tie.Need-types-into-requires
-types-into-requires c κs = let k = c .before .before .before .before .before .next-number in (k .ensures .1 .0, c .before .before .before .before .before .before .before .before .before .before .before .before .before .before .before .pre .1, c .before .before .before .before .before .before .before .before .before .before .before .before .before .before .before .pre .2, k .ensures .1 .1, ap length (c .before .empty-types .ensures) ∙ empty-types-length)
-
-refused-requires-3 : tie.Need-refused-requires-3
-refused-requires-3 c κs = c .if3 .taken
+returns-2 c =
+    let c2 = c .before .before in
+    let c4 = c2 .before .before in
+    let c7 = c4 .before .before .before in
+    let c9 = c7 .before .before in
+    let c13 = c9 .before .before .before .before in
+    let a = c13 .args in
+    let s = a .s .now in
+    let u = c9 .links-into in
+    let links = linksTo (a .h .cats) (linksIn (u .last .1 .1 .1 .0)) in
+    let at = c7 .u2 .given .0 .0 in
+    let y = c4 .next-number in
+    c .refused2 .ensures ∙ ap (λ z. answered (sheetAnswer z))
+    (count-no (a .h) (a .c .at) (split (drop (a .c .at) s)) links (at .at) (split (drop (at .at) s)) (done-ok s links (u .result) _ (u .ensures .0) at (c7 .u2 .given .1)) _ _
+    (got-no (λ n. n) s (at .at) (y .result) _ (y .ensures .0) _ (c2 .y .given .1)))
 
 returns-3 : tie.Need-returns-3
-returns-3 c = let h = c .before .before .before .before .before .before .before .before .before .before .before .before .before .before .before .before .before .before .before .before .args .h in let s = c .before .before .before .before .before .before .before .before .before .before .before .before .before .before .before .before .before .before .before .before .args .s .now in let at = h .next .at in let rs = split (drop at s) in let u = c .before .before .before .before .before .before .before .before .before .before .before .before .before .before .before .links-into in let links = linksTo (h .cats) (linksIn (u .last .1 .1 .1 .0)) in let k = c .before .before .before .before .before .before .before .before .before .before .next-number in let t = c .before .before .before .before .types-into in let ts = typesTo (h .methods) (k .result .n) (k .result .n) (typesIn (t .last .1 .1 .1 .1 .1 .0)) in
-    subst (SheetIs (c .refused3 .result))
-    (ap sheetAnswer (types-no (countedIn h) at rs links (u .result .next .at) (split (drop (u .result .next .at) s)) (read-ok s (u .result .no) links (u .result .next .at) _ (u .ensures .0) (c .before .before .before .before .before .before .before .before .before .before .before .before .if1 .left))
-    (k .result .n) (k .result .next .at) (split (drop (k .result .next .at) s)) (read-ok s (k .result .no) (k .result .n) (k .result .next .at) _ (k .ensures .0) (c .before .before .before .before .before .before .before .if2 .left))
-    (t .result .no) (t .result .next .at) (read-no s (t .result .no) ts (t .result .next .at) _ (t .ensures .0) (c .before .if3 .taken)))) (c .refused3 .ensures)
-
-last-line-requires : tie.Need-last-line-requires
-last-line-requires c κs = let k = c .before .before .before .before .before .before .before .before .before .before .next-number in (c .before .before .before .before .types-into .ensures .1 .0, omega (arith, k .ensures .1 .1), c .before .before .before .before .before .before .before .before .before .before .before .before .before .before .before .before .before .before .before .before .pre .1)
-
-refused-requires-4 : tie.Need-refused-requires-4
-refused-requires-4 c κs = c .if4 .taken
-
-returns-4 : tie.Need-returns-4
-returns-4 c = let h = c .before .before .before .before .before .before .before .before .before .before .before .before .before .before .before .before .before .before .before .before .before .before .before .before .before .args .h in let s = c .before .before .before .before .before .before .before .before .before .before .before .before .before .before .before .before .before .before .before .before .before .before .before .before .before .args .s .now in let at = h .next .at in let rs = split (drop at s) in let u = c .before .before .before .before .before .before .before .before .before .before .before .before .before .before .before .before .before .before .before .before .links-into in let links = linksTo (h .cats) (linksIn (u .last .1 .1 .1 .0)) in let k = c .before .before .before .before .before .before .before .before .before .before .before .before .before .before .before .next-number in let t = c .before .before .before .before .before .before .before .before .before .types-into in let ts = typesTo (h .methods) (k .result .n) (k .result .n) (typesIn (t .last .1 .1 .1 .1 .1 .0)) in let g = c .before .before .before .before .last-line in
-    let whole : Table = record { subjects = h .subjects; methods = h .methods; cats = links; sheet = k .result .n; types = ts } in
-    subst (SheetIs (c .refused4 .result))
-    (ap sheetAnswer (read-no s (g .result .no) whole (g .result .next .at) _ (g .ensures whole refl) (c .before .if4 .taken)
-    ∙ to-ending (countedIn h) at rs links (u .result .next .at) (split (drop (u .result .next .at) s)) (read-ok s (u .result .no) links (u .result .next .at) _ (u .ensures .0) (c .before .before .before .before .before .before .before .before .before .before .before .before .before .before .before .before .before .if1 .left))
-    (k .result .n) (k .result .next .at) (split (drop (k .result .next .at) s)) (read-ok s (k .result .no) (k .result .n) (k .result .next .at) _ (k .ensures .0) (c .before .before .before .before .before .before .before .before .before .before .before .before .if2 .left))
-    ts (t .result .next .at) (split (drop (t .result .next .at) s)) (read-ok s (t .result .no) ts (t .result .next .at) _ (t .ensures .0) (c .before .before .before .before .before .before .if3 .left)))) (c .refused4 .ensures)
-
-returns-5 : tie.Need-returns-5
-returns-5 c = let h = c .before .before .before .before .before .before .before .before .before .before .before .before .before .before .before .before .before .before .before .before .before .before .before .before .args .h in let s = c .before .before .before .before .before .before .before .before .before .before .before .before .before .before .before .before .before .before .before .before .before .before .before .before .args .s .now in let at = h .next .at in let rs = split (drop at s) in let u = c .before .before .before .before .before .before .before .before .before .before .before .before .before .before .before .before .before .before .before .links-into in let links = linksTo (h .cats) (linksIn (u .last .1 .1 .1 .0)) in let k = c .before .before .before .before .before .before .before .before .before .before .before .before .before .before .next-number in let t = c .before .before .before .before .before .before .before .before .types-into in let ts = typesTo (h .methods) (k .result .n) (k .result .n) (typesIn (t .last .1 .1 .1 .1 .1 .0)) in let g = c .before .before .before .last-line in
-    let whole : Table = record { subjects = h .subjects; methods = h .methods; cats = links; sheet = k .result .n; types = ts } in
-    let counts : Counts = record { subjects = h .subjects; methods = h .methods; cats = h .cats; sheet = k .result .n; types = k .result .n } in
-    let b = t .last .1 .1 .1 .1 .1 .0 in
-    let l = u .last .1 .1 .1 .0 in
-    let r : Sheet = record { no = 0; at = 0; types = b; links = l; counts = counts } in
-    subst (SheetIs r)
-    (ap sheetAnswer (read-ok s (g .result .no) whole (g .result .next .at) _ (g .ensures whole refl) (c .if4 .left)
-    ∙ to-ending (countedIn h) at rs links (u .result .next .at) (split (drop (u .result .next .at) s)) (read-ok s (u .result .no) links (u .result .next .at) _ (u .ensures .0) (c .before .before .before .before .before .before .before .before .before .before .before .before .before .before .before .before .if1 .left))
-    (k .result .n) (k .result .next .at) (split (drop (k .result .next .at) s)) (read-ok s (k .result .no) (k .result .n) (k .result .next .at) _ (k .ensures .0) (c .before .before .before .before .before .before .before .before .before .before .before .if2 .left))
-    ts (t .result .next .at) (split (drop (t .result .next .at) s)) (read-ok s (t .result .no) ts (t .result .next .at) _ (t .ensures .0) (c .before .before .before .before .before .if3 .left))))
-    (record { answer = ap loaded (table-of b l counts); table = table-of b l counts; codes = codes-of b l counts (u .ensures .1 .2 (c .before .before .before .before .before .before .before .before .before .before .before .before .before .before .before .before .if1 .left)) (t .ensures .1 .2 (c .before .before .before .before .before .if3 .left)) })
+returns-3 c =
+    let c2 = c .before .before in
+    let c4 = c2 .before .before in
+    let c7 = c4 .before .before .before in
+    let c9 = c7 .before .before in
+    let c13 = c9 .before .before .before .before in
+    let a = c13 .args in
+    let s = a .s .now in
+    let u = c9 .links-into in
+    let ls = linksIn (u .last .1 .1 .1 .0) in
+    let links = linksTo (a .h .cats) ls in
+    let at = c7 .u2 .given .0 .0 in
+    let y = c4 .next-number in
+    let n = c2 .y2 .given .0 .0 in
+    let e = c2 .y2 .given .0 .1 .0 in
+    c .after-count .ensures links (on-done (u .result) at _ (c7 .u2 .given .1) (u .ensures .1)) (links-count (a .h .cats) ls) ∙ ap (λ z. answered (sheetAnswer z))
+    (count-ok (a .h) (a .c .at) (split (drop (a .c .at) s)) links (at .at) (split (drop (at .at) s)) (done-ok s links (u .result) _ (u .ensures .0) at (c7 .u2 .given .1)) n (e .at) (split (drop (e .at) s))
+    (got-ok (λ n. n) s (at .at) (y .result) _ (y .ensures .0) n e (c2 .y2 .given .1)))
 
 pub after-first-spec : {M : Type 1} → statement M
 after-first-spec =
@@ -96,17 +100,15 @@ after-first-spec =
     (tie.spec
     empty-links-requires
     links-into-requires
+    enum-known-u
     refused-requires
     returns
+    enum-known-u-2
     slice-aggregate-next-number
     next-number-requires
+    enum-known-y
     refused-requires-2
+    enum-known-y-2
+    after-count-requires
     returns-2
-    empty-types-requires
-    types-into-requires
-    refused-requires-3
-    returns-3
-    last-line-requires
-    refused-requires-4
-    returns-4
-    returns-5)
+    returns-3)

@@ -1,12 +1,11 @@
--- Line by line. Rests on the laws of the first four lines.
+-- Rests on `got-no`, `got-ok`, `got-at-most`, `guide-no`, `subjects-no` and `methods-no` and what stands beside them.
 use mathlib.Core.Path.{ap, _∙_}
 use Prim.Native.Nat.{ℕ}
-use native.Mathlib.Omega.{arith}
 use lib.ListN.{drop}
 use borrow.Author.Needs.{needs}
 use Rattle.sheet.specs.Lines.{bytes, split, line}
 use Rattle.sheet.specs.Sheet.{numberLine}
-use Rattle.sheetread.proofs.Readings.{read-no, read-ok, refused-is, guide-no, subjects-no, methods-no, cats-no, first-ok}
+use Rattle.sheetread.proofs.Readings.{got-no, got-ok, got-at-most, guide-no, subjects-no, methods-no, cats-no, first-ok}
 use Rattle.sheetread.proofs.first_lines.Statement.{statement}
 use Rattle.sheetread.proofs.first_lines.Tie as tie
 
@@ -19,14 +18,20 @@ slice-aggregate-next-number c = search needs
 next-number-requires : tie.Need-next-number-requires
 next-number-requires c κs = search needs
 
-no-first-requires : tie.Need-no-first-requires
-no-first-requires c κs = search needs
+enum-known-g : tie.Need-enum-known-g
+enum-known-g c = search needs
 
 returns : tie.Need-returns
-returns c = let s = c .before .before .before .before .before .before .before .before .args .s .now in let g = c .before .before .before .before .next-number in let guide = g .ensures .0 ∙ ap (λ (z : ℕ). line (numberLine (bytes "guide=") 1 1) z (split (drop z s))) (c .before .before .before .before .before .before .start .ensures) in let r = c .no-first in (
-  refused-is s (r .result .no) (g .result .no) (r .result .next .at) (g .result .next .at) _ _ (c .before .if1 .taken) (r .ensures .0) (r .ensures .1) (guide-no 0 (split s) (g .result .no) (g .result .next .at) (read-no s (g .result .no) (g .result .n) (g .result .next .at) _ guide (c .before .if1 .taken))),
-  (omega arith, omega arith, omega arith),
-)
+returns c =
+    let c3 = c .before .before .before in
+    let c5 = c3 .before .before in
+    let c7 = c5 .before .before in
+    let s = c7 .args .s .now in
+    let g = c3 .next-number in
+    (guide-no 0 (split s) _ _ (got-no (λ n. n) s (c5 .start .result .at) (g .result) _ (g .ensures .0) _ (c .before .g .given .1) ∙ ap (λ (z : ℕ). line (numberLine (bytes "guide=") 1 1) z (split (drop z s))) (c5 .start .ensures)), tt)
+
+enum-known-g-2 : tie.Need-enum-known-g-2
+enum-known-g-2 c = search needs
 
 slice-aggregate-next-number-2 : tie.Need-slice-aggregate-next-number-2
 slice-aggregate-next-number-2 c = search needs
@@ -34,15 +39,11 @@ slice-aggregate-next-number-2 c = search needs
 next-number-requires-2 : tie.Need-next-number-requires-2
 next-number-requires-2 c κs = search needs
 
-no-first-requires-2 : tie.Need-no-first-requires-2
-no-first-requires-2 c κs = search needs
+enum-known-u : tie.Need-enum-known-u
+enum-known-u c = search needs
 
-returns-2 : tie.Need-returns-2
-returns-2 c = let s = c .before .before .before .before .before .before .before .before .before .before .before .before .before .args .s .now in let g = c .before .before .before .before .before .before .before .before .before .next-number in let guide = g .ensures .0 ∙ ap (λ (z : ℕ). line (numberLine (bytes "guide=") 1 1) z (split (drop z s))) (c .before .before .before .before .before .before .before .before .before .before .before .start .ensures) in let u = c .before .before .before .before .next-number2 in let r = c .no-first2 in (
-  refused-is s (r .result .no) (u .result .no) (r .result .next .at) (u .result .next .at) _ _ (c .before .if2 .taken) (r .ensures .0) (r .ensures .1)
-      (subjects-no 0 (split s) (g .result .n) (g .result .next .at) (split (drop (g .result .next .at) s)) (read-ok s (g .result .no) (g .result .n) (g .result .next .at) _ guide (c .before .before .before .before .before .before .if1 .left)) (u .result .no) (u .result .next .at) (read-no s (u .result .no) (u .result .n) (u .result .next .at) _ (u .ensures .0) (c .before .if2 .taken))),
-  (omega arith, omega arith, omega arith),
-)
+enum-known-u-2 : tie.Need-enum-known-u-2
+enum-known-u-2 c = search needs
 
 slice-aggregate-next-number-3 : tie.Need-slice-aggregate-next-number-3
 slice-aggregate-next-number-3 c = search needs
@@ -50,15 +51,11 @@ slice-aggregate-next-number-3 c = search needs
 next-number-requires-3 : tie.Need-next-number-requires-3
 next-number-requires-3 c κs = search needs
 
-no-first-requires-3 : tie.Need-no-first-requires-3
-no-first-requires-3 c κs = search needs
+enum-known-m : tie.Need-enum-known-m
+enum-known-m c = search needs
 
-returns-3 : tie.Need-returns-3
-returns-3 c = let s = c .before .before .before .before .before .before .before .before .before .before .before .before .before .before .before .before .before .before .args .s .now in let g = c .before .before .before .before .before .before .before .before .before .before .before .before .before .before .next-number in let guide = g .ensures .0 ∙ ap (λ (z : ℕ). line (numberLine (bytes "guide=") 1 1) z (split (drop z s))) (c .before .before .before .before .before .before .before .before .before .before .before .before .before .before .before .before .start .ensures) in let u = c .before .before .before .before .before .before .before .before .before .next-number2 in let m = c .before .before .before .before .next-number3 in let r = c .no-first3 in (
-  refused-is s (r .result .no) (m .result .no) (r .result .next .at) (m .result .next .at) _ _ (c .before .if3 .taken) (r .ensures .0) (r .ensures .1)
-      (methods-no 0 (split s) (g .result .n) (g .result .next .at) (split (drop (g .result .next .at) s)) (read-ok s (g .result .no) (g .result .n) (g .result .next .at) _ guide (c .before .before .before .before .before .before .before .before .before .before .before .if1 .left)) (u .result .n) (u .result .next .at) (split (drop (u .result .next .at) s)) (read-ok s (u .result .no) (u .result .n) (u .result .next .at) _ (u .ensures .0) (c .before .before .before .before .before .before .if2 .left)) (m .result .no) (m .result .next .at) (read-no s (m .result .no) (m .result .n) (m .result .next .at) _ (m .ensures .0) (c .before .if3 .taken))),
-  (omega arith, omega arith, omega arith),
-)
+enum-known-m-2 : tie.Need-enum-known-m-2
+enum-known-m-2 c = search needs
 
 slice-aggregate-next-number-4 : tie.Need-slice-aggregate-next-number-4
 slice-aggregate-next-number-4 c = search needs
@@ -66,21 +63,113 @@ slice-aggregate-next-number-4 c = search needs
 next-number-requires-4 : tie.Need-next-number-requires-4
 next-number-requires-4 c κs = search needs
 
-no-first-requires-4 : tie.Need-no-first-requires-4
-no-first-requires-4 c κs = search needs
+enum-known-y : tie.Need-enum-known-y
+enum-known-y c = search needs
+
+enum-known-y-2 : tie.Need-enum-known-y-2
+enum-known-y-2 c = search needs
+
+returns-2 : tie.Need-returns-2
+returns-2 c =
+    let c3 = c .before .before .before in
+    let c6 = c3 .before .before .before in
+    let c8 = c6 .before .before in
+    let c10 = c8 .before .before in
+    let c12 = c10 .before .before in
+    let s = c12 .args .s .now in
+    let g = c8 .next-number in
+    let gn = c6 .g2 .given .0 .0 in
+    let gc = c6 .g2 .given .0 .1 .0 in
+    let gr = split (drop (gc .at) s) in
+    let ge = got-ok (λ n. n) s (c10 .start .result .at) (g .result) _ (g .ensures .0) gn gc (c6 .g2 .given .1) ∙ ap (λ (z : ℕ). line (numberLine (bytes "guide=") 1 1) z (split (drop z s))) (c10 .start .ensures) in
+    (subjects-no 0 (split s) gn (gc .at) gr ge _ _ (got-no (λ n. n) s (gc .at) (c3 .next-number2 .result) _ (c3 .next-number2 .ensures .0) _ (c .before .u .given .1)), tt)
+
+returns-3 : tie.Need-returns-3
+returns-3 c =
+    let c3 = c .before .before .before in
+    let c6 = c3 .before .before .before in
+    let c8 = c6 .before .before in
+    let c11 = c8 .before .before .before in
+    let c13 = c11 .before .before in
+    let c15 = c13 .before .before in
+    let c17 = c15 .before .before in
+    let s = c17 .args .s .now in
+    let g = c13 .next-number in
+    let gn = c11 .g2 .given .0 .0 in
+    let gc = c11 .g2 .given .0 .1 .0 in
+    let gr = split (drop (gc .at) s) in
+    let ge = got-ok (λ n. n) s (c15 .start .result .at) (g .result) _ (g .ensures .0) gn gc (c11 .g2 .given .1) ∙ ap (λ (z : ℕ). line (numberLine (bytes "guide=") 1 1) z (split (drop z s))) (c15 .start .ensures) in
+    let u = c8 .next-number2 in
+    let un = c6 .u2 .given .0 .0 in
+    let uc = c6 .u2 .given .0 .1 .0 in
+    let ur = split (drop (uc .at) s) in
+    let ue = got-ok (λ n. n) s (gc .at) (u .result) _ (u .ensures .0) un uc (c6 .u2 .given .1) in
+    (methods-no 0 (split s) gn (gc .at) gr ge un (uc .at) ur ue _ _ (got-no (λ n. n) s (uc .at) (c3 .next-number3 .result) _ (c3 .next-number3 .ensures .0) _ (c .before .m .given .1)), tt)
 
 returns-4 : tie.Need-returns-4
-returns-4 c = let s = c .before .before .before .before .before .before .before .before .before .before .before .before .before .before .before .before .before .before .before .before .before .before .before .args .s .now in let g = c .before .before .before .before .before .before .before .before .before .before .before .before .before .before .before .before .before .before .before .next-number in let guide = g .ensures .0 ∙ ap (λ (z : ℕ). line (numberLine (bytes "guide=") 1 1) z (split (drop z s))) (c .before .before .before .before .before .before .before .before .before .before .before .before .before .before .before .before .before .before .before .before .before .start .ensures) in let u = c .before .before .before .before .before .before .before .before .before .before .before .before .before .before .next-number2 in let m = c .before .before .before .before .before .before .before .before .before .next-number3 in let k = c .before .before .before .before .next-number4 in let r = c .no-first4 in (
-  refused-is s (r .result .no) (k .result .no) (r .result .next .at) (k .result .next .at) _ _ (c .before .if4 .taken) (r .ensures .0) (r .ensures .1)
-      (cats-no 0 (split s) (g .result .n) (g .result .next .at) (split (drop (g .result .next .at) s)) (read-ok s (g .result .no) (g .result .n) (g .result .next .at) _ guide (c .before .before .before .before .before .before .before .before .before .before .before .before .before .before .before .before .if1 .left)) (u .result .n) (u .result .next .at) (split (drop (u .result .next .at) s)) (read-ok s (u .result .no) (u .result .n) (u .result .next .at) _ (u .ensures .0) (c .before .before .before .before .before .before .before .before .before .before .before .if2 .left)) (m .result .n) (m .result .next .at) (split (drop (m .result .next .at) s)) (read-ok s (m .result .no) (m .result .n) (m .result .next .at) _ (m .ensures .0) (c .before .before .before .before .before .before .if3 .left)) (k .result .no) (k .result .next .at) (read-no s (k .result .no) (k .result .n) (k .result .next .at) _ (k .ensures .0) (c .before .if4 .taken))),
-  (omega arith, omega arith, omega arith),
-)
+returns-4 c =
+    let c3 = c .before .before .before in
+    let c6 = c3 .before .before .before in
+    let c8 = c6 .before .before in
+    let c11 = c8 .before .before .before in
+    let c13 = c11 .before .before in
+    let c16 = c13 .before .before .before in
+    let c18 = c16 .before .before in
+    let c20 = c18 .before .before in
+    let c22 = c20 .before .before in
+    let s = c22 .args .s .now in
+    let g = c18 .next-number in
+    let gn = c16 .g2 .given .0 .0 in
+    let gc = c16 .g2 .given .0 .1 .0 in
+    let gr = split (drop (gc .at) s) in
+    let ge = got-ok (λ n. n) s (c20 .start .result .at) (g .result) _ (g .ensures .0) gn gc (c16 .g2 .given .1) ∙ ap (λ (z : ℕ). line (numberLine (bytes "guide=") 1 1) z (split (drop z s))) (c20 .start .ensures) in
+    let u = c13 .next-number2 in
+    let un = c11 .u2 .given .0 .0 in
+    let uc = c11 .u2 .given .0 .1 .0 in
+    let ur = split (drop (uc .at) s) in
+    let ue = got-ok (λ n. n) s (gc .at) (u .result) _ (u .ensures .0) un uc (c11 .u2 .given .1) in
+    let m = c8 .next-number3 in
+    let mn = c6 .m2 .given .0 .0 in
+    let mc = c6 .m2 .given .0 .1 .0 in
+    let mr = split (drop (mc .at) s) in
+    let me = got-ok (λ n. n) s (uc .at) (m .result) _ (m .ensures .0) mn mc (c6 .m2 .given .1) in
+    (cats-no 0 (split s) gn (gc .at) gr ge un (uc .at) ur ue mn (mc .at) mr me _ _ (got-no (λ n. n) s (mc .at) (c3 .next-number4 .result) _ (c3 .next-number4 .ensures .0) _ (c .before .y .given .1)), tt)
 
 returns-5 : tie.Need-returns-5
-returns-5 c = let s = c .before .before .before .before .before .before .before .before .before .before .before .before .before .before .before .before .before .before .before .before .before .before .args .s .now in let g = c .before .before .before .before .before .before .before .before .before .before .before .before .before .before .before .before .before .before .next-number in let guide = g .ensures .0 ∙ ap (λ (z : ℕ). line (numberLine (bytes "guide=") 1 1) z (split (drop z s))) (c .before .before .before .before .before .before .before .before .before .before .before .before .before .before .before .before .before .before .before .before .start .ensures) in let u = c .before .before .before .before .before .before .before .before .before .before .before .before .before .next-number2 in let m = c .before .before .before .before .before .before .before .before .next-number3 in let k = c .before .before .before .next-number4 in (
-  first-ok 0 (split s) (g .result .n) (g .result .next .at) (split (drop (g .result .next .at) s)) (read-ok s (g .result .no) (g .result .n) (g .result .next .at) _ guide (c .before .before .before .before .before .before .before .before .before .before .before .before .before .before .before .if1 .left)) (u .result .n) (u .result .next .at) (split (drop (u .result .next .at) s)) (read-ok s (u .result .no) (u .result .n) (u .result .next .at) _ (u .ensures .0) (c .before .before .before .before .before .before .before .before .before .before .if2 .left)) (m .result .n) (m .result .next .at) (split (drop (m .result .next .at) s)) (read-ok s (m .result .no) (m .result .n) (m .result .next .at) _ (m .ensures .0) (c .before .before .before .before .before .if3 .left)) (k .result .n) (k .result .next .at) (split (drop (k .result .next .at) s)) (read-ok s (k .result .no) (k .result .n) (k .result .next .at) _ (k .ensures .0) (c .if4 .left)),
-  (k .ensures .1 .0, m .ensures .1 .1, k .ensures .1 .1),
-)
+returns-5 c =
+    let c3 = c .before .before .before in
+    let c6 = c3 .before .before .before in
+    let c8 = c6 .before .before in
+    let c11 = c8 .before .before .before in
+    let c13 = c11 .before .before in
+    let c16 = c13 .before .before .before in
+    let c18 = c16 .before .before in
+    let c20 = c18 .before .before in
+    let c22 = c20 .before .before in
+    let s = c22 .args .s .now in
+    let g = c18 .next-number in
+    let gn = c16 .g2 .given .0 .0 in
+    let gc = c16 .g2 .given .0 .1 .0 in
+    let gr = split (drop (gc .at) s) in
+    let ge = got-ok (λ n. n) s (c20 .start .result .at) (g .result) _ (g .ensures .0) gn gc (c16 .g2 .given .1) ∙ ap (λ (z : ℕ). line (numberLine (bytes "guide=") 1 1) z (split (drop z s))) (c20 .start .ensures) in
+    let u = c13 .next-number2 in
+    let un = c11 .u2 .given .0 .0 in
+    let uc = c11 .u2 .given .0 .1 .0 in
+    let ur = split (drop (uc .at) s) in
+    let ue = got-ok (λ n. n) s (gc .at) (u .result) _ (u .ensures .0) un uc (c11 .u2 .given .1) in
+    let m = c8 .next-number3 in
+    let mn = c6 .m2 .given .0 .0 in
+    let mc = c6 .m2 .given .0 .1 .0 in
+    let mr = split (drop (mc .at) s) in
+    let me = got-ok (λ n. n) s (uc .at) (m .result) _ (m .ensures .0) mn mc (c6 .m2 .given .1) in
+    let y = c3 .next-number4 in
+    let yn = c .before .y2 .given .0 .0 in
+    let yc = c .before .y2 .given .0 .1 .0 in
+    let yr = split (drop (yc .at) s) in
+    let ye = got-ok (λ n. n) s (mc .at) (y .result) _ (y .ensures .0) yn yc (c .before .y2 .given .1) in (
+      first-ok 0 (split s) gn (gc .at) gr ge un (uc .at) ur ue mn (mc .at) mr me yn (yc .at) yr ye,
+      (got-at-most 16 (m .result) mn mc (c6 .m2 .given .1) (m .ensures .1), got-at-most 31 (y .result) yn yc (c .before .y2 .given .1) (y .ensures .1)),
+    )
 
 pub first-lines-spec : {M : Type 1} → statement M
 first-lines-spec =
@@ -89,18 +178,22 @@ first-lines-spec =
     start-requires
     slice-aggregate-next-number
     next-number-requires
-    no-first-requires
+    enum-known-g
     returns
+    enum-known-g-2
     slice-aggregate-next-number-2
     next-number-requires-2
-    no-first-requires-2
-    returns-2
+    enum-known-u
+    enum-known-u-2
     slice-aggregate-next-number-3
     next-number-requires-3
-    no-first-requires-3
-    returns-3
+    enum-known-m
+    enum-known-m-2
     slice-aggregate-next-number-4
     next-number-requires-4
-    no-first-requires-4
+    enum-known-y
+    enum-known-y-2
+    returns-2
+    returns-3
     returns-4
     returns-5)

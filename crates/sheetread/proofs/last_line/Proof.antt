@@ -1,31 +1,75 @@
--- Test by test. Rests on the laws of the sheet's end, and `own-table`.
-use mathlib.Core.Path.{refl, sym, _∙_}
+-- Rests on `got-no`, `got-ok`, `ending-no`, `ending-more`, `ending-own` and `ending-good` and what stands beside them.
+use mathlib.Core.Path.{sym, _∙_}
 use borrow.Author.Needs.{needs}
+use borrow.Author.Tests.{not-true, not-false}
 use Rattle.table.specs.Store.{typesIn}
-use Rattle.sheetread.proofs.Owned.{own-table}
-use Rattle.sheetread.proofs.Readings.{read-no, read-ok, refused-is, ending-no, ending-more, ending-own, ending-good}
+use Rattle.sheetread.proofs.Readings.{got-no, got-ok, ending-no, ending-more, ending-own, ending-good}
+use Rattle.sheetread.proofs.Standing.{table-stands}
 use Rattle.sheetread.proofs.last_line.Statement.{statement}
 use Rattle.sheetread.proofs.last_line.Tie as tie
 
 next-end-requires : tie.Need-next-end-requires
 next-end-requires c κs = search needs
 
+enum-known-g : tie.Need-enum-known-g
+enum-known-g c = search needs
+
+enum-known-g-2 : tie.Need-enum-known-g-2
+enum-known-g-2 c = search needs
+
 returns : tie.Need-returns
-returns c = let a = c .before .before .before .before .before .args in let s = a .s .now in let g = c .before .before .before .next-end in λ t e. refused-is s (g .result .no) (g .result .no) (g .result .next .at) (g .result .next .at) t _ (c .if1 .taken) refl refl (ending-no t s (a .c .at) (g .result .no) (g .result .next .at) (read-no s (g .result .no) tt (g .result .next .at) _ (g .ensures .0) (c .if1 .taken)))
+returns c =
+    let a = c .before .before .before .before .before .before .before .args in
+    let s = a .s .now in
+    let g = c .before .before .before .before .before .next-end in
+    let next = c .before .before .before .g2 .given .0 .1 .0 in
+    λ t e. ending-more t s (a .c .at) (next .at) (got-ok (λ n. tt) s (a .c .at) (g .result) _ (g .ensures) _ next (c .before .before .before .g2 .given .1)) (c .if1 .taken)
+
+types-stand-requires : tie.Need-types-stand-requires
+types-stand-requires c κs = search needs
 
 returns-2 : tie.Need-returns-2
-returns-2 c = let a = c .before .before .before .before .before .before .before .args in let s = a .s .now in let g = c .before .before .before .before .before .next-end in λ t e. ending-more t s (a .c .at) (g .result .next .at) (read-ok s (g .result .no) tt (g .result .next .at) _ (g .ensures .0) (c .before .before .if1 .left)) (c .if2 .taken)
-
-own-in-types-requires : tie.Need-own-in-types-requires
-own-in-types-requires c κs = search needs
+returns-2 c =
+    let c2 = c .before .before in
+    let c5 = c2 .before .before .before in
+    let c7 = c5 .before .before in
+    let c9 = c7 .before .before in
+    let a = c9 .args in
+    let s = a .s .now in
+    let g = c7 .next-end in
+    let next = c5 .g2 .given .0 .1 .0 in
+    λ t e. ending-own t s (a .c .at) (next .at) (got-ok (λ n. tt) s (a .c .at) (g .result) _ (g .ensures) _ next (c5 .g2 .given .1)) (c2 .if1 .left)
+    (table-stands t (a .m) (a .n) (typesIn (a .b .now)) e ∙ sym (c .before .types-stand .ensures) ∙ not-true (c .before .types-stand .result) (c .if2 .taken))
 
 returns-3 : tie.Need-returns-3
-returns-3 c = let a = c .before .before .before .before .before .before .before .before .before .args in let s = a .s .now in let g = c .before .before .before .before .before .before .before .next-end in λ t e. ending-own t s (a .c .at) (g .result .next .at) (read-ok s (g .result .no) tt (g .result .next .at) _ (g .ensures .0) (c .before .before .before .before .if1 .left)) (c .before .before .if2 .left) (own-table t (a .m) (a .n) (typesIn (a .b .now)) e ∙ sym (c .before .own-in-types .ensures) ∙ c .if3 .taken)
+returns-3 c =
+    let a = c .before .before .before .before .before .args in
+    let s = a .s .now in
+    let g = c .before .before .before .next-end in
+    λ t e. ending-no t s (a .c .at) _ (a .c .at) (got-no (λ n. tt) s (a .c .at) (g .result) _ (g .ensures) _ (c .before .g .given .1))
 
 returns-4 : tie.Need-returns-4
-returns-4 c = let a = c .before .before .before .before .before .before .before .before .before .args in let s = a .s .now in let g = c .before .before .before .before .before .before .before .next-end in λ t e. ending-good t s (a .c .at) (g .result .next .at) (read-ok s (g .result .no) tt (g .result .next .at) _ (g .ensures .0) (c .before .before .before .before .if1 .left)) (c .before .before .if2 .left) (own-table t (a .m) (a .n) (typesIn (a .b .now)) e ∙ sym (c .before .own-in-types .ensures) ∙ c .if3 .left)
+returns-4 c =
+    let c2 = c .before .before in
+    let c5 = c2 .before .before .before in
+    let c7 = c5 .before .before in
+    let c9 = c7 .before .before in
+    let a = c9 .args in
+    let s = a .s .now in
+    let g = c7 .next-end in
+    let next = c5 .g2 .given .0 .1 .0 in
+    λ t e. ending-good t s (a .c .at) (next .at) (got-ok (λ n. tt) s (a .c .at) (g .result) _ (g .ensures) _ next (c5 .g2 .given .1)) (c2 .if1 .left)
+    (table-stands t (a .m) (a .n) (typesIn (a .b .now)) e ∙ sym (c .before .types-stand .ensures) ∙ not-false (c .before .types-stand .result) (c .if2 .left))
 
 pub last-line-spec : {M : Type 1} → statement M
 last-line-spec =
     tie.close
-    (tie.spec next-end-requires returns returns-2 own-in-types-requires returns-3 returns-4)
+    (tie.spec
+    next-end-requires
+    enum-known-g
+    enum-known-g-2
+    returns
+    types-stand-requires
+    returns-2
+    returns-3
+    returns-4)

@@ -1,25 +1,33 @@
--- Rests on `number-means` and `number-fits`.
+-- Rests on `sheet-key`, `number-exact`, `number-means` and `methods-blank`.
+use mathlib.Core.Path.{refl, ap}
+use native.Mathlib.Omega.{arith}
+use lib.ListN.{replicate}
 use borrow.Author.Needs.{needs}
+use Rattle.table.proofs.Exact.{sheet-key, number-exact}
 use Rattle.table.specs.Store.{rawOf}
-use Rattle.sheetread.proofs.Stored.{number-means}
-use Rattle.sheetread.proofs.Named.{number-fits}
+use Rattle.table.specs.declared.Head.{Head}
+use Rattle.sheetread.proofs.Stored.{number-means, methods-blank}
 use Rattle.sheetread.proofs.number_type.Statement.{statement}
 use Rattle.sheetread.proofs.number_type.Tie as tie
 
 empty-requires : tie.Need-empty-requires
 empty-requires c κs = search needs
 
-narrow-requires : tie.Need-narrow-requires
-narrow-requires c κs = search needs
-
-narrow-requires-2 : tie.Need-narrow-requires-2
-narrow-requires-2 c κs = search needs
+sheet-head-requires : tie.Need-sheet-head-requires
+sheet-head-requires c κs = search needs
 
 returns : tie.Need-returns
-returns c = let a = c .before .before .before .args in let q = c .before .before .before .pre in let t = c .before .before .empty .result in let x = rawOf (record { rep = c .before .narrow .result; cat = c .narrow2 .result; own = t .own; kind = t .kind; left = t .left; right = t .right; methods = t .methods }) in (
-  λ m n i h. number-means m n i x h (a .rep) (a .cat) (q .0) (c .before .narrow .ensures) (c .narrow2 .ensures),
-  λ m n i h. number-fits m n i x h (a .rep) (q .0) (q .1) (c .before .narrow .ensures),
-)
+returns c =
+    let a = c .before .before .args in
+    let q = c .before .before .pre in
+    let h = c .sheet-head .ensures in
+    let none = c .before .empty .result in
+    let x = rawOf (record { head = c .sheet-head .result; methods = replicate 16 none }) in
+    let rep = ap (λ (z : Head). z .rep) h in (
+      λ m n i l. number-means m n i x l (a .rep) (a .cat) (q .0) rep (ap (λ (z : Head). z .cat) h),
+      λ m n i l. number-exact m n i x refl (sheet-key n i x l (ap (λ (z : Head). z .kind) h) (ap (λ (z : Head). z .left) h) (ap (λ (z : Head). z .right) h))
+          (λ z. omega (arith, rep, z, q .0)) (omega (arith, rep, q .1)) (ap (λ (z : Head). z .own) h) (λ j k. methods-blank none (c .before .empty .ensures) .rest j (omega arith) k),
+    )
 
 pub number-type-spec : {M : Type 1} → statement M
-number-type-spec = tie.close (tie.spec empty-requires narrow-requires narrow-requires-2 returns)
+number-type-spec = tie.close (tie.spec empty-requires sheet-head-requires returns)

@@ -1,17 +1,18 @@
--- Line by line. Rests on the laws of a reference type's lines, `ref-means` and `ref-fits`.
+-- Rests on `sheet-key`, `ref-exact`, `read-no`, `read-ok`, `refused-is` and `got-no` and what stands beside them.
 use mathlib.Core.List.{map}
-use mathlib.Core.Path.{refl, sym, ap, _∙_}
+use mathlib.Core.Path.{sym, ap, _∙_}
 use Prim.Native.Nat.{_≤_}
 use native.Mathlib.Omega.{arith}
-use lib.Dec.{eqb}
-use lib.ListN.{length, drop, take}
+use lib.ListN.{length, drop, take, length-map}
 use borrow.Author.Needs.{needs}
 use Rattle.model.specs.Table.{Ty}
-use Rattle.table.specs.Store.{rawOf}
+use Rattle.table.proofs.Exact.{sheet-key, ref-exact}
+use Rattle.table.specs.Store.{rawOf, rawMethod}
+use Rattle.table.specs.declared.Head.{Head}
 use Rattle.sheet.specs.Lines.{split, got}
-use Rattle.sheetread.proofs.Readings.{read-no, read-ok, refused-is, member-own-no, member-methods-no, member-ok}
+use Rattle.lineread.specs.View.{yesOf}
+use Rattle.sheetread.proofs.Readings.{read-no, read-ok, refused-is, got-no, got-ok, got-refusal, got-at-most, member-own-no, member-methods-no, member-ok}
 use Rattle.sheetread.proofs.Stored.{methods-all, ref-means}
-use Rattle.sheetread.proofs.Named.{ref-fits}
 use Rattle.sheetread.specs.View.{methodIs}
 use Rattle.sheetread.proofs.ref_type.Statement.{statement}
 use Rattle.sheetread.proofs.ref_type.Tie as tie
@@ -19,15 +20,14 @@ use Rattle.sheetread.proofs.ref_type.Tie as tie
 next-own-requires : tie.Need-next-own-requires
 next-own-requires c κs = search needs
 
+enum-known-o : tie.Need-enum-known-o
+enum-known-o c = search needs
+
 no-type-requires : tie.Need-no-type-requires
 no-type-requires c κs = search needs
 
-returns : tie.Need-returns
-returns c = let a = c .before .before .before .before .before .before .args in let s = a .s .now in let o = c .before .before .before .before .next-own in let r = c .no-type in (
-  λ i h. refused-is s (r .result .no) (o .result .no) (r .result .next .at) (o .result .next .at) _ _ (c .before .if1 .taken) (r .ensures .0) (r .ensures .1)
-      (member-own-no (a .m) (a .n) (a .cat) (a .c .at) (split (drop (a .c .at) s)) (o .result .no) (o .result .next .at) (read-no s (o .result .no) (eqb (o .result .n) 1) (o .result .next .at) _ (o .ensures .0) (c .before .if1 .taken))),
-  (omega arith, λ i h z. absurd (c .before .if1 .taken (sym (r .ensures .0) ∙ z))),
-)
+enum-known-o-2 : tie.Need-enum-known-o-2
+enum-known-o-2 c = search needs
 
 methods-at-requires : tie.Need-methods-at-requires
 methods-at-requires c κs = search needs
@@ -35,39 +35,83 @@ methods-at-requires c κs = search needs
 no-type-requires-2 : tie.Need-no-type-requires-2
 no-type-requires-2 c κs = search needs
 
+returns : tie.Need-returns
+returns c =
+    let a = c .before .before .before .before .before .before .before .before .before .before .args in
+    let s = a .s .now in
+    let o = c .before .before .before .before .before .before .before .before .next-own in
+    let on = c .before .before .before .before .before .before .o2 .given .0 .0 in
+    let oc = c .before .before .before .before .before .before .o2 .given .0 .1 .0 in
+    let oe = got-ok yesOf s (a .c .at) (o .result) _ (o .ensures .0) on oc (c .before .before .before .before .before .before .o2 .given .1) in
+    let g = c .before .before .before .before .methods-at in
+    let r = c .no-type2 in (
+      λ i h. refused-is s (r .result .refusal) (g .result .refusal) (r .result .next .at) (g .result .next .at) _ _ (c .before .if1 .taken) (r .ensures .0) (r .ensures .1)
+          (member-methods-no (a .m) (a .n) (a .cat) (a .c .at) (split (drop (a .c .at) s)) (yesOf on) (oc .at) (split (drop (oc .at) s)) oe
+          (g .result .refusal) (g .result .next .at) (read-no s (g .result .refusal) (map methodIs (take (a .m) (g .result .list))) (g .result .next .at) _ (g .ensures .0) (c .before .if1 .taken))),
+      λ i h z. absurd (c .before .if1 .taken (sym (r .ensures .0) ∙ z)),
+    )
+
+sheet-head-requires : tie.Need-sheet-head-requires
+sheet-head-requires c κs =
+    let c6 = c .before .before .before .before .before .before in
+    let c8 = c6 .before .before in
+    let c10 = c8 .before .before in
+    (omega arith, c10 .pre .0, got-at-most 1 (c8 .next-own .result) (c6 .o2 .given .0 .0) (c6 .o2 .given .0 .1 .0) (c6 .o2 .given .1) (c8 .next-own .ensures .1))
+
 returns-2 : tie.Need-returns-2
-returns-2 c = let a = c .before .before .before .before .before .before .before .before .before .before .args in let s = a .s .now in let o = c .before .before .before .before .before .before .before .before .next-own in let g = c .before .before .before .before .methods-at in let r = c .no-type2 in (
-  λ i h. refused-is s (r .result .no) (g .result .no) (r .result .next .at) (g .result .next .at) _ _ (c .before .if2 .taken) (r .ensures .0) (r .ensures .1)
-      (member-methods-no (a .m) (a .n) (a .cat) (a .c .at) (split (drop (a .c .at) s)) (eqb (o .result .n) 1) (o .result .next .at) (split (drop (o .result .next .at) s)) (read-ok s (o .result .no) (eqb (o .result .n) 1) (o .result .next .at) _ (o .ensures .0) (c .before .before .before .before .before .if1 .left))
-      (g .result .no) (g .result .next .at) (read-no s (g .result .no) (map methodIs (take (a .m) (g .result .list))) (g .result .next .at) _ (g .ensures .0) (c .before .if2 .taken))),
-  (omega arith, λ i h z. absurd (c .before .if2 .taken (sym (r .ensures .0) ∙ z))),
-)
-
-narrow-requires : tie.Need-narrow-requires
-narrow-requires c κs = search needs
-
-narrow-requires-2 : tie.Need-narrow-requires-2
-narrow-requires-2 c κs = search needs
+returns-2 c =
+    let a = c .before .before .before .before .before .before .args in
+    let s = a .s .now in
+    let o = c .before .before .before .before .next-own in
+    let k = c .before .before .o .given .0 .0 in
+    let r = c .no-type in
+    let nz = got-refusal 1 (o .result) k (c .before .before .o .given .1) (o .ensures .1) in (
+      λ i h. refused-is s (r .result .refusal) k (r .result .next .at) (a .c .at) _ _ nz (r .ensures .0) (r .ensures .1)
+          (member-own-no (a .m) (a .n) (a .cat) (a .c .at) (split (drop (a .c .at) s)) k (a .c .at) (got-no yesOf s (a .c .at) (o .result) _ (o .ensures .0) k (c .before .before .o .given .1))),
+      λ i h z. absurd (nz (sym (r .ensures .0) ∙ z)),
+    )
 
 returns-3 : tie.Need-returns-3
-returns-3 c = let a = c .before .before .before .before .before .before .before .before .before .before .before .before .args in let s = a .s .now in let o = c .before .before .before .before .before .before .before .before .before .before .next-own in let g = c .before .before .before .before .before .before .methods-at in let few : a .m ≤ length (g .result .list) = omega (arith, g .ensures .1 .1, c .before .before .before .before .before .before .before .before .before .before .before .before .pre .2) in let x = rawOf (record { rep = 0; cat = c .before .narrow .result; own = c .narrow2 .result; kind = 0; left = 0; right = 0; methods = g .result .list }) in (
-  λ i h. ap (λ (z : Ty). got z (g .result .next .at) (split (drop (g .result .next .at) s)))
-      (ref-means (a .m) (a .n) i x h (a .cat) (o .result .n) (map methodIs (take (a .m) (g .result .list))) refl (c .before .narrow .ensures) (c .narrow2 .ensures) (methods-all (g .result .list) (a .m) few))
-      ∙ member-ok (a .m) (a .n) (a .cat) (a .c .at) (split (drop (a .c .at) s)) (eqb (o .result .n) 1) (o .result .next .at) (split (drop (o .result .next .at) s)) (read-ok s (o .result .no) (eqb (o .result .n) 1) (o .result .next .at) _ (o .ensures .0) (c .before .before .before .before .before .before .before .if1 .left))
-      (map methodIs (take (a .m) (g .result .list))) (g .result .next .at) (split (drop (g .result .next .at) s)) (read-ok s (g .result .no) (map methodIs (take (a .m) (g .result .list))) (g .result .next .at) _ (g .ensures .0) (c .before .before .before .if2 .left)),
-  (g .ensures .1 .0, λ i h z. ref-fits (a .m) (a .n) i x h (g .result .list) refl (omega (arith, c .narrow2 .ensures, o .ensures .1 .1)) refl (g .ensures .1 .2)),
-)
+returns-3 c =
+    let c2 = c .before .before in
+    let c5 = c2 .before .before .before in
+    let c7 = c5 .before .before in
+    let c9 = c7 .before .before in
+    let c11 = c9 .before .before in
+    let a = c11 .args in
+    let s = a .s .now in
+    let o = c9 .next-own in
+    let on = c7 .o2 .given .0 .0 in
+    let oc = c7 .o2 .given .0 .1 .0 in
+    let oe = got-ok yesOf s (a .c .at) (o .result) _ (o .ensures .0) on oc (c7 .o2 .given .1) in
+    let g = c5 .methods-at in
+    let list = g .result .list in
+    let few : a .m ≤ length list = omega (arith, g .ensures .1 .1, c11 .pre .1) in
+    let head = c .sheet-head .ensures in
+    let x = rawOf (record { head = c .sheet-head .result; methods = list }) in
+    let exact = g .ensures .1 .0 (c2 .if1 .left) in (
+      λ i h. ap (λ (z : Ty). got z (g .result .next .at) (split (drop (g .result .next .at) s)))
+          (ref-means (a .m) (a .n) i x h (a .cat) on (map methodIs (take (a .m) list)) (ap (λ (z : Head). z .rep) head) (ap (λ (z : Head). z .cat) head) (ap (λ (z : Head). z .own) head) (methods-all list (a .m) few))
+          ∙ member-ok (a .m) (a .n) (a .cat) (a .c .at) (split (drop (a .c .at) s)) (yesOf on) (oc .at) (split (drop (oc .at) s)) oe
+          (map methodIs (take (a .m) list)) (g .result .next .at) (split (drop (g .result .next .at) s)) (read-ok s (g .result .refusal) (map methodIs (take (a .m) list)) (g .result .next .at) _ (g .ensures .0) (c2 .if1 .left)),
+      λ i h z. ref-exact (a .m) (a .n) i x (length-map list rawMethod ∙ g .ensures .1 .1)
+          (sheet-key (a .n) i x h (ap (λ (z : Head). z .kind) head) (ap (λ (z : Head). z .left) head) (ap (λ (z : Head). z .right) head))
+          (ap (λ (z : Head). z .rep) head)
+          (omega (arith, ap (λ (z : Head). z .own) head, got-at-most 1 (o .result) on oc (c7 .o2 .given .1) (o .ensures .1)))
+          (exact .exact) (exact .rest),
+    )
 
 pub ref-type-spec : {M : Type 1} → statement M
 ref-type-spec =
     tie.close
     (tie.spec
     next-own-requires
+    enum-known-o
     no-type-requires
-    returns
+    enum-known-o-2
     methods-at-requires
     no-type-requires-2
+    returns
+    sheet-head-requires
     returns-2
-    narrow-requires
-    narrow-requires-2
     returns-3)

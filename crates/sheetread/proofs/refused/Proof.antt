@@ -1,12 +1,6 @@
--- Every count is 0. Rests on `table-empty` and `codes-empty`.
-use mathlib.Core.Bool.{cond}
-use mathlib.Core.Path.{ap}
+-- Rests on `sheet-malformed`.
 use borrow.Author.Needs.{needs}
-use borrow.Author.Tests.{ne-eqb}
-use Rattle.table.specs.Store.{tableIn}
-use Rattle.sheet.specs.Sheet.{malformed, loaded}
-use Rattle.sheetread.proofs.Stored.{table-empty}
-use Rattle.sheetread.proofs.Named.{codes-empty}
+use Rattle.sheetread.proofs.Stored.{sheet-malformed}
 use Rattle.sheetread.proofs.refused.Statement.{statement}
 use Rattle.sheetread.proofs.refused.Tie as tie
 
@@ -20,8 +14,10 @@ empty-requires : tie.Need-empty-requires
 empty-requires c κs = search needs
 
 returns : tie.Need-returns
-returns c = let a = c .before .before .before .args in let t = c .before .before .empty-types .result in let l = c .before .empty-links .result in let k = c .empty .result in
-    record { answer = ap (λ z. cond z (loaded (tableIn t l k)) (malformed (a .no) (a .at))) (ne-eqb (a .no) 0 (c .before .before .before .pre)); table = table-empty t l k (c .empty .ensures); codes = codes-empty t l k (c .empty .ensures) }
+returns c =
+    let c2 = c .before .before in
+    let c3 = c2 .before in
+    sheet-malformed (c3 .args .refusal) (c3 .args .at) _ _ _ (c2 .empty-types .ensures) (c .before .empty-links .ensures) (c .empty .ensures)
 
 pub refused-spec : {M : Type 1} → statement M
 refused-spec =

@@ -5,23 +5,23 @@ use borrow.Author.Needs.{needs}
 use Rattle.sheetwrite.proofs.put_sheet.Statement.{statement}
 use Rattle.sheetwrite.proofs.put_sheet.Tie as tie
 
-front-lines-requires : tie.Need-front-lines-requires
-front-lines-requires c κs = search needs
+write-front-requires : tie.Need-write-front-requires
+write-front-requires c κs = search needs
 
-upto-requires : tie.Need-upto-requires
-upto-requires c κs = search needs
+least-requires : tie.Need-least-requires
+least-requires c κs = search needs
 
-sub-back-lines : tie.Need-sub-back-lines
-sub-back-lines c = search needs
+sub-write-back : tie.Need-sub-write-back
+sub-write-back c = search needs
 
-part-back-lines-start : tie.Need-part-back-lines-start
-part-back-lines-start c = search needs
+part-write-back-start : tie.Need-part-write-back-start
+part-write-back-start c = search needs
 
-part-back-lines-end : tie.Need-part-back-lines-end
-part-back-lines-end c = search needs
+part-write-back-end : tie.Need-part-write-back-end
+part-write-back-end c = search needs
 
-back-lines-requires : tie.Need-back-lines-requires
-back-lines-requires c κs = search needs
+write-back-requires : tie.Need-write-back-requires
+write-back-requires c κs = search needs
 
 add-result : tie.Need-add-result
 add-result c = search needs
@@ -30,19 +30,25 @@ same-length : tie.Need-same-length
 same-length c = search needs
 
 returns : tie.Need-returns
-returns c = let a = c .before .before .before .before .before .before .before .before .before .before .args in
-    sheet-is (a .b .now) (a .l .now) (a .c) (c .before .before .before .before .before .before .before .before .before .before .pre) (lines-rest (c .before .before .before .before .before .before .before .front-lines .ensures .0) (c .before .before .before .before .upto .ensures .0) (c .before .before .back-lines .ensures .0))
+returns c =
+    let a′ = c .before .before .before .before .before .before .before .before .before .before .args in
+    let pre = c .before .before .before .before .before .before .before .before .before .before .pre in
+    let write-front = c .before .before .before .before .before .before .before .write-front in
+    let least = c .before .before .before .before .least in
+    let write-back = c .before .before .write-back in
+    let a = a′ in
+    sheet-is (a .b .now) (a .l .now) (a .c) (pre) (lines-rest (write-front .ensures .0) (least .ensures .0) (write-back .ensures .0))
 
 pub put-sheet-spec : {M : Type 1} → statement M
 put-sheet-spec =
     tie.close
     (tie.spec
-    front-lines-requires
-    upto-requires
-    sub-back-lines
-    part-back-lines-start
-    part-back-lines-end
-    back-lines-requires
+    write-front-requires
+    least-requires
+    sub-write-back
+    part-write-back-start
+    part-write-back-end
+    write-back-requires
     add-result
     same-length
     returns)

@@ -1,4 +1,4 @@
--- The digits from here on give the same number. Rests on the laws of digits.
+-- Rests on `digits-low`, `digits-high`, `digits-more` and `digits-end`.
 use mathlib.Core.Path.{_≡_, _∙_}
 use Prim.Native.Nat.{_≤_, _-_}
 use native.Mathlib.Omega.{arith}
@@ -25,19 +25,26 @@ wide-requires : tie.Need-wide-requires Inv-loop μ-loop
 wide-requires c κs = search needs
 
 returns : tie.Need-returns Inv-loop μ-loop
-returns c = (digits-low _ _ _ _ (c .before .before .before .loop-test .taken) (c .before .wide .ensures .0) (c .if1 .taken) ∙ c .before .before .before .before .loop .inv .2, omega arith)
+returns c =
+    let c3 = c .before .before .before in
+    let c4 = c3 .before in
+    (digits-low _ _ _ _ (c3 .loop-test .taken) (c .before .wide .ensures .0) (c .if1 .taken) ∙ c4 .loop .inv .2, (omega arith, omega arith))
 
 returns-2 : tie.Need-returns-2 Inv-loop μ-loop
-returns-2 c = (digits-high _ _ _ _ (c .before .before .before .before .loop-test .taken) (c .before .before .wide .ensures .0) (c .before .if1 .left) (c .if2 .taken) ∙ c .before .before .before .before .before .loop .inv .2, omega arith)
+returns-2 c =
+    let c2 = c .before .before in
+    let c4 = c2 .before .before in
+    let c5 = c4 .before in
+    (digits-high _ _ _ _ (c4 .loop-test .taken) (c2 .wide .ensures .0) (c .before .if1 .left) (c .if2 .taken) ∙ c5 .loop .inv .2, (omega arith, omega arith))
 
-mul-limit : tie.Need-mul-limit Inv-loop μ-loop
-mul-limit c = search needs
+mul-least : tie.Need-mul-least Inv-loop μ-loop
+mul-least c = search needs
 
-add-limit : tie.Need-add-limit Inv-loop μ-loop
-add-limit c = search needs
+add-least : tie.Need-add-least Inv-loop μ-loop
+add-least c = search needs
 
-limit-requires : tie.Need-limit-requires Inv-loop μ-loop
-limit-requires c κs = search needs
+least-requires : tie.Need-least-requires Inv-loop μ-loop
+least-requires c κs = search needs
 
 add-i : tie.Need-add-i Inv-loop μ-loop
 add-i c = search needs
@@ -46,10 +53,15 @@ loop-less : tie.Need-loop-less Inv-loop μ-loop
 loop-less c = search needs
 
 loop-again : tie.Need-loop-again Inv-loop μ-loop
-loop-again c = (omega arith, omega arith, digits-more _ _ _ _ (c .before .before .before .before .before .loop-test .taken) (c .before .before .before .wide .ensures .0) _ (c .before .before .if1 .left) (c .before .if2 .left) (c .limit .ensures .0) ∙ c .before .before .before .before .before .before .loop .inv .2)
+loop-again c =
+    let c2 = c .before .before in
+    let c3 = c2 .before in
+    let c5 = c3 .before .before in
+    let c6 = c5 .before in
+    (omega arith, omega arith, digits-more _ _ _ _ (c5 .loop-test .taken) (c3 .wide .ensures .0) _ (c2 .if1 .left) (c .before .if2 .left) (c .least .ensures .0) ∙ c6 .loop .inv .2)
 
 returns-3 : tie.Need-returns-3 Inv-loop μ-loop
-returns-3 c = (digits-end _ _ _ (c .loop-test .left) ∙ c .before .loop .inv .2, omega arith)
+returns-3 c = (digits-end _ _ _ (c .loop-test .left) ∙ c .before .loop .inv .2, (omega arith, omega arith))
 
 pub digits-at-spec : {M : Type 1} → statement M
 digits-at-spec =
@@ -62,9 +74,9 @@ digits-at-spec =
     wide-requires
     returns
     returns-2
-    mul-limit
-    add-limit
-    limit-requires
+    mul-least
+    add-least
+    least-requires
     add-i
     loop-less
     loop-again

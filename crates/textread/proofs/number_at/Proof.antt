@@ -1,4 +1,4 @@
--- By the first byte. Rests on the laws of a number.
+-- Rests on `number-none`, `number-zero`, `number-low`, `number-high` and `number-more`.
 use mathlib.Core.Path.{_∙_}
 use Prim.Native.Nat.{_<_}
 use native.Mathlib.Omega.{arith}
@@ -9,7 +9,7 @@ use Rattle.textread.proofs.number_at.Statement.{statement}
 use Rattle.textread.proofs.number_at.Tie as tie
 
 returns : tie.Need-returns
-returns c = (number-none _ _ (c .if1 .taken), search needs)
+returns c = (number-none _ _ (c .if1 .taken), tt)
 
 shared-slice-read-wide : tie.Need-shared-slice-read-wide
 shared-slice-read-wide c = search needs
@@ -21,13 +21,22 @@ add-t8 : tie.Need-add-t8
 add-t8 c = search needs
 
 returns-2 : tie.Need-returns-2
-returns-2 c = let h : c .before .before .before .before .before .args .at < length (c .before .before .before .before .before .args .l .now) = omega arith in (number-zero _ _ _ h (c .before .wide .ensures .0) (c .if2 .taken), (omega arith, omega arith))
+returns-2 c =
+    let c5 = c .before .before .before .before .before in
+    let h : c5 .args .at < length (c5 .args .l .now) = omega arith in (number-zero _ _ _ h (c .before .wide .ensures .0) (c .if2 .taken), (omega arith, omega arith))
 
 returns-3 : tie.Need-returns-3
-returns-3 c = let h : c .before .before .before .before .before .before .args .at < length (c .before .before .before .before .before .before .args .l .now) = omega arith in (number-low _ _ _ h (c .before .before .wide .ensures .0) (c .before .if2 .left) (c .if3 .taken), (omega arith, omega arith))
+returns-3 c =
+    let c2 = c .before .before in
+    let c6 = c2 .before .before .before .before in
+    let h : c6 .args .at < length (c6 .args .l .now) = omega arith in (number-low _ _ _ h (c2 .wide .ensures .0) (c .before .if2 .left) (c .if3 .taken), tt)
 
 returns-4 : tie.Need-returns-4
-returns-4 c = let h : c .before .before .before .before .before .before .before .args .at < length (c .before .before .before .before .before .before .before .args .l .now) = omega arith in (number-high _ _ _ h (c .before .before .before .wide .ensures .0) (c .before .before .if2 .left) (c .before .if3 .left) (c .if4 .taken), (omega arith, omega arith))
+returns-4 c =
+    let c2 = c .before .before in
+    let c3 = c2 .before in
+    let c7 = c3 .before .before .before .before in
+    let h : c7 .args .at < length (c7 .args .l .now) = omega arith in (number-high _ _ _ h (c3 .wide .ensures .0) (c2 .if2 .left) (c .before .if3 .left) (c .if4 .taken), tt)
 
 add-digits-at : tie.Need-add-digits-at
 add-digits-at c = search needs
@@ -36,7 +45,12 @@ digits-at-requires : tie.Need-digits-at-requires
 digits-at-requires c κs = search needs
 
 returns-5 : tie.Need-returns-5
-returns-5 c = let h : c .before .before .before .before .before .before .before .before .args .at < length (c .before .before .before .before .before .before .before .before .args .l .now) = omega arith in (c .digits-at .ensures .0 ∙ number-more _ _ _ h (c .before .before .before .before .wide .ensures .0) (c .before .before .before .if2 .left) (c .before .before .if3 .left) (c .before .if4 .left), c .digits-at .ensures .1)
+returns-5 c =
+    let c2 = c .before .before in
+    let c3 = c2 .before in
+    let c4 = c3 .before in
+    let c8 = c4 .before .before .before .before in
+    let h : c8 .args .at < length (c8 .args .l .now) = omega arith in (c .digits-at .ensures .0 ∙ number-more _ _ _ h (c4 .wide .ensures .0) (c3 .if2 .left) (c2 .if3 .left) (c .before .if4 .left), c .digits-at .ensures .1)
 
 pub number-at-spec : {M : Type 1} → statement M
 number-at-spec =

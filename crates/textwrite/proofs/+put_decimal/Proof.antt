@@ -15,7 +15,7 @@ use Rattle.textwrite.proofs.put_decimal.Kinds as put-decimal-kinds
 use Rattle.textwrite.proofs.+put_decimal.Lts-put_decimal as put-decimal-lts
 use Rattle.textwrite.proofs.digit.Reads as digit-reads
 use Rattle.textwrite.proofs.put_byte.Reads as put-byte-reads
-use Rattle.textwrite.proofs.upto.Reads as upto-reads
+use Rattle.numbers.proofs.least.Reads as least-reads
 use Rattle.textwrite.proofs.+put_decimal.{statement}
 use Rattle.textwrite.proofs.+put_decimal.Tie.{close}
 
@@ -37,8 +37,8 @@ calls t = (
   put-byte-reads.Learnt,
   put-decimal-below t,
   put-decimal.Post,
-  upto-reads.Asked,
-  upto-reads.Learnt,
+  least-reads.Asked,
+  least-reads.Learnt,
 )
 
 put-decimal-digit-requires : (t : ℕ) → put-decimal-lts.Need-digit-requires (calls t) (put-decimal-at t) put-decimal.Post
@@ -52,15 +52,19 @@ put-decimal-same-length t c = search needs
 
 put-decimal-returns : (t : ℕ) → put-decimal-lts.Need-returns (calls t) (put-decimal-at t) put-decimal.Post
 put-decimal-returns t c =
-    let n = c .before .before .before .before .before .before .before .args .n in
-    let f = fill-is (ap (λ z. z ∷ []) (c .before .before .before .digit .ensures) ∙ sym (decimal-one n (c .before .before .before .before .before .if1 .taken))) (c .before .before .put-byte .ensures) in
+    let a = c .before .before .before .before .before .before .before .args in
+    let if1 = c .before .before .before .before .before .if1 in
+    let digit = c .before .before .before .digit in
+    let put-byte = c .before .before .put-byte in
+    let n = a .n in
+    let f = fill-is (ap (λ z. z ∷ []) (digit .ensures) ∙ sym (decimal-one n (if1 .taken))) (put-byte .ensures) in
     (f, omega (arith, f .said, decimal-few n))
 
 put-decimal-put-decimal-requires : (t : ℕ) → put-decimal-lts.Need-put-decimal-requires (calls t) (put-decimal-at t) put-decimal.Post
 put-decimal-put-decimal-requires t c κs = search needs
 
-put-decimal-upto-requires : (t : ℕ) → put-decimal-lts.Need-upto-requires (calls t) (put-decimal-at t) put-decimal.Post
-put-decimal-upto-requires t c κs = search needs
+put-decimal-least-requires : (t : ℕ) → put-decimal-lts.Need-least-requires (calls t) (put-decimal-at t) put-decimal.Post
+put-decimal-least-requires t c κs = search needs
 
 put-decimal-sub-put-byte : (t : ℕ) → put-decimal-lts.Need-sub-put-byte (calls t) (put-decimal-at t) put-decimal.Post
 put-decimal-sub-put-byte t c = search needs
@@ -85,11 +89,17 @@ put-decimal-same-length-2 t c = search needs
 
 put-decimal-returns-2 : (t : ℕ) → put-decimal-lts.Need-returns-2 (calls t) (put-decimal-at t) put-decimal.Post
 put-decimal-returns-2 t c =
-    let n = c .before .before .before .before .before .before .before .before .before .before .before .before .args .n in
+    let a = c .before .before .before .before .before .before .before .before .before .before .before .before .args in
+    let if1 = c .before .before .before .before .before .before .before .before .before .before .if1 in
+    let put-decimal = c .before .before .before .before .before .before .before .before .put-decimal in
+    let least = c .before .before .before .before .before .least in
+    let digit2 = c .before .before .before .digit2 in
+    let put-byte2 = c .before .before .put-byte2 in
+    let n = a .n in
     let d : n / 10 * 10 + n % 10 ≡ n = div-add-mod' n 10 in
     let k : n < 18446744073709551616 = search needs in
-    let f = fill-rest (c .before .before .before .before .before .before .before .before .put-decimal .ensures .0) (c .before .before .before .before .before .upto .ensures .0) (c .before .before .put-byte2 .ensures) in
-    let g = fill-is (ap (λ z. decimal (n / 10) ++ z ∷ []) (c .before .before .before .digit2 .ensures) ∙ sym (decimal-more n (c .before .before .before .before .before .before .before .before .before .before .if1 .left) (omega (arith, k)))) f in
+    let f = fill-rest (put-decimal .ensures .0) (least .ensures .0) (put-byte2 .ensures) in
+    let g = fill-is (ap (λ z. decimal (n / 10) ++ z ∷ []) (digit2 .ensures) ∙ sym (decimal-more n (if1 .left) (omega (arith, k)))) f in
     (g, omega (arith, g .said, decimal-few n))
 
 pub +put-decimal-spec : {M : Type 1} → statement M
@@ -101,7 +111,7 @@ pub +put-decimal-spec : {M : Type 1} → statement M
     (put-decimal-same-length t)
     (put-decimal-returns t)
     (put-decimal-put-decimal-requires t)
-    (put-decimal-upto-requires t)
+    (put-decimal-least-requires t)
     (put-decimal-sub-put-byte t)
     (put-decimal-part-put-byte-start t)
     (put-decimal-part-put-byte-end t)

@@ -34,13 +34,21 @@ loop-less : tie.Need-loop-less Inv-loop μ-loop
 loop-less c = search needs
 
 loop-again : tie.Need-loop-again Inv-loop μ-loop
-loop-again c = (omega arith, c .before .before .loop .inv .1, ap (λ z. set z (c .before .before .loop .i) (getD (c .before .before .before .before .args .t .now) (c .before .before .loop .i) 0)) (c .before .before .loop .inv .2) ∙ copy-next (c .before .before .before .before .args .buf .now) (c .before .before .before .before .args .t .now) (c .before .before .loop .i) (c .before .loop-test .taken) (c .before .before .loop .inv .1), length-set (c .before .before .loop .buf) (c .before .before .loop .i) _ ∙ c .before .before .loop .inv .3)
+loop-again c =
+    let a = c .before .before .before .before .args in
+    let loop = c .before .before .loop in
+    let loop-test = c .before .loop-test in
+    let next = copy-next (a .buf .now) (a .t .now) (loop .i) (loop-test .taken) (loop .inv .1) in
+    (omega arith, loop .inv .1, ap (λ z. set z (loop .i) (getD (a .t .now) (loop .i) 0)) (loop .inv .2) ∙ next, length-set (loop .buf) (loop .i) _ ∙ loop .inv .3)
 
 same-length : tie.Need-same-length Inv-loop μ-loop
 same-length c = c .before .loop .inv .3
 
 returns-2 : tie.Need-returns-2 Inv-loop μ-loop
-returns-2 c = copy-all (c .before .before .before .args .buf .now) (c .before .before .before .args .t .now) (c .before .loop .buf) (c .before .loop .i) (c .before .loop .inv .0) (c .loop-test .left) (c .before .loop .inv .1) (c .before .loop .inv .2)
+returns-2 c =
+    let a = c .before .before .before .args in
+    let loop = c .before .loop in
+    copy-all (a .buf .now) (a .t .now) (loop .buf) (loop .i) (loop .inv .0) (c .loop-test .left) (loop .inv .1) (loop .inv .2)
 
 pub put-bytes-spec : {M : Type 1} → statement M
 put-bytes-spec =

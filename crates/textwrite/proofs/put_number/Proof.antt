@@ -9,8 +9,8 @@ use Rattle.textwrite.proofs.put_number.Tie as tie
 put-bytes-requires : tie.Need-put-bytes-requires
 put-bytes-requires c κs = search needs
 
-upto-requires : tie.Need-upto-requires
-upto-requires c κs = search needs
+least-requires : tie.Need-least-requires
+least-requires c κs = search needs
 
 sub-put-decimal : tie.Need-sub-put-decimal
 sub-put-decimal c = search needs
@@ -32,14 +32,19 @@ same-length c = search needs
 
 returns : tie.Need-returns
 unfolding numberText
-returns c = (fill-rest (c .before .before .before .before .before .before .before .put-bytes .ensures) (c .before .before .before .before .upto .ensures .0) (c .before .before .put-decimal .ensures .0), omega (arith, c .before .before .before .before .before .before .before .put-bytes .ensures .said, c .before .before .put-decimal .ensures .1, c .before .before .before .before .before .before .before .before .before .before .before .pre))
+returns c =
+    let pre = c .before .before .before .before .before .before .before .before .before .before .before .pre in
+    let put-bytes = c .before .before .before .before .before .before .before .put-bytes in
+    let least = c .before .before .before .before .least in
+    let put-decimal = c .before .before .put-decimal in
+    (fill-rest (put-bytes .ensures) (least .ensures .0) (put-decimal .ensures .0), omega (arith, put-bytes .ensures .said, put-decimal .ensures .1, pre))
 
 pub put-number-spec : {M : Type 1} → statement M
 put-number-spec =
     tie.close
     (tie.spec
     put-bytes-requires
-    upto-requires
+    least-requires
     sub-put-decimal
     part-put-decimal-start
     part-put-decimal-end

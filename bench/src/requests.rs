@@ -1,0 +1,415 @@
+//! New, move, call, answer and offers in safe Rust on the bytes of a state, written from docs/SPEC.md: what the proved core's requests
+//! are to be measured against. A request works on a copy, so that a refusal leaves the state as it was.
+
+use crate::{fits, restriction, search};
+use reference::raw::{self, RawState, METHOD_BYTES};
+use reference::refusal::Refusal;
+use reference::relations::Relation;
+use reference::requests::{Got, Request};
+use reference::state::{MAX_CALLS, MAX_CELLS, MAX_PLACES};
+
+/// A reference on its way: its static type, and the place that it leads to.
+#[derive(Clone, Copy)]
+struct Reference {
+    static_type: usize,
+    place: usize,
+}
+
+/// What is passed by a call or an answer.
+#[derive(Clone, Copy)]
+enum Value {
+    Number(i64),
+    Reference(Reference),
+}
+
+/// A request on a state handed in.
+pub fn request(raw: &mut RawState, request: &Request) -> Result<Got, Refusal> {
+    if !fits::state(raw) {
+        return Err(2);
+    }
+    let mut state = raw.clone();
+    let got = match request {
+        Request::New {
+            subject,
+            class,
+            cell_type,
+        } => new(&mut state, *subject, *class, *cell_type),
+        Request::Move {
+            subject,
+            cell,
+            receiver,
+            cell_type,
+        } => moved(&mut state, *subject, *cell, *receiver, *cell_type),
+        Request::Call {
+            subject,
+            cell,
+            method,
+            arguments,
+        } => call(&mut state, *subject, *cell, *method, arguments),
+        Request::Answer {
+            subject,
+            call,
+            value,
+        } => answer(&mut state, *subject, *call, *value),
+    }?;
+    *raw = state;
+    Ok(got)
+}
+
+/// Whether a cell offers a chain: its type and its place's both permit it.
+pub fn offers(raw: &RawState, cell: i64, chain: &[i64]) -> Result<bool, Refusal> {
+    if !fits::state(raw) {
+        return Err(2);
+    }
+    let Some(cell) = below(cell, raw.cells) else {
+        return Ok(false);
+    };
+    let bytes = raw.cell(cell);
+    let place_type = place_type(raw, usize::from(bytes[2]));
+    Ok(permits_chain(raw, usize::from(bytes[1]), chain) && permits_chain(raw, place_type, chain))
+}
+
+fn permits_chain(raw: &RawState, first: usize, chain: &[i64]) -> bool {
+    let mut at = Some(first);
+    for method in chain {
+        let Some(number) = at else {
+            return false;
+        };
+        let Some(bytes) = below(*method, raw.table.methods).and_then(|m| permitted(raw, number, m))
+        else {
+            return false;
+        };
+        at = usize::from(bytes[6]).checked_sub(1);
+    }
+    // a chain that is empty is permitted by a reference alone
+    !chain.is_empty() || raw.table.entry(first)[0] == 0
+}
+
+/// The number of something of which there are so many.
+fn below(number: i64, count: u32) -> Option<usize> {
+    let number = usize::try_from(number).ok()?;
+    (number < count as usize).then_some(number)
+}
+
+fn subject(state: &RawState, number: i64) -> Result<usize, Refusal> {
+    below(number, state.table.subjects).ok_or(5)
+}
+
+fn held(state: &RawState, subject: usize, cell: i64) -> Option<usize> {
+    below(cell, state.cells).filter(|cell| usize::from(state.cell(*cell)[0]) == subject)
+}
+
+fn sheet_ref(state: &RawState, number: i64) -> Result<usize, Refusal> {
+    below(number, state.table.sheet_types)
+        .filter(|number| state.table.entry(*number)[0] == 0)
+        .ok_or(7)
+}
+
+/// The bytes of a method that a type permits.
+fn permitted(state: &RawState, number: usize, method: usize) -> Option<[u8; METHOD_BYTES]> {
+    let table = &state.table;
+    let bytes = table.method(number, method);
+    let permits = table.entry(number)[0] == 0 && matches!(bytes[0], 1 | 2);
+    permits.then(|| bytes.try_into().expect("seven bytes"))
+}
+
+fn base(state: &RawState, mut place: usize) -> usize {
+    while state.place(place)[0] == 1 {
+        place = usize::from(state.place(place)[1]);
+    }
+    place
+}
+
+fn owner(state: &RawState, place: usize) -> usize {
+    usize::from(state.place(base(state, place))[2])
+}
+
+fn place_type(state: &RawState, place: usize) -> usize {
+    let bytes = state.place(place);
+    usize::from(if bytes[0] == 0 { bytes[1] } else { bytes[2] })
+}
+
+/// The types that a value passes from a cell to the object: the cell's, each adapter's, the class.
+fn layers(state: &RawState, cell: usize) -> Vec<usize> {
+    let mut place = usize::from(state.cell(cell)[2]);
+    let mut layers = vec![usize::from(state.cell(cell)[1]), place_type(state, place)];
+    while state.place(place)[0] == 1 {
+        place = usize::from(state.place(place)[1]);
+        layers.push(place_type(state, place));
+    }
+    layers
+}
+
+fn add_place(state: &mut RawState, bytes: [usize; 3]) -> Result<usize, Refusal> {
+    let number = state.places as usize;
+    if number == MAX_PLACES {
+        return Err(12);
+    }
+    state
+        .place_mut(number)
+        .copy_from_slice(&bytes.map(|byte| byte as u8));
+    state.places += 1;
+    Ok(number)
+}
+
+fn add_cell(state: &mut RawState, holder: usize, given: Reference) -> Result<Got, Refusal> {
+    let number = state.cells as usize;
+    if number == MAX_CELLS {
+        return Err(13);
+    }
+    let bytes = [holder, given.static_type, given.place].map(|byte| byte as u8);
+    state.cell_mut(number).copy_from_slice(&bytes);
+    state.cells += 1;
+    Ok(Got::Cell {
+        cell: number,
+        place: given.place,
+    })
+}
+
+/// A reference crosses to type t.
+fn cross(
+    state: &mut RawState,
+    from: Reference,
+    t: usize,
+    receiver: usize,
+) -> Result<Reference, Refusal> {
+    let s = from.static_type;
+    let to = |place| Reference {
+        static_type: t,
+        place,
+    };
+    let holds =
+        |state: &RawState, relation, t, s| search::reached(&state.table, relation, t, s).is_some();
+    let (place, r) = if state.table.entry(t)[2] == 1 {
+        if !holds(state, Relation::Free, t, s) {
+            return Err(8);
+        }
+        if owner(state, from.place) != receiver {
+            return Err(9);
+        }
+        (base(state, from.place), t)
+    } else {
+        if !holds(state, Relation::Loose, t, s) {
+            return Err(8);
+        }
+        if holds(state, Relation::Subtype, t, s) {
+            return Ok(to(from.place));
+        }
+        (from.place, full(restriction::sub(&mut state.table, t, s))?)
+    };
+    let v = place_type(state, place);
+    if search::subtype_but_own(&state.table, r, v) {
+        return Ok(to(place));
+    }
+    if !holds(state, Relation::Strict, r, v) {
+        return Err(10);
+    }
+    let closed = full(restriction::closed(&mut state.table, r, v))?;
+    add_place(state, [1, place, closed]).map(to)
+}
+
+fn full(result: Result<usize, usize>) -> Result<usize, Refusal> {
+    result.map_err(|_| 11)
+}
+
+fn new(state: &mut RawState, by: i64, class: i64, cell_type: i64) -> Result<Got, Refusal> {
+    let by = subject(state, by)?;
+    let class = below(class, state.table.sheet_types)
+        .filter(|class| fits::class(&state.table, *class))
+        .ok_or(7u32)?;
+    let cell_type = sheet_ref(state, cell_type)?;
+    let place = add_place(state, [0, class, by])?;
+    let start = Reference {
+        static_type: class,
+        place,
+    };
+    let given = cross(state, start, cell_type, by)?;
+    add_cell(state, by, given)
+}
+
+fn moved(
+    state: &mut RawState,
+    by: i64,
+    cell: i64,
+    receiver: i64,
+    cell_type: i64,
+) -> Result<Got, Refusal> {
+    let by = subject(state, by)?;
+    let receiver = subject(state, receiver)?;
+    let cell = held(state, by, cell).ok_or(6u32)?;
+    let cell_type = sheet_ref(state, cell_type)?;
+    let given = cross(state, reference(state, cell), cell_type, receiver)?;
+    add_cell(state, receiver, given)
+}
+
+fn reference(state: &RawState, cell: usize) -> Reference {
+    let bytes = state.cell(cell);
+    Reference {
+        static_type: usize::from(bytes[1]),
+        place: usize::from(bytes[2]),
+    }
+}
+
+/// An operand as a value of a type: a cell's reference where that is a ref type.
+fn value(state: &RawState, by: usize, operand: i64, named: usize) -> Result<Value, Refusal> {
+    if state.table.entry(named)[0] != 0 {
+        return Ok(Value::Number(operand));
+    }
+    let cell = held(state, by, operand).ok_or(15u32)?;
+    Ok(Value::Reference(reference(state, cell)))
+}
+
+/// A value passes one type, which is missing in an unfit layer.
+fn pass(
+    state: &mut RawState,
+    value: Value,
+    named: Option<usize>,
+    receiver: usize,
+) -> Result<Value, Refusal> {
+    let t = named.ok_or(8u32)?;
+    match (value, state.table.entry(t)[0]) {
+        (Value::Number(number), 1) if i32::try_from(number).is_err() => Err(16),
+        (Value::Number(number), 1 | 2) => Ok(Value::Number(number)),
+        (Value::Reference(from), 0) => cross(state, from, t, receiver).map(Value::Reference),
+        _ => Err(8),
+    }
+}
+
+/// A value passes the types of all layers: 8 and 10 are 19 at every layer but the first.
+fn pass_all(
+    state: &mut RawState,
+    mut value: Value,
+    named: impl Iterator<Item = Option<usize>>,
+    receiver: usize,
+) -> Result<Value, Refusal> {
+    for (index, one) in named.enumerate() {
+        value = pass(state, value, one, receiver).map_err(|number| match number {
+            8 | 10 if index > 0 => 19,
+            _ => number,
+        })?;
+    }
+    Ok(value)
+}
+
+fn call(
+    state: &mut RawState,
+    by: i64,
+    cell: i64,
+    method: i64,
+    arguments: &[i64],
+) -> Result<Got, Refusal> {
+    let by = subject(state, by)?;
+    let cell = held(state, by, cell).ok_or(6u32)?;
+    let method = below(method, state.table.methods).ok_or(14u32)?;
+    let bytes = permitted(state, usize::from(state.cell(cell)[1]), method)
+        .filter(|bytes| bytes[0] == 2)
+        .ok_or(14u32)?;
+    let named = raw::signature(&bytes).arguments;
+    if named.len() != arguments.len() {
+        return Err(15);
+    }
+    let operands = arguments.iter().zip(named);
+    let values: Vec<Value> = operands
+        .map(|(operand, named)| value(state, by, *operand, named))
+        .collect::<Result<_, _>>()?;
+    let number = state.calls as usize;
+    if number == MAX_CALLS {
+        return Err(18);
+    }
+    let layers = layers(state, cell);
+    let receiver = owner(state, usize::from(state.cell(cell)[2]));
+    for (index, value) in values.into_iter().enumerate() {
+        // layers are types that were there before, which never change
+        let types: Vec<Option<usize>> = layers
+            .iter()
+            .map(|layer| {
+                let bytes = permitted(state, *layer, method)?;
+                (index < usize::from(bytes[1])).then(|| usize::from(bytes[2 + index]))
+            })
+            .collect();
+        if let Value::Reference(given) = pass_all(state, value, types.into_iter(), receiver)? {
+            add_cell(state, receiver, given)?;
+        }
+    }
+    let bytes = [by, cell, method, 0].map(|byte| byte as u8);
+    state.call_mut(number).copy_from_slice(&bytes);
+    state.calls += 1;
+    Ok(Got::Call {
+        call: number,
+        adapters: layers.len() - 2,
+    })
+}
+
+fn answer(state: &mut RawState, by: i64, call: i64, given: Option<i64>) -> Result<Got, Refusal> {
+    let by = subject(state, by)?;
+    let call = below(call, state.calls).ok_or(6u32)?;
+    let [caller, cell, method, answered]: [u8; 4] =
+        state.call(call).try_into().expect("four bytes");
+    let (cell, method) = (usize::from(cell), usize::from(method));
+    if owner(state, usize::from(state.cell(cell)[2])) != by {
+        return Err(6);
+    }
+    if answered == 1 {
+        return Err(17);
+    }
+    let mut layers = layers(state, cell);
+    layers.reverse();
+    let types: Vec<Option<usize>> = layers
+        .iter()
+        .map(|layer| usize::from(permitted(state, *layer, method)?[6]).checked_sub(1))
+        .collect();
+    let got = match (types[types.len() - 1], given) {
+        (None, None) => Got::Nothing,
+        (Some(due), Some(operand)) => {
+            let value = value(state, by, operand, due)?;
+            let caller = usize::from(caller);
+            match pass_all(state, value, types.into_iter(), caller)? {
+                Value::Number(number) => Got::Number(number),
+                Value::Reference(given) => add_cell(state, caller, given)?,
+            }
+        }
+        _ => return Err(15),
+    };
+    state.call_mut(call)[3] = 1;
+    Ok(got)
+}
+
+#[cfg(test)]
+mod tests {
+    use super::*;
+    use conformance::requests::{on_handed_in, on_loaded, on_offers, watch, Core};
+    use reference::coverage::Seen;
+    use reference::gen::Profile;
+
+    struct Rust;
+
+    impl Core for Rust {
+        fn request(&self, state: &mut RawState, one: &Request) -> Result<Got, Refusal> {
+            request(state, one)
+        }
+
+        fn offers(&self, state: &RawState, cell: i64, chain: &[i64]) -> Result<bool, Refusal> {
+            offers(state, cell, chain)
+        }
+    }
+
+    /// What is measured against does the same work.
+    #[test]
+    fn is_the_reference() {
+        let mut seen = Seen::default();
+        for seed in 0..2000 {
+            assert_eq!(on_handed_in(&Rust, seed, &mut seen), None, "{seed}");
+            assert_eq!(on_offers(&Rust, seed, &mut [0; 3]), None, "{seed}");
+        }
+        for seed in 0..100 {
+            for profile in [Profile::Small, Profile::Medium, Profile::Full] {
+                let found = on_loaded(&Rust, seed, profile, &mut seen);
+                assert_eq!(found, None, "{} {seed}", profile.name());
+            }
+            assert_eq!(watch(&Rust, seed, Profile::Medium), None, "{seed}");
+        }
+        for number in [2].into_iter().chain(5..=19) {
+            assert!(seen.number(number) > 5, "{number}");
+        }
+    }
+}

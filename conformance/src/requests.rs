@@ -1,0 +1,203 @@
+//! Requests on whole states: what serves them is held against the reference, on states handed in and on those of loaded sheets,
+//! and against the reference's book (demand 3).
+
+use reference::book::{permitted, Book};
+use reference::chains::All;
+use reference::coverage::Seen;
+use reference::faults::Fault;
+use reference::gen::{generate, Profile};
+use reference::hostile::{self, Hostile};
+use reference::random::Random;
+use reference::raw::{self, RawState, CALL_BYTES, CELL_BYTES, PLACE_BYTES, TYPE_BYTES};
+use reference::refusal::Refusal;
+use reference::requests::{Got, Request};
+use reference::script;
+use reference::sheet;
+use reference::shrink::shrink_hostile;
+use reference::state::State;
+use reference::table::Table;
+
+/// What serves requests on states in bytes: the proved core through its C functions, or a stand-in.
+pub trait Core {
+    /// The answer; the state becomes what is left.
+    fn request(&self, state: &mut RawState, request: &Request) -> Result<Got, Refusal>;
+
+    /// Whether a cell offers a chain of methods, or 2.
+    fn offers(&self, state: &RawState, cell: i64, chain: &[i64]) -> Result<bool, Refusal>;
+}
+
+/// The bytes that count: those of each list below its count, which is within its limit.
+fn counted(state: &RawState) -> [&[u8]; 5] {
+    [
+        &state.table.broader,
+        &state.table.type_bytes[..state.table.types as usize * TYPE_BYTES],
+        &state.cell_bytes[..state.cells as usize * CELL_BYTES],
+        &state.place_bytes[..state.places as usize * PLACE_BYTES],
+        &state.call_bytes[..state.calls as usize * CALL_BYTES],
+    ]
+}
+
+/// How many of each kind a state has.
+fn counts(state: &RawState) -> [u32; 8] {
+    let table = &state.table;
+    [
+        table.subjects,
+        table.methods,
+        table.categories,
+        table.sheet_types,
+        table.types,
+        state.cells,
+        state.places,
+        state.calls,
+    ]
+}
+
+/// What is wrong with an answer and the state that it leaves. A refusal leaves every byte; what is accepted leaves the
+/// reference's counts, and its bytes below them.
+fn fault(
+    before: &RawState,
+    theirs: (&RawState, Result<Got, Refusal>),
+    ours: (&RawState, Result<Got, Refusal>),
+) -> Option<String> {
+    if theirs.1 != ours.1 {
+        return Some(format!("answers {:?} for {:?}", theirs.1, ours.1));
+    }
+    if ours.1.is_err() {
+        return (theirs.0 != before).then(|| "changes the state and refuses".to_string());
+    }
+    let same = counts(theirs.0) == counts(ours.0) && counted(theirs.0) == counted(ours.0);
+    (!same).then(|| format!("leaves\n{:?}for\n{:?}", theirs.0, ours.0))
+}
+
+/// Requests one after the other, each on what the one before left: the first fault.
+fn difference(core: &impl Core, hostile: &Hostile, seen: &mut Seen) -> Option<String> {
+    let (mut theirs, mut ours) = (hostile.state.clone(), hostile.state.clone());
+    for request in &hostile.requests {
+        let before = theirs.clone();
+        let answer = core.request(&mut theirs, request);
+        let wanted = raw::request(&mut ours, request);
+        seen.request(request, &wanted);
+        if let Some(fault) = fault(&before, (&theirs, answer), (&ours, wanted)) {
+            return Some(format!("{request:?} {fault}\non\n{before:?}"));
+        }
+    }
+    None
+}
+
+/// A difference on a state handed in, shown on the smallest found; every other seed's state is nearly full.
+pub fn on_handed_in(core: &impl Core, seed: u64, seen: &mut Seen) -> Option<String> {
+    let hostile = match seed % 2 {
+        0 => hostile::generate(seed / 2),
+        _ => hostile::crowded(seed / 2),
+    };
+    difference(core, &hostile, seen)?;
+    let mut differs = |other: &Hostile| difference(core, other, &mut Seen::default()).is_some();
+    let small = shrink_hostile(&hostile, &mut differs);
+    difference(core, &small, &mut Seen::default())
+}
+
+/// Any number around those below a count, and far outside.
+fn any_number(random: &mut Random, count: u32) -> i64 {
+    let count = i64::from(count.min(300));
+    let odd = [i64::MIN, -1, count, count + 1, 256, 1 << 32, i64::MAX];
+    if random.chance(15) {
+        return *random.pick(&odd);
+    }
+    random.below(count.max(1) as usize) as i64
+}
+
+/// A cell and a chain on which what is offered in a state handed in differs; `offered` counts the chains that are.
+pub fn on_offers(core: &impl Core, seed: u64, offered: &mut [u32; 3]) -> Option<String> {
+    let state = hostile::generate(seed).state;
+    let mut random = Random::new(seed);
+    for _ in 0..20 {
+        let cell = any_number(&mut random, state.cells);
+        let length = random.below(4);
+        let chain: Vec<i64> = (0..length)
+            .map(|_| any_number(&mut random, state.table.methods))
+            .collect();
+        let wanted = raw::offers(&state, cell, &chain);
+        let kind = wanted.map_or(2, usize::from);
+        offered[kind] += 1;
+        let answer = core.offers(&state, cell, &chain);
+        if answer != wanted {
+            return Some(format!(
+                "cell {cell}, chain {chain:?}: {answer:?} for {wanted:?} in\n{state:?}"
+            ));
+        }
+    }
+    None
+}
+
+/// The state of a generated sheet, and the requests of its script.
+fn loaded(seed: u64, profile: Profile) -> Option<(Table, Hostile)> {
+    let input = generate(seed, profile);
+    let run = script::run_with(&input, Fault::None);
+    let table = sheet::read(script::split(&input).0).ok()?;
+    let state = RawState::of(&State::of_sheet(table.clone()));
+    let requests = run.requests.into_iter().map(|(request, _)| request);
+    let requests = requests.collect();
+    Some((table, Hostile { state, requests }))
+}
+
+/// A difference on the state of a loaded sheet.
+pub fn on_loaded(core: &impl Core, seed: u64, profile: Profile, seen: &mut Seen) -> Option<String> {
+    difference(core, &loaded(seed, profile)?.1, seen)
+}
+
+/// Demand 3 on what runs: the book is fed the requests and which were accepted, and a cell has to offer exactly the chains that its
+/// page permits. Every chain of one or two methods, and longer ones that go on where the page does.
+pub fn watch(core: &impl Core, seed: u64, profile: Profile) -> Option<String> {
+    let (table, mut list) = loaded(seed, profile)?;
+    let mut book = Book::of_sheet(&table);
+    for request in &list.requests {
+        let accepted = core.request(&mut list.state, request).is_ok();
+        if let Err(trouble) = book.feed(request, accepted) {
+            return Some(format!("{request:?}: {trouble:?}"));
+        }
+    }
+    let mut random = Random::new(seed);
+    (0..book.pages.len()).find_map(|cell| {
+        let types = permitted(&book.pages[cell]);
+        let page = All {
+            table: &book.table,
+            types: &types,
+        };
+        chains(page, &mut random)
+            .into_iter()
+            .find(|chain| {
+                let signed: Vec<i64> = chain.iter().map(|method| *method as i64).collect();
+                core.offers(&list.state, cell as i64, &signed) != Ok(page.permit(chain))
+            })
+            .map(|chain| format!("cell {cell}, chain {chain:?}"))
+    })
+}
+
+/// The empty chain, every chain of one or two methods, and walks of permitted methods, each with every method behind it.
+fn chains(page: All, random: &mut Random) -> Vec<Vec<usize>> {
+    let methods = 0..page.table.methods;
+    let longer = |chain: &[usize]| -> Vec<Vec<usize>> {
+        let one_more = |method| [chain, &[method]].concat();
+        methods.clone().map(one_more).collect()
+    };
+    let mut all = vec![vec![]];
+    all.extend(longer(&[]));
+    for method in methods.clone() {
+        all.extend(longer(&[method]));
+    }
+    for _ in 0..3 {
+        let mut chain = Vec::new();
+        for _ in 0..6 {
+            let next: Vec<_> = longer(&chain)
+                .into_iter()
+                .filter(|one| page.permit(one))
+                .collect();
+            if next.is_empty() {
+                break;
+            }
+            chain = random.pick(&next).clone();
+        }
+        all.extend(longer(&chain));
+    }
+    all
+}

@@ -1,0 +1,21 @@
+-- Rests on `end-yes` and `end-no`.
+use mathlib.Core.Path.{sym, _∙_}
+use borrow.Author.Needs.{needs}
+use Rattle.lineread.proofs.Laws.{end-yes, end-no}
+use Rattle.lineread.proofs.read_end.Statement.{statement}
+use Rattle.lineread.proofs.read_end.Tie as tie
+
+slice-aggregate-is-word : tie.Need-slice-aggregate-is-word
+slice-aggregate-is-word c = search needs
+
+is-word-requires : tie.Need-is-word-requires
+is-word-requires c κs = search needs
+
+returns : tie.Need-returns
+returns c = end-yes (c .before .before .before .before .args .l .now) (sym (c .before .is-word .ensures) ∙ c .if1 .taken)
+
+returns-2 : tie.Need-returns-2
+returns-2 c = end-no (c .before .before .before .before .args .l .now) (sym (c .before .is-word .ensures) ∙ c .if1 .left)
+
+pub read-end-spec : {M : Type 1} → statement M
+read-end-spec = tie.close (tie.spec slice-aggregate-is-word is-word-requires returns returns-2)

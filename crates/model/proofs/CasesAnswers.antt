@@ -1,0 +1,92 @@
+-- What Compare answers (R8 to R14) and what restriction makes of two states, written out and computed from the definitions.
+use mathlib.Core.Path.{_≡_, refl}
+use mathlib.Core.Bool.{Bool, true, false}
+use mathlib.Core.List.{List, [], _∷_, map}
+use Prim.Native.Nat.{ℕ}
+use lib.IntN.{ℤ, pos, negsuc}
+use Rattle.model.specs.Basics.{Res, refuse, ok}
+use Rattle.model.specs.Table.{w32, w64, State, denied, optional, avail, unavail, Kind, sub, sup, closed, Table, validSheet, bare}
+use Rattle.model.specs.Relations.{Answers, compare}
+use Rattle.model.specs.Restriction.{restricted}
+use Rattle.model.proofs.CasesWords.{typeIn, owned, numberIn, sheetIn}
+
+-- Categories 1 and 3 have none broader, 2 names 1. Types 0 to 3 differ in category alone, 4 and 5 are numbers, 6 to 8 have category 0 and another state, 9 is 0 with own.
+abbrev kinds : Table
+kinds = sheetIn ((0 ∷ []) ∷ (1 ∷ []) ∷ (0 ∷ []) ∷ []) 1 1 (
+    typeIn 0 (bare avail ∷ [])
+    ∷ typeIn 1 (bare avail ∷ [])
+    ∷ typeIn 2 (bare avail ∷ [])
+    ∷ typeIn 3 (bare avail ∷ [])
+    ∷ numberIn w32 1
+    ∷ numberIn w64 2
+    ∷ typeIn 0 (bare optional ∷ [])
+    ∷ typeIn 0 (bare unavail ∷ [])
+    ∷ typeIn 0 (bare denied ∷ [])
+    ∷ owned (bare avail ∷ [])
+    ∷ [])
+
+pub kinds-valid : validSheet kinds ≡ true
+unfolding validSheet
+kinds-valid = refl
+
+abbrev says : Bool → Bool → Bool → Bool → Res Answers
+says a b c d = ok (record { subtype = a; strict = b; loose = c; free = d })
+
+abbrev asked : ℤ × ℤ → Res Answers
+asked p = compare kinds (p .0) (p .1)
+
+abbrev pair : ℕ → ℕ → ℤ × ℤ
+pair t s = (pos t, pos s)
+
+pub compared : map asked (
+    -- categories: the broader one may be T's, in subtype and strict; none is broader than every other
+    pair 1 2 ∷ pair 2 1 ∷ pair 1 3 ∷ pair 0 2 ∷ pair 2 0
+    -- numbers of different widths, and a number with a reference
+    ∷ pair 4 5 ∷ pair 5 4 ∷ pair 4 1
+    -- states: optional below avail and unavail, denied below each; avail for no other
+    ∷ pair 6 0 ∷ pair 0 6 ∷ pair 6 7 ∷ pair 7 6 ∷ pair 0 7 ∷ pair 8 7 ∷ pair 7 8
+    -- own: T only if S
+    ∷ pair 9 0 ∷ pair 0 9
+    -- numbers that name no type
+    ∷ pair 10 0 ∷ pair 0 10 ∷ (negsuc 0, pos 0) ∷ []) ≡
+    says true true true true ∷ says false false true true ∷ says false false true true ∷ says true true true true ∷ says false false true true
+    ∷ says false true true true ∷ says false false true true ∷ says false false false false
+    ∷ says true true true true ∷ says false false true true ∷ says true true true true ∷ says false true true true ∷ says false false false true ∷ says true true true true ∷ says false true true true
+    ∷ says false true true true ∷ says true true true true
+    ∷ refuse 7 ∷ refuse 7 ∷ refuse 7 ∷ []
+unfolding compare
+compared = refl
+
+-- ---- a method's state on the left, in the order denied, optional, avail, unavail, against each on the right in that order
+abbrev states : List State
+states = denied ∷ optional ∷ avail ∷ unavail ∷ []
+
+abbrev restrictedBy : Kind → List (List State)
+restrictedBy d = map (λ a. map (restricted d a) states) states
+
+-- Sub: the left's, unless the right permits less (D2)
+pub sub-states : restrictedBy sub ≡
+    (denied ∷ denied ∷ denied ∷ denied ∷ [])
+    ∷ (unavail ∷ optional ∷ optional ∷ unavail ∷ [])
+    ∷ (unavail ∷ avail ∷ avail ∷ unavail ∷ [])
+    ∷ (unavail ∷ unavail ∷ unavail ∷ unavail ∷ [])
+    ∷ []
+sub-states = refl
+
+-- Sup: the right's, unless the left permits less (D4)
+pub sup-states : restrictedBy sup ≡
+    (denied ∷ denied ∷ denied ∷ unavail ∷ [])
+    ∷ (denied ∷ optional ∷ avail ∷ unavail ∷ [])
+    ∷ (denied ∷ optional ∷ avail ∷ unavail ∷ [])
+    ∷ (denied ∷ denied ∷ denied ∷ unavail ∷ [])
+    ∷ []
+sup-states = refl
+
+-- Closed: avail where the left permits and the right has it avail, else unavail (D8)
+pub closed-states : restrictedBy closed ≡
+    (unavail ∷ unavail ∷ unavail ∷ unavail ∷ [])
+    ∷ (unavail ∷ unavail ∷ avail ∷ unavail ∷ [])
+    ∷ (unavail ∷ unavail ∷ avail ∷ unavail ∷ [])
+    ∷ (unavail ∷ unavail ∷ unavail ∷ unavail ∷ [])
+    ∷ []
+closed-states = refl

@@ -1,0 +1,4 @@
+pub mod Lists
+pub mod Going
+pub mod Laws
+pub mod Walk
