@@ -75,7 +75,7 @@ fn search(b: &[u8; TYPE_BYTES], c: Counts, n: usize, kind: u8, t: usize, s: usiz
     if found < n {
         return Begun::Settled(Derived::At(found, n));
     }
-    if Counts::TYPES <= n {
+    if n >= Counts::TYPES {
         return Begun::Settled(Derived::Full);
     }
     Begun::New
