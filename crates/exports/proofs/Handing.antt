@@ -1,21 +1,22 @@
 -- What the pair table and a derivation hand out, from their contracts.
 use mathlib.Core.Path.{_≡_, refl, sym, ap, _∙_, subst}
-use mathlib.Core.Bool.{Bool, true, false}
+use mathlib.Core.Bool.{Bool, true, false, So}
 use mathlib.Core.List.{List}
 use Prim.Native.Nat.{ℕ}
 use borrow.Author.Tests.{ne-eqb}
 use Rattle.model.specs.Basics.{Res, ok, need}
 use Rattle.model.specs.Table.{Table}
-use Rattle.model.specs.Check.{RawTable, tableOf, tableAccepted}
+use Rattle.model.specs.Check.{RawTable, tableOf, tableAccepted, codesFit}
 use Rattle.model.proofs.Rules.{never}
 use Rattle.table.specs.declared.Counts.{Counts}
+use Rattle.table.specs.Store.{rawTable, withCount}
 use Rattle.compare.specs.declared.Pairs.{Pairs}
 use Rattle.compare.specs.Pairs.{pairTable, pairsHanded}
 use Rattle.compare.specs.Answered.{pairsGiven}
 use Rattle.restrict_entry.specs.declared.Derivation.{Derivation}
 use Rattle.restrict.specs.Link.{Writes}
 use Rattle.restrict_entry.specs.Answer.{derivationOf, Answered}
-use Rattle.exports.specs.Codes.{countsIn, handedOut, derivationLeft, Lent, DerivedIs}
+use Rattle.exports.specs.Codes.{countsIn, handedOut, derivationLeft, Lent, DerivedIs, lent}
 
 -- by whether the table is accepted
 module _ (old entries : List ℕ) (r : Pairs) where
@@ -51,3 +52,14 @@ module _ (l : List ℕ) (a : Res (Table × ℕ)) (r : Derivation) (old : Lent) (
   derivation-refused g =
       let same : r .types ≡ old .types = ap (λ (z : Derivation). z .types) (g .refused h) in
       record { is = alone (g .is); refused = λ _. refl; writes = subst (λ z. Writes (oldCounts .types) (old .types) z a) same (g .writes); counted = refl; codes = λ z. absurd (h z) }
+
+-- One that is accepted, with the counts as they are now.
+pub derivation-accepted : (l : List ℕ) (a : Res (Table × ℕ)) (r : Derivation) (old : Lent) (counts : List ℕ) → countsIn counts ≡ withCount (countsIn (old .counts)) (r .count)
+    → r .refusal ≡ 0 → Answered (old .types) l (countsIn (old .counts)) a r → DerivedIs l a (r .refusal) old (lent (r .types) counts (r .number))
+derivation-accepted l a r old counts w z g = record {
+  is = ap (λ (x : Counts). derivationOf l (countsIn (old .counts)) (record { refusal = r .refusal; number = r .number; count = x .types; types = r .types })) w ∙ g .is;
+  refused = λ h. absurd (h z);
+  writes = g .writes;
+  counted = w ∙ sym (ap (λ (x : Counts). withCount (countsIn (old .counts)) (x .types)) w);
+  codes = λ y k h. subst (λ x. So (codesFit (rawTable (r .types) k x))) (sym w) (g .codes y k h);
+}
