@@ -16,7 +16,7 @@ use Rattle.compare.specs.Answered.{pairsGiven}
 use Rattle.restrict_entry.specs.declared.Derivation.{Derivation}
 use Rattle.restrict.specs.Link.{Writes}
 use Rattle.restrict_entry.specs.Answer.{derivationOf, Answered}
-use Rattle.exports.specs.Codes.{countsIn, handedOut, derivationLeft, Lent, DerivedIs, lent}
+use Rattle.exports.specs.Codes.{countsIn, handedOut, derivationLeft, Lent, DerivedIs}
 
 -- by whether the table is accepted
 module _ (old entries : List ℕ) (r : Pairs) where
@@ -53,13 +53,18 @@ module _ (l : List ℕ) (a : Res (Table × ℕ)) (r : Derivation) (old : Lent) (
       let same : r .types ≡ old .types = ap (λ (z : Derivation). z .types) (g .refused h) in
       record { is = alone (g .is); refused = λ _. refl; writes = subst (λ z. Writes (oldCounts .types) (old .types) z a) same (g .writes); counted = refl; codes = λ z. absurd (h z) }
 
--- One that is accepted, with the counts as they are now.
-pub derivation-accepted : (l : List ℕ) (a : Res (Table × ℕ)) (r : Derivation) (old : Lent) (counts : List ℕ) → countsIn counts ≡ withCount (countsIn (old .counts)) (r .count)
-    → r .refusal ≡ 0 → Answered (old .types) l (countsIn (old .counts)) a r → DerivedIs l a (r .refusal) old (lent (r .types) counts (r .number))
-derivation-accepted l a r old counts w z g = record {
-  is = ap (λ (x : Counts). derivationOf l (countsIn (old .counts)) (record { refusal = r .refusal; number = r .number; count = x .types; types = r .types })) w ∙ g .is;
-  refused = λ h. absurd (h z);
-  writes = g .writes;
-  counted = w ∙ sym (ap (λ (x : Counts). withCount (countsIn (old .counts)) (x .types)) w);
-  codes = λ y k h. subst (λ x. So (codesFit (rawTable (r .types) k x))) (sym w) (g .codes y k h);
-}
+-- One that is accepted: each thing lent is what the answer has.
+module _ (l : List ℕ) (a : Res (Table × ℕ)) (r : Derivation) (old new : Lent) where
+  pub derivation-accepted : new .types ≡ r .types → countsIn (new .counts) ≡ withCount (countsIn (old .counts)) (r .count) → new .number ≡ r .number
+      → r .refusal ≡ 0 → Answered (old .types) l (countsIn (old .counts)) a r → DerivedIs l a (r .refusal) old new
+  derivation-accepted t w n z g =
+      let c : Counts = countsIn (old .counts) in
+      let q : countsIn (new .counts) .types ≡ r .count = ap (λ (x : Counts). x .types) w in
+      let same : derivationLeft (r .refusal) (new .number) (new .counts) (new .types) ≡ r = rw (t, n, q) in
+      record {
+        is = ap (derivationOf l c) same ∙ g .is;
+        refused = λ h. absurd (h z);
+        writes = subst (λ x. Writes (c .types) (old .types) x a) (sym t) (g .writes);
+        counted = w ∙ sym (ap (λ (x : Counts). withCount c (x .types)) w);
+        codes = λ y k h. subst (λ b. So (codesFit (rawTable b k (countsIn (new .counts))))) (sym t) (subst (λ x. So (codesFit (rawTable (r .types) k x))) (sym w) (g .codes y k h));
+      }

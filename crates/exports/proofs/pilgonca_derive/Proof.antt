@@ -1,6 +1,5 @@
 -- Rests on the derivation's contract; a signed local is kept as 64 bits, from which `toZ-ofZ` reads it back.
-use mathlib.Core.Path.{ap}
-use mathlib.Core.List.{[], _∷_}
+use mathlib.Core.Path.{refl, ap}
 use mir.Facts.{toZ-ofZ}
 use borrow.Author.Needs.{needs}
 use Rattle.table.specs.Store.{withCount}
@@ -21,10 +20,8 @@ returns c =
     let e = c .before .before .before .before .before .before .counts-of .ensures in
     let r = c .before .before .before .before .derive in
     let g = rw (toZ-ofZ (s .fits .t), toZ-ofZ (s .fits .s), e) at (r .ensures) in
-    let k = c .before .before .before .before .before .before .counts-of .result in
-    let now = k .subjects ∷ k .methods ∷ k .cats ∷ k .sheet ∷ r .result .count ∷ [] in
     let old = lent (s .args .types .now) (s .args .counts .now) (s .args .number .now) in
-    derivation-accepted (s .args .links .now) _ (r .result) old now (ap (λ x. withCount x (r .result .count)) e) (c .before .before .if1 .taken) g
+    derivation-accepted (s .args .links .now) _ (r .result) old _ refl (ap (λ x. withCount x (r .result .count)) e) refl (c .before .before .if1 .taken) g
 
 returns-2 : tie.Need-returns-2
 returns-2 c =
