@@ -7,17 +7,21 @@ ghost use Prim.Native.Nat.{ℕ, suc, _≤_, _<_};
 ghost use lib.Dec.{eqb};
 ghost use lib.IntN.{pos, negsuc};
 ghost use lib.ListN.{length, getD, take};
-ghost use Rattle.model.specs.Requests.{atLayer, within, passLayers};
+ghost use Rattle.model.specs.Requests.{atLayer, within, crossLayers, passLayers};
 ghost use Rattle.model.specs.Check.{methodOf, answerOf};
-ghost use Rattle.table.specs.Store.{rawMethod, tableIn};
+ghost use Rattle.table.specs.Store.{rawMethod, tableIn, withCount};
 ghost use Rattle.table.specs.Limits.{Limits};
+ghost use Rattle.state.specs.View.{placesIn};
 ghost use Rattle.state.specs.Sound.{layersIn};
-ghost use Rattle.carry.specs.Carried.{wayIn, targetsIn, codeOf, argumentOf, slotIn, slotAt, widthAt, passTo, passedOf};
+ghost use Rattle.cross.specs.Crossed.{Ready, Stands, reference};
+ghost use Rattle.carry.specs.Carried.{wayIn, targetsIn, codeOf, argumentOf, slotIn, slotAt, widthAt, passTo, passedOf, crossTo, referenceOf, carriedOf, Carries};
 use numbers::least;
 use numbers::wide;
 use state::Layers;
+use state::Places;
 use table::Counts;
 use table::Head;
+use table::LINK_BYTES;
 use table::Method;
 use table::TYPE_BYTES;
 
@@ -37,6 +41,15 @@ pub enum Slot {
 pub struct Targets {
     pub list: [usize; 129],
     pub count: usize,
+}
+
+// A reference on its way: its static type, its place, the places, and how many types there are now. `no` is its refusal, or 0.
+pub struct Carried {
+    pub no: usize,
+    pub sort: usize,
+    pub place: usize,
+    pub places: Places,
+    pub types: usize,
 }
 
 fn layer_at(l: Layers, i: usize) -> u8
@@ -238,4 +251,102 @@ pub fn pass(types: &[u8; TYPE_BYTES], c: Counts, v: i64, targets: Targets) -> us
         i += 1;
     }
     0
+}
+
+// The counts, with so many types.
+fn grown(c: Counts, types: usize) -> Counts
+    ensures { λ q. ⌜ q ≡ withCount c types ⌝ }
+{
+    Counts {
+        subjects: c.subjects,
+        methods: c.methods,
+        cats: c.cats,
+        sheet: c.sheet,
+        types,
+    }
+}
+
+// A reference that is refused with e.
+fn stopped(x: Carried, e: usize) -> Carried
+    ensures { λ q. ⌜ q ≡ record { no = e; sort = x .sort; place = x .place; places = x .places; types = x .types } ⌝ }
+{
+    let places = x.places;
+    Carried {
+        no: e,
+        sort: x.sort,
+        place: x.place,
+        places,
+        types: x.types,
+    }
+}
+
+// A reference crosses at layer i to the target that is coded (C11, C13, C15).
+fn carry_one(
+    types: &mut [u8; TYPE_BYTES],
+    links: &[u8; LINK_BYTES],
+    c: Counts,
+    x: Carried,
+    target: usize,
+    r: usize,
+    i: usize,
+) -> Carried
+    requires { ⌜ Ready (now links) (withCount c (x .types)) (now types) × Stands (x .places) (x .place) ⌝ }
+    ensures is { λ q. ⌜ carriedOf (now (types .exit)) (now (links .entry)) c q ≡ crossTo (eqb i 0) (referenceOf (now (types .entry)) (now (links .entry)) c x) r (answerOf target) ⌝ }
+    ensures leaves { λ q. ⌜ Carries (withCount c (x .types)) (x .places) (now (types .entry)) (now (types .exit)) q ⌝ }
+{
+    if target == 0 {
+        return stopped(x, at_layer(i, 8));
+    }
+    let to = target - 1;
+    let d = grown(c, x.types);
+    let ps = x.places;
+    let y = cross::land(
+        ps,
+        cross::cross(types, links, d, ps, x.sort, x.place, to, r),
+    );
+    if y.no != 0 {
+        return stopped(x, at_layer(i, y.no));
+    }
+    let places = y.places;
+    Carried {
+        no: 0,
+        sort: to,
+        place: y.place,
+        places,
+        types: y.types,
+    }
+}
+
+// A reference of static type s that leads to place p crosses to each target in turn, received by r (C11, A8).
+pub fn carry(
+    types: &mut [u8; TYPE_BYTES],
+    links: &[u8; LINK_BYTES],
+    c: Counts,
+    ps: Places,
+    s: usize,
+    p: usize,
+    targets: Targets,
+    r: usize,
+) -> Carried
+    requires { ⌜ Ready (now links) c (now types) × Stands ps p × (targets .count ≤ 129) ⌝ }
+    ensures is { λ q. ⌜ carriedOf (now (types .exit)) (now (links .entry)) c q ≡ crossLayers true (reference (tableIn (now (types .entry)) (now (links .entry)) c) (placesIn ps) s p) r (targetsIn targets) ⌝ }
+    ensures leaves { λ q. ⌜ Carries c ps (now (types .entry)) (now (types .exit)) q ⌝ }
+{
+    let mut x = Carried {
+        no: 0,
+        sort: s,
+        place: p,
+        places: ps,
+        types: c.types,
+    };
+    let n = targets.count;
+    let mut i: usize = 0;
+    while i < n {
+        x = carry_one(types, links, c, x, target_in(targets, i), r, i);
+        if x.no != 0 {
+            return x;
+        }
+        i += 1;
+    }
+    x
 }
