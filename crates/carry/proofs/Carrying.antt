@@ -1,5 +1,6 @@
 -- A reference at one layer and over all of them: what a crossing leaves is put together, and the rest of the way follows.
 use mathlib.Core.Path.{_≡_, refl, sym, ap, _∙_, subst}
+use mathlib.Core.Logic.{_⊎_, inl, inr}
 use mathlib.Core.Bool.{Bool, true, false, cond, _||_}
 use mathlib.Core.List.{List, [], _∷_, map}
 use mathlib.Core.Option.{Option, none, some}
@@ -10,11 +11,16 @@ use lib.ListN.{length, getD, take, drop}
 use lib.Seq.{getD-set-other}
 use borrow.Author.Tests.{eq-eqb, ne-eqb}
 use Rattle.model.specs.Basics.{Res, refuse, ok, try}
-use Rattle.model.specs.Crossing.{Reference, cross}
+use Rattle.model.specs.Table.{Table, Ty, typeAt}
+use Rattle.model.specs.Relations.{related, loose}
+use Rattle.model.specs.Crossing.{Place, Reference, cross}
 use Rattle.model.specs.Requests.{atLayer, renumber, crossLayers}
 use Rattle.model.specs.Check.{answerOf}
+use Rattle.model.proofs.Largest.{keeps-related}
 use Rattle.table.specs.declared.Counts.{Counts}
 use Rattle.table.specs.Store.{tableIn, withCount}
+use Rattle.table.proofs.Lists.{lt-or-ge}
+use Rattle.table.proofs.Tables.{size-is, type-out}
 use Rattle.state.specs.declared.Places.{Places}
 use Rattle.state.specs.View.{placesIn, blankPlace}
 use Rattle.cross.specs.declared.Crossed.{Crossed}
@@ -46,6 +52,24 @@ refused-is b l c x e h z = ap (orRefused (x .no) (ok (referenceOf b l c x))) (ne
 came-is : (b l : List ℕ) (c : Counts) (x : Carried) → x .no ≡ 0 → carriedOf b l c x ≡ ok (referenceOf b l c x)
 came-is b l c x z = ap (orRefused (x .no) (ok (referenceOf b l c x))) (eq-eqb (x .no) 0 z)
 
+ok-no : {f : Reference} {e : ℕ} → ok f ≡ refuse e → ⊥
+ok-no q = let w : _≡_ {A = ℕ} 1 0 = ap isOk q in omega arith where
+  isOk : Res Reference → ℕ
+  isOk (ok f) = 1
+  isOk (refuse e) = 0
+
+cross-other : (t : Table) (ps : List Place) (s p to r : ℕ) → typeAt t to .own ≡ false → related loose t to s ≡ false → cross (reference t ps s p) to r ≡ refuse 8
+unfolding cross
+cross-other t ps s p to r own e = rw (own, e)
+
+cross-unknown : (b l : List ℕ) (c : Counts) (ps : List Place) (s p to r : ℕ) → c .types ≤ to → cross (reference (tableIn b l c) ps s p) to r ≡ refuse 8
+cross-unknown b l c ps s p to r h = cross-other (tableIn b l c) ps s p to r (ap (λ (x : Ty). x .own) (type-out b l c to h)) (go (related loose (tableIn b l c) to s) refl) where
+  go : (q : Bool) → related loose (tableIn b l c) to s ≡ q → related loose (tableIn b l c) to s ≡ false
+  go false e = e
+  go true e =
+      let low : to < c .types = subst (λ (n : ℕ). to < n) (size-is b l c) (keeps-related loose (tableIn b l c) to s e .low) in
+      absurd (omega arith)
+
 -- What the crossing and its landing say of the reference that has come through.
 module _ (c : Counts) (ps : Places) (b : List ℕ) (z : Landed) where
   landed-types : (y : Crossed) → z ≡ landed ps y → Lands ps y → Types c b y → z .no ≡ 0 → Grew c (z .types) b
@@ -61,7 +85,7 @@ module _ (c : Counts) (ps : Places) (b : List ℕ) (z : Landed) where
 
 module _ (b l : List ℕ) (c : Counts) (x : Carried) (target r i : ℕ) where
   abbrev Steps : List ℕ → Carried → Type 0
-  Steps b′ q = (carriedOf b′ l c q ≡ crossTo (eqb i 0) (referenceOf b l c x) r (answerOf target)) × Carries (withCount c (x .types)) (x .places) b b′ q
+  Steps b′ q = (carriedOf b′ l c q ≡ crossTo (eqb i 0) (referenceOf b l c x) r (answerOf target)) × Carries (withCount c (x .types)) (x .places) (x .sort) b b′ q
 
   pub one-none : length b ≡ 16384 → target ≡ 0 → (e : ℕ) → e ≡ atLayer (eqb i 0) 8 → (q : Carried) → q ≡ stoppedBy x e → Steps b q
   one-none long z e w q v =
@@ -89,6 +113,14 @@ module _ (b l : List ℕ) (c : Counts) (x : Carried) (target r i : ℕ) where
     abbrev Led : Reference
     Led = reference (tableIn b′ l (withCount c (z .types))) (placesIn (z .places)) to (z .place)
 
+    -- no crossing leads to what is no type of the table
+    one-known : z .no ≡ 0 → to < x .types
+    one-known h = go (lt-or-ge to (x .types)) where
+      go : (to < x .types) ⊎ (x .types ≤ to) → to < x .types
+      go (inl u) = u
+      go (inr u) = absurd (ok-no (sym (ap (orRefused (z .no) (ok Led)) (eq-eqb (z .no) 0 h)) ∙ crossed ∙ cross-unknown b l (withCount c (x .types)) (placesIn (x .places)) (x .sort)
+          (x .place) to r u))
+
     pub one-refused : (z .no ≡ 0 → ⊥) → (e : ℕ) → e ≡ atLayer (eqb i 0) (z .no) → (q : Carried) → q ≡ stoppedBy x e → Steps b′ q
     one-refused h e w q v =
         let some-no : e ≡ 0 → ⊥ = λ k. layer-some (eqb i 0) (z .no) h (sym w ∙ k) in
@@ -105,6 +137,7 @@ module _ (b l : List ℕ) (c : Counts) (x : Carried) (target r i : ℕ) where
         long = leaves .long;
         kept = leaves .kept;
         came = λ _. record {
+          sort = λ _. let u = landed-types (withCount c (x .types)) (x .places) b′ z y (land .is) (leaves .lands) (leaves .types) h .more in let v = one-known h in omega arith;
           types = landed-types (withCount c (x .types)) (x .places) b′ z y (land .is) (leaves .lands) (leaves .types) h;
           falling = land .falling;
           place = land .place h;
@@ -135,7 +168,7 @@ module _ (b l : List ℕ) (c : Counts) (ps : Places) (s p r : ℕ) (list : List 
   pub record Goes (b₁ : List ℕ) (x : Carried) (i : ℕ) : Type 0 where
     pub no : x .no ≡ 0
     pub within : i ≤ n
-    pub carries : Carries c ps b b₁ x
+    pub carries : Carries c ps s b b₁ x
     pub rest : crossLayers (eqb i 0) (referenceOf b₁ l c x) r (map answerOf (drop i (take n list))) ≡ All
 
   pub goes-starts : Ready l c b → Stands ps p → Goes b (record { no = 0; sort = s; place = p; places = ps; types = c .types }) 0
@@ -146,6 +179,7 @@ module _ (b l : List ℕ) (c : Counts) (ps : Places) (s p r : ℕ) (list : List 
       long = h .long;
       kept = λ i q. refl;
       came = λ _. record {
+        sort = λ k. k;
         types = record { more = omega arith; room = h .checked .limits .types; exact = λ i u v. absurd (omega (arith, u, v)) };
         falling = k .falling;
         place = k .place;
@@ -157,14 +191,14 @@ module _ (b l : List ℕ) (c : Counts) (ps : Places) (s p r : ℕ) (list : List 
   }
 
   module _ (h : Ready l c b) (b₁ : List ℕ) (x : Carried) (i : ℕ) (w : Goes b₁ x i) where
-    came : Came c ps b₁ x
+    came : Came c ps s b₁ x
     came = w .carries .came (w .no)
 
     pub goes-ready : Ready l (withCount c (x .types)) b₁ × Stands (x .places) (x .place)
     goes-ready = (ready-on l c (x .types) b b₁ h (came .types) (w .carries .long), record { falling = came .falling; place = came .place })
 
     abbrev Done : List ℕ → Carried → Type 0
-    Done b₂ q = (carriedOf b₂ l c q ≡ All) × Carries c ps b b₂ q
+    Done b₂ q = (carriedOf b₂ l c q ≡ All) × Carries c ps s b b₂ q
 
     pub goes-ends : n ≤ i → Done b₁ x
     goes-ends g = (
@@ -174,7 +208,7 @@ module _ (b l : List ℕ) (c : Counts) (ps : Places) (s p r : ℕ) (list : List 
     )
 
     module _ (long : length list ≡ 129) (few : n ≤ 129) (low : i < n) (target : ℕ) (is : target ≡ getD list i 0) (b₂ : List ℕ) (q : Carried)
-        (step : carriedOf b₂ l c q ≡ crossTo (eqb i 0) (referenceOf b₁ l c x) r (answerOf target)) (k : Carries (withCount c (x .types)) (x .places) b₁ b₂ q) where
+        (step : carriedOf b₂ l c q ≡ crossTo (eqb i 0) (referenceOf b₁ l c x) r (answerOf target)) (k : Carries (withCount c (x .types)) (x .places) (x .sort) b₁ b₂ q) where
       abbrev After : Reference → Res Reference
       After g = crossLayers false g r (map answerOf (drop (i + 1) (take n list)))
 
@@ -184,11 +218,12 @@ module _ (b l : List ℕ) (c : Counts) (ps : Places) (s p r : ℕ) (list : List 
           ∙ cross-step (eqb i 0) (referenceOf b₁ l c x) r (answerOf (getD list i 0)) (map answerOf (drop (i + 1) (take n list)))
           ∙ ap (λ (y : Res Reference). try y After) (sym (step ∙ ap (λ (m : ℕ). crossTo (eqb i 0) (referenceOf b₁ l c x) r (answerOf m)) is))
 
-      both : Carries c ps b b₂ q
+      both : Carries c ps s b b₂ q
       both = record {
         long = k .long;
         kept = λ j y. k .kept j (let u = came .types .more in omega arith) ∙ w .carries .kept j y;
         came = λ y. let m = k .came y in record {
+          sort = λ g. m .sort (came .sort g);
           types = grew-on c (x .types) (q .types) b₁ b₂ (came .types) (k .kept) (m .types);
           falling = m .falling;
           place = m .place;

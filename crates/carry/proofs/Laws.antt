@@ -177,7 +177,8 @@ module _ (b l : List ℕ) (c : Counts) (m : ℕ) (s : Slot) (t : ℕ) where
     pub target-is : h .rep ≡ 0 → m < c .methods → (x : Method) → rawMethod x ≡ getD (getD (typesIn b) t noRawType .methods) m noRawMethod →
         (v : ℕ) → v ≡ codeOf (slotIn (methodOf (rawMethod x)) s) → v ≡ codeOf (slotAt (tableIn b l c) m s t)
     target-is z k x w v q =
-        q ∙ ap (λ (y : Methodᵐ). codeOf (slotIn y s)) (ap methodOf w ∙ sym (method-is b l c t m (sym (ref-is b l c t h low e) ∙ eq-eqb (h .rep) 0 z) k)) ∙ ap codeOf (sym (slot-of (tableIn b l c) m s t))
+        q ∙ ap (λ (y : Methodᵐ). codeOf (slotIn y s)) (ap methodOf w ∙ sym (method-is b l c t m (sym (ref-is b l c t h low e) ∙ eq-eqb (h .rep) 0 z) k)) ∙ ap codeOf
+        (sym (slot-of (tableIn b l c) m s t))
 
 -- ---- Refusals at a layer.
 module _ (i e : ℕ) where

@@ -84,8 +84,10 @@ pub record Before (ps qs : Places) : Type 0 where
   pub more : ps .count ≤ qs .count
   pub same : (k : ℕ) → k < ps .count → getD (qs .list) k blankPlace ≡ getD (ps .list) k blankPlace
 
--- What is known of a reference that has come through: new types are stored as the records that stand for them, and its place is one of places as a request needs them.
-pub record Came (c : Counts) (ps : Places) (b : List ℕ) (x : Carried) : Type 0 where
+-- What is known of a reference that has come through: new types are stored as the records that stand for them, its place is one of places as a
+-- request needs them, and its static type, if it began with one of the table, is one of the table.
+pub record Came (c : Counts) (ps : Places) (s : ℕ) (b : List ℕ) (x : Carried) : Type 0 where
+  pub sort : s < c .types → x .sort < x .types
   pub types : Grew c (x .types) b
   pub falling : Falling (x .places)
   pub place : x .place < x .places .count
@@ -93,7 +95,7 @@ pub record Came (c : Counts) (ps : Places) (b : List ℕ) (x : Carried) : Type 0
   pub before : Before ps (x .places)
 
 -- What is left, refused or not: every byte of the types that there were.
-pub record Carries (c : Counts) (ps : Places) (b b′ : List ℕ) (x : Carried) : Type 0 where
+pub record Carries (c : Counts) (ps : Places) (s : ℕ) (b b′ : List ℕ) (x : Carried) : Type 0 where
   pub long : length b′ ≡ 16384
   pub kept : Kept (c .types) b b′
-  pub came : x .no ≡ 0 → Came c ps b′ x
+  pub came : x .no ≡ 0 → Came c ps s b′ x

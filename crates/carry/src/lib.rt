@@ -292,7 +292,7 @@ fn carry_one(
 ) -> Carried
     requires { ⌜ Ready (now links) (withCount c (x .types)) (now types) × Stands (x .places) (x .place) ⌝ }
     ensures is { λ q. ⌜ carriedOf (now (types .exit)) (now (links .entry)) c q ≡ crossTo (eqb i 0) (referenceOf (now (types .entry)) (now (links .entry)) c x) r (answerOf target) ⌝ }
-    ensures leaves { λ q. ⌜ Carries (withCount c (x .types)) (x .places) (now (types .entry)) (now (types .exit)) q ⌝ }
+    ensures leaves { λ q. ⌜ Carries (withCount c (x .types)) (x .places) (x .sort) (now (types .entry)) (now (types .exit)) q ⌝ }
 {
     if target == 0 {
         return stopped(x, at_layer(i, 8));
@@ -330,7 +330,7 @@ pub fn carry(
 ) -> Carried
     requires { ⌜ Ready (now links) c (now types) × Stands ps p × (targets .count ≤ 129) ⌝ }
     ensures is { λ q. ⌜ carriedOf (now (types .exit)) (now (links .entry)) c q ≡ crossLayers true (reference (tableIn (now (types .entry)) (now (links .entry)) c) (placesIn ps) s p) r (targetsIn targets) ⌝ }
-    ensures leaves { λ q. ⌜ Carries c ps (now (types .entry)) (now (types .exit)) q ⌝ }
+    ensures leaves { λ q. ⌜ Carries c ps s (now (types .entry)) (now (types .exit)) q ⌝ }
 {
     let mut x = Carried {
         no: 0,

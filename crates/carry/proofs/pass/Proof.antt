@@ -36,7 +36,9 @@ returns c =
     let a = c .before .before .before .before .before .args in
     let w = c .before .before .before .before .loop in
     let y = c .before .before .target-in .ensures in
-    λ l. rw (toZ-ofZ (c .before .before .before .before .before .fits .v)) at (pass-stops (tableIn (a .types .now) l (a .c)) (toZ w64 (ofZ w64 (a .v))) (a .targets .list) (a .targets .count) (y .1) (c .before .before .before .before .before .pre .1) (w .i) (c .before .before .before .loop-test .taken) (w .inv .1 l) (c .before .before .target-in .result) (y .0) (c .before .pass-one .result) (c .before .pass-one .ensures l) (c .if1 .taken))
+    λ l. rw (toZ-ofZ (c .before .before .before .before .before .fits .v)) at (pass-stops (tableIn (a .types .now) l (a .c)) (toZ w64 (ofZ w64 (a .v))) (a .targets .list)
+    (a .targets .count) (y .1) (c .before .before .before .before .before .pre .1) (w .i) (c .before .before .before .loop-test .taken) (w .inv .1 l)
+    (c .before .before .target-in .result) (y .0) (c .before .pass-one .result) (c .before .pass-one .ensures l) (c .if1 .taken))
 
 add-i : tie.Need-add-i Inv-loop μ-loop
 add-i c = omega (arith, c .before .before .before .loop-test .taken, c .before .before .before .before .before .pre .1)
@@ -50,13 +52,16 @@ loop-again c =
     let w = c .before .before .before .before .loop in
     let y = c .before .before .target-in .ensures in (
       omega (arith, c .before .before .before .loop-test .taken),
-      λ l. pass-next (tableIn (a .types .now) l (a .c)) (toZ w64 (ofZ w64 (a .v))) (a .targets .list) (a .targets .count) (y .1) (c .before .before .before .before .before .pre .1) (w .i) (c .before .before .before .loop-test .taken) (w .inv .1 l) (c .before .before .target-in .result) (y .0) (c .before .pass-one .result) (c .before .pass-one .ensures l) (c .if1 .left),
+      λ l. pass-next (tableIn (a .types .now) l (a .c)) (toZ w64 (ofZ w64 (a .v))) (a .targets .list) (a .targets .count) (y .1) (c .before .before .before .before .before .pre .1) (w .i)
+          (c .before .before .before .loop-test .taken) (w .inv .1 l) (c .before .before .target-in .result) (y .0) (c .before .pass-one .result) (c .before .pass-one .ensures l)
+          (c .if1 .left),
     )
 
 returns-2 : tie.Need-returns-2 Inv-loop μ-loop
 returns-2 c =
     let a = c .before .before .args in
-    λ l. rw (toZ-ofZ (c .before .before .fits .v)) at (pass-ends (tableIn (a .types .now) l (a .c)) (toZ w64 (ofZ w64 (a .v))) (a .targets .list) (a .targets .count) (c .before .loop .i) (c .loop-test .left) (c .before .loop .inv .1 l))
+    λ l. rw (toZ-ofZ (c .before .before .fits .v)) at (pass-ends (tableIn (a .types .now) l (a .c)) (toZ w64 (ofZ w64 (a .v))) (a .targets .list) (a .targets .count) (c .before .loop .i)
+    (c .loop-test .left) (c .before .loop .inv .1 l))
 
 pub pass-spec : {M : Type 1} → statement M
 pass-spec = tie.close (tie.spec Inv-loop μ-loop loop-holds target-in-requires pass-one-requires returns add-i loop-less loop-again returns-2)

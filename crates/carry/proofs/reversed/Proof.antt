@@ -44,11 +44,16 @@ loop-again c =
     let y = c .target-in .ensures in (
       omega (arith, c .before .loop-test .taken),
       length-set (w .list) (w .i) _ ∙ w .inv .1,
-      back-next (w .list) (c .before .before .before .args .x .list) (c .before .before .before .args .x .count) (w .i) _ (w .inv .1) (y .1) (c .before .before .before .pre) (c .before .loop-test .taken) (y .0) (w .inv .2),
+      back-next (w .list) (c .before .before .before .args .x .list) (c .before .before .before .args .x .count) (w .i) _ (w .inv .1) (y .1) (c .before .before .before .pre)
+          (c .before .loop-test .taken) (y .0) (w .inv .2),
     )
 
 returns : tie.Need-returns Inv-loop μ-loop
-returns c = (back-ends (c .before .loop .list) (c .before .before .args .x .list) (c .before .before .args .x .count) (c .before .loop .i) (c .before .loop .inv .0) (c .loop-test .left) (c .before .loop .inv .2), refl)
+returns c = (
+  back-ends (c .before .loop .list) (c .before .before .args .x .list) (c .before .before .args .x .count) (c .before .loop .i) (c .before .loop .inv .0) (c .loop-test .left)
+      (c .before .loop .inv .2),
+  refl,
+)
 
 pub reversed-spec : {M : Type 1} → statement M
 reversed-spec = tie.close (tie.spec Inv-loop μ-loop loop-holds sub-target-in sub-target-in-2 target-in-requires mul-list array-write-list add-i loop-less loop-again returns)

@@ -25,10 +25,13 @@ wide-requires : tie.Need-wide-requires
 wide-requires c κs = search needs
 
 returns-2 : tie.Need-returns-2
-returns-2 c = slot-argument (c .before .before .before .before .before .before .args .x) (sym (not-false (c .before .before .before .before .before .permits .result) (c .before .before .before .before .if1 .left)) ∙ c .before .before .before .before .before .permits .ensures) _ (c .before .before .before .before .before .before .args .s) (c .before .before .s .given .1) _ (c .argument-in .ensures)
+returns-2 c = slot-argument (c .before .before .before .before .before .before .args .x) (sym
+    (not-false (c .before .before .before .before .before .permits .result) (c .before .before .before .before .if1 .left))
+    ∙ c .before .before .before .before .before .permits .ensures) _ (c .before .before .before .before .before .before .args .s) (c .before .before .s .given .1) _ (c .argument-in .ensures)
 
 returns-3 : tie.Need-returns-3
-returns-3 c = slot-answer (c .before .before .before .before .before .args .x) (sym (not-false (c .before .before .before .before .permits .result) (c .before .before .before .if1 .left)) ∙ c .before .before .before .before .permits .ensures) (c .before .before .before .before .before .args .s) (c .before .enum-told .given .1) _ (c .wide .ensures .0)
+returns-3 c = slot-answer (c .before .before .before .before .before .args .x) (sym (not-false (c .before .before .before .before .permits .result) (c .before .before .before .if1 .left))
+    ∙ c .before .before .before .before .permits .ensures) (c .before .before .before .before .before .args .s) (c .before .enum-told .given .1) _ (c .wide .ensures .0)
 
 pub slot-in-spec : {M : Type 1} → statement M
 slot-in-spec = tie.close (tie.spec permits-requires returns enum-known-s argument-in-requires enum-told wide-requires returns-2 returns-3)

@@ -15,10 +15,15 @@ get-head-requires : tie.Need-get-head-requires
 get-head-requires c κs = omega (arith, c .before .before .if1 .left, c .before .before .before .before .pre .types)
 
 returns-3 : tie.Need-returns-3
-returns-3 c = let a = c .before .before .before .before .before .before .before .args in λ l. target-number (a .types .now) l (a .c) (a .m) (a .s) (a .t) (c .before .before .before .before .before .if1 .left) (c .before .before .get-head .result) (c .before .before .get-head .ensures) (c .if3 .taken)
+returns-3 c = let a = c .before .before .before .before .before .before .before .args in λ l. target-number (a .types .now) l (a .c) (a .m) (a .s) (a .t)
+    (c .before .before .before .before .before .if1 .left) (c .before .before .get-head .result) (c .before .before .get-head .ensures) (c .if3 .taken)
 
 get-method-requires : tie.Need-get-method-requires
-get-method-requires c κs = (omega (arith, c .before .before .before .before .before .if1 .left, c .before .before .before .before .before .before .before .pre .types), omega (arith, c .before .before .before .if2 .left, c .before .before .before .before .before .before .before .pre .methods))
+get-method-requires c κs = (
+  omega (arith, c .before .before .before .before .before .if1 .left, c .before .before .before .before .before .before .before .pre .types),
+  omega
+      (arith, c .before .before .before .if2 .left, c .before .before .before .before .before .before .before .pre .methods),
+)
 
 slot-in-requires : tie.Need-slot-in-requires
 slot-in-requires c κs = search needs
@@ -26,7 +31,9 @@ slot-in-requires c κs = search needs
 returns-4 : tie.Need-returns-4
 returns-4 c =
     let a = c .before .before .before .before .before .before .before .before .before .args in
-    λ l. target-is (a .types .now) l (a .c) (a .m) (a .s) (a .t) (c .before .before .before .before .before .before .before .if1 .left) (c .before .before .before .before .get-head .result) (c .before .before .before .before .get-head .ensures) (c .before .before .if3 .left) (c .before .before .before .before .before .if2 .left)
+    λ l. target-is (a .types .now) l (a .c) (a .m) (a .s) (a .t) (c .before .before .before .before .before .before .before .if1 .left)
+    (c .before .before .before .before .get-head .result) (c .before .before .before .before .get-head .ensures) (c .before .before .if3 .left)
+    (c .before .before .before .before .before .if2 .left)
     (c .before .get-method .result) (c .before .get-method .ensures) _ (c .slot-in .ensures)
 
 pub target-at-spec : {M : Type 1} → statement M

@@ -53,7 +53,8 @@ loop-again c =
 returns : tie.Need-returns Inv-loop μ-loop
 returns c =
     let a = c .before .before .args in (
-      λ l. targets-end (slotAt (tableIn (a .types .now) l (a .c)) (a .m) (a .s)) (c .before .loop .list) (a .w .list) (a .w .count) (c .before .loop .i) (c .before .loop .inv .0) (c .loop-test .left)
+      λ l. targets-end (slotAt (tableIn (a .types .now) l (a .c)) (a .m) (a .s)) (c .before .loop .list) (a .w .list) (a .w .count) (c .before .loop .i) (c .before .loop .inv .0)
+          (c .loop-test .left)
           (c .before .loop .inv .2 l),
       refl,
     )

@@ -39,14 +39,19 @@ loop-again c =
     let y = c .layer-at .ensures in (
       omega (arith, c .before .loop-test .taken),
       length-set (w .list) (w .i + 1) _ ∙ w .inv .1,
-      way-next (w .list) (c .before .before .before .args .l .list) (c .before .before .before .args .sort) (w .i) _ (w .inv .1) (omega (arith, c .before .loop-test .taken, c .before .before .before .pre)) (y .1) (y .0) (w .inv .2),
+      way-next (w .list) (c .before .before .before .args .l .list) (c .before .before .before .args .sort) (w .i) _ (w .inv .1)
+          (omega (arith, c .before .loop-test .taken, c .before .before .before .pre)) (y .1) (y .0) (w .inv .2),
     )
 
 add-t12 : tie.Need-add-t12 Inv-loop μ-loop
 add-t12 c = omega (arith, c .before .before .pre)
 
 returns : tie.Need-returns Inv-loop μ-loop
-returns c = (way-ends (c .before .loop .list) (c .before .before .args .l .list) (c .before .before .args .sort) (c .before .before .args .l .count) (c .before .loop .i) (c .before .loop .inv .0) (c .loop-test .left) (c .before .loop .inv .2), add-one (c .before .before .args .l .count))
+returns c = (
+  way-ends (c .before .loop .list) (c .before .before .args .l .list) (c .before .before .args .sort) (c .before .before .args .l .count) (c .before .loop .i)
+      (c .before .loop .inv .0) (c .loop-test .left) (c .before .loop .inv .2),
+  add-one (c .before .before .args .l .count),
+)
 
 pub way-of-spec : {M : Type 1} → statement M
 way-of-spec = tie.close (tie.spec Inv-loop μ-loop loop-holds layer-at-requires add-list array-write-list add-i loop-less loop-again add-t12 returns)
