@@ -1,7 +1,7 @@
 -- Past the count, past the record, and there.
 use native.Mathlib.Omega.{arith}
 use native.Mathlib.Nat.{min-eq-left}
-use mathlib.Core.Path.{_≡_, _∙_}
+use mathlib.Core.Path.{_∙_}
 use borrow.Author.Needs.{needs}
 use Rattle.carry.proofs.Laws.{argument-uncounted, argument-out, argument-is}
 use Rattle.carry.proofs.argument_in.Statement.{statement}

@@ -2,7 +2,7 @@
 use mathlib.Core.Path.{sym, ap, _∙_}
 use mir.Facts.{toZ-ofZ}
 use lib.Signed.{ltZ}
-use lib.IntN.{ℤ, pos}
+use lib.IntN.{ℤ}
 use Rattle.carry.proofs.Laws.{below-width, above-width, inside-width}
 use Rattle.carry.proofs.in_width.Statement.{statement}
 use Rattle.carry.proofs.in_width.Tie as tie

@@ -2,15 +2,9 @@
 use mir.Facts.{toZ-ofZ}
 use mir.Syntax.{w64}
 use mir.Val.{toZ, ofZ}
-use mathlib.Core.Path.{_≡_, refl}
-use mathlib.Core.Bool.{true}
-use mathlib.Core.List.{List, map}
+use mathlib.Core.List.{List}
 use Prim.Native.Nat.{ℕ, _-_, _≤_}
 use native.Mathlib.Omega.{arith}
-use lib.Dec.{eqb}
-use lib.ListN.{take, drop}
-use Rattle.model.specs.Requests.{passLayers}
-use Rattle.model.specs.Check.{answerOf}
 use Rattle.table.specs.Store.{tableIn}
 use Rattle.carry.proofs.Laws.{PassRest, pass-starts, pass-stops, pass-next, pass-ends}
 use Rattle.carry.proofs.pass.Statement.{statement}

@@ -3,7 +3,7 @@ use mathlib.Core.Path.{_≡_, refl, ap, _∙_}
 use mathlib.Core.List.{List, map}
 use Prim.Native.Nat.{ℕ, _-_, _≤_}
 use native.Mathlib.Omega.{arith}
-use lib.ListN.{length, take, length-set, getD}
+use lib.ListN.{length, take, length-set}
 use Rattle.model.specs.Check.{answerOf}
 use Rattle.table.specs.Store.{tableIn}
 use Rattle.carry.specs.Carried.{slotAt, codeOf}
