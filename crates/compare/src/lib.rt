@@ -13,6 +13,9 @@ use table::Counts;
 use table::LINK_BYTES;
 use table::TYPE_BYTES;
 
+// The bytes of a pair table (B24).
+pub const PAIR_BYTES: usize = 2304;
+
 // What Compare answers (R14): 2 for a table that is not fit, 7 for a number that names no type, or the answers.
 pub enum Compared {
     Unfit,
@@ -95,11 +98,11 @@ fn pair_entry(b: &[u8; TYPE_BYTES], l: &[u8; LINK_BYTES], c: Counts, t: usize, s
 }
 
 // The answers at every pair of sheet types, those of (T, S) at T * 48 + S (B24).
-pub fn pair_table(b: &[u8; TYPE_BYTES], l: &[u8; LINK_BYTES], c: Counts) -> [u8; 2304]
+pub fn pair_table(b: &[u8; TYPE_BYTES], l: &[u8; LINK_BYTES], c: Counts) -> [u8; PAIR_BYTES]
     requires { ⌜ Checked (now l) c ⌝ }
     ensures { λ r. ⌜ r ≡ pairTable (tableIn (now (b .entry)) (now (l .entry)) c) ⌝ }
 {
-    let mut out = [0u8; 2304];
+    let mut out = [0u8; PAIR_BYTES];
     let mut p: usize = 0;
     while p < 2304 {
         let e = pair_entry(b, l, c, p / 48, p % 48);
@@ -112,13 +115,13 @@ pub fn pair_table(b: &[u8; TYPE_BYTES], l: &[u8; LINK_BYTES], c: Counts) -> [u8;
 // The pair table of a table handed in, or 2: whether the table is fit, and the entries, all 0 where it is not.
 pub struct Pairs {
     pub fits: bool,
-    pub entries: [u8; 2304],
+    pub entries: [u8; PAIR_BYTES],
 }
 
-fn no_pairs() -> [u8; 2304]
+fn no_pairs() -> [u8; PAIR_BYTES]
     ensures { λ r. ⌜ r ≡ noPairs ⌝ }
 {
-    [0u8; 2304]
+    [0u8; PAIR_BYTES]
 }
 
 // The pair table, on any table handed in: 2 before all else.

@@ -364,7 +364,7 @@ module _ (ps qs : Places) (x : Place) (one : qs .count ≡ ps .count + 1) (are :
     go (inr u) = let z : ps .count ≡ k = omega arith in subst (λ (m : ℕ). placeType (placeAt (placesIn qs) m) < n) z (subst (λ (y : Place). placeType y < n) (sym place-new) low)
 
 module _ (ps : Places) (fall : Falling ps) (x : Crossed) (lands : Lands ps x) where
-  pub land-refused : (e : ℕ) → x ≡ Refused e → Landing ps x (record { no = e; places = ps; place = 0; types = 0 })
+  pub land-refused : (e : ℕ) → x ≡ Refused e → Landing ps x (record { refusal = e; places = ps; place = 0; types = 0 })
   land-refused e z = let low : 0 < e = subst (Lands ps) z lands in record {
     is = sym (ap (landed ps) z);
     means = λ b l c to. ap (λ (y : Bool). elim y [ false ↦ refuse e | true ↦ ok (reference (tableIn b l (withCount c 0)) (placesIn ps) to 0) ]) (differ {m = e} {n = 0} (λ y. omega arith))
@@ -374,7 +374,7 @@ module _ (ps : Places) (fall : Falling ps) (x : Crossed) (lands : Lands ps x) wh
     typed = λ b c t w y. absurd (omega arith);
   }
 
-  pub land-passes : (p n : ℕ) → x ≡ Passes p n → Landing ps x (record { no = 0; places = ps; place = p; types = n })
+  pub land-passes : (p n : ℕ) → x ≡ Passes p n → Landing ps x (record { refusal = 0; places = ps; place = p; types = n })
   land-passes p n z = record {
     is = sym (ap (landed ps) z);
     means = λ b l c to. sym (ap (crossedOf b l c (placesIn ps) to) z);
@@ -387,9 +387,9 @@ module _ (ps : Places) (fall : Falling ps) (x : Crossed) (lands : Lands ps x) wh
     pub land-room : ps .count < 128
     land-room = subst (Lands ps) z lands .0
 
-    pub land-adapts : (qs : Places) → qs ≡ placeAdded ps r → placesIn qs ≡ placesIn ps ++ (placeOf (r .place) ∷ []) → Landing ps x (record { no = 0; places = qs; place = ps .count; types = n })
+    pub land-adapts : (qs : Places) → qs ≡ placeAdded ps r → placesIn qs ≡ placesIn ps ++ (placeOf (r .place) ∷ []) → Landing ps x (record { refusal = 0; places = qs; place = ps .count; types = n })
     land-adapts qs e are = let one : qs .count ≡ ps .count + 1 = ap (λ (y : Places). y .count) e in record {
-      is = ap (λ (y : Places). record { no = 0; places = y; place = ps .count; types = n }) e ∙ sym (ap (landed ps) z);
+      is = ap (λ (y : Places). record { refusal = 0; places = y; place = ps .count; types = n }) e ∙ sym (ap (landed ps) z);
       means = λ b l c to. ap (λ (y : List Place). ok (reference (tableIn b l (withCount c n)) y to (ps .count))) are
           ∙ ap (λ (y : ℕ). ok (reference (tableIn b l (withCount c n)) (placesIn ps ++ (placeOf (r .place) ∷ [])) to y)) (sym (places-length ps)) ∙ sym (ap (crossedOf b l c (placesIn ps) to) z);
       falling = falling-added ps qs (placeOf (r .place)) one are fall land-room (λ _. subst (Lands ps) z lands .2);

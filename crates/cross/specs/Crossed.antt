@@ -91,17 +91,17 @@ pub record Leads (l : List ℕ) (c : Counts) (ps : Places) (s p to r : ℕ) (b b
 
 -- The places with the new adapter among them, and where the reference leads.
 abbrev pub landed : Places → Crossed → Landed
-landed ps (Refused e) = record { no = e; places = ps; place = 0; types = 0 }
-landed ps (Passes p n) = record { no = 0; places = ps; place = p; types = n }
-landed ps (Adapts r n) = record { no = 0; places = placeAdded ps r; place = ps .count; types = n }
+landed ps (Refused e) = record { refusal = e; places = ps; place = 0; types = 0 }
+landed ps (Passes p n) = record { refusal = 0; places = ps; place = p; types = n }
+landed ps (Adapts r n) = record { refusal = 0; places = placeAdded ps r; place = ps .count; types = n }
 
 abbrev pub landedOf : List ℕ → List ℕ → Counts → ℕ → Landed → Res Reference
-landedOf b l c to x = elim (eqb (x .no) 0) [ false ↦ refuse (x .no) | true ↦ ok (reference (tableIn b l (withCount c (x .types))) (placesIn (x .places)) to (x .place)) ]
+landedOf b l c to x = elim (eqb (x .refusal) 0) [ false ↦ refuse (x .refusal) | true ↦ ok (reference (tableIn b l (withCount c (x .types))) (placesIn (x .places)) to (x .place)) ]
 
 -- What is known of them: the answer's meaning with the new adapter stored, and what the next crossing asks of places.
 pub record Landing (ps : Places) (x : Crossed) (q : Landed) : Type 0 where
   pub is : q ≡ landed ps x
   pub means : (b l : List ℕ) (c : Counts) (to : ℕ) → landedOf b l c to q ≡ crossedOf b l c (placesIn ps) to x
   pub falling : Falling (q .places)
-  pub place : q .no ≡ 0 → q .place < q .places .count
-  pub typed : (b : List ℕ) (c : Counts) → Typed ps c → Types c b x → q .no ≡ 0 → Typed (q .places) (withCount c (q .types))
+  pub place : q .refusal ≡ 0 → q .place < q .places .count
+  pub typed : (b : List ℕ) (c : Counts) → Typed ps c → Types c b x → q .refusal ≡ 0 → Typed (q .places) (withCount c (q .types))

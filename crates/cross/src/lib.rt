@@ -41,9 +41,9 @@ enum Led {
     },
 }
 
-// What becomes of a crossing once its adapter is stored: `no` is its refusal, or 0.
+// What becomes of a crossing once its adapter is stored: `refusal` is its number, or 0.
 pub struct Landed {
-    pub no: usize,
+    pub refusal: usize,
     pub places: Places,
     pub place: usize,
     pub types: usize,
@@ -260,20 +260,20 @@ pub fn land(ps: Places, x: Crossed) -> Landed
     ensures { λ q. ⌜ Landing ps x q ⌝ }
 {
     match x {
-        Crossed::Refused(no) => Landed {
-            no,
+        Crossed::Refused(refusal) => Landed {
+            refusal,
             places: ps,
             place: 0,
             types: 0,
         },
         Crossed::Passes { place, types } => Landed {
-            no: 0,
+            refusal: 0,
             places: ps,
             place,
             types,
         },
         Crossed::Adapts { record, types } => Landed {
-            no: 0,
+            refusal: 0,
             places: ps.add(record),
             place: ps.count,
             types,

@@ -1,14 +1,15 @@
 -- What the pair table and a derivation hand out, from their contracts.
 use mathlib.Core.Path.{_≡_, refl, sym, ap, _∙_, subst}
-use mathlib.Core.Bool.{Bool, true, false}
+use mathlib.Core.Bool.{Bool, true, false, So}
 use mathlib.Core.List.{List}
 use Prim.Native.Nat.{ℕ}
 use borrow.Author.Tests.{ne-eqb}
 use Rattle.model.specs.Basics.{Res, ok, need}
 use Rattle.model.specs.Table.{Table}
-use Rattle.model.specs.Check.{RawTable, tableOf, tableAccepted}
+use Rattle.model.specs.Check.{RawTable, tableOf, tableAccepted, codesFit}
 use Rattle.model.proofs.Rules.{never}
 use Rattle.table.specs.declared.Counts.{Counts}
+use Rattle.table.specs.Store.{rawTable, withCount}
 use Rattle.compare.specs.declared.Pairs.{Pairs}
 use Rattle.compare.specs.Pairs.{pairTable, pairsHanded}
 use Rattle.compare.specs.Answered.{pairsGiven}
@@ -51,3 +52,19 @@ module _ (l : List ℕ) (a : Res (Table × ℕ)) (r : Derivation) (old : Lent) (
   derivation-refused g =
       let same : r .types ≡ old .types = ap (λ (z : Derivation). z .types) (g .refused h) in
       record { is = alone (g .is); refused = λ _. refl; writes = subst (λ z. Writes (oldCounts .types) (old .types) z a) same (g .writes); counted = refl; codes = λ z. absurd (h z) }
+
+-- One that is accepted: each thing lent is what the answer has.
+module _ (l : List ℕ) (a : Res (Table × ℕ)) (r : Derivation) (old new : Lent) where
+  pub derivation-accepted : new .types ≡ r .types → countsIn (new .counts) ≡ withCount (countsIn (old .counts)) (r .count) → new .number ≡ r .number
+      → r .refusal ≡ 0 → Answered (old .types) l (countsIn (old .counts)) a r → DerivedIs l a (r .refusal) old new
+  derivation-accepted t w n z g =
+      let c : Counts = countsIn (old .counts) in
+      let q : countsIn (new .counts) .types ≡ r .count = ap (λ (x : Counts). x .types) w in
+      let same : derivationLeft (r .refusal) (new .number) (new .counts) (new .types) ≡ r = rw (t, n, q) in
+      record {
+        is = ap (derivationOf l c) same ∙ g .is;
+        refused = λ h. absurd (h z);
+        writes = subst (λ x. Writes (c .types) (old .types) x a) (sym t) (g .writes);
+        counted = w ∙ sym (ap (λ (x : Counts). withCount c (x .types)) w);
+        codes = λ y k h. subst (λ b. So (codesFit (rawTable b k (countsIn (new .counts))))) (sym t) (subst (λ x. So (codesFit (rawTable (r .types) k x))) (sym w) (g .codes y k h));
+      }

@@ -15,6 +15,7 @@ ghost use Rattle.sheetread.specs.View.{answered};
 ghost use Rattle.sheetwrite.specs.Answer.{wroteAnswer};
 ghost use Rattle.exports.specs.Codes.{countsIn, answersCode, comparedCode, sheetOf, numberOf, valueOf, WrittenIs, handedOut, DerivedIs, lent};
 use compare::Compared;
+use compare::PAIR_BYTES;
 use numbers::wide;
 use relation::Answers;
 use sheetwrite::Wrote;
@@ -128,7 +129,7 @@ pub extern "C" fn pilgonca_pairs(
     types: &[u8; TYPE_BYTES],
     links: &[u8; LINK_BYTES],
     counts: &[usize; 5],
-    out: &mut [u8; 2304],
+    out: &mut [u8; PAIR_BYTES],
 ) -> usize
     ensures { λ n. ⌜ (n, now (out .exit)) ≡ handedOut (now (out .entry)) (pairsHanded (rawTable (now (types .entry)) (now (links .entry)) (countsIn (now (counts .entry))))) ⌝ }
 {

@@ -21,6 +21,7 @@ use table::Links;
 use table::Method;
 use textread::Cursor;
 use textread::Got;
+use textread::NUMBERS;
 use textread::Number;
 use textread::Numbers;
 use textread::Value;
@@ -28,7 +29,7 @@ use textread::Value;
 // Numbers that are stored as bytes, if each is below a bound.
 pub struct Packed {
     pub right: bool,
-    pub items: [u8; 4],
+    pub items: [u8; Method::SLOTS],
 }
 
 // An `under=` line: the number of a refusal, or the broader categories.
@@ -124,12 +125,12 @@ pub fn next_end(s: &[u8], c: Cursor) -> Got
 }
 
 // Whether the first count numbers are below n, and those numbers as bytes; the other bytes are 0.
-fn pack(items: [usize; 4], count: usize, n: usize) -> Packed
+fn pack(items: [usize; NUMBERS], count: usize, n: usize) -> Packed
     requires { ⌜ (count ≤ 4) × (length items ≡ 4) × (n ≤ 256) ⌝ }
     ensures is { λ r. ⌜ r .right ≡ all (below n) (take count items) ⌝ }
     ensures kept { λ r. ⌜ (r .right ≡ true → take count (r .items) ≡ take count items) × (length (r .items) ≡ 4) × ((k : ℕ) → count ≤ k → getD (r .items) k 0 ≡ 0) ⌝ }
 {
-    let mut bytes = [0u8; 4];
+    let mut bytes = [0u8; Method::SLOTS];
     let mut i: usize = 0;
     while i < count {
         let x = items[i];
@@ -206,7 +207,7 @@ fn args_at(l: &[u8], at: usize) -> Numbers
         return Numbers {
             right: true,
             count: 0,
-            items: [0usize; 4],
+            items: [0usize; NUMBERS],
             next: at + 1,
         };
     }
@@ -266,7 +267,7 @@ fn read_unsigned(state: u8) -> MethodLine
     let m = Method {
         state,
         count: 0,
-        args: [0u8; 4],
+        args: [0u8; Method::SLOTS],
         answer: 0,
     };
     MethodLine { refusal: 0, m }

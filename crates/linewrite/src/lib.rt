@@ -34,7 +34,7 @@ fn put_argument(buf: &mut [u8], i: usize, n: usize) -> usize
 }
 
 // The first `count` arguments of a signature, of which there are four slots.
-fn put_arguments(buf: &mut [u8], count: usize, args: [u8; 4]) -> usize
+fn put_arguments(buf: &mut [u8], count: usize, args: [u8; Method::SLOTS]) -> usize
     ensures is { λ r. ⌜ Filled (now (buf .entry)) (now (buf .exit)) (commas (take count args)) r ⌝ }
     ensures few { λ r. ⌜ r ≤ 144 ⌝ }
 {

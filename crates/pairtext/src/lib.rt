@@ -1,5 +1,6 @@
 // The program `pairs`: a sheet's text in, the four relations of every pair of its types out (P16, P17). `report` takes any bytes and says what is printed
 // (specs/Output.antt). Each line is written in the rest of the same lent buffer.
+use compare::PAIR_BYTES;
 use numbers::least;
 use numbers::wide;
 use textwrite::put_decimal;
@@ -15,10 +16,13 @@ ghost use Rattle.textwrite.specs.Fill.{Filled, Lined};
 ghost use Rattle.pairtext.specs.Output.{answerLines, pairsOutput};
 ghost use Rattle.pairtext.specs.Parts.{answersText, codeLine, rowLines, codeLines};
 
-// What is printed: the first `length` bytes of `text`. 48 * 48 lines of at most 14 bytes are 32,256.
+// Room for what is printed: 48 * 48 lines of at most 14 bytes are 32,256.
+pub const PRINTED_BYTES: usize = 32768;
+
+// What is printed: the first `length` bytes of `text`.
 pub struct Printed {
     pub length: usize,
-    pub text: [u8; 32768],
+    pub text: [u8; PRINTED_BYTES],
 }
 
 // The four answers of a pair, and the end of the line.
@@ -49,7 +53,7 @@ fn pair_line(buf: &mut [u8], t: usize, s: usize, code: usize) -> usize
 }
 
 // The pairs of T with each of the n types.
-fn row_lines(buf: &mut [u8], pairs: &[u8; 2304], t: usize, n: usize) -> usize
+fn row_lines(buf: &mut [u8], pairs: &[u8; PAIR_BYTES], t: usize, n: usize) -> usize
     requires { ⌜ (t < 48) × (n ≤ 48) ⌝ }
     ensures is { λ r. ⌜ Lined (now (buf .entry)) (now (buf .exit)) (rowLines (now (pairs .entry)) t n) r ⌝ }
     ensures few { λ r. ⌜ r ≤ 672 ⌝ }
@@ -67,7 +71,7 @@ fn row_lines(buf: &mut [u8], pairs: &[u8; 2304], t: usize, n: usize) -> usize
 }
 
 // Every pair of the n types, T rising.
-fn pair_lines(buf: &mut [u8], pairs: &[u8; 2304], n: usize) -> usize
+fn pair_lines(buf: &mut [u8], pairs: &[u8; PAIR_BYTES], n: usize) -> usize
     requires { ⌜ n ≤ 48 ⌝ }
     ensures is { λ r. ⌜ Lined (now (buf .entry)) (now (buf .exit)) (codeLines (now (pairs .entry)) n n) r ⌝ }
     ensures few { λ r. ⌜ r ≤ 32256 ⌝ }
@@ -111,10 +115,10 @@ fn put_report(buf: &mut [u8], s: &[u8]) -> usize
     pair_lines(buf, &pairs, c.sheet)
 }
 
-fn blank() -> [u8; 32768]
+fn blank() -> [u8; PRINTED_BYTES]
     ensures { λ r. ⌜ length r ≡ 32768 ⌝ }
 {
-    [0u8; 32768]
+    [0u8; PRINTED_BYTES]
 }
 
 // What the program prints for any input. `within` says what `&text[..length]` asks.

@@ -29,6 +29,9 @@ enum Step {
     Tail(usize),
 }
 
+// The pairs of 128 types: as many entries has the array of a search.
+const PAIRS: usize = 16384;
+
 // Whether an entry of the array says that the pair of its number is found: its top bit.
 fn is_found(entry: u16) -> bool
     ensures { λ r. ⌜ r ≡ leb 32768 entry ⌝ }
@@ -37,7 +40,7 @@ fn is_found(entry: u16) -> bool
 }
 
 // The pair of number p is found, and joins the queue behind the `tail` pairs in it: the top bit of entry p, and the rest of entry `tail`.
-fn add_pair(found: &mut [u16; 16384], tail: usize, p: usize) -> usize
+fn add_pair(found: &mut [u16; PAIRS], tail: usize, p: usize) -> usize
     requires { ⌜ (length (now found) ≡ 16384) × (tail < 16384) × (p < 16384) ⌝ }
     ensures { λ r. ⌜ (r ≡ tail + 1) × Added (now (found .entry)) tail p (now (found .exit)) ⌝ }
 {
@@ -48,7 +51,7 @@ fn add_pair(found: &mut [u16; 16384], tail: usize, p: usize) -> usize
 }
 
 // The pair (x, y) joins those found, of which there are `tail`, unless it is one of them. It breaks its rule if x or y is not in the table.
-fn find_pair(found: &mut [u16; 16384], tail: usize, n: usize, x: usize, y: usize) -> Step
+fn find_pair(found: &mut [u16; PAIRS], tail: usize, n: usize, x: usize, y: usize) -> Step
     requires { ⌜ ListedIn n (now found) tail ⌝ }
     ensures { λ r. ⌜ MetIn n (λ M. M x y) (now (found .entry)) tail (now (found .exit)) r ⌝ }
 {
@@ -74,7 +77,7 @@ fn slots_used(count: u8) -> usize
 }
 
 // R4 and R6: as many arguments, and each related with the sides exchanged.
-fn find_arguments(found: &mut [u16; 16384], tail: usize, n: usize, x: Method, y: Method) -> Step
+fn find_arguments(found: &mut [u16; PAIRS], tail: usize, n: usize, x: Method, y: Method) -> Step
     requires { ⌜ ListedIn n (now found) tail ⌝ }
     ensures { λ r. ⌜ MetIn n (λ M. argsRule M (take (x .count) (x .args)) (take (y .count) (y .args))) (now (found .entry)) tail (now (found .exit)) r ⌝ }
 {
@@ -98,7 +101,7 @@ fn find_arguments(found: &mut [u16; 16384], tail: usize, n: usize, x: Method, y:
 }
 
 // R4 and R5: both have an answer or neither, and then they are related in the direction of the pair.
-fn find_answer(found: &mut [u16; 16384], tail: usize, n: usize, x: u8, y: u8) -> Step
+fn find_answer(found: &mut [u16; PAIRS], tail: usize, n: usize, x: u8, y: u8) -> Step
     requires { ⌜ ListedIn n (now found) tail ⌝ }
     ensures { λ r. ⌜ MetIn n (λ M. answerRule M (answerOf x) (answerOf y)) (now (found .entry)) tail (now (found .exit)) r ⌝ }
 {
@@ -118,7 +121,7 @@ fn find_answer(found: &mut [u16; 16384], tail: usize, n: usize, x: u8, y: u8) ->
 
 // One method of T and of S.
 fn find_method(
-    found: &mut [u16; 16384],
+    found: &mut [u16; PAIRS],
     tail: usize,
     n: usize,
     k: Relation,
@@ -146,7 +149,7 @@ fn find_method(
 // All methods of the reference types a and d.
 fn find_methods(
     b: &[u8; TYPE_BYTES],
-    found: &mut [u16; 16384],
+    found: &mut [u16; PAIRS],
     tail: usize,
     n: usize,
     methods: usize,
@@ -176,7 +179,7 @@ fn find_methods(
 fn find_types(
     b: &[u8; TYPE_BYTES],
     l: &[u8; LINK_BYTES],
-    found: &mut [u16; 16384],
+    found: &mut [u16; PAIRS],
     tail: usize,
     c: Counts,
     k: Relation,
@@ -203,7 +206,7 @@ fn find_types(
 fn find_next(
     b: &[u8; TYPE_BYTES],
     l: &[u8; LINK_BYTES],
-    found: &mut [u16; 16384],
+    found: &mut [u16; PAIRS],
     tail: usize,
     head: usize,
     c: Counts,
@@ -230,7 +233,7 @@ fn search(
     requires { ⌜ Says (relationOf k) square × Checked (now l) c × (t < c .types) × (s < c .types) ⌝ }
     ensures { λ r. ⌜ r ≡ related (relationOf k) (tableIn (now (b .entry)) (now (l .entry)) c) t s ⌝ }
 {
-    let mut found = [0u16; 16384];
+    let mut found = [0u16; PAIRS];
     let mut tail = add_pair(&mut found, 0, t * 128 + s);
     let mut head: usize = 0;
     while head < tail {

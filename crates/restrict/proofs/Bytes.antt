@@ -11,7 +11,8 @@ use Rattle.model.specs.Check.{RawMethod, RawType, noRawType, typeOf}
 use Rattle.table.specs.declared.Counts.{Counts}
 use Rattle.table.specs.Store.{rawMethodAt, rawMethodsAt, rawTypeAt, typesIn, typesTo, recordBytes, Put}
 use Rattle.table.specs.Records.{bytesOf, TypeExact}
-use Rattle.table.proofs.Lists.{from-same, getD-sets-below, getD-sets-above, getD-sets-in}
+use Rattle.model.proofs.Lists.{from-same}
+use Rattle.table.proofs.Lists.{getD-sets-below, getD-sets-above, getD-sets-in}
 use Rattle.table.proofs.Laws.{types-length, type-in, record-length, put-length, put-types}
 use Rattle.restrict.specs.Link.{recordAt, Kept, ExactAt, Exact}
 

@@ -23,7 +23,8 @@ use Rattle.table.specs.declared.TypeRec.{TypeRec}
 use Rattle.table.specs.Store.{rawMethod, rawOf, typesIn, typesTo, tableIn, withCount, emptyMethod, Put}
 use Rattle.table.specs.Limits.{Limits}
 use Rattle.table.specs.Records.{bytesOf}
-use Rattle.table.proofs.Lists.{lt-or-ge, same-or, from-same}
+use Rattle.model.proofs.Lists.{from-same}
+use Rattle.table.proofs.Lists.{lt-or-ge, same-or}
 use Rattle.table.proofs.Laws.{types-length, methods-length, method-in, put-length, put-types}
 use Rattle.table.proofs.Tables.{types-to-length, types-to-at, types-add, types-put, types-of, size-is}
 use Rattle.restrict.specs.declared.Derived.{Derived}

@@ -13,6 +13,7 @@ ghost use Rattle.table.specs.Store.{rawOf, typesIn, typesTo, withCount};
 ghost use Rattle.table.specs.Limits.{Limits};
 ghost use Rattle.restrict.specs.Link.{Alike, NumberIn, NumberRep, NumberType, Ready, Derives, Gives, Begins, Opened, Stored, foundOf, refIn, tabled};
 use numbers::narrow;
+use slots::SLOT_BYTES;
 use slots::Slot;
 use slots::Work;
 use table::Counts;
@@ -75,7 +76,7 @@ fn search(b: &[u8; TYPE_BYTES], c: Counts, n: usize, kind: u8, t: usize, s: usiz
     if found < n {
         return Begun::Settled(Derived::At(found, n));
     }
-    if Counts::TYPES <= n {
+    if n >= Counts::TYPES {
         return Begun::Settled(Derived::Full);
     }
     Begun::New
@@ -130,7 +131,7 @@ fn start(b: &mut [u8; TYPE_BYTES], n: usize, kind: u8, t: usize, s: usize) -> Wo
 }
 
 // The type at work is stored, whole (B13).
-fn finish(b: &mut [u8; TYPE_BYTES], n: usize, w: Work, methods: usize, bytes: [u8; 80])
+fn finish(b: &mut [u8; TYPE_BYTES], n: usize, w: Work, methods: usize, bytes: [u8; SLOT_BYTES])
     requires { ⌜ (n < 128) × (length (now b) ≡ 16384) × (w .key .kind < 3) × (w .key .left < 256) × (w .key .right < 256) × (methods ≤ 16) ⌝ }
     ensures { λ _. ⌜ Stored w methods n bytes (now (b .entry)) (now (b .exit)) ⌝ }
 {
@@ -149,7 +150,7 @@ fn sub(b: &mut [u8; TYPE_BYTES], c: Counts, n: usize, t: usize, s: usize) -> Der
     }
     let w = start(b, n, Key::SUB, t, s);
     let end = c.methods * 5;
-    let mut bytes = [0u8; 80];
+    let mut bytes = [0u8; SLOT_BYTES];
     let mut m = n + 1;
     let mut k: usize = 0;
     while k < end {
@@ -188,7 +189,7 @@ fn sup(b: &mut [u8; TYPE_BYTES], c: Counts, n: usize, t: usize, s: usize) -> Der
     }
     let w = start(b, n, Key::SUP, t, s);
     let end = c.methods * 5;
-    let mut bytes = [0u8; 80];
+    let mut bytes = [0u8; SLOT_BYTES];
     let mut m = n + 1;
     let mut k: usize = 0;
     while k < end {
@@ -228,7 +229,7 @@ fn closed(b: &mut [u8; TYPE_BYTES], c: Counts, r: usize, v: usize) -> Derived
     }
     let w = start(b, n, Key::CLOSED, r, v);
     let end = c.methods * 5;
-    let mut bytes = [0u8; 80];
+    let mut bytes = [0u8; SLOT_BYTES];
     let mut m = n + 1;
     let mut k: usize = 0;
     while k < end {

@@ -114,7 +114,13 @@ pub fn both_permit(x: Method, y: Method) -> bool
 }
 
 // Whether category a ≤ x, where `done` has the answers for the categories below x.
-fn category_next(l: &[u8; LINK_BYTES], done: &[bool; 32], c: Counts, a: usize, x: usize) -> bool
+fn category_next(
+    l: &[u8; LINK_BYTES],
+    done: &[bool; Counts::CATEGORIES + 1],
+    c: Counts,
+    a: usize,
+    x: usize,
+) -> bool
     requires { ⌜ Checked (now l) c × (x < 32) ⌝ }
     ensures { λ r. ⌜ r ≡ catNext (broaderIn (now (l .entry)) c) (now (done .entry)) a x ⌝ }
 {
@@ -153,7 +159,7 @@ fn category_le(l: &[u8; LINK_BYTES], c: Counts, a: usize, b: usize) -> bool
         }
         return a == b;
     }
-    let mut done = [false; 32];
+    let mut done = [false; Counts::CATEGORIES + 1];
     let mut x: usize = 0;
     while x < b {
         let r = category_next(l, &done, c, a, x);

@@ -37,7 +37,7 @@ pub enum Done {
 // The `m=` lines of a type: the number of a refusal, or 0. The cursor stands behind the lines, or at the line that is refused.
 pub struct MethodsGot {
     pub refusal: usize,
-    pub list: [Method; 16],
+    pub list: [Method; Counts::METHODS],
     pub next: Cursor,
 }
 
@@ -100,7 +100,7 @@ fn methods_at(s: &[u8], c: Cursor, m: usize, n: usize) -> MethodsGot
     ensures exact { λ r. ⌜ (r .refusal ≡ 0 → MethodsExact m (r .list)) × (length (r .list) ≡ 16) ⌝ }
 {
     let none = Method::empty();
-    let mut list = [none; 16];
+    let mut list = [none; Counts::METHODS];
     let mut j: usize = 0;
     let mut at = c.at;
     while j < m {
@@ -155,7 +155,7 @@ fn number_type(rep: usize, cat: usize) -> TypeRec
     ensures exact { λ r. ⌜ ((m n i : ℕ) → i < n → TypeExact m n i (rawOf r)) ⌝ }
 {
     let none = Method::empty();
-    let methods = [none; 16];
+    let methods = [none; Counts::METHODS];
     let head = sheet_head(rep, cat, 0);
     TypeRec { head, methods }
 }

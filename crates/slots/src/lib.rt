@@ -13,6 +13,7 @@ ghost use Rattle.slots.specs.Slots.{answerSlot, argumentSlot, slotOf, sl
 use numbers::least;
 use numbers::narrow;
 use numbers::wide;
+use table::Counts;
 use table::Head;
 use table::Key;
 use table::Method;
@@ -25,6 +26,9 @@ pub struct Work {
     pub left: TypeRec,
     pub right: TypeRec,
 }
+
+// Five slots to each of 16 methods, a byte to each.
+pub const SLOT_BYTES: usize = 80;
 
 // What is derived for a slot of a new type: nothing, an argument or an answer, from these two types.
 pub enum Slot {
@@ -212,13 +216,13 @@ fn unsigned(state: u8) -> Method
     Method {
         state,
         count: 0,
-        args: [0u8; 4],
+        args: [0u8; Method::SLOTS],
         answer: 0,
     }
 }
 
 // A method with a signature of so many arguments.
-fn signed(state: u8, count: usize, args: [u8; 4], answer: u8) -> Method
+fn signed(state: u8, count: usize, args: [u8; Method::SLOTS], answer: u8) -> Method
     requires { ⌜ count ≤ 4 ⌝ }
     ensures { λ r. ⌜ rawMethod r ≡ signedMethod state count args answer ⌝ }
 {
@@ -235,7 +239,7 @@ fn signed(state: u8, count: usize, args: [u8; 4], answer: u8) -> Method
 }
 
 // A method of the derived type, from the bytes of its slots: the record that stands for what it means (B13).
-fn filled(kind: u8, p: Method, q: Method, args: [u8; 4], answer: u8) -> Method
+fn filled(kind: u8, p: Method, q: Method, args: [u8; Method::SLOTS], answer: u8) -> Method
     requires { ⌜ kind < 3 ⌝ }
     ensures is { λ r. ⌜ methodOf (rawMethod r) ≡ fill (kindOf kind) (methodOf (rawMethod p)) (methodOf (rawMethod q)) args answer ⌝ }
     ensures exact { λ r. ⌜ MethodExact (rawMethod r) ⌝ }
@@ -261,7 +265,7 @@ fn category(w: Work) -> u8
 }
 
 // A derived type is a reference type with own=no, known by its key (D11).
-fn new_type(w: Work, methods: [Method; 16]) -> TypeRec
+fn new_type(w: Work, methods: [Method; Counts::METHODS]) -> TypeRec
     requires { ⌜ (w .key .left < 256) × (w .key .right < 256) ⌝ }
     ensures { λ r. ⌜ (rawOf r ≡ newRecord w (rawOf r .methods)) × (r .methods ≡ methods) ⌝ }
 {
@@ -290,12 +294,12 @@ pub fn pending(w: Work) -> TypeRec
 }
 
 // The derived type, from the bytes of its slots.
-pub fn finished(w: Work, methods: usize, slots: [u8; 80]) -> TypeRec
+pub fn finished(w: Work, methods: usize, slots: [u8; SLOT_BYTES]) -> TypeRec
     requires { ⌜ (w .key .kind < 3) × (w .key .left < 256) × (w .key .right < 256) × (methods ≤ 16) ⌝ }
     ensures { λ r. ⌜ Finished w methods slots r ⌝ }
 {
     let empty = Method::empty();
-    let mut all = [empty; 16];
+    let mut all = [empty; Counts::METHODS];
     let mut j: usize = 0;
     while j < methods {
         let p = method_at(w.left, j);

@@ -39,17 +39,17 @@ pub struct Call {
 }
 
 pub struct Cells {
-    pub list: [Cell; 256],
+    pub list: [Cell; State::CELLS],
     pub count: usize,
 }
 
 pub struct Places {
-    pub list: [PlaceRec; 128],
+    pub list: [PlaceRec; State::PLACES],
     pub count: usize,
 }
 
 pub struct Calls {
-    pub list: [Call; 256],
+    pub list: [Call; State::CALLS],
     pub count: usize,
 }
 
@@ -64,7 +64,7 @@ pub struct State {
 
 // The types that a value passes at a place (C9): the closed types of the adapters, outermost first, and the class last.
 pub struct Layers {
-    pub list: [u8; 128],
+    pub list: [u8; State::PLACES],
     pub count: usize,
 }
 
@@ -78,7 +78,7 @@ impl Cells {
             place: 0,
         };
         Self {
-            list: [c; 256],
+            list: [c; State::CELLS],
             count: 0,
         }
     }
@@ -104,7 +104,7 @@ impl Places {
             place: Place::Object { class: 0, owner: 0 },
         };
         Self {
-            list: [p; 128],
+            list: [p; State::PLACES],
             count: 0,
         }
     }
@@ -133,7 +133,7 @@ impl Calls {
             answered: false,
         };
         Self {
-            list: [c; 256],
+            list: [c; State::CALLS],
             count: 0,
         }
     }
@@ -312,7 +312,7 @@ pub fn layers_of(ps: Places, p: usize) -> Layers
     requires { ⌜ Falling ps × (p < ps .count) ⌝ }
     ensures { λ r. ⌜ LayersAt ps p r ⌝ }
 {
-    let mut list = [0u8; 128];
+    let mut list = [0u8; State::PLACES];
     let mut count: usize = 0;
     let mut at = p;
     while !is_object(place_at(ps, at)) {

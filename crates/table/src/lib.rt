@@ -54,12 +54,14 @@ impl Counts {
 pub struct Method {
     pub state: u8,
     pub count: u8,
-    pub args: [u8; 4],
+    pub args: [u8; Method::SLOTS],
     pub answer: u8,
 }
 
-// The codes of the four states.
+// The codes of the four states, and the argument slots of a record.
 impl Method {
+    pub const SLOTS: usize = 4;
+
     pub const DENIED: u8 = 0;
 
     pub const OPTIONAL: u8 = 1;
@@ -75,7 +77,7 @@ impl Method {
         Self {
             state: Method::DENIED,
             count: 0,
-            args: [0u8; 4],
+            args: [0u8; Method::SLOTS],
             answer: 0,
         }
     }
@@ -105,7 +107,7 @@ impl Head {
 // A type.
 pub struct TypeRec {
     pub head: Head,
-    pub methods: [Method; 16],
+    pub methods: [Method; Counts::METHODS],
 }
 
 impl TypeRec {
@@ -114,7 +116,7 @@ impl TypeRec {
         ensures { λ r. ⌜ r ≡ emptyType ⌝ }
     {
         let m = Method::empty();
-        let methods = [m; 16];
+        let methods = [m; Counts::METHODS];
         let head = Head {
             rep: Head::REF,
             cat: 0,
@@ -248,7 +250,7 @@ pub fn get_type(b: &[u8; TYPE_BYTES], i: usize) -> TypeRec
 {
     let head = get_head(b, i);
     let none = Method::empty();
-    let mut methods = [none; 16];
+    let mut methods = [none; Counts::METHODS];
     let mut j: usize = 0;
     while j < 16 {
         let m = get_method(b, i, j);

@@ -32,11 +32,14 @@ pub enum Number {
     Right(usize, usize),
 }
 
+// The longest list of numbers.
+pub const NUMBERS: usize = 4;
+
 // Up to four numbers with commas between, scanned: whether the form is right, how many, and where the bytes behind them start.
 pub struct Numbers {
     pub right: bool,
     pub count: usize,
-    pub items: [usize; 4],
+    pub items: [usize; NUMBERS],
     pub next: usize,
 }
 
@@ -133,7 +136,7 @@ pub fn no_numbers(next: usize) -> Numbers
     Numbers {
         right: false,
         count: 0,
-        items: [0usize; 4],
+        items: [0usize; NUMBERS],
         next,
     }
 }
@@ -145,7 +148,7 @@ pub fn numbers_at(l: &[u8], at: usize, max: usize) -> Numbers
     ensures within { λ r. ⌜ (r .next ≤ length (now (l .entry))) × (r .count ≤ max) × (length (r .items) ≡ 4) × (r .right ≡ true → 1 ≤ r .count) ⌝ }
 {
     let mut i = at;
-    let mut items = [0usize; 4];
+    let mut items = [0usize; NUMBERS];
     let mut count: usize = 0;
     while count < max {
         let t = number_at(l, i);

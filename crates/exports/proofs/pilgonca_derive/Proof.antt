@@ -1,12 +1,10 @@
 -- Rests on the derivation's contract; a signed local is kept as 64 bits, from which `toZ-ofZ` reads it back.
-use mathlib.Core.Path.{ap, sym, subst}
-use mathlib.Core.Bool.{So}
+use mathlib.Core.Path.{refl, ap}
 use mir.Facts.{toZ-ofZ}
 use borrow.Author.Needs.{needs}
-use Rattle.model.specs.Check.{codesFit}
-use Rattle.table.specs.Store.{rawTable, withCount}
+use Rattle.table.specs.Store.{withCount}
 use Rattle.exports.specs.Codes.{lent}
-use Rattle.exports.proofs.Handing.{derivation-refused}
+use Rattle.exports.proofs.Handing.{derivation-refused, derivation-accepted}
 use Rattle.exports.proofs.pilgonca_derive.Statement.{statement}
 use Rattle.exports.proofs.pilgonca_derive.Tie as tie
 
@@ -22,14 +20,8 @@ returns c =
     let e = c .before .before .before .before .before .before .counts-of .ensures in
     let r = c .before .before .before .before .derive in
     let g = rw (toZ-ofZ (s .fits .t), toZ-ofZ (s .fits .s), e) at (r .ensures) in
-    let w = ap (λ x. withCount x (r .result .count)) e in
-    record {
-      is = g .is;
-      refused = λ h. absurd (h (c .before .before .if1 .taken));
-      writes = g .writes;
-      counted = w;
-      codes = λ z k h. subst (λ x. So (codesFit (rawTable (r .result .types) k x))) (sym w) (g .codes z k h);
-    }
+    let old = lent (s .args .types .now) (s .args .counts .now) (s .args .number .now) in
+    derivation-accepted (s .args .links .now) _ (r .result) old _ refl (ap (λ x. withCount x (r .result .count)) e) refl (c .before .before .if1 .taken) g
 
 returns-2 : tie.Need-returns-2
 returns-2 c =

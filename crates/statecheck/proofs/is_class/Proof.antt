@@ -1,4 +1,5 @@
 -- Each return goes through the tests before it (`goes`) and ends at its own (`ends`).
+use native.Mathlib.Omega.{arith}
 use lib.ListN.{getD}
 use Rattle.model.specs.Check.{noRawType}
 use Rattle.table.specs.Store.{typesIn, mayStandAs}
@@ -14,7 +15,7 @@ returns : tie.Need-returns
 returns c = let a = c .before .before .args in ends (refAs (getD (typesIn (a .b .now)) (a .i) noRawType)) _ (refused (c .before .is-ref .result) _ (c .before .is-ref .ensures) (c .if1 .taken))
 
 may-stand-requires : tie.Need-may-stand-requires
-may-stand-requires c κs = c .before .before .pre .1
+may-stand-requires c κs = omega (arith, c .before .before .pre .1)
 
 returns-2 : tie.Need-returns-2
 returns-2 c = let a = c .before .before .before .before .args in
