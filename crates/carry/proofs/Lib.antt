@@ -1,0 +1,3 @@
+pub mod Methods
+pub mod Laws
+pub mod Carrying
