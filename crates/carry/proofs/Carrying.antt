@@ -34,7 +34,7 @@ use Rattle.carry.proofs.Laws.{answer-is, rest-next, nothing-left}
 
 -- ---- One layer.
 abbrev stoppedBy : Carried → ℕ → Carried
-stoppedBy x e = record { no = e; sort = x .sort; place = x .place; places = x .places; types = x .types }
+stoppedBy x e = record { refusal = e; sort = x .sort; place = x .place; places = x .places; types = x .types }
 
 abbrev orRefused : ℕ → Res Reference → Bool → Res Reference
 orRefused e k q = elim q [ false ↦ refuse e | true ↦ k ]
@@ -46,11 +46,11 @@ layer-some false n h e = go (eqb n 8 || eqb n 10) e where
   go true z = let w : _≡_ {A = ℕ} 19 0 = z in omega arith
   go false z = h z
 
-refused-is : (b l : List ℕ) (c : Counts) (x : Carried) (e : ℕ) → (e ≡ 0 → ⊥) → x .no ≡ e → carriedOf b l c x ≡ refuse e
-refused-is b l c x e h z = ap (orRefused (x .no) (ok (referenceOf b l c x))) (ne-eqb (x .no) 0 (λ w. h (sym z ∙ w))) ∙ ap (λ (n : ℕ). refuse n) z
+refused-is : (b l : List ℕ) (c : Counts) (x : Carried) (e : ℕ) → (e ≡ 0 → ⊥) → x .refusal ≡ e → carriedOf b l c x ≡ refuse e
+refused-is b l c x e h z = ap (orRefused (x .refusal) (ok (referenceOf b l c x))) (ne-eqb (x .refusal) 0 (λ w. h (sym z ∙ w))) ∙ ap (λ (n : ℕ). refuse n) z
 
-came-is : (b l : List ℕ) (c : Counts) (x : Carried) → x .no ≡ 0 → carriedOf b l c x ≡ ok (referenceOf b l c x)
-came-is b l c x z = ap (orRefused (x .no) (ok (referenceOf b l c x))) (eq-eqb (x .no) 0 z)
+came-is : (b l : List ℕ) (c : Counts) (x : Carried) → x .refusal ≡ 0 → carriedOf b l c x ≡ ok (referenceOf b l c x)
+came-is b l c x z = ap (orRefused (x .refusal) (ok (referenceOf b l c x))) (eq-eqb (x .refusal) 0 z)
 
 ok-no : {f : Reference} {e : ℕ} → ok f ≡ refuse e → ⊥
 ok-no q = let w : _≡_ {A = ℕ} 1 0 = ap isOk q in omega arith where
@@ -72,8 +72,8 @@ cross-unknown b l c ps s p to r h = cross-other (tableIn b l c) ps s p to r (ap 
 
 -- What the crossing and its landing say of the reference that has come through.
 module _ (c : Counts) (ps : Places) (b : List ℕ) (z : Landed) where
-  landed-types : (y : Crossed) → z ≡ landed ps y → Lands ps y → Types c b y → z .no ≡ 0 → Grew c (z .types) b
-  landed-types (Refused e) w h t q = let u : z .no ≡ e = ap (λ (k : Landed). k .no) w in absurd (omega arith)
+  landed-types : (y : Crossed) → z ≡ landed ps y → Lands ps y → Types c b y → z .refusal ≡ 0 → Grew c (z .types) b
+  landed-types (Refused e) w h t q = let u : z .refusal ≡ e = ap (λ (k : Landed). k .refusal) w in absurd (omega arith)
   landed-types (Passes p n) w h t q = subst (λ (k : Landed). Grew c (k .types) b) (sym w) t
   landed-types (Adapts r n) w h t q = subst (λ (k : Landed). Grew c (k .types) b) (sym w) (t .0)
 
@@ -90,7 +90,7 @@ module _ (b l : List ℕ) (c : Counts) (x : Carried) (target r i : ℕ) where
   pub one-none : length b ≡ 16384 → target ≡ 0 → (e : ℕ) → e ≡ atLayer (eqb i 0) 8 → (q : Carried) → q ≡ stoppedBy x e → Steps b q
   one-none long z e w q v =
       let some-no : e ≡ 0 → ⊥ = λ y. layer-some (eqb i 0) 8 (λ u. omega (arith, u)) (sym w ∙ y) in
-      let is : q .no ≡ e = ap (λ (k : Carried). k .no) v in (
+      let is : q .refusal ≡ e = ap (λ (k : Carried). k .refusal) v in (
         refused-is b l c q e some-no is ∙ ap (λ (n : ℕ). refuse n) w ∙ sym (ap (λ (n : ℕ). crossTo (eqb i 0) (referenceOf b l c x) r (answerOf n)) z),
         record { long = long; kept = λ j h. refl; came = λ y. absurd (some-no (sym is ∙ y)) },
       )
@@ -114,25 +114,25 @@ module _ (b l : List ℕ) (c : Counts) (x : Carried) (target r i : ℕ) where
     Led = reference (tableIn b′ l (withCount c (z .types))) (placesIn (z .places)) to (z .place)
 
     -- no crossing leads to what is no type of the table
-    one-known : z .no ≡ 0 → to < x .types
+    one-known : z .refusal ≡ 0 → to < x .types
     one-known h = go (lt-or-ge to (x .types)) where
       go : (to < x .types) ⊎ (x .types ≤ to) → to < x .types
       go (inl u) = u
-      go (inr u) = absurd (ok-no (sym (ap (orRefused (z .no) (ok Led)) (eq-eqb (z .no) 0 h)) ∙ crossed ∙ cross-unknown b l (withCount c (x .types)) (placesIn (x .places)) (x .sort)
+      go (inr u) = absurd (ok-no (sym (ap (orRefused (z .refusal) (ok Led)) (eq-eqb (z .refusal) 0 h)) ∙ crossed ∙ cross-unknown b l (withCount c (x .types)) (placesIn (x .places)) (x .sort)
           (x .place) to r u))
 
-    pub one-refused : (z .no ≡ 0 → ⊥) → (e : ℕ) → e ≡ atLayer (eqb i 0) (z .no) → (q : Carried) → q ≡ stoppedBy x e → Steps b′ q
+    pub one-refused : (z .refusal ≡ 0 → ⊥) → (e : ℕ) → e ≡ atLayer (eqb i 0) (z .refusal) → (q : Carried) → q ≡ stoppedBy x e → Steps b′ q
     one-refused h e w q v =
-        let some-no : e ≡ 0 → ⊥ = λ k. layer-some (eqb i 0) (z .no) h (sym w ∙ k) in
-        let is : q .no ≡ e = ap (λ (k : Carried). k .no) v in (
+        let some-no : e ≡ 0 → ⊥ = λ k. layer-some (eqb i 0) (z .refusal) h (sym w ∙ k) in
+        let is : q .refusal ≡ e = ap (λ (k : Carried). k .refusal) v in (
           refused-is b′ l c q e some-no is ∙ ap (λ (n : ℕ). refuse n) w
-              ∙ sym (crossing ∙ ap (λ (k : Bool). renumber (eqb i 0) (orRefused (z .no) (ok Led) k)) (ne-eqb (z .no) 0 h)),
+              ∙ sym (crossing ∙ ap (λ (k : Bool). renumber (eqb i 0) (orRefused (z .refusal) (ok Led) k)) (ne-eqb (z .refusal) 0 h)),
           record { long = leaves .long; kept = leaves .kept; came = λ k. absurd (some-no (sym is ∙ k)) },
         )
 
-    pub one-crosses : z .no ≡ 0 → Steps b′ (record { no = 0; sort = to; place = z .place; places = z .places; types = z .types })
+    pub one-crosses : z .refusal ≡ 0 → Steps b′ (record { refusal = 0; sort = to; place = z .place; places = z .places; types = z .types })
     one-crosses h = (
-      sym (crossing ∙ ap (λ (k : Bool). renumber (eqb i 0) (orRefused (z .no) (ok Led) k)) (eq-eqb (z .no) 0 h)),
+      sym (crossing ∙ ap (λ (k : Bool). renumber (eqb i 0) (orRefused (z .refusal) (ok Led) k)) (eq-eqb (z .refusal) 0 h)),
       record {
         long = leaves .long;
         kept = leaves .kept;
@@ -166,14 +166,14 @@ module _ (b l : List ℕ) (c : Counts) (ps : Places) (s p r : ℕ) (list : List 
 
   -- all n targets are met as those from i on, by the reference as it has become
   pub record Goes (b₁ : List ℕ) (x : Carried) (i : ℕ) : Type 0 where
-    pub no : x .no ≡ 0
+    pub refusal : x .refusal ≡ 0
     pub within : i ≤ n
     pub carries : Carries c ps s b b₁ x
     pub rest : crossLayers (eqb i 0) (referenceOf b₁ l c x) r (map answerOf (drop i (take n list))) ≡ All
 
-  pub goes-starts : Ready l c b → Stands ps p → Goes b (record { no = 0; sort = s; place = p; places = ps; types = c .types }) 0
+  pub goes-starts : Ready l c b → Stands ps p → Goes b (record { refusal = 0; sort = s; place = p; places = ps; types = c .types }) 0
   goes-starts h k = record {
-    no = refl;
+    refusal = refl;
     within = omega arith;
     carries = record {
       long = h .long;
@@ -192,7 +192,7 @@ module _ (b l : List ℕ) (c : Counts) (ps : Places) (s p r : ℕ) (list : List 
 
   module _ (h : Ready l c b) (b₁ : List ℕ) (x : Carried) (i : ℕ) (w : Goes b₁ x i) where
     came : Came c ps s b₁ x
-    came = w .carries .came (w .no)
+    came = w .carries .came (w .refusal)
 
     pub goes-ready : Ready l (withCount c (x .types)) b₁ × Stands (x .places) (x .place)
     goes-ready = (ready-on l c (x .types) b b₁ h (came .types) (w .carries .long), record { falling = came .falling; place = came .place })
@@ -202,7 +202,7 @@ module _ (b l : List ℕ) (c : Counts) (ps : Places) (s p r : ℕ) (list : List 
 
     pub goes-ends : n ≤ i → Done b₁ x
     goes-ends g = (
-      came-is b₁ l c x (w .no) ∙ sym (sym (w .rest) ∙ ap (λ (xs : List ℕ). crossLayers (eqb i 0) (referenceOf b₁ l c x) r (map answerOf xs)) (nothing-left list n i g)
+      came-is b₁ l c x (w .refusal) ∙ sym (sym (w .rest) ∙ ap (λ (xs : List ℕ). crossLayers (eqb i 0) (referenceOf b₁ l c x) r (map answerOf xs)) (nothing-left list n i g)
           ∙ cross-end (eqb i 0) (referenceOf b₁ l c x) r),
       w .carries,
     )
@@ -235,12 +235,12 @@ module _ (b l : List ℕ) (c : Counts) (ps : Places) (s p r : ℕ) (list : List 
         };
       }
 
-      pub goes-stops : (q .no ≡ 0 → ⊥) → Done b₂ q
-      goes-stops z = let u = refused-is b₂ l c q (q .no) z refl in (u ∙ sym (goes-on ∙ ap (λ (y : Res Reference). try y After) u), both)
+      pub goes-stops : (q .refusal ≡ 0 → ⊥) → Done b₂ q
+      goes-stops z = let u = refused-is b₂ l c q (q .refusal) z refl in (u ∙ sym (goes-on ∙ ap (λ (y : Res Reference). try y After) u), both)
 
-      pub goes-next : q .no ≡ 0 → Goes b₂ q (i + 1)
+      pub goes-next : q .refusal ≡ 0 → Goes b₂ q (i + 1)
       goes-next z = record {
-        no = z;
+        refusal = z;
         within = omega arith;
         carries = both;
         rest = sym (goes-on ∙ ap (λ (y : Res Reference). try y After) (came-is b₂ l c q z)

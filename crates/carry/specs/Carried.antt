@@ -77,7 +77,7 @@ abbrev pub referenceOf : List ℕ → List ℕ → Counts → Carried → Refere
 referenceOf b l c x = reference (tableIn b l (withCount c (x .types))) (placesIn (x .places)) (x .sort) (x .place)
 
 abbrev pub carriedOf : List ℕ → List ℕ → Counts → Carried → Res Reference
-carriedOf b l c x = elim (eqb (x .no) 0) [ false ↦ refuse (x .no) | true ↦ ok (referenceOf b l c x) ]
+carriedOf b l c x = elim (eqb (x .refusal) 0) [ false ↦ refuse (x .refusal) | true ↦ ok (referenceOf b l c x) ]
 
 -- every place that was counted is stored as it was
 pub record Before (ps qs : Places) : Type 0 where
@@ -98,4 +98,4 @@ pub record Came (c : Counts) (ps : Places) (s : ℕ) (b : List ℕ) (x : Carried
 pub record Carries (c : Counts) (ps : Places) (s : ℕ) (b b′ : List ℕ) (x : Carried) : Type 0 where
   pub long : length b′ ≡ 16384
   pub kept : Kept (c .types) b b′
-  pub came : x .no ≡ 0 → Came c ps s b′ x
+  pub came : x .refusal ≡ 0 → Came c ps s b′ x

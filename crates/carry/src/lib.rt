@@ -27,8 +27,13 @@ use table::TYPE_BYTES;
 
 // The types whose signatures a value meets: that of the called cell, and then the layers of its place (C9).
 pub struct Way {
-    pub list: [u8; 129],
+    pub list: [u8; Way::TYPES],
     pub count: usize,
+}
+
+// the cell's type, and at most 128 layers
+impl Way {
+    pub const TYPES: usize = 129;
 }
 
 // What a value is to be: an argument of the method, by its number, or the answer.
@@ -39,13 +44,13 @@ pub enum Slot {
 
 // The type that each layer has for the value: 0 for none, else its number and 1. Types are taken at their word (H14), and a byte can be 255: so a code is no byte.
 pub struct Targets {
-    pub list: [usize; 129],
+    pub list: [usize; Way::TYPES],
     pub count: usize,
 }
 
-// A reference on its way: its static type, its place, the places, and how many types there are now. `no` is its refusal, or 0.
+// A reference on its way: its static type, its place, the places, and how many types there are now. `refusal` is its number, or 0.
 pub struct Carried {
-    pub no: usize,
+    pub refusal: usize,
     pub sort: usize,
     pub place: usize,
     pub places: Places,
@@ -81,7 +86,7 @@ pub fn way_of(sort: u8, l: Layers) -> Way
     ensures { λ r. ⌜ (wayIn r ≡ sort ∷ layersIn l) × (r .count ≡ suc (l .count)) ⌝ }
 {
     let n = l.count;
-    let mut list = [sort; 129];
+    let mut list = [sort; Way::TYPES];
     let mut i: usize = 0;
     while i < n {
         list[i + 1] = layer_at(l, i);
@@ -151,7 +156,7 @@ pub fn targets_of(types: &[u8; TYPE_BYTES], c: Counts, m: usize, s: Slot, w: Way
     ensures { λ r. ⌜ ((l : List ℕ) → targetsIn r ≡ map (slotAt (tableIn (now (types .entry)) l c) m s) (wayIn w)) × (r .count ≡ w .count) ⌝ }
 {
     let n = w.count;
-    let mut list = [0usize; 129];
+    let mut list = [0usize; Way::TYPES];
     let mut i: usize = 0;
     while i < n {
         list[i] = target_at(types, c, m, s, type_at(w, i));
@@ -166,7 +171,7 @@ pub fn reversed(x: Targets) -> Targets
     ensures { λ r. ⌜ (targetsIn r ≡ reverse (targetsIn x)) × (r .count ≡ x .count) ⌝ }
 {
     let n = x.count;
-    let mut list = [0usize; 129];
+    let mut list = [0usize; Way::TYPES];
     let mut i: usize = 0;
     while i < n {
         list[i] = target_in(x, n - i - 1);
@@ -268,11 +273,11 @@ fn grown(c: Counts, types: usize) -> Counts
 
 // A reference that is refused with e.
 fn stopped(x: Carried, e: usize) -> Carried
-    ensures { λ q. ⌜ q ≡ record { no = e; sort = x .sort; place = x .place; places = x .places; types = x .types } ⌝ }
+    ensures { λ q. ⌜ q ≡ record { refusal = e; sort = x .sort; place = x .place; places = x .places; types = x .types } ⌝ }
 {
     let places = x.places;
     Carried {
-        no: e,
+        refusal: e,
         sort: x.sort,
         place: x.place,
         places,
@@ -304,12 +309,12 @@ fn carry_one(
         ps,
         cross::cross(types, links, d, ps, x.sort, x.place, to, r),
     );
-    if y.no != 0 {
-        return stopped(x, at_layer(i, y.no));
+    if y.refusal != 0 {
+        return stopped(x, at_layer(i, y.refusal));
     }
     let places = y.places;
     Carried {
-        no: 0,
+        refusal: 0,
         sort: to,
         place: y.place,
         places,
@@ -333,7 +338,7 @@ pub fn carry(
     ensures leaves { λ q. ⌜ Carries c ps s (now (types .entry)) (now (types .exit)) q ⌝ }
 {
     let mut x = Carried {
-        no: 0,
+        refusal: 0,
         sort: s,
         place: p,
         places: ps,
@@ -343,7 +348,7 @@ pub fn carry(
     let mut i: usize = 0;
     while i < n {
         x = carry_one(types, links, c, x, target_in(targets, i), r, i);
-        if x.no != 0 {
+        if x.refusal != 0 {
             return x;
         }
         i += 1;
