@@ -1,5 +1,6 @@
 -- What is returned to the one who hands a state in: the number or the result, and the state as records of numbers again. Refused, it is what was handed in, all of it (Q14);
 -- accepted, the counted records are determined, and only what lies past a count is open (Q15, E3).
+-- The spare bytes of a stored type are no part of these records: a contract over bytes says besides what becomes of them (B19, B22).
 use mathlib.Core.Path.{_≡_}
 use mathlib.Core.Bool.{cond}
 use mathlib.Core.List.{[], _∷_, map}
