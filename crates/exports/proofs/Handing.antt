@@ -3,7 +3,7 @@ use mathlib.Core.Path.{_≡_, refl, sym, ap, _∙_, subst}
 use mathlib.Core.Bool.{Bool, true, false, So}
 use mathlib.Core.List.{List}
 use Prim.Native.Nat.{ℕ}
-use borrow.Author.Tests.{ne-eqb}
+use lib.Dec.{eqb}
 use Rattle.model.specs.Basics.{Res, ok, need}
 use Rattle.model.specs.Table.{Table}
 use Rattle.model.specs.Check.{RawTable, tableOf, tableAccepted, codesFit}
@@ -13,10 +13,9 @@ use Rattle.table.specs.Store.{rawTable, withCount}
 use Rattle.compare.specs.declared.Pairs.{Pairs}
 use Rattle.compare.specs.Pairs.{pairTable, pairsHanded}
 use Rattle.compare.specs.Answered.{pairsGiven}
-use Rattle.restrict_entry.specs.declared.Derivation.{Derivation}
 use Rattle.restrict.specs.Link.{Writes}
-use Rattle.restrict_entry.specs.Answer.{derivationOf, Answered}
-use Rattle.exports.specs.Codes.{countsIn, handedOut, derivationLeft, Lent, DerivedIs}
+use Rattle.restrict_entry.specs.Answer.{Derivation, derivationOf, refusedWith, Answered}
+use Rattle.exports.specs.Codes.{countsIn, handedOut, derivationLeft, Lent, lent, DerivedIs}
 
 -- by whether the table is accepted
 module _ (old entries : List ℕ) (r : Pairs) where
@@ -40,18 +39,24 @@ module _ (t : RawTable) (old : List ℕ) (r : Pairs) (e : r ≡ pairsGiven (pair
   unfolding pairsHanded
   pairs-old = out-old old (pairTable (tableOf t)) r (tableAccepted t) e
 
--- A derivation that is refused: its number alone, and what was lent as it was.
-module _ (l : List ℕ) (a : Res (Table × ℕ)) (r : Derivation) (old : Lent) (h : r .refusal ≡ 0 → ⊥) where
+-- A derivation that is refused with n: its number alone, and what was lent as it was.
+module _ (l : List ℕ) (a : Res (Table × ℕ)) (n : ℕ) (old : Lent) (b : List ℕ) (h : eqb n 0 ≡ false) where
   abbrev oldCounts : Counts
   oldCounts = countsIn (old .counts)
 
-  alone : derivationOf l oldCounts r ≡ a → derivationOf l oldCounts (derivationLeft (r .refusal) (old .number) (old .counts) (old .types)) ≡ a
-  alone e = let z = ne-eqb (r .refusal) 0 h in rw z (rw z at e)
+  some : n ≡ 0 → ⊥
+  some z = never (sym (ap (λ (k : ℕ). eqb k 0) (sym z) ∙ h))
 
-  pub derivation-refused : Answered (old .types) l oldCounts a r → DerivedIs l a (r .refusal) old old
-  derivation-refused g =
-      let same : r .types ≡ old .types = ap (λ (z : Derivation). z .types) (g .refused h) in
-      record { is = alone (g .is); refused = λ _. refl; writes = subst (λ z. Writes (oldCounts .types) (old .types) z a) same (g .writes); counted = refl; codes = λ z. absurd (h z) }
+  alone : derivationOf l oldCounts (refusedWith n b oldCounts) ≡ a → derivationOf l oldCounts (derivationLeft n (old .number) (old .counts) (old .types)) ≡ a
+  alone e = rw h (rw h at e)
+
+  pub derivation-refused : {d : Derivation} → d ≡ refusedWith n b oldCounts → Answered (old .types) l oldCounts a d → DerivedIs l a n old (lent b (old .counts) (old .number))
+  derivation-refused e given =
+      let g : Answered (old .types) l oldCounts a (refusedWith n b oldCounts) = subst (Answered (old .types) l oldCounts a) e given in
+      let same : b ≡ old .types = ap (λ (z : Derivation). z .types) (g .refused some) in
+      let back : lent b (old .counts) (old .number) ≡ old = ap (λ z. lent z (old .counts) (old .number)) same in
+      subst (DerivedIs l a n old) (sym back)
+      (record { is = alone (g .is); refused = λ _. refl; writes = subst (λ z. Writes (oldCounts .types) (old .types) z a) same (g .writes); counted = refl; codes = λ z. absurd (some z) })
 
 -- One that is accepted: each thing lent is what the answer has.
 module _ (l : List ℕ) (a : Res (Table × ℕ)) (r : Derivation) (old new : Lent) where

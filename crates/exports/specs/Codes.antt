@@ -12,8 +12,7 @@ use Rattle.table.specs.declared.Counts.{Counts}
 use Rattle.table.specs.Store.{rawTable, withCount}
 use Rattle.compare.specs.Pairs.{pairCode}
 use Rattle.restrict.specs.Link.{Writes}
-use Rattle.restrict_entry.specs.declared.Derivation.{Derivation}
-use Rattle.restrict_entry.specs.Answer.{derivationOf}
+use Rattle.restrict_entry.specs.Answer.{Derivation, derivationOf}
 use Rattle.sheet.specs.Text.{Written}
 use Rattle.sheetread.specs.declared.Sheet.{Sheet}
 

@@ -18,6 +18,7 @@ use compare::Compared;
 use compare::PAIR_BYTES;
 use numbers::wide;
 use relation::Answers;
+use restrict_entry::Made;
 use sheetwrite::Wrote;
 use table::Counts;
 use table::LINK_BYTES;
@@ -158,13 +159,15 @@ pub extern "C" fn pilgonca_derive(
     ensures { λ n. ⌜ DerivedIs (now (links .entry)) (deriveHanded (rawTable (now (types .entry)) (now (links .entry)) (countsIn (now (counts .entry)))) kind t s) n (lent (now (types .entry)) (now (counts .entry)) (now (number .entry))) (lent (now (types .exit)) (now (counts .exit)) (now (number .exit))) ⌝ }
 {
     let c = counts_of(*counts);
-    let old = *types;
-    let r = restrict_entry::derive(old, links, c, kind, t, s);
-    if r.refusal == 0 {
-        let new = r.types;
-        *types = new;
-        *counts = [c.subjects, c.methods, c.cats, c.sheet, r.count];
-        *number = r.number;
+    let r = restrict_entry::derive(types, links, c, kind, t, s);
+    match r {
+        Made::Unfit => 2,
+        Made::Unknown => 7,
+        Made::Full => 11,
+        Made::At(i, count) => {
+            *counts = [c.subjects, c.methods, c.cats, c.sheet, count];
+            *number = i;
+            0
+        }
     }
-    r.refusal
 }

@@ -336,17 +336,10 @@ pub fn next_method(s: &[u8], c: Cursor, n: usize) -> MethodGot
 {
     let l = textread::line_at(s, c);
     let g = read_method(l, n);
+    let next = textread::past_accepted(g.refusal, c, l);
     let m = g.m;
-    if g.refusal != 0 {
-        return MethodGot {
-            refusal: g.refusal,
-            m,
-            next: c,
-        };
-    }
-    let next = textread::past(c, l);
     MethodGot {
-        refusal: 0,
+        refusal: g.refusal,
         m,
         next,
     }

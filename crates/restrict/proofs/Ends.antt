@@ -32,13 +32,14 @@ use Rattle.restrict.specs.declared.Derived.the-variants.{Full, At}
 use Rattle.restrict.specs.declared.Begun.{Begun}
 use Rattle.restrict.specs.declared.Begun.the-variants.{Settled, New}
 use Rattle.slots.specs.declared.Work.{Work}
-use Rattle.slots.specs.Slots.{shared, fillAt, methodIn, kindIn, catIn, mainOf, newRecord, pendingRecord, Finished}
+use Rattle.slots.specs.declared.Slot.{Slot}
+use Rattle.slots.specs.Slots.{slotAt, shared, fillAt, leftIn, rightIn, methodIn, methodAt, kindIn, catIn, mainOf, newRecord, pendingRecord, Finished}
 use Rattle.restrict.specs.Link.{Ready, Writes, recordAt, Kept, ExactAt, Exact, ExactTo, Sized, Leaves, Coded, Derives, Gives, Begins, Opened, Stored, refIn, tabled, derivedIn, derivationIn}
 use Rattle.slots.proofs.Runs.{Row, methods-run}
 use Rattle.restrict.proofs.Begins.{ref-below, ref-rep, ref-type}
 use Rattle.restrict.proofs.Bytes.{record-same, exact-same, put-below, put-above, put-exact, kept-take, exact-take}
 use Rattle.restrict.proofs.Codes.{denied-coded, methods-coded, new-coded, codes-stay}
-use Rattle.restrict.proofs.Turns.{zeros, Whole, Comes, Loop, loop-starts, loop-ends}
+use Rattle.restrict.proofs.Turns.{zeros, slotIn, Whole, Comes, Loop, loop-starts, loop-ends}
 
 -- What needs no new type.
 module _ (T : Table) where
@@ -107,8 +108,8 @@ pub record Started (d : Kind) (c : Counts) (n t s : ℕ) (w : Work) (b b₀ : Li
   pub new : (T : Table) → withoutNew (tabled T c n b) d t s ≡ none
   pub left : refIn n b t ≡ true
   pub right : refIn n b s ≡ true
-  pub leftRecord : rawOf (w .left) ≡ getD (typesIn b) t noRawType
-  pub rightRecord : rawOf (w .right) ≡ getD (typesIn b) s noRawType
+  pub leftRecord : rawOf (leftIn w) ≡ getD (typesIn b) t noRawType
+  pub rightRecord : rawOf (rightIn w) ≡ getD (typesIn b) s noRawType
   pub put : Put b n (pendingRecord w) b₀
   pub long : length b ≡ 16384
 
@@ -200,10 +201,10 @@ module _ (T : Table) (c : Counts) (n : ℕ) (b : List ℕ) (i : ℕ) (z : TypeRe
 
 module _ {d : Kind} {c : Counts} {n t s : ℕ} {w : Work} {b b₀ : List ℕ} (from-start : Started d c n t s w b b₀) where
   abbrev x : TypeRec
-  x = w .left
+  x = leftIn w
 
   abbrev y : TypeRec
-  y = w .right
+  y = rightIn w
 
   abbrev ms : ℕ
   ms = c .methods
@@ -247,6 +248,25 @@ module _ {d : Kind} {c : Counts} {n t s : ℕ} {w : Work} {b b₀ : List ℕ} (f
 
   pub start-loop : Loop d c n w b₀ b₀ (ms * 5) zeros (n + 1) 0
   start-loop = loop-starts d c n w b₀ (from-start .limits) (from-start .kinds) (from-start .room) (put-length (from-start .put) ∙ from-start .long)
+
+  -- Both sides stand in the bytes as they were read, so that a slot is that of the type at work; and what reading it asks.
+  side-stays : {b₁ : List ℕ} {end : ℕ} {ns : List ℕ} {m k : ℕ} → Loop d c n w b₀ b₁ end ns m k → (i : ℕ) → i < n → getD (typesIn b₁) i noRawType ≡ getD (typesIn b) i noRawType
+  side-stays {b₁} now i l =
+      let r = from-start .room in
+      record-same b₀ b₁ i (omega arith) (now .kept i (omega arith)) ∙ record-same b b₀ i (omega arith) (start-kept i l)
+
+  pub slot-ready : {b₁ : List ℕ} {end : ℕ} {ns : List ℕ} {m k : ℕ} → Loop d c n w b₀ b₁ end ns m k → k < end → {kind : ℕ} → kind < 3 → (kind < 3) × (t < 128) × (s < 128) × (k < 80)
+  slot-ready now test known =
+      let p = ref-below n t b (from-start .left) in let q = ref-below n s b (from-start .right) in let r = from-start .room in let e = now .edge in let u = now .limits .methods in
+      (known, omega arith, omega arith, omega arith)
+
+  pub slot-read : {b₁ : List ℕ} {end : ℕ} {ns : List ℕ} {m k : ℕ} → Loop d c n w b₀ b₁ end ns m k → {slot : Slot}
+      → slot ≡ slotAt d (methodAt b₁ t) (methodAt b₁ s) k → slot ≡ slotIn (kindIn w) w k
+  slot-read {b₁} {k = k} now told =
+      let side : RawType → ℕ → Method = λ r j. methodOf (getD (r .methods) j noRawMethod) in
+      told ∙ ap (λ (e : Kind). slotAt e (methodAt b₁ t) (methodAt b₁ s) k) (sym (from-start .kinds))
+      ∙ ap (λ (r : RawType). slotAt (kindIn w) (side r) (methodAt b₁ s) k) (side-stays now t (ref-below n t b (from-start .left)) ∙ sym (from-start .leftRecord))
+      ∙ ap (λ (r : RawType). slotAt (kindIn w) (methodIn x) (side r) k) (side-stays now s (ref-below n s b (from-start .right)) ∙ sym (from-start .rightRecord))
 
   -- what `finish` asks
   pub finish-ready : {b₁ : List ℕ} {end : ℕ} {ns : List ℕ} {m k : ℕ} → Ready c n t s b → Loop d c n w b₀ b₁ end ns m k → (n < 128) × (length b₁ ≡ 16384) × (w .key .kind < 3) ×

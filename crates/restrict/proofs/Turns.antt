@@ -18,7 +18,7 @@ use Rattle.restrict.specs.declared.Derived.{Derived}
 use Rattle.restrict.specs.declared.Derived.the-variants.{Full, At}
 use Rattle.slots.specs.declared.Slot.{Slot}
 use Rattle.slots.specs.declared.Slot.the-variants.{Empty, Argument, Answer}
-use Rattle.slots.specs.Slots.{slotAt, Low, methodIn, kindIn}
+use Rattle.slots.specs.Slots.{slotAt, Low, leftIn, rightIn, methodIn, kindIn}
 use Rattle.restrict.specs.Link.{Ready, Kept, Below, Sized, Exact, ExactTo, Coded, CodedTo, Gives, tabled, derivedIn}
 use Rattle.restrict.proofs.Bytes.{exact-same}
 use Rattle.table.proofs.Lists.{lt-or-ge}
@@ -30,7 +30,7 @@ zeros = replicate 80 0
 
 -- slot k of the type at work, whose kind is d
 abbrev pub slotIn : Kind → Work → ℕ → Slot
-slotIn d w = slotAt d (methodIn (w .left)) (methodIn (w .right))
+slotIn d w = slotAt d (methodIn (leftIn w)) (methodIn (rightIn w))
 
 -- The whole run, with the types in signatures derived by the model, in a table that ends with the type at work.
 abbrev pub Whole : Kind → Counts → ℕ → Work → List ℕ → Table → ℕ → Option Row

@@ -17,7 +17,7 @@ use Rattle.table.specs.Store.{rawMethod, rawOf, typesIn, typesTo, rawTable, tab
 use Rattle.table.specs.Limits.{Limits}
 use Rattle.table.specs.Records.{bytesOf}
 use Rattle.slots.specs.declared.Work.{Work}
-use Rattle.slots.specs.Slots.{pendingRecord, Finished}
+use Rattle.slots.specs.Slots.{leftIn, rightIn, pendingRecord, Finished}
 use Rattle.restrict.specs.declared.Derived.{Derived}
 use Rattle.restrict.specs.declared.Derived.the-variants.{Full, At}
 use Rattle.restrict.specs.declared.Begun.{Begun}
@@ -151,8 +151,8 @@ foundOf n i = cond (ltb i n) (some i) none
 -- Both sides are read, and the type at work is stored.
 pub record Opened (kind t s n : ℕ) (w : Work) (b b′ : List ℕ) : Type 0 where
   pub key : w .key ≡ record { kind = kind; left = t; right = s }
-  pub left : rawOf (w .left) ≡ getD (typesIn b) t noRawType
-  pub right : rawOf (w .right) ≡ getD (typesIn b) s noRawType
+  pub left : rawOf (leftIn w) ≡ getD (typesIn b) t noRawType
+  pub right : rawOf (rightIn w) ≡ getD (typesIn b) s noRawType
   pub put : Put b n (pendingRecord w) b′
 
 -- The finished type is stored.

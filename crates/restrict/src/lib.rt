@@ -117,14 +117,24 @@ fn start(b: &mut [u8; TYPE_BYTES], n: usize, kind: u8, t: usize, s: usize) -> Wo
     requires { ⌜ (n < 128) × (t < 128) × (s < 128) × (length (now b) ≡ 16384) ⌝ }
     ensures { λ w. ⌜ Opened kind t s n w (now (b .entry)) (now (b .exit)) ⌝ }
 {
-    let left = table::get_type(b, t);
-    let right = table::get_type(b, s);
+    let x = table::get_type(b, t);
+    let y = table::get_type(b, s);
     let key = Key {
         kind,
         left: t,
         right: s,
     };
-    let w = Work { key, left, right };
+    let lefthead = x.head;
+    let left = x.methods;
+    let righthead = y.head;
+    let right = y.methods;
+    let w = Work {
+        key,
+        lefthead,
+        left,
+        righthead,
+        right,
+    };
     let z = slots::pending(w);
     table::put_type(b, n, z);
     w
@@ -154,7 +164,12 @@ fn sub(b: &mut [u8; TYPE_BYTES], c: Counts, n: usize, t: usize, s: usize) -> Der
     let mut m = n + 1;
     let mut k: usize = 0;
     while k < end {
-        match slots::slot_at(w, k) {
+        let key = Key {
+            kind: Key::SUB,
+            left: t,
+            right: s,
+        };
+        match slots::slot_at(b, key, k) {
             Slot::Empty => k += 1,
             Slot::Argument(l1, r1) => {
                 let Derived::At(i1, m1) = sup(b, c, m, l1, r1) else {
@@ -193,7 +208,12 @@ fn sup(b: &mut [u8; TYPE_BYTES], c: Counts, n: usize, t: usize, s: usize) -> Der
     let mut m = n + 1;
     let mut k: usize = 0;
     while k < end {
-        match slots::slot_at(w, k) {
+        let key = Key {
+            kind: Key::SUP,
+            left: t,
+            right: s,
+        };
+        match slots::slot_at(b, key, k) {
             Slot::Empty => k += 1,
             Slot::Argument(l1, r1) => {
                 let Derived::At(i1, m1) = sub(b, c, m, l1, r1) else {
@@ -233,7 +253,12 @@ fn closed(b: &mut [u8; TYPE_BYTES], c: Counts, r: usize, v: usize) -> Derived
     let mut m = n + 1;
     let mut k: usize = 0;
     while k < end {
-        match slots::slot_at(w, k) {
+        let key = Key {
+            kind: Key::CLOSED,
+            left: r,
+            right: v,
+        };
+        match slots::slot_at(b, key, k) {
             Slot::Empty => k += 1,
             Slot::Argument(l3, r3) => {
                 let Derived::At(i3, m3) = sup(b, c, m, l3, r3) else {

@@ -22,9 +22,8 @@ use Rattle.restrict.specs.declared.Derived.{Derived}
 use Rattle.restrict.specs.declared.Derived.the-variants.{Full, At}
 use Rattle.restrict.specs.Link.{Ready, Derives, refIn, derivationIn, CodesIn}
 use Rattle.restrict.proofs.Ends.{ref-table}
-use Rattle.restrict_entry.specs.declared.Derivation.{Derivation}
 use Rattle.restrict_entry.specs.Handed.{kindAsked, isRefType, deriveNamed, deriveHanded}
-use Rattle.restrict_entry.specs.Answer.{derivationOf, refusedWith, Answered}
+use Rattle.restrict_entry.specs.Answer.{Derivation, derivationOf, refusedWith, Answered}
 
 -- The kinds by their codes.
 pub asked-both : (k : ℕ) (refs : Bool) → k < 2 → true ≡ kindAsked k refs
@@ -53,8 +52,8 @@ pub answered-as : {b l : List ℕ} {c : Counts} {a a′ : Res (Table × ℕ)} {r
 answered-as {b} {l} {c} {r = r} h e = subst (λ a. Answered b l c a r) e h
 
 -- A refusal.
-pub refused-answers : (b l : List ℕ) (c : Counts) {n : ℕ} {r : Derivation} → r ≡ refusedWith n b c → eqb n 0 ≡ false → {a : Res (Table × ℕ)} → refuse n ≡ a → Answered b l c a r
-refused-answers b l c {n} {r} e h w = answered-as (subst (Answered b l c (refuse n)) (sym e) record {
+pub refused-answers : (b l : List ℕ) (c : Counts) {n : ℕ} → eqb n 0 ≡ false → {a : Res (Table × ℕ)} → refuse n ≡ a → Answered b l c a (refusedWith n b c)
+refused-answers b l c {n} h w = answered-as {r = refusedWith n b c} (record {
   is = ap (λ (z : Bool). cond z (ok (tableIn b l c, 0)) (refuse n)) h;
   refused = λ _. refl;
   writes = refl;

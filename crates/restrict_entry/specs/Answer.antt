@@ -1,4 +1,4 @@
--- What the code's answer says: the number of a refusal, or the table in the bytes with so many types, and the derived type's number.
+-- What a derivation on a table handed in leaves, and what it says: the number of a refusal, or the table in the bytes with so many types, and the derived type's number.
 use mathlib.Core.Path.{_≡_}
 use mathlib.Core.Bool.{So, cond}
 use mathlib.Core.List.{List}
@@ -10,7 +10,16 @@ use Rattle.model.specs.Check.{codesFit}
 use Rattle.table.specs.declared.Counts.{Counts}
 use Rattle.table.specs.Store.{rawTable, tableIn, withCount}
 use Rattle.restrict.specs.Link.{Writes}
-use Rattle.restrict_entry.specs.declared.Derivation.{Derivation}
+use Rattle.restrict_entry.specs.declared.Made.{Made}
+use Rattle.restrict_entry.specs.declared.Made.the-variants.{Unfit, Unknown, Full, At}
+
+-- What a derivation leaves: 0, the derived type's number, how many types there are now and their bytes; or the number of a refusal, with the count and the bytes
+-- handed in.
+pub record Derivation : Type 0 where
+  pub refusal : ℕ
+  pub number : ℕ
+  pub count : ℕ
+  pub types : List ℕ
 
 abbrev pub derivationOf : List ℕ → Counts → Derivation → Res (Table × ℕ)
 derivationOf l c r = cond (eqb (r .refusal) 0) (ok (tableIn (r .types) l (withCount c (r .count)), r .number)) (refuse (r .refusal))
@@ -19,7 +28,14 @@ derivationOf l c r = cond (eqb (r .refusal) 0) (ok (tableIn (r .types) l (withCo
 abbrev pub refusedWith : ℕ → List ℕ → Counts → Derivation
 refusedWith n b c = record { refusal = n; number = 0; count = c .types; types = b }
 
--- The code's answer r to bytes and counts handed in, where the model's is `a`: every counted byte is determined, a refusal hands back what was handed in,
+-- what the code's answer and the bytes that it leaves say
+abbrev pub left : Counts → Made → List ℕ → Derivation
+left c Unfit b = refusedWith 2 b c
+left c Unknown b = refusedWith 7 b c
+left c Full b = refusedWith 11 b c
+left c (At i m) b = record { refusal = 0; number = i; count = m; types = b }
+
+-- What is left, r, of bytes and counts handed in and counts handed in, where the model's is `a`: every counted byte is determined, a refusal hands back what was handed in,
 -- and where every code of the table names something before, every code does after, whatever the links are.
 pub record Answered (b l : List ℕ) (c : Counts) (a : Res (Table × ℕ)) (r : Derivation) : Type 0 where
   pub is : derivationOf l c r ≡ a

@@ -4,35 +4,26 @@ ghost use mathlib.Core.Path.{_≡_};
 ghost use mathlib.Core.Bool.{true, _&&_};
 ghost use mathlib.Core.List.{List};
 ghost use Prim.Native.Nat.{ℕ, _≤_, _<_};
+ghost use lib.ListN.{length};
 ghost use Rattle.model.specs.Restriction.{derived};
 ghost use Rattle.model.specs.Check.{kindOf};
 ghost use Rattle.table.specs.Store.{rawTable, tableIn};
 ghost use Rattle.table.specs.Limits.{Limits};
 ghost use Rattle.restrict.specs.Link.{Ready, Derives, refIn};
 ghost use Rattle.restrict_entry.specs.Handed.{kindAsked, deriveNamed, deriveHanded};
-ghost use Rattle.restrict_entry.specs.Answer.{Answered, refusedWith};
+ghost use Rattle.restrict_entry.specs.Answer.{Answered, left};
 use restrict::Derived;
 use table::Counts;
 use table::LINK_BYTES;
 use table::TYPE_BYTES;
 
-// 0, the derived type's number, how many types there are now and their bytes; or the number of a refusal, with the count and the bytes handed in.
-pub struct Derivation {
-    pub refusal: usize,
-    pub number: usize,
-    pub count: usize,
-    pub types: [u8; TYPE_BYTES],
-}
-
-fn refused(refusal: usize, b: [u8; TYPE_BYTES], c: Counts) -> Derivation
-    ensures { λ r. ⌜ r ≡ refusedWith refusal b c ⌝ }
-{
-    Derivation {
-        refusal,
-        number: 0,
-        count: c.types,
-        types: b,
-    }
+// What a derivation answers: the table is unfit (2), a number names no type or there is no such derived type (7), the table is full (11); or the derived type's
+// number and how many types there are now.
+pub enum Made {
+    Unfit,
+    Unknown,
+    Full,
+    At(usize, usize),
 }
 
 // Whether the kind is one of the three, Closed only of two reference types.
@@ -66,56 +57,61 @@ fn derive_kind(b: &mut [u8; TYPE_BYTES], c: Counts, kind: usize, t: usize, s: us
     restrict::closed_type(b, c, t, s)
 }
 
-// The bytes are put back where the table is full (B23).
-fn derive_checked(b: [u8; TYPE_BYTES], c: Counts, kind: usize, t: usize, s: usize) -> Derivation
-    requires { ⌜ Ready c (c .types) t s b × (kindAsked kind (refIn (c .types) b t && refIn (c .types) b s) ≡ true) ⌝ }
-    ensures { λ r. ⌜ ((l : List ℕ) → Answered b l c (derived (tableIn b l c) (kindOf kind) t s) r) ⌝ }
+// A copy of lent bytes. Bytes that are held have their length, of lent ones nothing says it.
+fn copied(b: [u8; TYPE_BYTES]) -> [u8; TYPE_BYTES]
+    ensures { λ r. ⌜ (r ≡ b) × (length b ≡ 16384) ⌝ }
 {
-    let mut types = b;
-    let d = derive_kind(&mut types, c, kind, t, s);
-    let Derived::At(number, count) = d else {
-        return refused(11, b, c);
-    };
-    Derivation {
-        refusal: 0,
-        number,
-        count,
-        types,
+    b
+}
+
+// The bytes are put back where the table is full (B23).
+fn derive_checked(b: &mut [u8; TYPE_BYTES], c: Counts, kind: usize, t: usize, s: usize) -> Made
+    requires { ⌜ Limits c × (t < c .types) × (s < c .types) × (kindAsked kind (refIn (c .types) (now b) t && refIn (c .types) (now b) s) ≡ true) ⌝ }
+    ensures { λ r. ⌜ ((l : List ℕ) → Answered (now (b .entry)) l c (derived (tableIn (now (b .entry)) l c) (kindOf kind) t s) (left c r (now (b .exit)))) ⌝ }
+{
+    let old = copied(*b);
+    let d = derive_kind(b, c, kind, t, s);
+    match d {
+        Derived::Full => {
+            *b = old;
+            Made::Full
+        }
+        Derived::At(number, count) => Made::At(number, count),
     }
 }
 
 // By the numbers of the types, in a table that is checked.
-fn derive_named(b: [u8; TYPE_BYTES], c: Counts, kind: usize, t: i64, s: i64) -> Derivation
+fn derive_named(b: &mut [u8; TYPE_BYTES], c: Counts, kind: usize, t: i64, s: i64) -> Made
     requires { ⌜ Limits c ⌝ }
-    ensures { λ r. ⌜ ((l : List ℕ) → Answered b l c (deriveNamed (tableIn b l c) kind t s) r) ⌝ }
+    ensures { λ r. ⌜ ((l : List ℕ) → Answered (now (b .entry)) l c (deriveNamed (tableIn (now (b .entry)) l c) kind t s) (left c r (now (b .exit)))) ⌝ }
 {
     let x = operand::index_of(t, c.types);
     if c.types <= x {
-        return refused(7, b, c);
+        return Made::Unknown;
     }
     let y = operand::index_of(s, c.types);
     if c.types <= y {
-        return refused(7, b, c);
+        return Made::Unknown;
     }
-    if is_asked(&b, c.types, kind, x, y) {
+    if is_asked(b, c.types, kind, x, y) {
         return derive_checked(b, c, kind, x, y);
     }
-    refused(7, b, c)
+    Made::Unknown
 }
 
-// On any table handed in: 2 before all else.
+// On any table handed in, whose types' bytes are lent: 2 before all else.
 pub fn derive(
-    b: [u8; TYPE_BYTES],
+    b: &mut [u8; TYPE_BYTES],
     l: &[u8; LINK_BYTES],
     c: Counts,
     kind: usize,
     t: i64,
     s: i64,
-) -> Derivation
-    ensures { λ r. ⌜ Answered b (now (l .entry)) c (deriveHanded (rawTable b (now (l .entry)) c) kind t s) r ⌝ }
+) -> Made
+    ensures { λ r. ⌜ Answered (now (b .entry)) (now (l .entry)) c (deriveHanded (rawTable (now (b .entry)) (now (l .entry)) c) kind t s) (left c r (now (b .exit))) ⌝ }
 {
-    if tablecheck::table_fits(&b, l, c) {
+    if tablecheck::table_fits(b, l, c) {
         return derive_named(b, c, kind, t, s);
     }
-    refused(2, b, c)
+    Made::Unfit
 }

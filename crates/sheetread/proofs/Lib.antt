@@ -1,4 +1,3 @@
 pub mod Readings
 pub mod Stored
-pub mod Standing
 pub mod Accepted

@@ -1,19 +1,17 @@
 -- What the reader's answers say, in the words of crate `sheet`: the code's records as the model's, and the lines of a sheet in the groups in which the code reads them.
 use mathlib.Core.Path.{_≡_}
-use mathlib.Core.Bool.{Bool, true, _&&_, cond}
 use mathlib.Core.List.{List, [], _∷_, map}
 use Prim.Native.Nat.{ℕ, _≤_, _<_}
-use lib.Dec.{ltb}
 use lib.ListN.{getD, drop}
-use Rattle.model.specs.Basics.{all, from}
-use Rattle.model.specs.Table.{ref, Method as Methodᵐ, Ty, Table, isRef, maxSubjects, maxMethods, maxCategories, maxSheetTypes}
-use Rattle.model.specs.Check.{RawMethod, RawType, RawLinks, noRawType, noRawMethod, noRawLinks, repOf, methodOf, linksOf}
+use Rattle.model.specs.Basics.{from}
+use Rattle.model.specs.Table.{ref, Method as Methodᵐ, Ty, Table, maxSubjects, maxMethods, maxCategories, maxSheetTypes}
+use Rattle.model.specs.Check.{RawMethod, RawLinks, noRawMethod, noRawLinks, methodOf, linksOf}
 use Rattle.table.specs.declared.Method.{Method}
-use Rattle.table.specs.Store.{rawMethod, mayStandAs, emptyTypes, emptyLinks, emptyCounts}
+use Rattle.table.specs.Store.{rawMethod, emptyTypes, emptyLinks, emptyCounts}
 use Rattle.table.specs.Records.{MethodExact, typeBytes, linkBytes, countsOf}
 use Rattle.sheet.specs.Lines.{bytes, split, Reading, refused, got, Reader, pure, line, bind, times}
 use Rattle.sheet.specs.Text.{newestForm}
-use Rattle.sheet.specs.Sheet.{numberLine, underLine, ownLine, methodLine, sheetType, oneType, stands, SheetAnswer, malformed, loaded}
+use Rattle.sheet.specs.Sheet.{numberLine, underLine, ownLine, methodLine, sheetType, oneType, SheetAnswer, malformed, loaded}
 use Rattle.textread.specs.declared.Cursor.{Cursor}
 use Rattle.sheetread.specs.declared.Done.{Done}
 use Rattle.sheetread.specs.declared.Done.the-variants.{Refused, At}
@@ -64,25 +62,10 @@ eachUnder cats k = line (underLine cats k)
 abbrev pub eachMethod : ℕ → ℕ → Reader Methodᵐ
 eachMethod n j = line (methodLine n)
 
--- The methods of a type's record.
-abbrev pub methodsOf : ℕ → RawType → List Methodᵐ
-methodsOf m x = cond (isRef (repOf (x .rep))) (from m 0 (λ j. methodOf (getD (x .methods) j noRawMethod))) []
-
 -- the lines of a reference type behind its `cat=` line
 unfoldable pub membersRead : ℕ → ℕ → ℕ → Reader Ty
 unfolding times ownLine methodLine
 membersRead m n k = bind (line ownLine) λ o. bind (times (eachMethod n) m 0 []) λ ms. pure (sheetType ref k o ms)
-
--- What may stand in a signature, among the first n records: a number behind them names no type that may not.
-abbrev pub standsAt : List RawType → ℕ → ℕ → Bool
-standsAt rs n a = cond (ltb a n) (mayStandAs (getD rs a noRawType)) true
-
--- the signatures of methods, and of a type's, with the first n records
-abbrev pub methodsStand : (ℕ → Bool) → List Methodᵐ → Bool
-methodsStand may ms = all (stands may) ms
-
-abbrev pub typeStands : List RawType → ℕ → Ty → Bool
-typeStands rs n x = methodsStand (standsAt rs n) (x .methods)
 
 -- The lines of `body` in groups: the first four, the `under=` lines, the number of types, and the rest.
 abbrev pub first₁ : ℕ → Reader Front

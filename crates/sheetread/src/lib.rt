@@ -2,22 +2,20 @@
 // What it answers is crate `sheet`'s definition `read`, and every byte of the answer is determined by it (specs/View.antt, `answered`).
 // Lines are found by crate `textread` and read by `lineread`; here they are put together and stored, as crate `table` has it.
 ghost use mathlib.Core.Path.{_≡_};
-ghost use mathlib.Core.Bool.{true, false};
+ghost use mathlib.Core.Bool.{false};
 ghost use mathlib.Core.List.{List, [], map};
 ghost use Prim.Native.Nat.{ℕ, _≤_, _<_};
-ghost use lib.ListN.{length, getD, take, drop};
-ghost use Rattle.model.specs.Basics.{all};
+ghost use lib.ListN.{length, take, drop};
 ghost use Rattle.model.specs.Table.{Table};
-ghost use Rattle.model.specs.Check.{noRawType, repOf, typeOf};
+ghost use Rattle.model.specs.Check.{repOf, typeOf};
 ghost use Rattle.table.specs.Store.{typesIn, linksIn, rawOf, typesTo, emptyTypes, emptyLinks};
 ghost use Rattle.table.specs.Records.{TypeExact, typeBytes, linkBytes};
 ghost use Rattle.sheet.specs.Lines.{split, bind, times};
-ghost use Rattle.sheet.specs.Sheet.{malformed, sheetAnswer, sheetType, oneType, stands, ending, read as readSheet};
+ghost use Rattle.sheet.specs.Sheet.{malformed, sheetAnswer, sheetType, oneType, ending, read as readSheet};
 ghost use Rattle.textread.specs.View.{reading};
-ghost use Rattle.sheetread.specs.View.{doneBy, OnDone, firstBy, FirstWithin, linksTo, methodIs, MethodsExact, eachUnder, eachMethod, methodsOf, membersRead, standsAt, methodsStand, typeStands, first, afterCount, afterFirst, answered};
+ghost use Rattle.sheetread.specs.View.{doneBy, OnDone, firstBy, FirstWithin, linksTo, methodIs, MethodsExact, eachUnder, eachMethod, membersRead, first, afterCount, afterFirst, answered};
 use lineread::UnderGot;
 use numbers::narrow;
-use numbers::wide;
 use table::Counts;
 use table::Head;
 use table::LINK_BYTES;
@@ -252,90 +250,6 @@ fn types_into(
     Done::At(Cursor { at })
 }
 
-// Whether type a, if it is one of n, may stand in a signature.
-fn stands_at(b: &[u8; TYPE_BYTES], n: usize, a: usize) -> bool
-    requires { ⌜ n ≤ 128 ⌝ }
-    ensures { λ r. ⌜ r ≡ standsAt (typesIn (now (b .entry))) n a ⌝ }
-{
-    if n <= a {
-        return true;
-    }
-    table::may_stand(b, a)
-}
-
-// Whether every argument of a signature may stand there.
-fn args_stand(b: &[u8; TYPE_BYTES], n: usize, m: Method) -> bool
-    requires { ⌜ n ≤ 128 ⌝ }
-    ensures { λ r. ⌜ r ≡ all (standsAt (typesIn (now (b .entry))) n) (take (m .count) (m .args)) ⌝ }
-{
-    let count = wide(m.count);
-    let mut i: usize = 0;
-    while i < 4 {
-        if i == count {
-            return true;
-        }
-        let a = wide(m.args[i]);
-        if !stands_at(b, n, a) {
-            return false;
-        }
-        i += 1;
-    }
-    true
-}
-
-// Whether every type of a method's signature may stand there (T14).
-fn method_stands(b: &[u8; TYPE_BYTES], n: usize, m: Method) -> bool
-    requires { ⌜ n ≤ 128 ⌝ }
-    ensures { λ r. ⌜ r ≡ stands (standsAt (typesIn (now (b .entry))) n) (methodIs m) ⌝ }
-{
-    if !table::permits(m.state) {
-        return true;
-    }
-    if !args_stand(b, n, m) {
-        return false;
-    }
-    let a = wide(m.answer);
-    if a == 0 {
-        return true;
-    }
-    stands_at(b, n, a - 1)
-}
-
-// whether the signatures of type i do, of m methods
-fn type_stands(b: &[u8; TYPE_BYTES], n: usize, m: usize, i: usize) -> bool
-    requires { ⌜ (n ≤ 128) × (m ≤ 16) × (i < 128) ⌝ }
-    ensures { λ r. ⌜ r ≡ methodsStand (standsAt (typesIn (now (b .entry))) n) (methodsOf m (getD (typesIn (now (b .entry))) i noRawType)) ⌝ }
-{
-    let h = table::get_head(b, i);
-    if h.rep != Head::REF {
-        return true;
-    }
-    let mut j: usize = 0;
-    while j < m {
-        let x = table::get_method(b, i, j);
-        if !method_stands(b, n, x) {
-            return false;
-        }
-        j += 1;
-    }
-    true
-}
-
-// whether those of the n types do
-fn types_stand(b: &[u8; TYPE_BYTES], n: usize, m: usize) -> bool
-    requires { ⌜ (n ≤ 128) × (m ≤ 16) ⌝ }
-    ensures { λ r. ⌜ r ≡ all (typeStands (typesIn (now (b .entry))) n) (typesTo m n n (typesIn (now (b .entry)))) ⌝ }
-{
-    let mut i: usize = 0;
-    while i < n {
-        if !type_stands(b, n, m, i) {
-            return false;
-        }
-        i += 1;
-    }
-    true
-}
-
 // The last line, and nothing behind it (S10); then, every line being right, 3 at its offset where a type stands in a signature that may not (S13).
 fn last_line(s: &[u8], c: Cursor, b: &[u8; TYPE_BYTES], n: usize, m: usize) -> Done
     requires { ⌜ (n ≤ 128) × (m ≤ 16) ⌝ }
@@ -348,7 +262,7 @@ fn last_line(s: &[u8], c: Cursor, b: &[u8; TYPE_BYTES], n: usize, m: usize) -> D
             if next.at < s.len() {
                 return Done::Refused(1, next);
             }
-            if !types_stand(b, n, m) {
+            if !standing::types_stand(b, n, m) {
                 return Done::Refused(3, c);
             }
             Done::At(next)

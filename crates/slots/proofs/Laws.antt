@@ -1,6 +1,6 @@
 -- Codes of kinds and states, the slots of two methods, and a method from its slots.
 use mathlib.Core.Path.{_≡_, refl, sym, ap, _∙_, subst}
-use mathlib.Core.Bool.{Bool, true, false, So, cond}
+use mathlib.Core.Bool.{Bool, true, false, So, _&&_, cond}
 use mathlib.Core.List.{List, [], _∷_, map}
 use Prim.Native.Nat.{ℕ, zero, suc, _+_, _*_, _-_, _≤_, _<_, min}
 use native.Mathlib.Omega.{arith}
@@ -28,7 +28,7 @@ use Rattle.table.proofs.Codes.{closed-kind}
 use Rattle.table.proofs.Exact.{blank, unsigned-exact, signed-exact, derived-key, ref-exact}
 use Rattle.slots.specs.declared.Work.{Work}
 use Rattle.slots.specs.declared.Slot.the-variants.{Empty, Argument, Answer}
-use Rattle.slots.specs.Slots.{argumentSlot, answerSlot, slotOf, shared, fill, fillAt, methodIn, rawIn, MethodCoded, bareMethod, slotByte, signedMethod, keyIn, kindIn, catIn, mainOf, newRecord, keptState, Finished}
+use Rattle.slots.specs.Slots.{argumentSlot, answerSlot, slotOf, shared, fill, fillAt, leftIn, rightIn, methodIn, rawIn, MethodCoded, bareMethod, slotByte, signedMethod, keyIn, kindIn, catIn, mainOf, newRecord, keptState, Finished}
 
 -- Kinds.
 pub closed-same : (kind k : ℕ) → kind ≡ 2 → leb 2 k ≡ sameKind (kindOf kind) (kindOf k)
@@ -245,27 +245,37 @@ pub head-made : (w : Work) (ms : List RawMethod) {cat left right : ℕ} → cat 
     → _≡_ {A = RawType} (record { rep = 0; cat = cat; own = 0; kind = w .key .kind; left = left; right = right; methods = ms }) (newRecord w ms)
 head-made w ms e l r = rw (e, l, r)
 
-pub main-right : (w : Work) → w .key .kind ≡ 1 → w .right .head .cat ≡ catIn w
-main-right w e = ap (λ (k : ℕ). mainOf (kindOf k) (w .left) (w .right) .head .cat) (sym e)
+pub main-right : (w : Work) → w .key .kind ≡ 1 → w .righthead .cat ≡ catIn w
+main-right w e = ap (λ (k : ℕ). mainOf (kindOf k) (leftIn w) (rightIn w) .head .cat) (sym e)
 
-pub main-left : (w : Work) → (w .key .kind ≡ 1 → ⊥) → w .left .head .cat ≡ catIn w
+pub main-left : (w : Work) → (w .key .kind ≡ 1 → ⊥) → w .lefthead .cat ≡ catIn w
 main-left w n = go (w .key .kind) n
   where
-    go : (k : ℕ) → (k ≡ 1 → ⊥) → w .left .head .cat ≡ mainOf (kindOf k) (w .left) (w .right) .head .cat
+    go : (k : ℕ) → (k ≡ 1 → ⊥) → w .lefthead .cat ≡ mainOf (kindOf k) (leftIn w) (rightIn w) .head .cat
     go zero n = refl
     go (suc zero) n = absurd (n refl)
     go (suc (suc k)) n = refl
 
 -- Keys.
+and-false : (b : Bool) → b && false ≡ false
+and-false true = refl
+and-false false = refl
+
+and-true : (b : Bool) → b && true ≡ b
+and-true true = refl
+and-true false = refl
+
 module _ (d : Kind) (t s : ℕ) (h : Head) where
-  pub key-other : sameKind d (kindOf (h .kind)) ≡ false → false ≡ isKey d t s (keyIn h)
-  key-other e = rw e
+  pub key-left : (t ≡ h .left → ⊥) → false ≡ isKey d t s (keyIn h)
+  key-left n = sym (ap (λ z. sameKind d (kindOf (h .kind)) && (z && eqb s (h .right))) (ne-eqb t (h .left) n) ∙ and-false (sameKind d (kindOf (h .kind))))
 
-  pub key-left : sameKind d (kindOf (h .kind)) ≡ true → (t ≡ h .left → ⊥) → false ≡ isKey d t s (keyIn h)
-  key-left e n = rw (e, ne-eqb t (h .left) n)
+  pub key-right : t ≡ h .left → (s ≡ h .right → ⊥) → false ≡ isKey d t s (keyIn h)
+  key-right e n = sym (ap (λ z. sameKind d (kindOf (h .kind)) && (z && eqb s (h .right))) (eq-eqb t (h .left) e)
+      ∙ ap (λ z. sameKind d (kindOf (h .kind)) && z) (ne-eqb s (h .right) n) ∙ and-false (sameKind d (kindOf (h .kind))))
 
-  pub key-right : sameKind d (kindOf (h .kind)) ≡ true → t ≡ h .left → eqb s (h .right) ≡ isKey d t s (keyIn h)
-  key-right e f = rw (e, eq-eqb t (h .left) f)
+  pub key-kind : t ≡ h .left → s ≡ h .right → sameKind d (kindOf (h .kind)) ≡ isKey d t s (keyIn h)
+  key-kind e f = sym (ap (λ z. sameKind d (kindOf (h .kind)) && (z && eqb s (h .right))) (eq-eqb t (h .left) e)
+      ∙ ap (λ z. sameKind d (kindOf (h .kind)) && z) (eq-eqb s (h .right) f) ∙ and-true (sameKind d (kindOf (h .kind))))
 
 -- Methods of the code, as records.
 pub raw-methods : (ms : List Method) (j : ℕ) → rawMethod (getD ms j absent) ≡ getD (map rawMethod ms) j noRawMethod
@@ -283,8 +293,8 @@ filled-here d x y ns j p q m ep eq em =
 -- The loop over the methods: those before j are made from their slots, the others are blank.
 module _ (w : Work) (ns : List ℕ) where
   abbrev Well : ℕ → Method → Type 0
-  Well j m = (methodOf (rawMethod m) ≡ fillAt (kindIn w) (methodIn (w .left)) (methodIn (w .right)) ns j) ×
-      (MethodExact (rawMethod m) × (MethodCoded (rawIn (w .left) j) → MethodCoded (rawMethod m)))
+  Well j m = (methodOf (rawMethod m) ≡ fillAt (kindIn w) (methodIn (leftIn w)) (methodIn (rightIn w)) ns j) ×
+      (MethodExact (rawMethod m) × (MethodCoded (rawIn (leftIn w) j) → MethodCoded (rawMethod m)))
 
   pub record Filling (ms : ℕ) (all : List Method) (j : ℕ) : Type 0 where
     pub low : j ≤ ms
@@ -301,7 +311,7 @@ module _ (w : Work) (ns : List ℕ) where
       blank-at (suc n) zero h = refl
       blank-at (suc n) (suc i) h = blank-at n i (le-of-suc-le-suc h)
 
-  pub filling-next : {ms : ℕ} {all : List Method} {j : ℕ} → Filling ms all j → j < ms → ms ≤ 16 → (p q m : Method) → rawMethod p ≡ rawIn (w .left) j → rawMethod q ≡ rawIn (w .right) j
+  pub filling-next : {ms : ℕ} {all : List Method} {j : ℕ} → Filling ms all j → j < ms → ms ≤ 16 → (p q m : Method) → rawMethod p ≡ rawIn (leftIn w) j → rawMethod q ≡ rawIn (rightIn w) j
       → (methodOf (rawMethod m) ≡ fill (kindIn w) (methodOf (rawMethod p)) (methodOf (rawMethod q))
       (getD ns (j * 5) 0 ∷ getD ns (j * 5 + 1) 0 ∷ getD ns (j * 5 + 2) 0 ∷ getD ns (j * 5 + 3) 0 ∷ []) (getD ns (j * 5 + 4) 0))
       × (MethodExact (rawMethod m) × (MethodCoded (rawMethod p) → MethodCoded (rawMethod m))) → Filling ms (set all j m) (j + 1)
@@ -309,7 +319,7 @@ module _ (w : Work) (ns : List ℕ) where
     low = omega arith;
     long = length-set all j m ∙ so .long;
     made = set-next Well all j m absent (omega arith) (so .made)
-        (filled-here (kindIn w) (w .left) (w .right) ns j p q m ep eq (em .0), (em .1 .0, λ c. em .1 .1 (subst MethodCoded (sym ep) c)));
+        (filled-here (kindIn w) (leftIn w) (rightIn w) ns j p q m ep eq (em .0), (em .1 .0, λ c. em .1 .1 (subst MethodCoded (sym ep) c)));
     rest = λ i g k. ap rawMethod (getD-set-other all j i m absent (λ e. let z : i ≡ j = e in omega arith)) ∙ so .rest i (omega arith) k;
   }
 

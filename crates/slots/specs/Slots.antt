@@ -8,10 +8,10 @@ use lib.Dec.{ltb}
 use lib.ListN.{getD, take}
 use Rattle.model.specs.Table.{State, Kind, sub, sup, closed, Key, Method, permit}
 use Rattle.model.specs.Restriction.{restricted}
-use Rattle.model.specs.Check.{RawMethod, RawType, noRawMethod, kindOf, answerOf, methodOf, rawMethodFits}
+use Rattle.model.specs.Check.{RawMethod, RawType, noRawType, noRawMethod, kindOf, answerOf, methodOf, rawMethodFits}
 use Rattle.table.specs.declared.Head.{Head}
 use Rattle.table.specs.declared.TypeRec.{TypeRec}
-use Rattle.table.specs.Store.{rawMethod, rawOf, emptyType}
+use Rattle.table.specs.Store.{rawMethod, rawOf, typesIn, emptyType}
 use Rattle.table.specs.Records.{TypeExact}
 use Rattle.slots.specs.declared.Work.{Work}
 use Rattle.slots.specs.declared.Slot.{Slot}
@@ -68,6 +68,10 @@ rawIn x j = getD (rawOf x .methods) j noRawMethod
 abbrev pub methodIn : TypeRec → ℕ → Method
 methodIn x j = methodOf (rawIn x j)
 
+-- method j of type t of the bytes
+abbrev pub methodAt : List ℕ → ℕ → ℕ → Method
+methodAt b t j = methodOf (getD (getD (typesIn b) t noRawType .methods) j noRawMethod)
+
 -- the codes of a stored method name something, as the check of a table handed in asks
 abbrev pub MethodCoded : RawMethod → Type 0
 MethodCoded m = So (rawMethodFits m)
@@ -87,6 +91,13 @@ signedMethod state count args answer =
 abbrev pub keyIn : Head → Option Key
 keyIn h = some (record { kind = kindOf (h .kind); left = h .left; right = h .right })
 
+-- The two sides of the type at work.
+abbrev pub leftIn : Work → TypeRec
+leftIn w = record { head = w .lefthead; methods = w .left }
+
+abbrev pub rightIn : Work → TypeRec
+rightIn w = record { head = w .righthead; methods = w .right }
+
 -- The kind of the type at work, and the category of the side that it keeps.
 abbrev pub kindIn : Work → Kind
 kindIn w = kindOf (w .key .kind)
@@ -97,7 +108,7 @@ mainOf sup x y = y
 mainOf closed x y = x
 
 abbrev pub catIn : Work → ℕ
-catIn w = mainOf (kindIn w) (w .left) (w .right) .head .cat
+catIn w = mainOf (kindIn w) (leftIn w) (rightIn w) .head .cat
 
 -- the main side's state, but for a method that it permits and the other side doesn't
 abbrev pub keptState : State → State → State → State
@@ -113,6 +124,6 @@ pendingRecord w = newRecord w (map rawMethod (emptyType .methods))
 -- The finished type, from the bytes of its slots: it is stored exactly.
 pub record Finished (w : Work) (ms : ℕ) (ns : List ℕ) (z : TypeRec) : Type 0 where
   pub head : rawOf z ≡ newRecord w (rawOf z .methods)
-  pub filled : (j : ℕ) → j < ms → methodIn z j ≡ fillAt (kindIn w) (methodIn (w .left)) (methodIn (w .right)) ns j
+  pub filled : (j : ℕ) → j < ms → methodIn z j ≡ fillAt (kindIn w) (methodIn (leftIn w)) (methodIn (rightIn w)) ns j
   pub exact : (sheet i : ℕ) → sheet ≤ i → TypeExact ms sheet i (rawOf z)
-  pub coded : (j : ℕ) → j < ms → MethodCoded (rawIn (w .left) j) → MethodCoded (rawIn z j)
+  pub coded : (j : ℕ) → j < ms → MethodCoded (rawIn (leftIn w) j) → MethodCoded (rawIn z j)

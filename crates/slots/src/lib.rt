@@ -9,7 +9,7 @@ ghost use Rattle.model.specs.Restriction.{restricted, sameKind, isKey};
 ghost use Rattle.model.specs.Check.{stateOf, kindOf, answerOf, methodOf};
 ghost use Rattle.table.specs.Store.{rawMethod, rawOf};
 ghost use Rattle.table.specs.Records.{MethodExact};
-ghost use Rattle.slots.specs.Slots.{answerSlot, argumentSlot, slotOf, slotAt, fill, methodIn, rawIn, MethodCoded, Low, keyIn, kindIn, catIn, keptState, bareMethod, signedMethod, newRecord, pendingRecord, Finished};
+ghost use Rattle.slots.specs.Slots.{answerSlot, argumentSlot, slotOf, slotAt, fill, methodAt, MethodCoded, Low, keyIn, kindIn, catIn, keptState, bareMethod, signedMethod, newRecord, pendingRecord, Finished};
 use numbers::least;
 use numbers::narrow;
 use numbers::wide;
@@ -17,14 +17,18 @@ use table::Counts;
 use table::Head;
 use table::Key;
 use table::Method;
+use table::TYPE_BYTES;
 use table::TypeRec;
+use table::get_method;
 use table::permits;
 
-// A new type at work: its key, and both sides as they were read.
+// A new type at work: its key, and both sides as they were read. (Head and methods apart: a method of a struct within a struct is read by a copy of the whole.)
 pub struct Work {
     pub key: Key,
-    pub left: TypeRec,
-    pub right: TypeRec,
+    pub lefthead: Head,
+    pub left: [Method; Counts::METHODS],
+    pub righthead: Head,
+    pub right: [Method; Counts::METHODS],
 }
 
 // Five slots to each of 16 methods, a byte to each.
@@ -48,21 +52,20 @@ fn same_kind(kind: u8, k: u8) -> bool
     k == kind
 }
 
-// Whether a derived type's head has this key (D14).
+// Whether a derived type's head has this key (D14). The left number comes first: it tells most types apart, the kind few.
 pub fn is_key(h: Head, key: Key) -> bool
     requires { ⌜ key .kind < 3 ⌝ }
     ensures { λ r. ⌜ r ≡ isKey (kindOf (key .kind)) (key .left) (key .right) (keyIn h) ⌝ }
 {
     let l = wide(h.left);
-    let r = wide(h.right);
-    let same = same_kind(key.kind, h.kind);
-    if !same {
-        return false;
-    }
     if key.left != l {
         return false;
     }
-    key.right == r
+    let r = wide(h.right);
+    if key.right != r {
+        return false;
+    }
+    same_kind(key.kind, h.kind)
 }
 
 // A code past the last state is read as unavail, and stored as unavail's (B8).
@@ -172,21 +175,15 @@ fn slot_of(kind: u8, p: Method, q: Method, i: usize) -> Slot
     argument_slot(p, q, i)
 }
 
-fn method_at(x: TypeRec, j: usize) -> Method
-    requires { ⌜ j < 16 ⌝ }
-    ensures { λ r. ⌜ rawMethod r ≡ rawIn x j ⌝ }
+// Slot k of all, five to a method, of the types that the key names.
+pub fn slot_at(b: &[u8; TYPE_BYTES], key: Key, k: usize) -> Slot
+    requires { ⌜ (key .kind < 3) × (key .left < 128) × (key .right < 128) × (k < 80) ⌝ }
+    ensures { λ r. ⌜ (r ≡ slotAt (kindOf (key .kind)) (methodAt (now (b .entry)) (key .left)) (methodAt (now (b .entry)) (key .right)) k) × Low r ⌝ }
 {
-    x.methods[j]
-}
-
-// Slot k of all: five to a method.
-pub fn slot_at(w: Work, k: usize) -> Slot
-    requires { ⌜ (w .key .kind < 3) × (k < 80) ⌝ }
-    ensures { λ r. ⌜ (r ≡ slotAt (kindIn w) (methodIn (w .left)) (methodIn (w .right)) k) × Low r ⌝ }
-{
-    let p = method_at(w.left, k / 5);
-    let q = method_at(w.right, k / 5);
-    slot_of(w.key.kind, p, q, k % 5)
+    let j = k / 5;
+    let p = get_method(b, key.left, j);
+    let q = get_method(b, key.right, j);
+    slot_of(key.kind, p, q, k % 5)
 }
 
 // How many arguments both signatures have (D20), at most the four that a record has room for.
@@ -259,9 +256,9 @@ fn category(w: Work) -> u8
     ensures { λ r. ⌜ r ≡ catIn w ⌝ }
 {
     if w.key.kind == Key::SUP {
-        return w.right.head.cat;
+        return w.righthead.cat;
     }
-    w.left.head.cat
+    w.lefthead.cat
 }
 
 // A derived type is a reference type with own=no, known by its key (D11).
@@ -302,8 +299,8 @@ pub fn finished(w: Work, methods: usize, slots: [u8; SLOT_BYTES]) -> TypeRec
     let mut all = [empty; Counts::METHODS];
     let mut j: usize = 0;
     while j < methods {
-        let p = method_at(w.left, j);
-        let q = method_at(w.right, j);
+        let p = w.left[j];
+        let q = w.right[j];
         let k = j * 5;
         let args = [slots[k], slots[k + 1], slots[k + 2], slots[k + 3]];
         let m = filled(w.key.kind, p, q, args, slots[k + 4]);

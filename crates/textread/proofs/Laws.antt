@@ -2,8 +2,9 @@
 use mathlib.Core.Path.{_≡_, refl, sym, ap, _∙_, subst}
 use mathlib.Core.Bool.{Bool, true, false, _&&_, So, cond}
 use mathlib.Core.List.{List, [], _∷_, _++_}
-use Prim.Native.Nat.{ℕ, suc, _+_, _-_, _*_, _≤_, _<_}
+use Prim.Native.Nat.{ℕ, zero, suc, min, _+_, _-_, _*_, _≤_, _<_}
 use native.Mathlib.Omega.{arith}
+use native.Mathlib.Nat.{min-eq-right}
 use native.Mathlib.Numerals.{add-one}
 use lib.Dec.{eqb, leb}
 use lib.ListN.{length, getD, set, take, drop, length-drop, drop-of-length-le, length-append, take-append-drop}
@@ -18,7 +19,7 @@ use Rattle.sheet.specs.Sheet.{numberLine}
 use Rattle.sheet.proofs.Steps.{clash, cond-cases, refuse-ok}
 use Rattle.sheet.proofs.Numbers.{isDigit-of}
 use Rattle.sheet.proofs.Lines.{all-append, starts-sound}
-use Rattle.textread.specs.View.{scanned, scanBy, ScanWithin, valueBy, AtMost, readBy, GotAtMost, result, reading, LineAt, Passable, passedBy}
+use Rattle.textread.specs.View.{scanned, scanBy, ScanWithin, valueBy, AtMost, readBy, GotAtMost, result, reading, unbroken, Clear, LineAt, Passable, passedBy}
 use Rattle.textread.specs.declared.Value.{Value}
 use Rattle.textread.specs.declared.Value.the-variants.{Refused, Is}
 use Rattle.textread.specs.declared.Got.{Got}
@@ -242,13 +243,10 @@ module _ (key l : List ℕ) (low high : ℕ) where
       number-good k i j = ap (λ z. need z 2 λ _. ok n) (sym (le-leb n high j)) ∙ ap (λ z. need (z && leb n high) 2 λ _. ok n) (sym (le-leb low n i)) ∙ alone k
 
 -- Lines. No LF in it:
-abbrev pub unbroken : List ℕ → Bool
-unbroken l = all (λ b. cond (eqb b 10) false true) l
+pub clear-none : (s : List ℕ) (at : ℕ) → Clear s at at
+clear-none s at = let e : at - at ≡ 0 = omega arith in record { after = omega arith; clear = ap (λ z. unbroken (take z (drop at s))) e }
 
-pub unbroken-none : (s : List ℕ) (at : ℕ) → So (unbroken (take (at - at) (drop at s)))
-unbroken-none s at = let e : at - at ≡ 0 = omega arith in ap (λ z. unbroken (take z (drop at s))) e
-
-pub unbroken-more : (s : List ℕ) (at i : ℕ) → at ≤ i → i < length s → (getD s i 0 ≡ 10 → ⊥) → So (unbroken (take (i - at) (drop at s))) → So (unbroken (take (i + 1 - at) (drop at s)))
+unbroken-more : (s : List ℕ) (at i : ℕ) → at ≤ i → i < length s → (getD s i 0 ≡ 10 → ⊥) → So (unbroken (take (i - at) (drop at s))) → So (unbroken (take (i + 1 - at) (drop at s)))
 unbroken-more s at i h k n c =
     let e : i + 1 - at ≡ suc (i - at) = omega arith in
     let f : at + (i - at) ≡ i = omega arith in
@@ -257,6 +255,19 @@ unbroken-more s at i h k n c =
     ap (λ z. unbroken (take z (drop at s))) e ∙ ap unbroken (take-suc (drop at s) (i - at) 0 (omega arith))
     ∙ all-append (λ b. cond (eqb b 10) false true) (take (i - at) (drop at s)) (getD (drop at s) (i - at) 0 ∷ []) c
     (both (ap (λ z. cond (eqb z 10) false true) g ∙ ap (λ z. cond z false true) (ne-eqb (getD s i 0) 10 n)) refl)
+
+-- a byte more that is no LF
+pub clear-more : (s : List ℕ) (at i j : ℕ) → j ≡ i + 1 → i < length s → (getD s i 0 ≡ 10 → ⊥) → Clear s at i → Clear s at j
+clear-more s at i j e k n c =
+    let h = c .after in
+    record { after = omega arith; clear = subst (λ z. So (unbroken (take (z - at) (drop at s)))) (sym e) (unbroken-more s at i h k n (c .clear)) }
+
+-- below this place four bytes stand
+pub last-four : (n r : ℕ) → r ≡ min n 3 → n - r ≤ n - 3
+last-four zero r e = omega arith
+last-four (suc zero) r e = let k : r ≡ 1 = e in omega arith
+last-four (suc (suc zero)) r e = let k : r ≡ 2 = e in omega arith
+last-four (suc (suc (suc n))) r e = let k : r ≡ 3 = e ∙ min-eq-right (omega arith) in omega arith
 
 unbroken-first : (b : ℕ) (l : List ℕ) → So (unbroken (b ∷ l)) → eqb b 10 ≡ false
 unbroken-first b l h = cond-cases (eqb b 10) (first (cond (eqb b 10) false true) (unbroken l) h) (λ e k. clash (sym k)) (λ e k. e)
@@ -282,17 +293,25 @@ first-cut [] h = refl
 first-cut (b ∷ l) h = ap firstLine (split-cut b l h)
 
 -- The text ends before an LF: there is no line.
-pub line-none : (s : List ℕ) (at e : ℕ) → at ≤ e → length s ≤ e → So (unbroken (take (e - at) (drop at s))) → LineAt s at []
-line-none s at e k q h =
+pub line-none : (s : List ℕ) (at e : ℕ) → length s ≤ e → Clear s at e → LineAt s at []
+line-none s at e q c =
+    let k = c .after in
+    let h = c .clear in
     let d : length (drop at s) ≡ length s - at = length-drop at s in
     let w : take (e - at) (drop at s) ≡ drop at s = take-all (e - at) (drop at s) (omega arith) in
     record { is = sym (first-cut (drop at s) (ap unbroken (sym w) ∙ h)); ended = λ n. absurd (omega arith) }
 
 -- An LF at e ends the line.
-module _ (s : List ℕ) (at e : ℕ) (k : at ≤ e) (q : e < length s) (h : So (unbroken (take (e - at) (drop at s)))) (g : getD s e 0 ≡ 10) where
+module _ (s : List ℕ) (at e : ℕ) (q : e < length s) (c : Clear s at e) (g : getD s e 0 ≡ 10) where
+  abbrev k : at ≤ e
+  k = c .after
+
+  abbrev h : So (unbroken (take (e - at) (drop at s)))
+  h = c .clear
+
   one-line : split (drop at s) ≡ row (take (e - at) (drop at s)) ∷ split (drop (e + 1) s)
   one-line =
-      let f : at + (e - at) ≡ e = omega arith in
+      let f : at + (e - at) ≡ e = omega (arith, k) in
       let w : drop (e - at) (drop at s) ≡ 10 ∷ drop (e + 1) s = drop-drop (e - at) at s ∙ ap (λ z. drop z s) f ∙ from-here s e q ∙ ap (λ z. z ∷ drop (e + 1) s) g in
       ap split (sym (take-append-drop (e - at) (drop at s)) ∙ ap (λ z. take (e - at) (drop at s) ++ z) w) ∙ split-line (take (e - at) (drop at s)) (drop (e + 1) s) h
 
@@ -334,9 +353,6 @@ behind-first l (b ∷ xs) rs e = cond-cases (eqb b 10) e (λ t q. lf (row-value 
 
 -- What the number of an answer says.
 module _ {A : Type 0} (nr : ℕ) (x : A) (R : Res A) (is : result nr x ≡ R) where
-  pub result-no : (nr ≡ 0 → ⊥) → refuse nr ≡ R
-  result-no h = ap (λ z. cond z (ok x) (refuse nr)) (sym (ne-eqb nr 0 h)) ∙ is
-
   pub result-ok : nr ≡ 0 → ok x ≡ R
   result-ok h = ap (λ z. cond z (ok x) (refuse nr)) (sym (eq-eqb nr 0 h)) ∙ is
 
@@ -377,11 +393,18 @@ module _ {A : Type 0} (f : List ℕ → Res A) (empty : f [] ≡ refuse 1) (s : 
           ap (λ (z : List Row). got x (at + (length l + 1)) z) r ∙ ap (λ (z : List ℕ). got x (at + (length z + 1)) rs) w ∙ ap (λ z. lineAt z at m rs) (q ∙ ap f w)
 
   -- the same for an answer with a refusal's number
-  pub line-result-no : (nr : ℕ) (x : A) → result nr x ≡ f l → (nr ≡ 0 → ⊥) → reading s nr x at ≡ line f at (split (drop at s))
-  line-result-no nr x q n = ap (λ z. cond z (got x at (split (drop at s))) (refused nr at)) (ne-eqb nr 0 n) ∙ line-refused nr (result-no nr x (f l) q n)
-
-  pub line-result-ok : (nr : ℕ) (x : A) (next : ℕ) → result nr x ≡ f l → nr ≡ 0 → next ≡ at + (length l + 1) → reading s 0 x next ≡ line f at (split (drop at s))
-  line-result-ok nr x next q n e = ap (λ (z : ℕ). got x z (split (drop z s))) e ∙ line-accepted x (result-ok nr x (f l) q n)
+  pub line-result : (nr : ℕ) (x : A) (next : ℕ) → result nr x ≡ f l → next ≡ cond (eqb nr 0) (at + (length l + 1)) at → reading s nr x next ≡ line f at (split (drop at s))
+  line-result nr x next q e = go (eqb nr 0) refl
+    where
+      go : (b : Bool) → eqb nr 0 ≡ b → reading s nr x next ≡ line f at (split (drop at s))
+      go true h =
+          let n : next ≡ at + (length l + 1) = e ∙ ap (λ z. cond z (at + (length l + 1)) at) h in
+          let a : ok x ≡ f l = sym (ap (λ z. cond z (ok x) (refuse nr)) h) ∙ q in
+          ap (λ z. cond z (got x next (split (drop next s))) (refused nr next)) h ∙ ap (λ (z : ℕ). got x z (split (drop z s))) n ∙ line-accepted x a
+      go false h =
+          let n : next ≡ at = e ∙ ap (λ z. cond z (at + (length l + 1)) at) h in
+          let a : refuse nr ≡ f l = sym (ap (λ z. cond z (ok x) (refuse nr)) h) ∙ q in
+          ap (λ z. cond z (got x next (split (drop next s))) (refused nr next)) h ∙ ap (λ (z : ℕ). refused nr z) n ∙ line-refused nr a
 
   -- and for one whose number g reads
   module _ (g : ℕ → A) where

@@ -1,14 +1,15 @@
 // Lines and decimals (docs/SPEC.md S20, S21), for every program that reads text.
 // Contracts say what is read in the words of crate `sheet`: scans of a line, and readings of the lines from a byte offset on (specs/View.antt).
 ghost use mathlib.Core.Path.{_≡_};
-ghost use mathlib.Core.Bool.{true, false};
+ghost use mathlib.Core.Bool.{true, false, cond};
 ghost use mathlib.Core.List.{[]};
 ghost use Prim.Native.Nat.{_+_, _≤_, _<_};
+ghost use lib.Dec.{eqb};
 ghost use lib.ListN.{length, take, drop};
 ghost use Rattle.sheet.specs.Lines.{split, line, starts, same};
 ghost use Rattle.sheet.specs.Numbers.{digits, number, numbers};
 ghost use Rattle.sheet.specs.Sheet.{numberLine};
-ghost use Rattle.textread.specs.View.{scanned, scanBy, ScanWithin, valueBy, AtMost, readBy, GotAtMost, LineAt, Passable, passedBy};
+ghost use Rattle.textread.specs.View.{scanned, scanBy, ScanWithin, valueBy, AtMost, readBy, GotAtMost, Clear, LineEnd, LineAt, Passable, passedBy};
 use numbers::least;
 use numbers::wide;
 
@@ -178,17 +179,53 @@ pub fn numbers_at(l: &[u8], at: usize, max: usize) -> Numbers
     no_numbers(at)
 }
 
+// Where the LF stands that ends the line at `at`, searched for from another place on; the text's end or beyond where there is none.
+fn end_from(s: &[u8], at: usize, from: usize) -> usize
+    requires { ⌜ Clear (now s) at from ⌝ }
+    ensures { λ r. ⌜ LineEnd (now (s .entry)) at r ⌝ }
+{
+    let mut e = from;
+    while e < s.len() {
+        if s[e] == b'\n' {
+            return e;
+        }
+        e += 1;
+    }
+    e
+}
+
+// The same from `at` on: four bytes a turn while there are four.
+fn line_end(s: &[u8], at: usize) -> usize
+    ensures { λ r. ⌜ LineEnd (now (s .entry)) at r ⌝ }
+{
+    let last = s.len() - least(s.len(), 3);
+    let mut e = at;
+    while e < last {
+        if s[e] == b'\n' {
+            return e;
+        }
+        if s[e + 1] == b'\n' {
+            return e + 1;
+        }
+        if s[e + 2] == b'\n' {
+            return e + 2;
+        }
+        if s[e + 3] == b'\n' {
+            return e + 3;
+        }
+        e += 4;
+    }
+    end_from(s, at, e)
+}
+
 // The line at the cursor, without its LF; empty where no LF ends a line there. Only this function and `past` know how a line is found.
 pub fn line_at(s: &[u8], c: Cursor) -> &[u8]
     ensures { λ r. ⌜ LineAt (now (s .entry)) (c .at) (now r) ⌝ }
 {
     let at = c.at;
-    let mut e = at;
-    while e < s.len() {
-        if s[e] == b'\n' {
-            return &s[at..e];
-        }
-        e += 1;
+    let e = line_end(s, at);
+    if e < s.len() {
+        return &s[at..e];
     }
     &s[..0]
 }
@@ -201,6 +238,17 @@ pub fn past(c: Cursor, l: &[u8]) -> Cursor
     Cursor {
         at: c.at + (l.len() + 1),
     }
+}
+
+// The cursor behind a line that is accepted, whose refusal is 0: a line that is refused isn't passed.
+pub fn past_accepted(refusal: usize, c: Cursor, l: &[u8]) -> Cursor
+    requires { ⌜ (refusal ≡ 0 → c .at + (length (now l) + 1) < 18446744073709551616) ⌝ }
+    ensures { λ r. ⌜ r .at ≡ cond (eqb refusal 0) (c .at + (length (now (l .entry)) + 1)) (c .at) ⌝ }
+{
+    if refusal != 0 {
+        return c;
+    }
+    past(c, l)
 }
 
 // A line's answer with the cursor behind the line: a line that is refused isn't passed.

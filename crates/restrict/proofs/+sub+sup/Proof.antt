@@ -1,6 +1,6 @@
 -- Sub and Sup call each other; the measure is the free type numbers, 128 - n. The invariant is `Loop`: what is left of the slots comes to the whole.
 -- Rests on Turns (a turn of the loop) and Ends (from the type at work to the finished one); Sub and Sup differ in the kind.
-use mathlib.Core.Path.{refl}
+use mathlib.Core.Path.{_≡_, refl}
 use Prim.Native.Nat.{ℕ, _-_, _<_}
 use native.Mathlib.Omega.{arith}
 use borrow.Author.Needs.{needs}
@@ -8,9 +8,10 @@ use borrow.Fn.Kinds.{In}
 use borrow.Fn.PlainCycle.{Measures, is, falls, and}
 use Rattle.model.specs.Table.{sub, sup}
 use Rattle.numbers.proofs.narrow.Reads as narrow-reads
+use Rattle.slots.specs.Slots.{kindIn}
 use Rattle.slots.proofs.slot_at.Reads as slot-at-reads
-use Rattle.restrict.proofs.Ends.{Started, started, settled, new-ready, start-loop, finish-ready, new-full, new-at}
-use Rattle.restrict.proofs.Turns.{Loop, turn-empty, argument-ready, argument-full, argument-low, argument-turn, answer-ready, answer-full, answer-low, answer-turn}
+use Rattle.restrict.proofs.Ends.{Started, started, settled, new-ready, start-loop, slot-ready, slot-read, finish-ready, new-full, new-at}
+use Rattle.restrict.proofs.Turns.{slotIn, Loop, turn-empty, argument-ready, argument-full, argument-low, argument-turn, answer-ready, answer-full, answer-low, answer-turn}
 use Rattle.restrict.proofs.sub.Reads as sub-reads
 use Rattle.restrict.proofs.sub.Kinds as sub-kinds
 use Rattle.restrict.proofs.+sub+sup.Lts-sub as sub-lts
@@ -71,6 +72,11 @@ sub-started : (t : ℕ) (c : sub-lts.After-start (sub-calls t) (sub-at t) sub-re
 sub-started t c = started (c .before .before .before .before .before .before .pre .1) refl (omega arith) (c .before .before .enum-told .given .1)
     (c .before .before .before .before .begin .ensures) (c .start .ensures)
 
+-- the slot as it is read from the bytes
+sub-slot : (t : ℕ) (c : sub-lts.After-slot-at (sub-calls t) (sub-at t) sub-reads.Post sub-Inv-loop sub-μ-loop)
+    → let w = c .before .before .before .before .before .start .result in c .slot-at .result ≡ slotIn (kindIn w) w (c .before .before .before .loop .k)
+sub-slot t c = slot-read (sub-started t (c .before .before .before .before .before)) (c .before .before .before .loop .inv) (c .slot-at .ensures .0)
+
 sub-begin-requires : (t : ℕ) → sub-lts.Need-begin-requires (sub-calls t) (sub-at t) sub-reads.Post sub-Inv-loop sub-μ-loop
 sub-begin-requires t c κs = (omega arith, c .before .pre .1 .limits)
 
@@ -96,7 +102,7 @@ sub-loop-holds : (t : ℕ) → sub-lts.Need-loop-holds (sub-calls t) (sub-at t) 
 sub-loop-holds t c = start-loop (sub-started t (c .before))
 
 sub-slot-at-requires : (t : ℕ) → sub-lts.Need-slot-at-requires (sub-calls t) (sub-at t) sub-reads.Post sub-Inv-loop sub-μ-loop
-sub-slot-at-requires t c κs = (sub-started t (c .before .before .before) .known, omega (arith, c .loop-test .taken, c .before .loop .inv .edge, c .before .loop .inv .limits .methods))
+sub-slot-at-requires t c κs = slot-ready (sub-started t (c .before .before .before .before)) (c .before .before .loop .inv) (c .before .loop-test .taken) (omega arith)
 
 sub-enum-told-2 : (t : ℕ) → sub-lts.Need-enum-told-2 (sub-calls t) (sub-at t) sub-reads.Post sub-Inv-loop sub-μ-loop
 sub-enum-told-2 t c = search needs
@@ -108,7 +114,7 @@ sub-loop-less : (t : ℕ) → sub-lts.Need-loop-less (sub-calls t) (sub-at t) su
 sub-loop-less t c = search needs
 
 sub-loop-again : (t : ℕ) → sub-lts.Need-loop-again (sub-calls t) (sub-at t) sub-reads.Post sub-Inv-loop sub-μ-loop
-sub-loop-again t c = turn-empty (c .before .before .before .before .loop .inv) (c .before .before .before .loop-test .taken) (c .before .before .slot-at .ensures .0) (c .enum-told2 .given .1)
+sub-loop-again t c = turn-empty (c .before .before .before .before .before .loop .inv) (c .before .before .before .before .loop-test .taken) (sub-slot t (c .before .before)) (c .enum-told2 .given .1)
 
 sub-enum-known-l1 : (t : ℕ) → sub-lts.Need-enum-known-l1 (sub-calls t) (sub-at t) sub-reads.Post sub-Inv-loop sub-μ-loop
 sub-enum-known-l1 t c = search needs
@@ -117,13 +123,13 @@ sub-sup-requires : (t : ℕ) → sub-lts.Need-sup-requires (sub-calls t) (sub-at
 sub-sup-requires t c κs = (
   omega (
     arith,
-    c .before .before .before .before .before .before .loop .inv .more,
-    c .before .before .before .before .before .before .loop .inv .most,
-    c .before .before .before .before .before .before .loop .inv .room,
-    c .before .before .before .before .before .before .before .before .before .before .before .before .before .before .pre .0,
+    c .before .before .before .before .before .before .before .loop .inv .more,
+    c .before .before .before .before .before .before .before .loop .inv .most,
+    c .before .before .before .before .before .before .before .loop .inv .room,
+    c .before .before .before .before .before .before .before .before .before .before .before .before .before .before .before .pre .0,
   ),
   argument-ready
-      (c .before .before .before .before .before .before .loop .inv) (c .before .before .before .before .before .loop-test .taken) (c .before .before .before .before .slot-at .ensures .0)
+      (c .before .before .before .before .before .before .before .loop .inv) (c .before .before .before .before .before .before .loop-test .taken) (sub-slot t (c .before .before .before .before))
       (c .before .before .before .before .slot-at .ensures .1) (c .before .before .l1 .given .1),
 )
 
@@ -134,26 +140,26 @@ sub-enum-told-3 : (t : ℕ) → sub-lts.Need-enum-told-3 (sub-calls t) (sub-at t
 sub-enum-told-3 t c = search needs
 
 sub-returns-2 : (t : ℕ) → sub-lts.Need-returns-2 (sub-calls t) (sub-at t) sub-reads.Post sub-Inv-loop sub-μ-loop
-sub-returns-2 t c = new-full (sub-started t (c .before .before .before .before .before .before .before .before .before .before .before))
-    (c .before .before .before .before .before .before .before .before .before .loop .inv) (c .before .before .sup .ensures .keeps)
-    (argument-full (c .before .before .before .before .before .before .before .before .before .loop .inv)
-    (c .before .before .before .before .before .before .before .before .loop-test .taken) (c .before .before .before .before .before .before .before .slot-at .ensures .0)
+sub-returns-2 t c = new-full (sub-started t (c .before .before .before .before .before .before .before .before .before .before .before .before))
+    (c .before .before .before .before .before .before .before .before .before .before .loop .inv) (c .before .before .sup .ensures .keeps)
+    (argument-full (c .before .before .before .before .before .before .before .before .before .before .loop .inv)
+    (c .before .before .before .before .before .before .before .before .before .loop-test .taken) (sub-slot t (c .before .before .before .before .before .before .before))
     (c .before .before .before .before .before .before .before .slot-at .ensures .1) (c .before .before .before .before .before .l1 .given .1) (c .before .before .sup .ensures)
     (c .enum-told3 .given .1))
 
 sub-narrow-requires : (t : ℕ) → sub-lts.Need-narrow-requires (sub-calls t) (sub-at t) sub-reads.Post sub-Inv-loop sub-μ-loop
-sub-narrow-requires t c κs = argument-low (c .before .before .before .before .before .before .before .before .before .before .loop .inv)
-    (c .before .before .before .before .before .before .before .before .before .loop-test .taken) (c .before .before .before .before .before .before .before .before .slot-at .ensures .0)
+sub-narrow-requires t c κs = argument-low (c .before .before .before .before .before .before .before .before .before .before .before .loop .inv)
+    (c .before .before .before .before .before .before .before .before .before .before .loop-test .taken) (sub-slot t (c .before .before .before .before .before .before .before .before))
     (c .before .before .before .before .before .before .before .before .slot-at .ensures .1) (c .before .before .before .before .before .before .l1 .given .1)
     (c .before .before .before .sup .ensures) (c .before .i1 .given .1)
 
 sub-array-write-bytes : (t : ℕ) → sub-lts.Need-array-write-bytes (sub-calls t) (sub-at t) sub-reads.Post sub-Inv-loop sub-μ-loop
 sub-array-write-bytes t c = omega (
   arith,
-  c .before .before .before .before .before .before .before .before .before .before .loop-test .taken,
-  c .before .before .before .before .before .before .before .before .before .before .before .loop .inv .edge,
-  c .before .before .before .before .before .before .before .before .before .before .before .loop .inv .limits .methods,
-  c .before .before .before .before .before .before .before .before .before .before .before .loop .inv .wide,
+  c .before .before .before .before .before .before .before .before .before .before .before .loop-test .taken,
+  c .before .before .before .before .before .before .before .before .before .before .before .before .loop .inv .edge,
+  c .before .before .before .before .before .before .before .before .before .before .before .before .loop .inv .limits .methods,
+  c .before .before .before .before .before .before .before .before .before .before .before .before .loop .inv .wide,
 )
 
 sub-add-k-2 : (t : ℕ) → sub-lts.Need-add-k-2 (sub-calls t) (sub-at t) sub-reads.Post sub-Inv-loop sub-μ-loop
@@ -163,9 +169,9 @@ sub-loop-less-2 : (t : ℕ) → sub-lts.Need-loop-less-2 (sub-calls t) (sub-at t
 sub-loop-less-2 t c = search needs
 
 sub-loop-again-2 : (t : ℕ) → sub-lts.Need-loop-again-2 (sub-calls t) (sub-at t) sub-reads.Post sub-Inv-loop sub-μ-loop
-sub-loop-again-2 t c = argument-turn (c .before .before .before .before .before .before .before .before .before .before .before .loop .inv)
-    (c .before .before .before .before .before .before .before .before .before .before .loop-test .taken)
-    (c .before .before .before .before .before .before .before .before .before .slot-at .ensures .0)
+sub-loop-again-2 t c = argument-turn (c .before .before .before .before .before .before .before .before .before .before .before .before .loop .inv)
+    (c .before .before .before .before .before .before .before .before .before .before .before .loop-test .taken)
+    (sub-slot t (c .before .before .before .before .before .before .before .before .before))
     (c .before .before .before .before .before .before .before .before .before .slot-at .ensures .1) (c .before .before .before .before .before .before .before .l1 .given .1)
     (c .before .before .before .before .sup .ensures) (c .before .before .i1 .given .1) (c .narrow .ensures)
 
@@ -176,13 +182,13 @@ sub-sub-requires : (t : ℕ) → sub-lts.Need-sub-requires (sub-calls t) (sub-at
 sub-sub-requires t c κs = (
   omega (
     arith,
-    c .before .before .before .before .before .before .loop .inv .more,
-    c .before .before .before .before .before .before .loop .inv .most,
-    c .before .before .before .before .before .before .loop .inv .room,
-    c .before .before .before .before .before .before .before .before .before .before .before .before .before .before .pre .0,
+    c .before .before .before .before .before .before .before .loop .inv .more,
+    c .before .before .before .before .before .before .before .loop .inv .most,
+    c .before .before .before .before .before .before .before .loop .inv .room,
+    c .before .before .before .before .before .before .before .before .before .before .before .before .before .before .before .pre .0,
   ),
   answer-ready
-      (c .before .before .before .before .before .before .loop .inv) (c .before .before .before .before .before .loop-test .taken) (c .before .before .before .before .slot-at .ensures .0)
+      (c .before .before .before .before .before .before .before .loop .inv) (c .before .before .before .before .before .before .loop-test .taken) (sub-slot t (c .before .before .before .before))
       (c .before .before .before .before .slot-at .ensures .1) (c .before .before .l2 .given .1),
 )
 
@@ -193,31 +199,31 @@ sub-enum-told-4 : (t : ℕ) → sub-lts.Need-enum-told-4 (sub-calls t) (sub-at t
 sub-enum-told-4 t c = search needs
 
 sub-returns-3 : (t : ℕ) → sub-lts.Need-returns-3 (sub-calls t) (sub-at t) sub-reads.Post sub-Inv-loop sub-μ-loop
-sub-returns-3 t c = new-full (sub-started t (c .before .before .before .before .before .before .before .before .before .before .before))
-    (c .before .before .before .before .before .before .before .before .before .loop .inv) (c .before .before .sub .ensures .keeps)
-    (answer-full (c .before .before .before .before .before .before .before .before .before .loop .inv) (c .before .before .before .before .before .before .before .before .loop-test .taken)
-    (c .before .before .before .before .before .before .before .slot-at .ensures .0) (c .before .before .before .before .before .before .before .slot-at .ensures .1)
+sub-returns-3 t c = new-full (sub-started t (c .before .before .before .before .before .before .before .before .before .before .before .before))
+    (c .before .before .before .before .before .before .before .before .before .before .loop .inv) (c .before .before .sub .ensures .keeps)
+    (answer-full (c .before .before .before .before .before .before .before .before .before .before .loop .inv) (c .before .before .before .before .before .before .before .before .before .loop-test .taken)
+    (sub-slot t (c .before .before .before .before .before .before .before)) (c .before .before .before .before .before .before .before .slot-at .ensures .1)
     (c .before .before .before .before .before .l2 .given .1) (c .before .before .sub .ensures) (c .enum-told4 .given .1))
 
 sub-add-narrow : (t : ℕ) → sub-lts.Need-add-narrow (sub-calls t) (sub-at t) sub-reads.Post sub-Inv-loop sub-μ-loop
-sub-add-narrow t c = let h = answer-low (c .before .before .before .before .before .before .before .before .before .before .loop .inv)
-    (c .before .before .before .before .before .before .before .before .before .loop-test .taken) (c .before .before .before .before .before .before .before .before .slot-at .ensures .0)
+sub-add-narrow t c = let h = answer-low (c .before .before .before .before .before .before .before .before .before .before .before .loop .inv)
+    (c .before .before .before .before .before .before .before .before .before .before .loop-test .taken) (sub-slot t (c .before .before .before .before .before .before .before .before))
     (c .before .before .before .before .before .before .before .before .slot-at .ensures .1) (c .before .before .before .before .before .before .l2 .given .1)
     (c .before .before .before .sub .ensures) (c .before .i2 .given .1) in omega arith
 
 sub-narrow-requires-2 : (t : ℕ) → sub-lts.Need-narrow-requires-2 (sub-calls t) (sub-at t) sub-reads.Post sub-Inv-loop sub-μ-loop
-sub-narrow-requires-2 t c κs = let h = answer-low (c .before .before .before .before .before .before .before .before .before .before .loop .inv)
-    (c .before .before .before .before .before .before .before .before .before .loop-test .taken) (c .before .before .before .before .before .before .before .before .slot-at .ensures .0)
+sub-narrow-requires-2 t c κs = let h = answer-low (c .before .before .before .before .before .before .before .before .before .before .before .loop .inv)
+    (c .before .before .before .before .before .before .before .before .before .before .loop-test .taken) (sub-slot t (c .before .before .before .before .before .before .before .before))
     (c .before .before .before .before .before .before .before .before .slot-at .ensures .1) (c .before .before .before .before .before .before .l2 .given .1)
     (c .before .before .before .sub .ensures) (c .before .i2 .given .1) in omega arith
 
 sub-array-write-bytes-2 : (t : ℕ) → sub-lts.Need-array-write-bytes-2 (sub-calls t) (sub-at t) sub-reads.Post sub-Inv-loop sub-μ-loop
 sub-array-write-bytes-2 t c = omega (
   arith,
-  c .before .before .before .before .before .before .before .before .before .before .loop-test .taken,
-  c .before .before .before .before .before .before .before .before .before .before .before .loop .inv .edge,
-  c .before .before .before .before .before .before .before .before .before .before .before .loop .inv .limits .methods,
-  c .before .before .before .before .before .before .before .before .before .before .before .loop .inv .wide,
+  c .before .before .before .before .before .before .before .before .before .before .before .loop-test .taken,
+  c .before .before .before .before .before .before .before .before .before .before .before .before .loop .inv .edge,
+  c .before .before .before .before .before .before .before .before .before .before .before .before .loop .inv .limits .methods,
+  c .before .before .before .before .before .before .before .before .before .before .before .before .loop .inv .wide,
 )
 
 sub-add-k-3 : (t : ℕ) → sub-lts.Need-add-k-3 (sub-calls t) (sub-at t) sub-reads.Post sub-Inv-loop sub-μ-loop
@@ -227,9 +233,9 @@ sub-loop-less-3 : (t : ℕ) → sub-lts.Need-loop-less-3 (sub-calls t) (sub-at t
 sub-loop-less-3 t c = search needs
 
 sub-loop-again-3 : (t : ℕ) → sub-lts.Need-loop-again-3 (sub-calls t) (sub-at t) sub-reads.Post sub-Inv-loop sub-μ-loop
-sub-loop-again-3 t c = answer-turn (c .before .before .before .before .before .before .before .before .before .before .before .loop .inv)
-    (c .before .before .before .before .before .before .before .before .before .before .loop-test .taken)
-    (c .before .before .before .before .before .before .before .before .before .slot-at .ensures .0)
+sub-loop-again-3 t c = answer-turn (c .before .before .before .before .before .before .before .before .before .before .before .before .loop .inv)
+    (c .before .before .before .before .before .before .before .before .before .before .before .loop-test .taken)
+    (sub-slot t (c .before .before .before .before .before .before .before .before .before))
     (c .before .before .before .before .before .before .before .before .before .slot-at .ensures .1) (c .before .before .before .before .before .before .before .l2 .given .1)
     (c .before .before .before .before .sub .ensures) (c .before .before .i2 .given .1) (c .narrow2 .ensures)
 
@@ -270,6 +276,11 @@ sup-started : (t : ℕ) (c : sup-lts.After-start (sup-calls t) (sup-at t) sup-re
 sup-started t c = started (c .before .before .before .before .before .before .pre .1) refl (omega arith) (c .before .before .enum-told .given .1)
     (c .before .before .before .before .begin .ensures) (c .start .ensures)
 
+-- the slot as it is read from the bytes
+sup-slot : (t : ℕ) (c : sup-lts.After-slot-at (sup-calls t) (sup-at t) sup-reads.Post sup-Inv-loop sup-μ-loop)
+    → let w = c .before .before .before .before .before .start .result in c .slot-at .result ≡ slotIn (kindIn w) w (c .before .before .before .loop .k)
+sup-slot t c = slot-read (sup-started t (c .before .before .before .before .before)) (c .before .before .before .loop .inv) (c .slot-at .ensures .0)
+
 sup-begin-requires : (t : ℕ) → sup-lts.Need-begin-requires (sup-calls t) (sup-at t) sup-reads.Post sup-Inv-loop sup-μ-loop
 sup-begin-requires t c κs = (omega arith, c .before .pre .1 .limits)
 
@@ -295,7 +306,7 @@ sup-loop-holds : (t : ℕ) → sup-lts.Need-loop-holds (sup-calls t) (sup-at t) 
 sup-loop-holds t c = start-loop (sup-started t (c .before))
 
 sup-slot-at-requires : (t : ℕ) → sup-lts.Need-slot-at-requires (sup-calls t) (sup-at t) sup-reads.Post sup-Inv-loop sup-μ-loop
-sup-slot-at-requires t c κs = (sup-started t (c .before .before .before) .known, omega (arith, c .loop-test .taken, c .before .loop .inv .edge, c .before .loop .inv .limits .methods))
+sup-slot-at-requires t c κs = slot-ready (sup-started t (c .before .before .before .before)) (c .before .before .loop .inv) (c .before .loop-test .taken) (omega arith)
 
 sup-enum-told-2 : (t : ℕ) → sup-lts.Need-enum-told-2 (sup-calls t) (sup-at t) sup-reads.Post sup-Inv-loop sup-μ-loop
 sup-enum-told-2 t c = search needs
@@ -307,7 +318,7 @@ sup-loop-less : (t : ℕ) → sup-lts.Need-loop-less (sup-calls t) (sup-at t) su
 sup-loop-less t c = search needs
 
 sup-loop-again : (t : ℕ) → sup-lts.Need-loop-again (sup-calls t) (sup-at t) sup-reads.Post sup-Inv-loop sup-μ-loop
-sup-loop-again t c = turn-empty (c .before .before .before .before .loop .inv) (c .before .before .before .loop-test .taken) (c .before .before .slot-at .ensures .0) (c .enum-told2 .given .1)
+sup-loop-again t c = turn-empty (c .before .before .before .before .before .loop .inv) (c .before .before .before .before .loop-test .taken) (sup-slot t (c .before .before)) (c .enum-told2 .given .1)
 
 sup-enum-known-l1 : (t : ℕ) → sup-lts.Need-enum-known-l1 (sup-calls t) (sup-at t) sup-reads.Post sup-Inv-loop sup-μ-loop
 sup-enum-known-l1 t c = search needs
@@ -316,13 +327,13 @@ sup-sub-requires : (t : ℕ) → sup-lts.Need-sub-requires (sup-calls t) (sup-at
 sup-sub-requires t c κs = (
   omega (
     arith,
-    c .before .before .before .before .before .before .loop .inv .more,
-    c .before .before .before .before .before .before .loop .inv .most,
-    c .before .before .before .before .before .before .loop .inv .room,
-    c .before .before .before .before .before .before .before .before .before .before .before .before .before .before .pre .0,
+    c .before .before .before .before .before .before .before .loop .inv .more,
+    c .before .before .before .before .before .before .before .loop .inv .most,
+    c .before .before .before .before .before .before .before .loop .inv .room,
+    c .before .before .before .before .before .before .before .before .before .before .before .before .before .before .before .pre .0,
   ),
   argument-ready
-      (c .before .before .before .before .before .before .loop .inv) (c .before .before .before .before .before .loop-test .taken) (c .before .before .before .before .slot-at .ensures .0)
+      (c .before .before .before .before .before .before .before .loop .inv) (c .before .before .before .before .before .before .loop-test .taken) (sup-slot t (c .before .before .before .before))
       (c .before .before .before .before .slot-at .ensures .1) (c .before .before .l1 .given .1),
 )
 
@@ -333,26 +344,26 @@ sup-enum-told-3 : (t : ℕ) → sup-lts.Need-enum-told-3 (sup-calls t) (sup-at t
 sup-enum-told-3 t c = search needs
 
 sup-returns-2 : (t : ℕ) → sup-lts.Need-returns-2 (sup-calls t) (sup-at t) sup-reads.Post sup-Inv-loop sup-μ-loop
-sup-returns-2 t c = new-full (sup-started t (c .before .before .before .before .before .before .before .before .before .before .before))
-    (c .before .before .before .before .before .before .before .before .before .loop .inv) (c .before .before .sub .ensures .keeps)
-    (argument-full (c .before .before .before .before .before .before .before .before .before .loop .inv)
-    (c .before .before .before .before .before .before .before .before .loop-test .taken) (c .before .before .before .before .before .before .before .slot-at .ensures .0)
+sup-returns-2 t c = new-full (sup-started t (c .before .before .before .before .before .before .before .before .before .before .before .before))
+    (c .before .before .before .before .before .before .before .before .before .before .loop .inv) (c .before .before .sub .ensures .keeps)
+    (argument-full (c .before .before .before .before .before .before .before .before .before .before .loop .inv)
+    (c .before .before .before .before .before .before .before .before .before .loop-test .taken) (sup-slot t (c .before .before .before .before .before .before .before))
     (c .before .before .before .before .before .before .before .slot-at .ensures .1) (c .before .before .before .before .before .l1 .given .1) (c .before .before .sub .ensures)
     (c .enum-told3 .given .1))
 
 sup-narrow-requires : (t : ℕ) → sup-lts.Need-narrow-requires (sup-calls t) (sup-at t) sup-reads.Post sup-Inv-loop sup-μ-loop
-sup-narrow-requires t c κs = argument-low (c .before .before .before .before .before .before .before .before .before .before .loop .inv)
-    (c .before .before .before .before .before .before .before .before .before .loop-test .taken) (c .before .before .before .before .before .before .before .before .slot-at .ensures .0)
+sup-narrow-requires t c κs = argument-low (c .before .before .before .before .before .before .before .before .before .before .before .loop .inv)
+    (c .before .before .before .before .before .before .before .before .before .before .loop-test .taken) (sup-slot t (c .before .before .before .before .before .before .before .before))
     (c .before .before .before .before .before .before .before .before .slot-at .ensures .1) (c .before .before .before .before .before .before .l1 .given .1)
     (c .before .before .before .sub .ensures) (c .before .i1 .given .1)
 
 sup-array-write-bytes : (t : ℕ) → sup-lts.Need-array-write-bytes (sup-calls t) (sup-at t) sup-reads.Post sup-Inv-loop sup-μ-loop
 sup-array-write-bytes t c = omega (
   arith,
-  c .before .before .before .before .before .before .before .before .before .before .loop-test .taken,
-  c .before .before .before .before .before .before .before .before .before .before .before .loop .inv .edge,
-  c .before .before .before .before .before .before .before .before .before .before .before .loop .inv .limits .methods,
-  c .before .before .before .before .before .before .before .before .before .before .before .loop .inv .wide,
+  c .before .before .before .before .before .before .before .before .before .before .before .loop-test .taken,
+  c .before .before .before .before .before .before .before .before .before .before .before .before .loop .inv .edge,
+  c .before .before .before .before .before .before .before .before .before .before .before .before .loop .inv .limits .methods,
+  c .before .before .before .before .before .before .before .before .before .before .before .before .loop .inv .wide,
 )
 
 sup-add-k-2 : (t : ℕ) → sup-lts.Need-add-k-2 (sup-calls t) (sup-at t) sup-reads.Post sup-Inv-loop sup-μ-loop
@@ -362,9 +373,9 @@ sup-loop-less-2 : (t : ℕ) → sup-lts.Need-loop-less-2 (sup-calls t) (sup-at t
 sup-loop-less-2 t c = search needs
 
 sup-loop-again-2 : (t : ℕ) → sup-lts.Need-loop-again-2 (sup-calls t) (sup-at t) sup-reads.Post sup-Inv-loop sup-μ-loop
-sup-loop-again-2 t c = argument-turn (c .before .before .before .before .before .before .before .before .before .before .before .loop .inv)
-    (c .before .before .before .before .before .before .before .before .before .before .loop-test .taken)
-    (c .before .before .before .before .before .before .before .before .before .slot-at .ensures .0)
+sup-loop-again-2 t c = argument-turn (c .before .before .before .before .before .before .before .before .before .before .before .before .loop .inv)
+    (c .before .before .before .before .before .before .before .before .before .before .before .loop-test .taken)
+    (sup-slot t (c .before .before .before .before .before .before .before .before .before))
     (c .before .before .before .before .before .before .before .before .before .slot-at .ensures .1) (c .before .before .before .before .before .before .before .l1 .given .1)
     (c .before .before .before .before .sub .ensures) (c .before .before .i1 .given .1) (c .narrow .ensures)
 
@@ -375,13 +386,13 @@ sup-sup-requires : (t : ℕ) → sup-lts.Need-sup-requires (sup-calls t) (sup-at
 sup-sup-requires t c κs = (
   omega (
     arith,
-    c .before .before .before .before .before .before .loop .inv .more,
-    c .before .before .before .before .before .before .loop .inv .most,
-    c .before .before .before .before .before .before .loop .inv .room,
-    c .before .before .before .before .before .before .before .before .before .before .before .before .before .before .pre .0,
+    c .before .before .before .before .before .before .before .loop .inv .more,
+    c .before .before .before .before .before .before .before .loop .inv .most,
+    c .before .before .before .before .before .before .before .loop .inv .room,
+    c .before .before .before .before .before .before .before .before .before .before .before .before .before .before .before .pre .0,
   ),
   answer-ready
-      (c .before .before .before .before .before .before .loop .inv) (c .before .before .before .before .before .loop-test .taken) (c .before .before .before .before .slot-at .ensures .0)
+      (c .before .before .before .before .before .before .before .loop .inv) (c .before .before .before .before .before .before .loop-test .taken) (sup-slot t (c .before .before .before .before))
       (c .before .before .before .before .slot-at .ensures .1) (c .before .before .l2 .given .1),
 )
 
@@ -392,31 +403,31 @@ sup-enum-told-4 : (t : ℕ) → sup-lts.Need-enum-told-4 (sup-calls t) (sup-at t
 sup-enum-told-4 t c = search needs
 
 sup-returns-3 : (t : ℕ) → sup-lts.Need-returns-3 (sup-calls t) (sup-at t) sup-reads.Post sup-Inv-loop sup-μ-loop
-sup-returns-3 t c = new-full (sup-started t (c .before .before .before .before .before .before .before .before .before .before .before))
-    (c .before .before .before .before .before .before .before .before .before .loop .inv) (c .before .before .sup .ensures .keeps)
-    (answer-full (c .before .before .before .before .before .before .before .before .before .loop .inv) (c .before .before .before .before .before .before .before .before .loop-test .taken)
-    (c .before .before .before .before .before .before .before .slot-at .ensures .0) (c .before .before .before .before .before .before .before .slot-at .ensures .1)
+sup-returns-3 t c = new-full (sup-started t (c .before .before .before .before .before .before .before .before .before .before .before .before))
+    (c .before .before .before .before .before .before .before .before .before .before .loop .inv) (c .before .before .sup .ensures .keeps)
+    (answer-full (c .before .before .before .before .before .before .before .before .before .before .loop .inv) (c .before .before .before .before .before .before .before .before .before .loop-test .taken)
+    (sup-slot t (c .before .before .before .before .before .before .before)) (c .before .before .before .before .before .before .before .slot-at .ensures .1)
     (c .before .before .before .before .before .l2 .given .1) (c .before .before .sup .ensures) (c .enum-told4 .given .1))
 
 sup-add-narrow : (t : ℕ) → sup-lts.Need-add-narrow (sup-calls t) (sup-at t) sup-reads.Post sup-Inv-loop sup-μ-loop
-sup-add-narrow t c = let h = answer-low (c .before .before .before .before .before .before .before .before .before .before .loop .inv)
-    (c .before .before .before .before .before .before .before .before .before .loop-test .taken) (c .before .before .before .before .before .before .before .before .slot-at .ensures .0)
+sup-add-narrow t c = let h = answer-low (c .before .before .before .before .before .before .before .before .before .before .before .loop .inv)
+    (c .before .before .before .before .before .before .before .before .before .before .loop-test .taken) (sup-slot t (c .before .before .before .before .before .before .before .before))
     (c .before .before .before .before .before .before .before .before .slot-at .ensures .1) (c .before .before .before .before .before .before .l2 .given .1)
     (c .before .before .before .sup .ensures) (c .before .i2 .given .1) in omega arith
 
 sup-narrow-requires-2 : (t : ℕ) → sup-lts.Need-narrow-requires-2 (sup-calls t) (sup-at t) sup-reads.Post sup-Inv-loop sup-μ-loop
-sup-narrow-requires-2 t c κs = let h = answer-low (c .before .before .before .before .before .before .before .before .before .before .loop .inv)
-    (c .before .before .before .before .before .before .before .before .before .loop-test .taken) (c .before .before .before .before .before .before .before .before .slot-at .ensures .0)
+sup-narrow-requires-2 t c κs = let h = answer-low (c .before .before .before .before .before .before .before .before .before .before .before .loop .inv)
+    (c .before .before .before .before .before .before .before .before .before .before .loop-test .taken) (sup-slot t (c .before .before .before .before .before .before .before .before))
     (c .before .before .before .before .before .before .before .before .slot-at .ensures .1) (c .before .before .before .before .before .before .l2 .given .1)
     (c .before .before .before .sup .ensures) (c .before .i2 .given .1) in omega arith
 
 sup-array-write-bytes-2 : (t : ℕ) → sup-lts.Need-array-write-bytes-2 (sup-calls t) (sup-at t) sup-reads.Post sup-Inv-loop sup-μ-loop
 sup-array-write-bytes-2 t c = omega (
   arith,
-  c .before .before .before .before .before .before .before .before .before .before .loop-test .taken,
-  c .before .before .before .before .before .before .before .before .before .before .before .loop .inv .edge,
-  c .before .before .before .before .before .before .before .before .before .before .before .loop .inv .limits .methods,
-  c .before .before .before .before .before .before .before .before .before .before .before .loop .inv .wide,
+  c .before .before .before .before .before .before .before .before .before .before .before .loop-test .taken,
+  c .before .before .before .before .before .before .before .before .before .before .before .before .loop .inv .edge,
+  c .before .before .before .before .before .before .before .before .before .before .before .before .loop .inv .limits .methods,
+  c .before .before .before .before .before .before .before .before .before .before .before .before .loop .inv .wide,
 )
 
 sup-add-k-3 : (t : ℕ) → sup-lts.Need-add-k-3 (sup-calls t) (sup-at t) sup-reads.Post sup-Inv-loop sup-μ-loop
@@ -426,9 +437,9 @@ sup-loop-less-3 : (t : ℕ) → sup-lts.Need-loop-less-3 (sup-calls t) (sup-at t
 sup-loop-less-3 t c = search needs
 
 sup-loop-again-3 : (t : ℕ) → sup-lts.Need-loop-again-3 (sup-calls t) (sup-at t) sup-reads.Post sup-Inv-loop sup-μ-loop
-sup-loop-again-3 t c = answer-turn (c .before .before .before .before .before .before .before .before .before .before .before .loop .inv)
-    (c .before .before .before .before .before .before .before .before .before .before .loop-test .taken)
-    (c .before .before .before .before .before .before .before .before .before .slot-at .ensures .0)
+sup-loop-again-3 t c = answer-turn (c .before .before .before .before .before .before .before .before .before .before .before .before .loop .inv)
+    (c .before .before .before .before .before .before .before .before .before .before .before .loop-test .taken)
+    (sup-slot t (c .before .before .before .before .before .before .before .before .before))
     (c .before .before .before .before .before .before .before .before .before .slot-at .ensures .1) (c .before .before .before .before .before .before .before .l2 .given .1)
     (c .before .before .before .before .sup .ensures) (c .before .before .i2 .given .1) (c .narrow2 .ensures)
 

@@ -19,10 +19,10 @@ put-type-requires : tie.Need-put-type-requires
 put-type-requires c κs = search needs
 
 returns : tie.Need-returns
-returns c = let a = c .before .before .before .before .before .before .before .args in record {
+returns c = let read = c .before .before .before .before .before .before .before in let a = read .before .before .before .before .args in record {
   key = refl;
-  left = c .before .before .before .before .before .get-type .ensures .0;
-  right = c .before .before .before .get-type2 .ensures .0;
+  left = read .before .before .get-type .ensures .0;
+  right = read .get-type2 .ensures .0;
   put = subst (λ (x : RawType). Put (a .b .now) (a .n) x (c .put-type .last .0)) (c .before .before .pending .ensures) (c .put-type .ensures);
 }
 

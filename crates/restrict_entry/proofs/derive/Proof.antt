@@ -1,9 +1,9 @@
 -- Rests on the check of the table; a signed local is kept as 64 bits, from which `toZ-ofZ` reads it back.
 use mathlib.Core.Path.{refl, sym, _∙_}
 use mir.Facts.{toZ-ofZ}
-use borrow.Author.Needs.{needs}
 use Rattle.tablecheck.proofs.Accepted.{accepted-limits}
 use Rattle.restrict_entry.proofs.Laws.{answered-as, refused-answers, handed-unfit, handed-fit}
+use borrow.Author.Needs.{needs}
 use Rattle.restrict_entry.proofs.derive.Statement.{statement}
 use Rattle.restrict_entry.proofs.derive.Tie as tie
 
@@ -12,28 +12,22 @@ table-fits-requires c κs = search needs
 
 derive-named-requires : tie.Need-derive-named-requires
 derive-named-requires c κs =
-    let a = c .before .before .before .args in
-    accepted-limits (a .t1) (a .l .now) (a .c) (sym (c .before .table-fits .ensures) ∙ c .if1 .taken)
+    let a = c .before .before .before .before .args in
+    accepted-limits (a .b .now) (a .l .now) (a .c) (sym (c .before .before .table-fits .ensures) ∙ c .before .if1 .taken)
 
 returns : tie.Need-returns
 returns c =
-    let s = c .before .before .before .before in
+    let s = c .before .before .before .before .before in
     let a = s .args in
     let d = rw (toZ-ofZ (s .fits .t), toZ-ofZ (s .fits .s)) at (c .derive-named .ensures) in
-    let fit = sym (c .before .before .table-fits .ensures) ∙ c .before .if1 .taken in
-    answered-as (d (a .l .now)) (handed-fit (a .t1) (a .l .now) (a .c) (a .kind) (a .t) (a .s) fit)
-
-refused-requires : tie.Need-refused-requires
-refused-requires c κs = search needs
+    let fit = sym (c .before .before .before .table-fits .ensures) ∙ c .before .before .if1 .taken in
+    answered-as (d (a .l .now)) (handed-fit (a .b .now) (a .l .now) (a .c) (a .kind) (a .t) (a .s) fit)
 
 returns-2 : tie.Need-returns-2
 returns-2 c =
-    let a = c .before .before .before .before .args in
-    let e = c .refused .ensures in
-    let unfit = sym (c .before .before .table-fits .ensures) ∙ c .before .if1 .left in
-    refused-answers (a .t1) (a .l .now) (a .c) e refl (handed-unfit (a .t1) (a .l .now) (a .c) (a .kind) (a .t) (a .s) unfit)
+    let a = c .before .before .before .args in
+    let unfit = sym (c .before .table-fits .ensures) ∙ c .if1 .left in
+    refused-answers (a .b .now) (a .l .now) (a .c) refl (handed-unfit (a .b .now) (a .l .now) (a .c) (a .kind) (a .t) (a .s) unfit)
 
 pub derive-spec : {M : Type 1} → statement M
-derive-spec =
-    tie.close
-    (tie.spec table-fits-requires derive-named-requires returns refused-requires returns-2)
+derive-spec = tie.close (tie.spec table-fits-requires derive-named-requires returns returns-2)

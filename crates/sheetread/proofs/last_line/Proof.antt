@@ -4,7 +4,7 @@ use borrow.Author.Needs.{needs}
 use borrow.Author.Tests.{not-true, not-false}
 use Rattle.table.specs.Store.{typesIn}
 use Rattle.sheetread.proofs.Readings.{got-no, got-ok, ending-no, ending-more, ending-own, ending-good}
-use Rattle.sheetread.proofs.Standing.{table-stands}
+use Rattle.standing.proofs.Laws.{table-stands}
 use Rattle.sheetread.proofs.last_line.Statement.{statement}
 use Rattle.sheetread.proofs.last_line.Tie as tie
 

@@ -7,10 +7,10 @@ use borrow.Author.Needs.{needs}
 use borrow.Author.Tests.{not-true, not-false}
 use Rattle.model.specs.Basics.{all}
 use Rattle.table.specs.Store.{typesIn}
-use Rattle.sheetread.proofs.Standing.{args-end, args-broken, args-next, args-done}
-use Rattle.sheetread.specs.View.{standsAt}
-use Rattle.sheetread.proofs.args_stand.Statement.{statement}
-use Rattle.sheetread.proofs.args_stand.Tie as tie
+use Rattle.standing.proofs.Laws.{args-end, args-broken, args-next, args-done}
+use Rattle.standing.specs.Signatures.{standsAt}
+use Rattle.standing.proofs.args_stand.Statement.{statement}
+use Rattle.standing.proofs.args_stand.Tie as tie
 
 abbrev Inv-loop : tie.InvT-loop
 Inv-loop b n m count i₀ i = (i ≤ 4) × (i ≤ count) × (count ≡ m .count) × (length (m .args) ≡ 4) ×

@@ -2,9 +2,9 @@
 use mathlib.Core.Path.{_∙_}
 use borrow.Author.Needs.{needs}
 use Rattle.table.specs.Store.{typesIn}
-use Rattle.sheetread.proofs.Standing.{stands-out, stands-in}
-use Rattle.sheetread.proofs.stands_at.Statement.{statement}
-use Rattle.sheetread.proofs.stands_at.Tie as tie
+use Rattle.standing.proofs.Laws.{stands-out, stands-in}
+use Rattle.standing.proofs.stands_at.Statement.{statement}
+use Rattle.standing.proofs.stands_at.Tie as tie
 
 returns : tie.Need-returns
 returns c = stands-out (typesIn (c .before .args .b .now)) (c .before .args .n) (c .before .args .a) (c .if1 .taken)

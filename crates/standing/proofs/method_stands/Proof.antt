@@ -3,10 +3,10 @@ use mathlib.Core.Path.{sym, _∙_}
 use borrow.Author.Needs.{needs}
 use borrow.Author.Tests.{not-true, not-false}
 use Rattle.table.specs.Store.{typesIn, rawMethod}
-use Rattle.sheetread.proofs.Standing.{method-unsigned, method-args, method-silent, method-answer}
-use Rattle.sheetread.specs.View.{standsAt}
-use Rattle.sheetread.proofs.method_stands.Statement.{statement}
-use Rattle.sheetread.proofs.method_stands.Tie as tie
+use Rattle.standing.proofs.Laws.{method-unsigned, method-args, method-silent, method-answer}
+use Rattle.standing.specs.Signatures.{standsAt}
+use Rattle.standing.proofs.method_stands.Statement.{statement}
+use Rattle.standing.proofs.method_stands.Tie as tie
 
 permits-requires : tie.Need-permits-requires
 permits-requires c κs = search needs

@@ -17,7 +17,7 @@ use Rattle.model.proofs.Largest.{getD-from-out}
 use Rattle.table.specs.Store.{typesTo, mayStandAs}
 use Rattle.table.proofs.Tables.{types-to-at}
 use Rattle.sheet.specs.Sheet.{stands, signaturesStand}
-use Rattle.sheetread.specs.View.{methodsOf, standsAt, methodsStand, typeStands}
+use Rattle.standing.specs.Signatures.{methodsOf, standsAt, methodsStand, typeStands}
 
 -- A test over a list, from its front: it holds before i.
 module _ {A : Type 0} (f : A → Bool) (l : List A) (i : ℕ) (d : A) (inv : all f l ≡ all f (drop i l)) where

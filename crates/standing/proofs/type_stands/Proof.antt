@@ -13,10 +13,10 @@ use Rattle.table.proofs.Lists.{length-from, from-first}
 use Rattle.table.specs.Store.{typesIn}
 use Rattle.table.specs.declared.Head.{Head}
 use Rattle.sheet.specs.Sheet.{stands}
-use Rattle.sheetread.proofs.Standing.{all-broken, all-next, all-done, methods-number, methods-ref}
-use Rattle.sheetread.specs.View.{standsAt}
-use Rattle.sheetread.proofs.type_stands.Statement.{statement}
-use Rattle.sheetread.proofs.type_stands.Tie as tie
+use Rattle.standing.proofs.Laws.{all-broken, all-next, all-done, methods-number, methods-ref}
+use Rattle.standing.specs.Signatures.{standsAt}
+use Rattle.standing.proofs.type_stands.Statement.{statement}
+use Rattle.standing.proofs.type_stands.Tie as tie
 
 abbrev Inv-loop : tie.InvT-loop
 Inv-loop b n m i j₀ j = (j ≤ m) × (all (stands (standsAt (typesIn b) n)) (from m 0 (λ j. methodOf (getD (getD (typesIn b) i noRawType .methods) j noRawMethod)))

@@ -9,10 +9,10 @@ use Rattle.model.specs.Basics.{all}
 use Rattle.model.specs.Table.{noType}
 use Rattle.table.proofs.Tables.{types-to-length, types-to-at}
 use Rattle.table.specs.Store.{typesIn, typesTo}
-use Rattle.sheetread.proofs.Standing.{all-broken, all-next, all-done}
-use Rattle.sheetread.specs.View.{typeStands}
-use Rattle.sheetread.proofs.types_stand.Statement.{statement}
-use Rattle.sheetread.proofs.types_stand.Tie as tie
+use Rattle.standing.proofs.Laws.{all-broken, all-next, all-done}
+use Rattle.standing.specs.Signatures.{typeStands}
+use Rattle.standing.proofs.types_stand.Statement.{statement}
+use Rattle.standing.proofs.types_stand.Tie as tie
 
 abbrev Inv-loop : tie.InvT-loop
 Inv-loop b n m i₀ i = (i ≤ n) × (all (typeStands (typesIn b) n) (typesTo m n n (typesIn b)) ≡ all (typeStands (typesIn b) n) (drop i (typesTo m n n (typesIn b))))
