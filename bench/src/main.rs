@@ -2,51 +2,24 @@
 //! Prints ratios (proved time over Rust time): below 1 the proved core is faster. Buffers are cleared by both sides in each search, as the algorithm asks.
 
 mod fits;
+mod heavy;
+mod measure;
 mod requests;
 mod restriction;
+mod scenes;
 mod search;
+mod served;
 mod sheets;
 
 use conformance::inputs::{damaged, with_48_types, worst};
 use conformance::{chains, compare, counts, Asked, Loaded, PAIRS_LENGTH};
-use reference::check;
+use measure::ratio;
 use reference::hostile;
-use reference::raw::{self, RawState, RawTable, BROADER_LENGTH, TYPES_LENGTH};
+use reference::raw::{RawTable, BROADER_LENGTH, TYPES_LENGTH};
 use reference::relations::RELATIONS;
-use reference::script;
 use reference::sheet;
-use reference::state::State;
 use reference::table::MAX_CATEGORIES;
 use std::hint::black_box;
-use std::time::{Duration, Instant};
-
-/// The time of one call of `work`, over enough calls to be seen.
-fn time(mut work: impl FnMut()) -> Duration {
-    let start = Instant::now();
-    let mut calls = 0;
-    while calls < 3 || start.elapsed() < Duration::from_millis(60) {
-        work();
-        calls += 1;
-    }
-    start.elapsed() / calls
-}
-
-/// Seven measurements of each side in turn: the median ratio, its least and greatest, and the proved side's median time.
-fn ratio(name: &str, mut proved: impl FnMut(), mut rust: impl FnMut()) {
-    let mut ratios = Vec::new();
-    let mut times = Vec::new();
-    for _ in 0..7 {
-        let (p, r) = (time(&mut proved), time(&mut rust));
-        ratios.push(p.as_secs_f64() / r.as_secs_f64());
-        times.push(p);
-    }
-    ratios.sort_by(f64::total_cmp);
-    times.sort();
-    println!(
-        "{name}: ratio {:.2} ({:.2} to {:.2}), proved {:?} a call",
-        ratios[3], ratios[0], ratios[6], times[3]
-    );
-}
 
 /// Compare at one pair of a table, both ways: the same answer, which is returned, and the ratio of their times.
 fn measure(name: &str, table: &RawTable, t: usize, s: usize) -> Result<[bool; 4], usize> {
@@ -254,47 +227,9 @@ fn derivations() {
     derivation("48 generated types", &random, most.expect("a pair"));
 }
 
-/// Requests one after the other, each measured on the state that it meets: safe Rust alone, until the core serves requests.
-fn alone(name: &str, mut state: RawState, list: &[&str]) {
-    for line in list {
-        let request = script::parse(line.as_bytes()).expect("a request");
-        let mut after = state.clone();
-        let result = requests::request(&mut after, &request);
-        assert_eq!(result, raw::request(&mut state.clone(), &request));
-        let time = time(|| {
-            let _ = black_box(requests::request(&mut state.clone(), black_box(&request)));
-        });
-        println!("{line}, {name}: {result:?}, safe Rust alone {time:?} a call");
-        state = after;
-    }
-}
-
-/// The state of a table's sheet.
-fn first_state(table: &RawTable) -> RawState {
-    let table = check::table(table).expect("a right table");
-    RawState::of(&State::of_sheet(table))
-}
-
-fn requests_alone() {
-    let example = sheet::read(include_bytes!("../../examples/case-p.sheet")).expect("a sheet");
-    let list = ["do=new 0 1 4", "do=move 0 0 1 2", "do=move 1 1 2 3"];
-    alone("Case P", first_state(&RawTable::of(&example)), &list);
-    let worst = worst(48, 31);
-    alone(
-        "48 types, every pair reached",
-        first_state(&worst),
-        &["do=new 0 0 1", "do=move 0 0 0 2"],
-    );
-    let state = first_state(&worst);
-    assert_eq!(
-        requests::offers(&state, 0, &[]),
-        raw::offers(&state, 0, &[])
-    );
-}
-
 fn main() {
     same_refusals();
-    requests_alone();
+    served::all();
     comparisons();
     let random = with_48_types();
     let generated = sheet::text(&random);

@@ -8,6 +8,11 @@ pub mod inputs;
 pub mod layout;
 pub mod process;
 pub mod requests;
+pub mod run_lists;
+pub mod runs;
+pub mod served;
+pub mod states;
+pub mod stream;
 
 use reference::raw::{RawTable, BROADER_LENGTH, TYPES_LENGTH};
 use reference::table::MAX_SHEET_TYPES;

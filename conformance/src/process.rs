@@ -12,13 +12,18 @@ pub fn plain(program: &Path) -> Command {
     Command::new(program)
 }
 
-/// The program with the main thread's stack limited. Without the environment, which lies on that stack too.
+/// The program with the main thread's stack limited to that of a device.
 pub fn limited(program: &Path) -> Command {
+    limited_to(STACK, program)
+}
+
+/// The program with the main thread's stack limited to so many KB. Without the environment, which lies on that stack too.
+pub fn limited_to(stack: usize, program: &Path) -> Command {
     let mut command = Command::new("/bin/sh");
     command
         .arg("-c")
         .arg(format!(
-            "ulimit -s {STACK} && test \"$(ulimit -s)\" = {STACK} && exec \"$0\" \"$@\""
+            "ulimit -s {stack} && test \"$(ulimit -s)\" = {stack} && exec \"$0\" \"$@\""
         ))
         .arg(program)
         .env_clear();

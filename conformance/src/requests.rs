@@ -1,6 +1,7 @@
 //! Requests on whole states: what serves them is held against the reference, on states handed in and on those of loaded sheets,
 //! and against the reference's book (demand 3).
 
+use crate::served::counts;
 use reference::book::{permitted, Book};
 use reference::chains::All;
 use reference::coverage::Seen;
@@ -27,28 +28,13 @@ pub trait Core {
 }
 
 /// The bytes that count: those of each list below its count, which is within its limit.
-fn counted(state: &RawState) -> [&[u8]; 5] {
+pub fn counted(state: &RawState) -> [&[u8]; 5] {
     [
         &state.table.broader,
         &state.table.type_bytes[..state.table.types as usize * TYPE_BYTES],
         &state.cell_bytes[..state.cells as usize * CELL_BYTES],
         &state.place_bytes[..state.places as usize * PLACE_BYTES],
         &state.call_bytes[..state.calls as usize * CALL_BYTES],
-    ]
-}
-
-/// How many of each kind a state has.
-fn counts(state: &RawState) -> [u32; 8] {
-    let table = &state.table;
-    [
-        table.subjects,
-        table.methods,
-        table.categories,
-        table.sheet_types,
-        table.types,
-        state.cells,
-        state.places,
-        state.calls,
     ]
 }
 
@@ -129,12 +115,15 @@ pub fn on_offers(core: &impl Core, seed: u64, offered: &mut [u32; 3]) -> Option<
     None
 }
 
-/// The state of a generated sheet, and the requests of its script.
-fn loaded(seed: u64, profile: Profile) -> Option<(Table, Hostile)> {
+/// The state of a generated sheet, and the requests of its script; every other seed's state has noise in the bytes that mean nothing.
+pub fn loaded(seed: u64, profile: Profile) -> Option<(Table, Hostile)> {
     let input = generate(seed, profile);
     let run = script::run_with(&input, Fault::None);
     let table = sheet::read(script::split(&input).0).ok()?;
-    let state = RawState::of(&State::of_sheet(table.clone()));
+    let mut state = RawState::of(&State::of_sheet(table.clone()));
+    if seed % 2 == 1 {
+        hostile::noise(&mut Random::new(seed), &mut state);
+    }
     let requests = run.requests.into_iter().map(|(request, _)| request);
     let requests = requests.collect();
     Some((table, Hostile { state, requests }))

@@ -1,26 +1,15 @@
-//! The driver of requests tried on stand-ins: the reference itself, in which it finds nothing, and the reference with each of its
-//! deliberate faults. The proved core takes their place once it serves requests.
+//! The proved core's requests and offers against the reference, whole states compared: on states handed in, right and wrong, and
+//! on those of loaded sheets. Demand 3 is watched on what runs. tests/stand_ins.rs shows that the drivers can fail.
 
-use conformance::requests::{on_handed_in, on_loaded, on_offers, watch, Core};
+use conformance::requests::{on_handed_in, on_loaded, on_offers, watch};
+use conformance::served::{counts, offers, request, Proved, StateCounts};
 use reference::coverage::{Seen, OF_REQUESTS};
-use reference::faults::{Fault, ALL};
 use reference::gen::Profile;
-use reference::raw::{self, RawState};
+use reference::hostile;
+use reference::raw;
 use reference::refusal::Refusal;
-use reference::requests::{Got, Request};
-
-/// The reference with a fault.
-struct StandIn(Fault);
-
-impl Core for StandIn {
-    fn request(&self, state: &mut RawState, request: &Request) -> Result<Got, Refusal> {
-        raw::request_with(state, request, self.0)
-    }
-
-    fn offers(&self, state: &RawState, cell: i64, chain: &[i64]) -> Result<bool, Refusal> {
-        raw::offers(state, cell, chain)
-    }
-}
+use reference::requests::Request;
+use std::ops::Range;
 
 /// Every number that a request can meet on a state handed in: 2 and 19 beside those of a loaded sheet.
 fn numbers(name: &str) -> Vec<Refusal> {
@@ -32,14 +21,13 @@ fn numbers(name: &str) -> Vec<Refusal> {
     [&[2], *of_sheet, later].concat()
 }
 
-/// Every refusal 2 and 5 to 19 is met, by each request that can meet it, and so is acceptance.
-#[test]
-fn the_states_handed_in_meet_every_number() {
+/// States handed in; every refusal 2 and 5 to 19 is met, by each request that can meet it, and so is acceptance.
+fn handed_in(seeds: Range<u64>) {
     let mut seen = Seen::default();
-    for seed in 0..4000 {
-        assert_eq!(on_handed_in(&StandIn(Fault::None), seed, &mut seen), None);
+    for seed in seeds.clone() {
+        assert_eq!(on_handed_in(&Proved, seed, &mut seen), None, "{seed}");
     }
-    println!("{}", seen.text());
+    println!("{} states handed in\n{}", seeds.count(), seen.text());
     for number in [2].into_iter().chain(5..=19) {
         assert!(seen.number(number) >= 20, "{number}");
     }
@@ -52,54 +40,121 @@ fn the_states_handed_in_meet_every_number() {
     }
 }
 
-/// Chains offered, not offered and 2.
-#[test]
-fn chains_of_states_handed_in() {
+/// Chains offered, not offered and 2, each so often.
+fn chains(seeds: Range<u64>, least: u32) {
     let mut offered = [0; 3];
-    for seed in 0..1500 {
-        let found = on_offers(&StandIn(Fault::None), seed, &mut offered);
+    for seed in seeds {
+        let found = on_offers(&Proved, seed, &mut offered);
         assert_eq!(found, None, "{seed}");
     }
-    println!("not offered, offered, refused: {offered:?}");
-    assert!(offered.iter().all(|count| *count > 2000), "{offered:?}");
+    println!("chains not offered, offered, refused: {offered:?}");
+    assert!(offered.iter().all(|count| *count > least), "{offered:?}");
 }
 
-#[test]
-fn nothing_is_found_on_loaded_sheets() {
+/// How many seeds of a kind of script.
+type Scripts = [(Profile, u64); 4];
+
+fn scripts(small: u64, medium: u64, big: u64, full: u64) -> Scripts {
+    [
+        (Profile::Small, small),
+        (Profile::Medium, medium),
+        (Profile::Big, big),
+        (Profile::Full, full),
+    ]
+}
+
+/// Scripts on loaded sheets: every number from 5 to 18 is met, and neither 2 nor 19.
+fn loaded(scripts: Scripts) {
     let mut seen = Seen::default();
-    for seed in 0..300 {
-        for profile in [Profile::Small, Profile::Medium] {
-            let found = on_loaded(&StandIn(Fault::None), seed, profile, &mut seen);
-            assert_eq!(found, None, "{} {seed}", profile.name());
-            let found = watch(&StandIn(Fault::None), seed, profile);
+    for (profile, seeds) in scripts {
+        for seed in 0..seeds {
+            let found = on_loaded(&Proved, seed, profile, &mut seen);
             assert_eq!(found, None, "{} {seed}", profile.name());
         }
     }
-    assert_eq!([seen.number(2), seen.number(19)], [0, 0]);
+    println!("scripts {scripts:?}\n{}", seen.text());
+    let never: Vec<Refusal> = (1..=19).filter(|one| seen.number(*one) == 0).collect();
+    assert_eq!(never, [1, 2, 3, 4, 19]);
 }
 
-/// Each fault is found on some state.
+/// Demand 3 after scripts on loaded sheets.
+fn watched(scripts: Scripts) {
+    for (profile, seeds) in scripts {
+        for seed in 0..seeds {
+            let found = watch(&Proved, seed, profile);
+            assert_eq!(found, None, "{} {seed}", profile.name());
+        }
+    }
+    println!("demand 3 watched after scripts {scripts:?}");
+}
+
 #[test]
-fn every_fault_is_found() {
-    for fault in ALL {
-        let core = StandIn(fault);
-        let mut seen = Seen::default();
-        let found = (0..2000).any(|seed| on_handed_in(&core, seed, &mut seen).is_some())
-            || (0..200).any(|seed| on_loaded(&core, seed, Profile::Full, &mut seen).is_some());
-        assert!(found, "{fault:?}");
+fn requests_on_states_handed_in() {
+    handed_in(0..8000);
+}
+
+#[test]
+fn offers_on_states_handed_in() {
+    chains(0..4000, 5000);
+}
+
+#[test]
+fn requests_on_loaded_sheets() {
+    loaded(scripts(1500, 500, 20, 40));
+}
+
+#[test]
+fn demand_3_on_loaded_sheets() {
+    watched(scripts(1500, 400, 10, 10));
+}
+
+/// A count that is right but for its high half is refused with 2, by every request and by offers, and every byte stays.
+#[test]
+fn counts_of_any_size() {
+    let found = (0..).map(hostile::generate);
+    let right = |one: &hostile::Hostile| raw::offers(&one.state, 0, &[]).is_ok();
+    for one in found.filter(right).take(40) {
+        let of_state = counts(&one.state);
+        for (at, high) in (0..of_state.len()).flat_map(|at| [(at, 1), (at, 1 << 31)]) {
+            let mut far = of_state;
+            far[at] += high << 32;
+            one.requests
+                .iter()
+                .for_each(|asked| unfit(&one, far, asked));
+            let mut offered = 7;
+            let code = offers(&one.state, far, 0, &[], &mut offered);
+            assert_eq!((code, offered), (2, 7), "{far:?}");
+        }
     }
 }
 
-/// Demand 3 alone finds what it is for, without the reference's answers beside it.
+fn unfit(one: &hostile::Hostile, far: StateCounts, asked: &Request) {
+    let (mut state, mut counts, mut values) = (one.state.clone(), far, [7; 3]);
+    let code = request(&mut state, &mut counts, asked, &mut values);
+    assert_eq!((code, counts, values), (2, far, [7; 3]), "{asked:?}");
+    assert!(state == one.state, "{asked:?} changes a byte");
+}
+
 #[test]
-fn demand_3_is_watched() {
-    for fault in [
-        Fault::NeverWraps,
-        Fault::WrapsFirstPassesLater,
-        Fault::AnswerUnrestricted,
-        Fault::StaticTypeForgotten,
-    ] {
-        let found = (0..400).any(|seed| watch(&StandIn(fault), seed, Profile::Medium).is_some());
-        assert!(found, "{fault:?}");
-    }
+#[ignore = "long"]
+fn requests_on_millions_of_states_handed_in() {
+    handed_in(0..1_000_000);
+}
+
+#[test]
+#[ignore = "long"]
+fn offers_of_millions_of_chains() {
+    chains(0..200_000, 500_000);
+}
+
+#[test]
+#[ignore = "long"]
+fn millions_of_requests_on_loaded_sheets() {
+    loaded(scripts(100_000, 40_000, 2000, 3000));
+}
+
+#[test]
+#[ignore = "long"]
+fn demand_3_on_many_loaded_sheets() {
+    watched(scripts(60_000, 20_000, 500, 200));
 }

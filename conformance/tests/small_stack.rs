@@ -3,6 +3,7 @@
 use conformance::chains::{self, chain, nesting, MOST};
 use conformance::inputs::with_48_types;
 use conformance::process::{limited, plain, run};
+use conformance::stream::numbers;
 use conformance::{counts, PAIRS_LENGTH};
 use reference::pairs;
 use reference::raw::{self, RawTable, TYPES_LENGTH};
@@ -39,11 +40,6 @@ fn the_stack_is_limited() {
         !ended.status.success() && ended.stdout.is_empty(),
         "{ended:?}"
     );
-}
-
-/// Eight bytes for each number.
-fn numbers(list: &[i64]) -> Vec<u8> {
-    list.iter().flat_map(|one| one.to_le_bytes()).collect()
 }
 
 /// The program's derivation of a chain: answer, number, count, and the table that it leaves.

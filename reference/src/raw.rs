@@ -212,9 +212,9 @@ impl RawState {
         self.calls = count(state.calls.len());
     }
 
-    /// Takes in what an accepted request changed from `before` to `after`:
-    /// records are added at the end, and one call may have been answered.
-    fn update(&mut self, before: &State, after: &State) {
+    /// Takes in what accepted requests changed from `before` to `after`:
+    /// records are added at the end, and calls may have been answered.
+    pub fn update(&mut self, before: &State, after: &State) {
         self.table.add_types(&after.table, before.table.types.len());
         for (number, call) in before.calls.iter().enumerate() {
             if after.calls[number].answered != call.answered {

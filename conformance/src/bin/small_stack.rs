@@ -2,12 +2,19 @@
 //! output are bytes, numbers of eight each, low byte first.
 //!
 //!   derive     in: counts, kind, T, S, links, types. out: answer, number, count of types, types
+//!   request    in: a state, a do= line without its LF. out: answer, three values, the state that is left
+//!   offers     in: a state, cell, chain. out: answer, whether it is offered, the state
+//!   load       in: a sheet. out: answer, offset, the state
+//!   nothing    in: a state. out: the state
 //!   sheet      in: a sheet. out: the answers of reading, pair table and writing, the pair table, the text written
 //!   overflow   goes through as much stack as the limit, and so must not come to its end
 
 use conformance::process::STACK;
+use conformance::served::{self, set_counts};
+use conformance::stream::{empty, next_number, next_state, numbers, to_bytes};
 use conformance::{counts, derive, pairs, read, write, Asked, Loaded, PAIRS_LENGTH};
 use reference::raw::{RawTable, BROADER_LENGTH, TYPES_LENGTH};
+use reference::script;
 use std::io::{Read, Write};
 
 fn main() {
@@ -15,6 +22,10 @@ fn main() {
     std::io::stdin().read_to_end(&mut input).expect("input");
     let output = match std::env::args().nth(1).as_deref() {
         Some("derive") => derived(&input),
+        Some("request") => served(&input),
+        Some("offers") => offered(&input),
+        Some("load") => loaded(&input),
+        Some("nothing") => to_bytes(&mut next_state(&mut &input[..])),
         Some("sheet") => sheet(&input),
         Some("overflow") => vec![deep(STACK)],
         other => panic!("{other:?} is no work"),
@@ -22,34 +33,57 @@ fn main() {
     std::io::stdout().write_all(&output).expect("output");
 }
 
-/// Takes the next eight bytes as a number.
-fn next(input: &mut &[u8]) -> u64 {
-    let (bytes, rest) = input.split_at(8);
-    *input = rest;
-    u64::from_le_bytes(bytes.try_into().expect("eight bytes"))
-}
-
 fn derived(mut input: &[u8]) -> Vec<u8> {
-    let mut counts = std::array::from_fn(|_| next(&mut input) as usize);
+    let mut counts = std::array::from_fn(|_| next_number(&mut input) as usize);
     let asked = Asked {
-        kind: next(&mut input) as usize,
-        t: next(&mut input) as i64,
-        s: next(&mut input) as i64,
+        kind: next_number(&mut input) as usize,
+        t: next_number(&mut input),
+        s: next_number(&mut input),
     };
     let mut table = Box::<RawTable>::default();
     table.broader.copy_from_slice(&input[..BROADER_LENGTH]);
     table.type_bytes.copy_from_slice(&input[BROADER_LENGTH..]);
     let mut number = 0;
     let code = derive(&mut table, &mut counts, asked, &mut number);
-    let mut output = numbers(&[code, number, counts[4]]);
+    let mut output = numbers(&[code, number, counts[4]].map(|one| one as i64));
     output.extend_from_slice(&table.type_bytes);
     output
 }
 
-fn numbers(list: &[usize]) -> Vec<u8> {
-    list.iter()
-        .flat_map(|one| (*one as u64).to_le_bytes())
-        .collect()
+fn served(mut input: &[u8]) -> Vec<u8> {
+    let mut state = next_state(&mut input);
+    let (mut counts, mut values) = (served::counts(&state), [-1; 3]);
+    let asked = script::parse(input).expect("a request");
+    let code = served::request(&mut state, &mut counts, &asked, &mut values);
+    set_counts(&mut state, counts);
+    let mut output = numbers(&[code as i64]);
+    output.extend(numbers(&values));
+    output.extend(to_bytes(&mut state));
+    output
+}
+
+fn offered(mut input: &[u8]) -> Vec<u8> {
+    let mut state = next_state(&mut input);
+    let cell = next_number(&mut input);
+    let mut chain = Vec::new();
+    while !input.is_empty() {
+        chain.push(next_number(&mut input));
+    }
+    let mut offered = 7;
+    let code = served::offers(&state, served::counts(&state), cell, &chain, &mut offered);
+    let mut output = numbers(&[code as i64, offered as i64]);
+    output.extend(to_bytes(&mut state));
+    output
+}
+
+fn loaded(input: &[u8]) -> Vec<u8> {
+    let mut state = empty();
+    let (mut counts, mut at) = ([7; 8], 7);
+    let code = served::load(input, &mut state, &mut counts, &mut at);
+    set_counts(&mut state, counts);
+    let mut output = numbers(&[code as i64, at as i64]);
+    output.extend(to_bytes(&mut state));
+    output
 }
 
 fn sheet(input: &[u8]) -> Vec<u8> {
@@ -66,7 +100,7 @@ fn sheet(input: &[u8]) -> Vec<u8> {
     let mut buffer = vec![0; input.len()];
     let mut length = 0;
     let third = write(&table, counts(&table), &mut buffer, &mut length);
-    let mut output = numbers(&[first, second, third]);
+    let mut output = numbers(&[first, second, third].map(|one| one as i64));
     output.extend_from_slice(&out);
     output.extend_from_slice(&buffer[..length]);
     output

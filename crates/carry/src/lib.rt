@@ -104,7 +104,7 @@ fn argument(x: Method, i: usize) -> usize
 }
 
 // Argument i of a signature. A count above the four that a record has room for uses all of them.
-fn argument_in(x: Method, i: usize) -> usize
+pub fn argument_in(x: Method, i: usize) -> usize
     ensures { λ r. ⌜ r ≡ codeOf (argumentOf x i) ⌝ }
 {
     let n = wide(x.count);
@@ -133,7 +133,7 @@ fn slot_in(x: Method, s: Slot) -> usize
 }
 
 // What method m of type t has in a slot. A number type has no methods.
-fn target_at(types: &[u8; TYPE_BYTES], c: Counts, m: usize, s: Slot, t: usize) -> usize
+pub fn target_at(types: &[u8; TYPE_BYTES], c: Counts, m: usize, s: Slot, t: usize) -> usize
     requires { ⌜ Limits c ⌝ }
     ensures { λ r. ⌜ ((l : List ℕ) → r ≡ codeOf (slotAt (tableIn (now (types .entry)) l c) m s t)) ⌝ }
 {

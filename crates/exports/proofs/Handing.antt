@@ -15,7 +15,8 @@ use Rattle.compare.specs.Pairs.{pairTable, pairsHanded}
 use Rattle.compare.specs.Answered.{pairsGiven}
 use Rattle.restrict.specs.Link.{Writes}
 use Rattle.restrict_entry.specs.Answer.{Derivation, derivationOf, refusedWith, Answered}
-use Rattle.exports.specs.Codes.{countsIn, handedOut, derivationLeft, Lent, lent, DerivedIs}
+use Rattle.flat.specs.Flat.{countsIn}
+use Rattle.exports.specs.Codes.{handedOut, derivationLeft, Lent, lent, DerivedIs}
 
 -- by whether the table is accepted
 module _ (old entries : List ℕ) (r : Pairs) where

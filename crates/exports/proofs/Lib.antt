@@ -1,2 +1,4 @@
 pub mod Leaving
 pub mod Handing
+pub mod Offering
+pub mod Running

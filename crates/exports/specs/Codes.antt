@@ -3,22 +3,17 @@ use mathlib.Core.Path.{_≡_}
 use mathlib.Core.Bool.{So}
 use mathlib.Core.List.{List}
 use Prim.Native.Nat.{ℕ, _+_}
-use lib.ListN.{getD}
 use Rattle.model.specs.Basics.{Res, refuse, ok}
 use Rattle.model.specs.Table.{Table}
 use Rattle.model.specs.Relations.{Answers}
 use Rattle.model.specs.Check.{codesFit}
-use Rattle.table.specs.declared.Counts.{Counts}
 use Rattle.table.specs.Store.{rawTable, withCount}
+use Rattle.flat.specs.Flat.{countsIn}
 use Rattle.compare.specs.Pairs.{pairCode}
 use Rattle.restrict.specs.Link.{Writes}
 use Rattle.restrict_entry.specs.Answer.{Derivation, derivationOf}
 use Rattle.sheet.specs.Text.{Written}
 use Rattle.sheetread.specs.declared.Sheet.{Sheet}
-
--- the counts of a table: five numbers in a row, in this order
-abbrev pub countsIn : List ℕ → Counts
-countsIn n = record { subjects = getD n 0 0; methods = getD n 1 0; cats = getD n 2 0; sheet = getD n 3 0; types = getD n 4 0 }
 
 -- 16 and the answers, as in the pair table
 abbrev pub answersCode : Answers → ℕ

@@ -13,7 +13,11 @@ ghost use Rattle.sheet.specs.Sheet.{read as readSheet};
 ghost use Rattle.sheet.specs.Text.{write};
 ghost use Rattle.sheetread.specs.View.{answered};
 ghost use Rattle.sheetwrite.specs.Answer.{wroteAnswer};
-ghost use Rattle.exports.specs.Codes.{countsIn, answersCode, comparedCode, sheetOf, numberOf, valueOf, WrittenIs, handedOut, DerivedIs, lent};
+ghost use Rattle.flat.specs.Flat.{countsIn};
+ghost use Rattle.exports.specs.Codes.{answersCode, comparedCode, sheetOf, numberOf, valueOf, WrittenIs, handedOut, DerivedIs, lent};
+
+pub mod states;
+
 use compare::Compared;
 use compare::PAIR_BYTES;
 use numbers::wide;

@@ -42,7 +42,7 @@ abbrev pub Typed : Places → Counts → Type 0
 Typed ps c = (p : ℕ) → p < ps .count → placeType (placeAt (placesIn ps) p) < c .types
 
 pub record CellIn (s : State) (c : Cellᵐ) : Type 0 where
-  pub type : c .type < s .counts .sheet
+  pub type : c .type < s .counts .types
   pub place : c .place < s .places .count
 
 pub record CallIn (s : State) (c : Callᵐ) : Type 0 where

@@ -73,8 +73,10 @@ module _ (s : State) (h : So (systemAccepted (rawState s))) where
             let e = all-at (cellFits m) noCell (cellsIn (s .cells)) (fitting .cells) k (subst (λ (n : ℕ). k < n) (sym (cells-length (s .cells))) l) in
             let e₁ = second (ltb (c .holder) (m .table .subjects)) _ e in
             let e₂ = second (ltb (c .place) (length (m .places))) _ e₁ in
+            let l₁ : c .type < s .counts .sheet = ltb-so (first (ltb (c .type) (m .table .sheet)) _ e₂) in
+            let l₂ : s .counts .sheet ≤ s .counts .types = checked .limits .counted in
             record {
-              type = ltb-so (first (ltb (c .type) (m .table .sheet)) _ e₂);
+              type = omega arith;
               place = subst (λ (n : ℕ). c .place < n) (places-length (s .places)) (ltb-so (first (ltb (c .place) (length (m .places))) _ e₁));
             };
         calls = λ j l. let c = callAt m j in

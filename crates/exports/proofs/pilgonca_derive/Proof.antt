@@ -3,7 +3,8 @@ use mathlib.Core.Path.{refl, ap, subst}
 use mir.Facts.{toZ-ofZ}
 use Rattle.table.specs.Store.{withCount}
 use Rattle.restrict_entry.specs.Answer.{left, Answered}
-use Rattle.exports.specs.Codes.{countsIn, lent}
+use Rattle.flat.specs.Flat.{countsIn}
+use Rattle.exports.specs.Codes.{lent}
 use Rattle.exports.proofs.Handing.{derivation-refused, derivation-accepted}
 use borrow.Author.Needs.{needs}
 use Rattle.exports.proofs.pilgonca_derive.Statement.{statement}

@@ -4,7 +4,7 @@ use Rattle.compare.specs.Answered.{pairsGiven}
 use mathlib.Core.Path.{ap, _∙_}
 use borrow.Author.Needs.{needs}
 use Rattle.table.specs.Store.{rawTable}
-use Rattle.exports.specs.Codes.{countsIn}
+use Rattle.flat.specs.Flat.{countsIn}
 use Rattle.exports.proofs.Handing.{pairs-new, pairs-old}
 use Rattle.exports.proofs.pilgonca_pairs.Statement.{statement}
 use Rattle.exports.proofs.pilgonca_pairs.Tie as tie

@@ -1,0 +1,130 @@
+//! The dearest requests known: on loaded sheets in which every pair of types is reached, and on a state handed in with 128 types.
+
+use crate::scenes::{after, Scene, LAYERS};
+use conformance::inputs::worst;
+use conformance::states::{add_cell, add_place, call, moved, new, of_table};
+use reference::raw::{RawState, RawTable};
+use reference::requests::Request;
+use reference::table::{MAX_CATEGORIES, MAX_METHODS, MAX_SHEET_TYPES};
+
+/// Two number types, w32 and w64.
+fn put_numbers(table: &mut RawTable, first: usize) {
+    for (number, code) in [(first, 1), (first + 1, 2)] {
+        let entry = table.entry_mut(number);
+        entry.fill(0);
+        entry[0] = code;
+    }
+}
+
+/// The answer of the last method.
+fn last_answer(table: &mut RawTable, number: usize, answer: usize) {
+    table.method_mut(number, MAX_METHODS - 1)[6] = answer as u8 + 1;
+}
+
+/// 44 types of the worst case, two numbers, and two types that differ in one answer alone, w32 and w64: moves between them make
+/// an adapter each.
+fn wrapping() -> RawTable {
+    const ALIKE: usize = MAX_SHEET_TYPES - 4;
+    let mut table = worst(ALIKE, MAX_CATEGORIES);
+    (table.sheet_types, table.types) = (MAX_SHEET_TYPES as u32, MAX_SHEET_TYPES as u32);
+    put_numbers(&mut table, ALIKE);
+    for side in 0..2 {
+        let first = table.entry(0).to_vec();
+        table.entry_mut(SIDES + side).copy_from_slice(&first);
+        last_answer(&mut table, SIDES + side, ALIKE + side);
+    }
+    table
+}
+
+/// The first of the two types between which references move.
+const SIDES: usize = MAX_SHEET_TYPES - 2;
+
+/// What is left by accepted requests.
+fn left(state: RawState, requests: &[Request]) -> RawState {
+    requests.iter().fold(state, |state, request| {
+        after(&state, request).expect("an accepted request").0
+    })
+}
+
+/// On a loaded sheet, through so many adapters: a move with an adapter, a call with two references, and its answer.
+fn loaded(layers: usize) -> [Scene; 3] {
+    let side = |number: usize| (SIDES + number % 2) as i64;
+    let mut list = vec![new(0, 1), new(0, 3), new(side(0), side(0))];
+    list.extend((0..layers).map(|one| moved(2 + one as i64, side(one + 1))));
+    let state = left(of_table(wrapping()), &list);
+    assert_eq!(state.places as usize, 3 + layers);
+    let last = 2 + layers as i64;
+    let request = call(last, 1, vec![0, 1]);
+    let called = left(state.clone(), std::slice::from_ref(&request));
+    let answer = Request::Answer {
+        subject: 0,
+        call: 0,
+        value: Some(0),
+    };
+    let scene = |what: &str, state: &RawState, request: Request| Scene {
+        name: format!("{what}, {layers} adapters, loaded, 44 of 48 types reach one another"),
+        state: state.clone(),
+        request,
+    };
+    let onward = moved(last, side(layers + 1));
+    [
+        scene("move with an adapter", &state, onward),
+        scene("call with 2 references", &state, request),
+        scene("answer with a reference", &called, answer),
+    ]
+}
+
+/// Types of the worst case, two of the sheet's being numbers: every type's last method answers a number, which is w64 in one type
+/// alone. So hardly any is a subtype of another, and it takes long to find out.
+fn no_subtypes(count: usize) -> RawTable {
+    const NUMBERS: std::ops::Range<usize> = MAX_SHEET_TYPES - 2..MAX_SHEET_TYPES;
+    let mut table = worst(count, MAX_CATEGORIES);
+    put_numbers(&mut table, NUMBERS.start);
+    for number in (0..count).filter(|number| !NUMBERS.contains(number)) {
+        for method in 0..MAX_METHODS {
+            let bytes = table.method_mut(number, method);
+            // an answer is stored as its number and 1
+            for (at, more) in [(2, 0), (3, 0), (6, 1)] {
+                let named = usize::from(bytes[at]) - more;
+                bytes[at] -= if NUMBERS.contains(&named) { 2 } else { 0 };
+            }
+        }
+        let wide = usize::from(number + 1 == NUMBERS.start);
+        last_answer(&mut table, number, NUMBERS.start + wide);
+    }
+    table
+}
+
+/// A move for which no room is left, found out while types are derived, on a loaded sheet.
+fn without_room() -> Scene {
+    let state = left(of_table(no_subtypes(MAX_SHEET_TYPES)), &[new(2, 2)]);
+    Scene {
+        name: "move refused with 11, loaded, 46 of 48 types reach one another".to_string(),
+        state,
+        request: moved(0, 3),
+    }
+}
+
+/// A move with an adapter in a full table handed in, whose types are known under the keys that are asked for.
+fn handed_in() -> Scene {
+    let mut table = no_subtypes(128);
+    for (number, key) in [(126, [0, 3, 2]), (125, [2, 126, 124])] {
+        table.entry_mut(number)[3..6].copy_from_slice(&key);
+    }
+    let mut state = of_table(table);
+    let object = add_place(&mut state, [0, 0, 0]);
+    let adapter = add_place(&mut state, [1, object, 124]);
+    add_cell(&mut state, 2, adapter);
+    Scene {
+        name: "move with an adapter, handed in, 128 types".to_string(),
+        state,
+        request: moved(0, 3),
+    }
+}
+
+/// The scenes of loaded sheets, and the one handed in.
+pub fn scenes() -> (Vec<Scene>, Scene) {
+    let mut of_sheets: Vec<Scene> = LAYERS.into_iter().flat_map(loaded).collect();
+    of_sheets.push(without_room());
+    (of_sheets, handed_in())
+}

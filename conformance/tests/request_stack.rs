@@ -1,0 +1,129 @@
+//! The stack of every entry point on states, found by limits that shrink until a program of its own no longer comes to its end;
+//! then each runs on a main thread of twice that, at most 1 MB, and its whole output is the reference's.
+
+use conformance::inputs::largest;
+use conformance::process::{limited_to, run};
+use conformance::states::{deep_requests, deep_state, of_table, worst_requests, worst_state};
+use conformance::stream::{numbers, to_bytes};
+use reference::coverage::request_name;
+use reference::raw::{self, RawState, RawTable};
+use reference::refusal::Refusal;
+use reference::requests::{Got, Request};
+use reference::script;
+use reference::sheet;
+use std::path::Path;
+
+const PROGRAM: &str = env!("CARGO_BIN_EXE_small_stack");
+
+/// The most that an entry point may need, in KB.
+const GOAL: usize = 512;
+
+/// What the program does, on which input, and what it has to print.
+struct Work {
+    name: String,
+    word: &'static str,
+    input: Vec<u8>,
+    output: Vec<u8>,
+}
+
+impl Work {
+    fn printed(&self, stack: usize) -> Option<Vec<u8>> {
+        let mut command = limited_to(stack, Path::new(PROGRAM));
+        command.arg(self.word);
+        let output = run(command, &self.input);
+        output.status.success().then_some(output.stdout)
+    }
+
+    /// The least stack in which the program comes to its end, in steps of 4 KB.
+    fn need(&self) -> usize {
+        let (mut least, mut enough) = (0, 2 * GOAL);
+        assert!(self.printed(enough).is_some(), "{} in 1 MB", self.name);
+        while enough - least > 4 {
+            let middle = (least + enough) / 8 * 4;
+            match self.printed(middle) {
+                Some(_) => enough = middle,
+                None => least = middle,
+            }
+        }
+        enough
+    }
+}
+
+/// What is stored of a request's answer.
+fn stored(result: Result<Got, Refusal>) -> [i64; 4] {
+    let number = |one: usize| one as i64;
+    match result {
+        Err(refusal) => [i64::from(refusal), -1, -1, -1],
+        Ok(Got::Cell { cell, place }) => [0, 2, number(cell), number(place)],
+        Ok(Got::Call { call, adapters }) => [0, 2, number(call), number(adapters)],
+        Ok(other) => panic!("{other:?}"),
+    }
+}
+
+fn request(name: &str, state: &RawState, asked: &Request) -> Work {
+    let mut after = state.clone();
+    let result = raw::request(&mut after, asked);
+    let line = script::line(asked);
+    let input = [&to_bytes(&mut state.clone()), line.trim_end().as_bytes()].concat();
+    Work {
+        name: format!("{}, {name}: {result:?}", request_name(asked)),
+        word: "request",
+        input,
+        output: [numbers(&stored(result)), to_bytes(&mut after)].concat(),
+    }
+}
+
+fn offers() -> Work {
+    let mut state = worst_state(48, 40);
+    let chain = [3; 1000];
+    assert_eq!(raw::offers(&state, 0, &chain), Ok(true));
+    let bytes = to_bytes(&mut state);
+    Work {
+        name: "offers, a chain of 1000".to_string(),
+        word: "offers",
+        input: [bytes.clone(), numbers(&[0]), numbers(&chain)].concat(),
+        output: [numbers(&[0, 1]), bytes].concat(),
+    }
+}
+
+fn load() -> Work {
+    let table = largest();
+    let mut state = of_table(RawTable::of(&table));
+    Work {
+        name: "load, the largest sheet".to_string(),
+        word: "load",
+        input: sheet::text(&table),
+        output: [numbers(&[0, 0]), to_bytes(&mut state)].concat(),
+    }
+}
+
+/// The program itself, which calls nothing.
+fn nothing() -> Work {
+    let bytes = to_bytes(&mut deep_state());
+    Work {
+        name: "the program alone".to_string(),
+        word: "nothing",
+        input: bytes.clone(),
+        output: bytes,
+    }
+}
+
+fn all() -> Vec<Work> {
+    let deep = deep_state();
+    let worst = worst_state(48, 40);
+    let nested = deep_requests().map(|one| request("118 new types nested", &deep, &one));
+    let layers = worst_requests().map(|one| request("40 adapters, 48 types", &worst, &one));
+    let others = [nothing(), offers(), load()];
+    nested.into_iter().chain(layers).chain(others).collect()
+}
+
+#[test]
+fn twice_the_stack_that_is_needed() {
+    for work in all() {
+        let need = work.need();
+        println!("{}: {need} KB", work.name);
+        assert!(need <= GOAL, "{}: {need} KB", work.name);
+        let printed = work.printed(2 * need);
+        assert!(printed.as_ref() == Some(&work.output), "{}", work.name);
+    }
+}

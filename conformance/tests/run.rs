@@ -1,0 +1,126 @@
+//! The proved core's run (U) against the reference serving one request after the other: on states handed in, right and wrong, and on
+//! those of loaded sheets; words that are no request, and answer lists of every length.
+
+use conformance::run_lists::{difference, on_handed_in, on_loaded, List, Met, Run};
+use conformance::runs::{self, decoded, words};
+use conformance::served::{counts, run, Proved};
+use reference::faults::Fault;
+use reference::gen::Profile;
+use reference::hostile;
+use reference::raw::RawState;
+use reference::refusal::Refusal;
+
+/// Lists of both kinds.
+fn lists(handed_in: u64, sheets: [(Profile, u64); 4]) -> impl Iterator<Item = List> {
+    let of_sheets = |(profile, seeds)| (0..seeds).filter_map(move |seed| on_loaded(seed, profile));
+    (0..handed_in)
+        .map(on_handed_in)
+        .chain(sheets.into_iter().flat_map(of_sheets))
+}
+
+fn sheets(small: u64, medium: u64, big: u64, full: u64) -> [(Profile, u64); 4] {
+    [
+        (Profile::Small, small),
+        (Profile::Medium, medium),
+        (Profile::Big, big),
+        (Profile::Full, full),
+    ]
+}
+
+/// No list differs; every refusal of a run is met, and so is every kind of room for answers.
+fn compare(lists: impl Iterator<Item = List>) {
+    let mut met = Met::default();
+    for (at, list) in lists.enumerate() {
+        let found = difference(Proved::run, runs::run, &list, &mut met);
+        assert_eq!(found, None, "list {at}");
+    }
+    println!("{met:?}");
+    for number in [0, 1, 2].into_iter().chain(5..=19) {
+        assert!(met.numbers[number] >= 20, "{number}: {met:?}");
+    }
+    assert!(met.rooms.iter().all(|count| *count >= 200), "{met:?}");
+}
+
+#[test]
+fn runs_as_the_reference() {
+    compare(lists(6000, sheets(800, 300, 20, 40)));
+}
+
+#[test]
+#[ignore = "long"]
+fn hundreds_of_thousands_of_runs() {
+    compare(lists(300_000, sheets(40_000, 10_000, 500, 1000)));
+}
+
+/// The encoder's words are read as the requests they are of.
+#[test]
+fn words_are_read_back() {
+    for one in (0..500).map(hostile::generate) {
+        let all: Vec<i64> = one.requests.iter().flat_map(words).collect();
+        let read: Option<Vec<_>> = decoded(&all).into_iter().collect();
+        assert_eq!(read, Some(one.requests));
+    }
+}
+
+/// A count that is right but for its high half is refused with 2, and nothing is stored.
+#[test]
+fn counts_of_any_size() {
+    let right = |list: &List| runs::run(&mut list.state.clone(), &[], &mut []).is_ok();
+    for list in (0..).map(on_handed_in).filter(right).take(40) {
+        for (at, high) in (0..8).flat_map(|at| [(at, 1 << 32), (at, 1 << 63)]) {
+            let (mut state, mut answers, mut served) = (list.state.clone(), [7; 40], 7);
+            let mut far = counts(&state);
+            far[at] += high;
+            let before = far;
+            let code = run(&mut state, &mut far, &list.words, &mut answers, &mut served);
+            assert_eq!((code, far, answers, served), (2, before, [7; 40], 7));
+            assert!(state == list.state, "a byte is changed");
+        }
+    }
+}
+
+/// A stand-in that runs right, and then spoils what it is lent by how many were served.
+macro_rules! spoils {
+    (|$state:ident, $answers:ident, $served:ident| $spoil:expr) => {
+        |$state, words, $answers| {
+            let $served = runs::run($state, words, $answers)?;
+            $spoil;
+            Ok($served)
+        }
+    };
+}
+
+/// Checks the state at each request, and ends where it no longer passes.
+fn checks_each(state: &mut RawState, words: &[i64], answers: &mut [i64]) -> Result<usize, Refusal> {
+    let all = decoded(words);
+    let mut served = 0;
+    for (one, room) in all.iter().zip(answers.chunks_exact_mut(4)) {
+        let one = one.as_ref().map_or(vec![9, 0], runs::words);
+        served += runs::run(state, &one, room)?;
+    }
+    Ok(served)
+}
+
+/// A word of an answer, a word behind the last, a counted byte, how many, a byte at a refusal, a faulty model, a check too many.
+const STAND_INS: [Run; 7] = [
+    spoils!(|state, answers, served| answers[..served * 4].iter_mut().for_each(|one| *one ^= 1)),
+    spoils!(|state, answers, served| answers[served * 4..].fill(0)),
+    spoils!(|state, answers, served| state.table.entry_mut(0)[9] ^= 1),
+    |state, words, answers| Ok(runs::run(state, words, answers)? + 1),
+    |state, words, answers| {
+        let result = runs::run(state, words, answers);
+        state.call_mut(255)[3] ^= u8::from(result.is_err());
+        result
+    },
+    |state, words, answers| runs::run_with(state, words, answers, Fault::NeverWraps),
+    checks_each,
+];
+
+/// The comparison can fail.
+#[test]
+fn stand_ins_are_found() {
+    for (at, stand_in) in STAND_INS.into_iter().enumerate() {
+        let differs = |list| difference(stand_in, runs::run, &list, &mut Met::default()).is_some();
+        assert!((0..6000).map(on_handed_in).any(differs), "{at}");
+    }
+}

@@ -1,0 +1,126 @@
+//! The drivers of requests can fail: each deliberate fault of the reference is found, and so is a core that answers right and
+//! stores something wrong, or says wrongly what is offered.
+
+use conformance::requests::{on_handed_in, on_loaded, on_offers, watch, Core};
+use reference::book;
+use reference::chains::permits;
+use reference::check;
+use reference::coverage::Seen;
+use reference::faults::{Fault, ALL};
+use reference::gen::Profile;
+use reference::raw::{self, RawState};
+use reference::refusal::{Refusal, RANGE};
+use reference::requests::{index, Got, Request};
+
+/// The reference with a fault.
+struct StandIn(Fault);
+
+impl Core for StandIn {
+    fn request(&self, state: &mut RawState, request: &Request) -> Result<Got, Refusal> {
+        raw::request_with(state, request, self.0)
+    }
+
+    fn offers(&self, state: &RawState, cell: i64, chain: &[i64]) -> Result<bool, Refusal> {
+        raw::offers(state, cell, chain)
+    }
+}
+
+/// Each fault is found on some state.
+#[test]
+fn every_fault_is_found() {
+    for fault in ALL {
+        let core = StandIn(fault);
+        let mut seen = Seen::default();
+        let found = (0..2000).any(|seed| on_handed_in(&core, seed, &mut seen).is_some())
+            || (0..200).any(|seed| on_loaded(&core, seed, Profile::Full, &mut seen).is_some());
+        assert!(found, "{fault:?}");
+    }
+}
+
+/// Demand 3 alone finds what it is for, without the reference's answers beside it.
+#[test]
+fn demand_3_is_watched() {
+    for fault in [
+        Fault::NeverWraps,
+        Fault::WrapsFirstPassesLater,
+        Fault::AnswerUnrestricted,
+        Fault::StaticTypeForgotten,
+    ] {
+        let found = (0..400).any(|seed| watch(&StandIn(fault), seed, Profile::Medium).is_some());
+        assert!(found, "{fault:?}");
+    }
+}
+
+/// A change to a state.
+type Change = fn(&mut RawState);
+
+/// Answers right, and then spoils the state where it accepts, or where it refuses.
+struct Spoils {
+    accepted: bool,
+    spoil: Change,
+}
+
+impl Core for Spoils {
+    fn request(&self, state: &mut RawState, request: &Request) -> Result<Got, Refusal> {
+        let result = raw::request(state, request);
+        if result.is_ok() == self.accepted {
+            (self.spoil)(state);
+        }
+        result
+    }
+
+    fn offers(&self, state: &RawState, cell: i64, chain: &[i64]) -> Result<bool, Refusal> {
+        raw::offers(state, cell, chain)
+    }
+}
+
+/// Bytes that a request has to leave: a spare one of a type, a record's, an answered flag, and past the counts those that a
+/// refusal leaves.
+#[test]
+fn every_byte_is_compared() {
+    let spoils: [(bool, Change); 7] = [
+        (true, |state| state.table.entry_mut(0)[9] ^= 1),
+        (true, |state| state.table.broader[0] ^= 1),
+        (true, |state| state.cell_mut(0)[1] ^= 1),
+        (true, |state| state.call_mut(0)[3] ^= 1),
+        (false, |state| state.table.entry_mut(127)[127] ^= 1),
+        (false, |state| state.place_mut(127)[2] ^= 1),
+        (false, |state| state.calls ^= 1),
+    ];
+    for (at, (accepted, spoil)) in spoils.into_iter().enumerate() {
+        let core = Spoils { accepted, spoil };
+        let mut seen = Seen::default();
+        let found = (0..50).any(|seed| on_handed_in(&core, seed, &mut seen).is_some());
+        assert!(found, "{at}");
+    }
+}
+
+/// Takes for offered what the cell's type alone permits (0), or what its place's type alone permits (1).
+struct OneSided(usize);
+
+impl Core for OneSided {
+    fn request(&self, state: &mut RawState, request: &Request) -> Result<Got, Refusal> {
+        raw::request(state, request)
+    }
+
+    fn offers(&self, state: &RawState, cell: i64, chain: &[i64]) -> Result<bool, Refusal> {
+        let state = check::state(state).map_err(|_| RANGE)?;
+        let Some(cell) = index(cell, state.cells.len()) else {
+            return Ok(false);
+        };
+        let numbers = chain.iter().map(|one| index(*one, state.table.methods));
+        let methods: Option<Vec<usize>> = numbers.collect();
+        let one = book::offered(&state, cell)[self.0];
+        Ok(methods.is_some_and(|methods| permits(&state.table, one, &methods)))
+    }
+}
+
+#[test]
+fn both_sides_of_offers_are_tried() {
+    for side in 0..2 {
+        let core = OneSided(side);
+        let found = (0..200).any(|seed| on_offers(&core, seed, &mut [0; 3]).is_some());
+        let watched = (0..400).any(|seed| watch(&core, seed, Profile::Medium).is_some());
+        assert_eq!((found, watched), (true, true), "{side}");
+    }
+}

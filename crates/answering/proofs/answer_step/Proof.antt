@@ -1,0 +1,67 @@
+-- The tests of A1 and A2 in their order.
+use mir.Facts.{toZ-ofZ}
+use mathlib.Core.Path.{refl, sym, _∙_}
+use borrow.Author.Tests.{not-true, not-false}
+use borrow.Author.Needs.{needs}
+use Rattle.answering.proofs.Laws.{step-5, step-6, step-goes}
+use Rattle.answering.specs.Given.{givenAs}
+use Rattle.answering.proofs.answer_step.Statement.{statement}
+use Rattle.answering.proofs.answer_step.Tie as tie
+
+is-subject-requires : tie.Need-is-subject-requires
+is-subject-requires c κs = search needs
+
+refused-requires : tie.Need-refused-requires
+refused-requires c κs = search needs
+
+returns : tie.Need-returns
+returns c = let a = c .before .before .before .before .before .args in let f = c .before .before .before .before .before .fits in
+    step-5 (a .s) (c .before .before .before .before .before .pre) (a .subject) (a .call) (givenAs (a .given))
+    (sym (rw (toZ-ofZ (f .subject)) at (c .before .before .is-subject .ensures (a .s) refl)) ∙ not-true (c .before .before .is-subject .result) (c .before .if1 .taken))
+    (c .refused .result) (c .refused .ensures)
+
+index-of-requires : tie.Need-index-of-requires
+index-of-requires c κs = search needs
+
+index-of-requires-2 : tie.Need-index-of-requires-2
+index-of-requires-2 c κs = search needs
+
+refused-requires-2 : tie.Need-refused-requires-2
+refused-requires-2 c κs = search needs
+
+returns-2 : tie.Need-returns-2
+returns-2 c =
+    let a = c .before .before .before .before .before .before .before .before .before .args in
+    let f = c .before .before .before .before .before .before .before .before .before .fits in
+    step-6 (a .s) (c .before .before .before .before .before .before .before .before .before .pre) (a .subject) (a .call) (givenAs (a .given))
+    (sym (rw (toZ-ofZ (f .subject)) at (c .before .before .before .before .before .before .is-subject .ensures (a .s) refl)) ∙ not-false
+    (c .before .before .before .before .before .before .is-subject .result) (c .before .before .before .before .before .if1 .left))
+    (c .before .before .before .index-of2 .result) (rw (toZ-ofZ (f .call)) at (c .before .before .before .index-of2 .ensures)) (c .before .if2 .taken) (c .refused2 .result) (c .refused2 .ensures)
+
+answer-call-requires : tie.Need-answer-call-requires
+answer-call-requires c κs = (c .before .before .before .before .before .before .before .before .pre, c .if2 .left)
+
+returns-3 : tie.Need-returns-3
+returns-3 c =
+    let a = c .before .before .before .before .before .before .before .before .before .args in
+    let f = c .before .before .before .before .before .before .before .before .before .fits in
+    step-goes (a .s) (c .before .before .before .before .before .before .before .before .before .pre) (a .subject) (a .call) (givenAs (a .given))
+    (sym (rw (toZ-ofZ (f .subject)) at (c .before .before .before .before .before .before .is-subject .ensures (a .s) refl)) ∙ not-false
+    (c .before .before .before .before .before .before .is-subject .result) (c .before .before .before .before .before .if1 .left))
+    (c .before .before .before .index-of2 .result) (rw (toZ-ofZ (f .call)) at (c .before .before .before .index-of2 .ensures)) (c .before .if2 .left)
+    (c .before .before .before .before .index-of .result) (rw (toZ-ofZ (f .subject)) at (c .before .before .before .before .index-of .ensures)) (c .answer-call .result)
+    (c .answer-call .ensures)
+
+pub answer-step-spec : {M : Type 1} → statement M
+answer-step-spec =
+    tie.close
+    (tie.spec
+    is-subject-requires
+    refused-requires
+    returns
+    index-of-requires
+    index-of-requires-2
+    refused-requires-2
+    returns-2
+    answer-call-requires
+    returns-3)

@@ -1,0 +1,97 @@
+-- Each case of what is due and what is given is a case of the model's `give`.
+use mir.Syntax.{w64}
+use mir.Facts.{toZ-ofZ}
+use mathlib.Core.Path.{refl}
+use borrow.Author.Needs.{needs}
+use Rattle.model.specs.Requests.{nothing}
+use Rattle.answering.proofs.Laws.{due-is, given-idle, given-nothing, given-lacks, given-value}
+use Rattle.answering.proofs.give.Statement.{statement}
+use Rattle.answering.proofs.give.Tie as tie
+
+wide-requires : tie.Need-wide-requires
+wide-requires c κs = search needs
+
+wide-requires-2 : tie.Need-wide-requires-2
+wide-requires-2 c κs = search needs
+
+target-at-requires : tie.Need-target-at-requires
+target-at-requires c κs = c .before .before .before .before .before .pre .0 .checked .limits
+
+enum-known-given : tie.Need-enum-known-given
+enum-known-given c = search needs
+
+refused-requires : tie.Need-refused-requires
+refused-requires c κs = search needs
+
+returns : tie.Need-returns
+returns c = λ subject w. let a = c .before .before .before .before .before .before .before .before .before .before .before .args in
+    given-idle (a .t1) (c .before .before .before .before .before .before .before .before .before .before .before .pre .0) subject (a .j)
+    (c .before .before .before .before .before .target-at .result) (due-is (a .t1) (a .j) (a .x) (a .c)
+    (c .before .before .before .before .before .before .before .before .before .before .before .pre .1) (c .before .before .before .before .before .before .before .wide .result)
+    (c .before .before .before .before .before .before .wide2 .result) (c .before .before .before .before .before .target-at .result)
+    (c .before .before .before .before .before .before .before .wide .ensures .0) (c .before .before .before .before .before .before .wide2 .ensures .0)
+    (c .before .before .before .before .before .target-at .ensures))
+    (a .given) (c .refused .result) (c .before .if1 .taken) _ (c .before .before .before .given .given .1) (c .refused .ensures)
+
+sub-give-value : tie.Need-sub-give-value
+sub-give-value c = search needs
+
+give-value-requires : tie.Need-give-value-requires
+give-value-requires c κs = c .before .before .before .before .before .before .before .before .before .before .pre
+
+enum-told : tie.Need-enum-told
+enum-told c = search needs
+
+refused-requires-2 : tie.Need-refused-requires-2
+refused-requires-2 c κs = search needs
+
+returns-2 : tie.Need-returns-2
+returns-2 c = λ subject w. let a = c .before .before .before .before .before .before .before .before .before .before .args in
+    given-lacks (a .t1) (c .before .before .before .before .before .before .before .before .before .before .pre .0) subject (a .j) (c .before .before .before .before .target-at .result)
+    (due-is (a .t1) (a .j) (a .x) (a .c) (c .before .before .before .before .before .before .before .before .before .before .pre .1)
+    (c .before .before .before .before .before .before .wide .result) (c .before .before .before .before .before .wide2 .result) (c .before .before .before .before .target-at .result)
+    (c .before .before .before .before .before .before .wide .ensures .0) (c .before .before .before .before .before .wide2 .ensures .0)
+    (c .before .before .before .before .target-at .ensures))
+    (a .given) (c .refused2 .result) (c .before .if2 .taken) (c .before .before .enum-told .given .1) (c .refused2 .ensures)
+
+answered-requires : tie.Need-answered-requires
+answered-requires c κs = (c .before .before .before .before .before .before .before .before .before .pre .0, c .before .before .before .before .before .before .before .before .before .pre .1 .number, refl)
+
+returns-3 : tie.Need-returns-3
+returns-3 c = λ subject w. let a = c .before .before .before .before .before .before .before .before .before .before .before .args in
+    given-value (a .t1) (c .before .before .before .before .before .before .before .before .before .before .before .pre .0) subject (a .j)
+    (c .before .before .before .before .before .target-at .result) (due-is (a .t1) (a .j) (a .x) (a .c)
+    (c .before .before .before .before .before .before .before .before .before .before .before .pre .1) (c .before .before .before .before .before .before .before .wide .result)
+    (c .before .before .before .before .before .before .wide2 .result) (c .before .before .before .before .before .target-at .result)
+    (c .before .before .before .before .before .before .before .wide .ensures .0) (c .before .before .before .before .before .before .wide2 .ensures .0)
+    (c .before .before .before .before .before .target-at .ensures))
+    (a .given) (c .give-value .result) (c .before .if1 .left) (c .before .before .before .given .given .0 .0) (c .before .before .before .given .given .1)
+    (rw (toZ-ofZ {w = w64} {z = c .before .before .before .given .given .0 .0} (record { sfits = c .before .before .known-told .given .0 .1 })) at (c .give-value .ensures subject w))
+
+returns-4 : tie.Need-returns-4
+returns-4 c = λ subject w. let a = c .before .before .before .before .before .before .before .before .before .before .args in
+    given-nothing (a .t1) (c .before .before .before .before .before .before .before .before .before .before .pre .0) subject (a .j) (c .before .before .before .before .target-at .result)
+    (due-is (a .t1) (a .j) (a .x) (a .c) (c .before .before .before .before .before .before .before .before .before .before .pre .1)
+    (c .before .before .before .before .before .before .wide .result) (c .before .before .before .before .before .wide2 .result) (c .before .before .before .before .target-at .result)
+    (c .before .before .before .before .before .before .wide .ensures .0) (c .before .before .before .before .before .wide2 .ensures .0)
+    (c .before .before .before .before .target-at .ensures))
+    (a .given) (c .answered .result) (c .before .if2 .left) (c .before .before .enum-told .given .1) (c .answered .ensures nothing refl)
+
+pub give-spec : {M : Type 1} → statement M
+give-spec =
+    tie.close
+    (tie.spec
+    wide-requires
+    wide-requires-2
+    target-at-requires
+    enum-known-given
+    refused-requires
+    returns
+    sub-give-value
+    give-value-requires
+    enum-told
+    refused-requires-2
+    returns-2
+    answered-requires
+    returns-3
+    returns-4)

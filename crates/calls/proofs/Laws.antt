@@ -1,0 +1,154 @@
+-- Numbers that name cells, methods of a cell's type, and the values of a call beside the arguments of a signature.
+use mathlib.Core.Path.{_≡_, refl, sym, ap, _∙_}
+use mathlib.Core.Bool.{Bool, true, false, not, cond, _&&_, _||_}
+use mathlib.Core.List.{List, [], _∷_}
+use mathlib.Core.Option.{none, some}
+use Prim.Native.Nat.{ℕ, zero, suc, _+_, _-_, _≤_, _<_}
+use native.Mathlib.Numerals.{add-one}
+use native.Mathlib.Omega.{arith}
+use native.Mathlib.Decide.{ℕ-discrete}
+use lib.Dec.{eqb}
+use lib.IntN.{ℤ, pos, negsuc}
+use lib.Signed.{ltZ}
+use lib.ListN.{length, getD, getElem?, drop, drop-of-length-le, List·getD-eq-default}
+use lib.Seq.{drop-cons}
+use borrow.Author.Tests.{eq-eqb, ne-eqb, ltb-true, ltb-false}
+use Rattle.model.specs.Basics.{from, names, named}
+use Rattle.model.specs.Table.{Table, Ty, noMethod, typeAt, methodAt, isRef}
+use Rattle.model.specs.Table.{Method as Methodᵐ}
+use Rattle.model.specs.Check.{RawType, repOf, answerOf, methodOf, noRawType, noRawMethod}
+use Rattle.model.specs.Requests.{System, noCell, held, argumentsHeld}
+use Rattle.model.proofs.Rules.{never}
+use Rattle.table.specs.declared.Counts.{Counts}
+use Rattle.table.specs.declared.Head.{Head}
+use Rattle.table.specs.declared.Method.{Method}
+use Rattle.table.specs.Store.{typesIn, tableIn, rawMethod, headOf, emptyMethod}
+use Rattle.table.proofs.Tables.{type-is}
+use Rattle.operand.specs.Index.{indexOf}
+use Rattle.operand.proofs.Laws.{index-unknown, index-known}
+use Rattle.state.specs.declared.Cell.{Cell}
+use Rattle.state.specs.declared.Cells.{Cells}
+use Rattle.state.specs.declared.State.{State}
+use Rattle.state.specs.View.{cellOf, cellsIn, systemIn}
+use Rattle.state.proofs.Laws.{cells-length}
+use Rattle.carry.specs.Carried.{codeOf, argumentOf}
+use Rattle.carry.proofs.Methods.{rep-code, ref-is, method-is}
+use Rattle.carry.proofs.Laws.{code-is, answer-is}
+use Rattle.steps.proofs.Laws.{table-is}
+use Rattle.calls.specs.Called.{argumentsOf}
+
+-- ---- The cell that a number names.
+pub zero-from : (v : ℤ) → ltZ v (pos 0) ≡ true → pos 0 ≡ pos (named v)
+zero-from (pos a) e = let z : a < 0 = ltb-true a 0 e in absurd (omega arith)
+zero-from (negsuc a) e = refl
+
+pub same-from : (v : ℤ) → ltZ v (pos 0) ≡ false → v ≡ pos (named v)
+same-from (pos a) e = refl
+same-from (negsuc a) e = never (sym e)
+
+module _ (cs : Cells) (v z : ℤ) (is : z ≡ pos (named v)) (k : ℕ) (e : k ≡ indexOf z (cs .count)) where
+  pub cell-named : k < cs .count → (r : Cell) → cellOf r ≡ getD (cellsIn cs) k noCell → cellOf r ≡ getD (cellsIn cs) (named v) noCell
+  cell-named l r w = w ∙ ap (λ (n : ℕ). getD (cellsIn cs) n noCell) (sym (index-known z (cs .count) k e l .1) ∙ ap named is)
+
+  pub cell-unnamed : cs .count ≤ k → noCell ≡ getD (cellsIn cs) (named v) noCell
+  cell-unnamed l =
+      let out : cs .count ≤ named v = ltb-false (named v) (cs .count) (sym (ap (λ (y : ℤ). names y (cs .count)) is) ∙ index-unknown z (cs .count) k e l) in
+      let n : length (cellsIn cs) ≡ cs .count = cells-length cs in
+      sym (List·getD-eq-default (cellsIn cs) noCell {n = named v} (omega arith))
+
+-- ---- A method of a type, read as h and x.
+module _ (b l : List ℕ) (c : Counts) (t m : ℕ) (low : t < c .types) (h : Head) (e : h ≡ headOf (getD (typesIn b) t noRawType)) (x : Method) where
+  pub method-none : (h .rep ≡ 0 → ⊥) → x ≡ emptyMethod → methodOf (rawMethod x) ≡ methodAt (tableIn b l c) t m
+  method-none z w =
+      let y : RawType = getD (typesIn b) t noRawType in
+      let f : ℕ → Methodᵐ = λ k. methodOf (getD (y .methods) k noRawMethod) in
+      let q : isRef (repOf (y .rep)) ≡ false = sym (rep-code (y .rep)) ∙ ne-eqb (y .rep) 0 (λ u. z (ap (λ (k : Head). k .rep) e ∙ u)) in
+      ap (λ (k : Method). methodOf (rawMethod k)) w
+      ∙ sym (ap (λ (k : Ty). getD (k .methods) m noMethod) (type-is b l c t low) ∙ ap (λ (k : Bool). getD (cond k (from (c .methods) 0 f) []) m noMethod) q)
+
+  pub method-some : h .rep ≡ 0 → m < c .methods → rawMethod x ≡ getD (getD (typesIn b) t noRawType .methods) m noRawMethod → methodOf (rawMethod x) ≡ methodAt (tableIn b l c) t m
+  method-some z k w = ap methodOf w ∙ sym (method-is b l c t m (sym (ref-is b l c t h low e) ∙ eq-eqb (h .rep) 0 z) k)
+
+-- ---- What is left of a signature's arguments and of the values, from the i-th on.
+elem-none : (xs : List ℕ) (i : ℕ) → getElem? xs i ≡ none → drop i xs ≡ []
+elem-none [] zero e = refl
+elem-none [] (suc i) e = refl
+elem-none (x ∷ xs) zero e = absurd (no-none e)
+  where
+    no-none : some x ≡ none → ⊥
+    no-none e = let z : _≡_ {A = ℕ} (suc x) 0 = ap codeOf e in omega arith
+elem-none (x ∷ xs) (suc i) e = elem-none xs i e
+
+elem-some : (xs : List ℕ) (i a : ℕ) → getElem? xs i ≡ some a → drop i xs ≡ a ∷ drop (suc i) xs
+elem-some [] i a e = absurd (no-none e)
+  where
+    no-none : none ≡ some a → ⊥
+    no-none e = let z : _≡_ {A = ℕ} 0 (suc a) = ap codeOf e in omega arith
+elem-some (x ∷ xs) zero a e = ap (λ (n : ℕ). n ∷ xs) (let z : suc x ≡ suc a = ap codeOf e in omega arith)
+elem-some (x ∷ xs) (suc i) a e = elem-some xs i a e
+
+module _ (x : Method) (i n : ℕ) (e : n ≡ codeOf (argumentOf x i)) where
+  coded : getElem? (argumentsOf x) i ≡ answerOf n
+  coded = sym (ap answerOf e ∙ code-is (argumentOf x i))
+
+  pub none-left : n ≡ 0 → drop i (argumentsOf x) ≡ []
+  none-left z = elem-none (argumentsOf x) i (coded ∙ ap answerOf z)
+
+  pub some-left : (n ≡ 0 → ⊥) → drop i (argumentsOf x) ≡ (n - 1) ∷ drop (i + 1) (argumentsOf x)
+  some-left z = elem-some (argumentsOf x) i (n - 1) (coded ∙ answer-is n z) ∙ ap (λ (k : ℕ). (n - 1) ∷ drop k (argumentsOf x)) (sym (add-one i))
+
+pub value-next : (vs : List ℤ) (i : ℕ) → i < length vs → drop i vs ≡ getD vs i (pos 0) ∷ drop (i + 1) vs
+value-next vs i h = drop-cons vs i (pos 0) h ∙ ap (λ (k : ℕ). getD vs i (pos 0) ∷ drop k vs) (sym (add-one i))
+
+-- ---- C4, C5.
+module _ (s : State) (a : ℕ) (r : Bool) (is : (l : List ℕ) → r ≡ isRef (typeAt (tableIn (s .types) l (s .counts)) a .rep)) where
+  seen : isRef (typeAt (systemIn s .table) a .rep) ≡ r
+  seen = ap (λ (t : Table). isRef (typeAt t a .rep)) (table-is s) ∙ sym (is (s .links))
+
+  pub number-held : r ≡ false → (q : Bool) → true ≡ not (isRef (typeAt (systemIn s .table) a .rep)) || q
+  number-held z q = sym (ap (λ (y : Bool). not y || q) (seen ∙ z))
+
+  pub reference-held : r ≡ true → (p q : Bool) → p ≡ q → p ≡ not (isRef (typeAt (systemIn s .table) a .rep)) || q
+  reference-held z p q w = w ∙ sym (ap (λ (y : Bool). not y || q) (seen ∙ z))
+
+module _ (s : System) (subject : ℤ) (xs : List ℕ) (vs : List ℤ) where
+  -- all values stand the test as those from i on
+  abbrev pub HeldRest : ℕ → Type 0
+  HeldRest i = argumentsHeld s subject (drop i xs) (drop i vs) ≡ argumentsHeld s subject xs vs
+
+  module _ (i : ℕ) (w : HeldRest i) where
+    -- a value is left, v, and after it vs′
+    module _ (v : ℤ) (vs′ : List ℤ) (more : drop i vs ≡ v ∷ vs′) where
+      pub held-over : drop i xs ≡ [] → false ≡ argumentsHeld s subject xs vs
+      held-over z = sym (ap (λ (y : List ℕ). argumentsHeld s subject y (v ∷ vs′)) z) ∙ ap (argumentsHeld s subject (drop i xs)) (sym more) ∙ w
+
+      module _ (a : ℕ) (xs′ : List ℕ) (some : drop i xs ≡ a ∷ xs′) (r : Bool) (is : r ≡ not (isRef (typeAt (s .table) a .rep)) || held s subject v) where
+        next : r && argumentsHeld s subject xs′ vs′ ≡ argumentsHeld s subject xs vs
+        next =
+            ap (λ (y : Bool). y && argumentsHeld s subject xs′ vs′) is
+            ∙ sym (ap (λ (y : List ℕ). argumentsHeld s subject y (v ∷ vs′)) some) ∙ ap (argumentsHeld s subject (drop i xs)) (sym more) ∙ w
+
+        pub held-fails : r ≡ false → false ≡ argumentsHeld s subject xs vs
+        held-fails z = sym (ap (λ (y : Bool). y && argumentsHeld s subject xs′ vs′) z) ∙ next
+
+        pub held-next : r ≡ true → argumentsHeld s subject xs′ vs′ ≡ argumentsHeld s subject xs vs
+        held-next z = sym (ap (λ (y : Bool). y && argumentsHeld s subject xs′ vs′) z) ∙ next
+
+    module _ (over : length vs ≤ i) where
+      left : argumentsHeld s subject (drop i xs) [] ≡ argumentsHeld s subject xs vs
+      left = ap (argumentsHeld s subject (drop i xs)) (sym (drop-of-length-le vs {i = i} over)) ∙ w
+
+      pub held-ends : drop i xs ≡ [] → true ≡ argumentsHeld s subject xs vs
+      held-ends z = sym (ap (λ (y : List ℕ). argumentsHeld s subject y []) z) ∙ left
+
+      pub held-lacks : (a : ℕ) (xs′ : List ℕ) → drop i xs ≡ a ∷ xs′ → false ≡ argumentsHeld s subject xs vs
+      held-lacks a xs′ z = sym (ap (λ (y : List ℕ). argumentsHeld s subject y []) z) ∙ left
+
+-- all values are looked at: n codes the argument that would be next
+pub held-whole : (s : System) (subject : ℤ) (x : Method) (vs : List ℤ) (i : ℕ) → HeldRest s subject (argumentsOf x) vs i → i ≤ length vs → length vs ≤ i → (n : ℕ) →
+    n ≡ codeOf (argumentOf x (length vs)) → eqb n 0 ≡ argumentsHeld s subject (argumentsOf x) vs
+held-whole s subject x vs i w h k n e = let z : length vs ≡ i = omega arith in go (ℕ-discrete n 0) (e ∙ ap (λ (j : ℕ). codeOf (argumentOf x j)) z)
+  where
+    go : Dec (n ≡ 0) → n ≡ codeOf (argumentOf x i) → eqb n 0 ≡ argumentsHeld s subject (argumentsOf x) vs
+    go (yes q) y = eq-eqb n 0 q ∙ held-ends s subject (argumentsOf x) vs i w k (none-left x i n y q)
+    go (no q) y = ne-eqb n 0 q ∙ held-lacks s subject (argumentsOf x) vs i w k _ _ (some-left x i n y q)

@@ -1,0 +1,100 @@
+-- The tests of C3 to C7 in their order.
+use mathlib.Core.Path.{sym, _∙_}
+use native.Mathlib.Omega.{arith}
+use borrow.Author.Tests.{not-true, not-false}
+use borrow.Author.Needs.{needs}
+use Rattle.calls.proofs.Calling.{sort-here, sort-low, held-14, held-15, held-18, held-goes}
+use Rattle.calls.proofs.call_held.Statement.{statement}
+use Rattle.calls.proofs.call_held.Tie as tie
+
+cell-at-requires : tie.Need-cell-at-requires
+cell-at-requires c κs = omega (arith, c .before .pre .2, c .before .pre .0 .cellCount)
+
+wide-requires : tie.Need-wide-requires
+wide-requires c κs = search needs
+
+method-at-requires : tie.Need-method-at-requires
+method-at-requires c κs = let a = c .before .before .before .before .before .before .args in let h = c .before .before .before .before .before .before .pre in (
+  h .0 .checked .limits,
+  sort-low (a .t1) (h .0) (a .k) (h .2) (c .before .before .before .before .cell-at .result) (c .before .before .before .before .cell-at .ensures .1 (h .2))
+      (c .wide .result) (c .wide .ensures .0),
+  h .3,
+)
+
+refused-requires : tie.Need-refused-requires
+refused-requires c κs = search needs
+
+returns : tie.Need-returns
+returns c = λ subject w.
+    let a = c .before .before .before .before .before .before .before .before .before .before .args in
+    let h = c .before .before .before .before .before .before .before .before .before .before .pre in
+    held-14 (a .t1) (h .0) subject (a .k) (a .m) (a .vs .now) (c .before .before .before .before .wide .result)
+    (sort-here (a .t1) (h .0) (a .k) (h .2) (c .before .before .before .before .before .before .before .before .cell-at .result)
+    (c .before .before .before .before .before .before .before .before .cell-at .ensures .1 (h .2)) (c .before .before .before .before .wide .result)
+    (c .before .before .before .before .wide .ensures .0))
+    (c .before .before .before .method-at .result) (c .before .before .before .method-at .ensures) (c .before .if1 .taken) (c .refused .result) (c .refused .ensures)
+
+arguments-held-requires : tie.Need-arguments-held-requires
+arguments-held-requires c κs = c .before .before .before .before .before .before .before .before .before .pre .0
+
+refused-requires-2 : tie.Need-refused-requires-2
+refused-requires-2 c κs = search needs
+
+returns-2 : tie.Need-returns-2
+returns-2 c = λ subject w.
+    let a = c .before .before .before .before .before .before .before .before .before .before .before .before .args in
+    let h = c .before .before .before .before .before .before .before .before .before .before .before .before .pre in
+    held-15 (a .t1) (h .0) subject (a .k) (a .m) (a .vs .now) (c .before .before .before .before .before .before .wide .result)
+    (sort-here (a .t1) (h .0) (a .k) (h .2) (c .before .before .before .before .before .before .before .before .before .before .cell-at .result)
+    (c .before .before .before .before .before .before .before .before .before .before .cell-at .ensures .1 (h .2)) (c .before .before .before .before .before .before .wide .result)
+    (c .before .before .before .before .before .before .wide .ensures .0))
+    (c .before .before .before .before .before .method-at .result) (c .before .before .before .before .before .method-at .ensures) (c .before .before .before .if1 .left)
+    (sym (c .before .before .arguments-held .ensures subject w) ∙ not-true (c .before .before .arguments-held .result) (c .before .if2 .taken)) (c .refused2 .result)
+    (c .refused2 .ensures)
+
+refused-requires-3 : tie.Need-refused-requires-3
+refused-requires-3 c κs = search needs
+
+returns-3 : tie.Need-returns-3
+returns-3 c = λ subject w.
+    let a = c .before .before .before .before .before .before .before .before .before .before .before .before .before .args in
+    let h = c .before .before .before .before .before .before .before .before .before .before .before .before .before .pre in
+    held-18 (a .t1) (h .0) subject (a .k) (a .m) (a .vs .now) (c .before .before .before .before .before .before .before .wide .result)
+    (sort-here (a .t1) (h .0) (a .k) (h .2) (c .before .before .before .before .before .before .before .before .before .before .before .cell-at .result)
+    (c .before .before .before .before .before .before .before .before .before .before .before .cell-at .ensures .1 (h .2))
+    (c .before .before .before .before .before .before .before .wide .result) (c .before .before .before .before .before .before .before .wide .ensures .0))
+    (c .before .before .before .before .before .before .method-at .result) (c .before .before .before .before .before .before .method-at .ensures)
+    (c .before .before .before .before .if1 .left) (sym (c .before .before .before .arguments-held .ensures subject w) ∙ not-false (c .before .before .before .arguments-held .result)
+    (c .before .before .if2 .left)) (c .before .if3 .taken) (c .refused3 .result) (c .refused3 .ensures)
+
+call-through-requires : tie.Need-call-through-requires
+call-through-requires c κs = let h = c .before .before .before .before .before .before .before .before .before .before .before .before .pre in (h .0, c .if3 .left, h .1, h .2, h .3)
+
+returns-4 : tie.Need-returns-4
+returns-4 c = λ subject w.
+    let a = c .before .before .before .before .before .before .before .before .before .before .before .before .before .args in
+    let h = c .before .before .before .before .before .before .before .before .before .before .before .before .before .pre in
+    held-goes (a .t1) (h .0) subject (a .k) (a .m) (a .vs .now) (c .before .before .before .before .before .before .before .wide .result)
+    (sort-here (a .t1) (h .0) (a .k) (h .2) (c .before .before .before .before .before .before .before .before .before .before .before .cell-at .result)
+    (c .before .before .before .before .before .before .before .before .before .before .before .cell-at .ensures .1 (h .2))
+    (c .before .before .before .before .before .before .before .wide .result) (c .before .before .before .before .before .before .before .wide .ensures .0))
+    (c .before .before .before .before .before .before .method-at .result) (c .before .before .before .before .before .before .method-at .ensures)
+    (c .before .before .before .before .if1 .left) (sym (c .before .before .before .arguments-held .ensures subject w) ∙ not-false (c .before .before .before .arguments-held .result)
+    (c .before .before .if2 .left)) (c .before .if3 .left) (a .who) w (c .call-through .result) (c .call-through .ensures)
+
+pub call-held-spec : {M : Type 1} → statement M
+call-held-spec =
+    tie.close
+    (tie.spec
+    cell-at-requires
+    wide-requires
+    method-at-requires
+    refused-requires
+    returns
+    arguments-held-requires
+    refused-requires-2
+    returns-2
+    refused-requires-3
+    returns-3
+    call-through-requires
+    returns-4)

@@ -1,0 +1,315 @@
+// A state in arrays of bytes, as it is handed in at the C boundary (B25 to B29): out of the bytes into the records of crate `state`, and back. Only this crate knows where
+// in the bytes a cell, a place or a call stands. Whole arrays are read and written, whatever the counts are: none of them is used as an index.
+ghost use mathlib.Core.Path.{_≡_};
+ghost use mathlib.Core.Bool.{_&&_};
+ghost use mathlib.Core.List.{[], _∷_};
+ghost use Prim.Native.Nat.{_*_, _<_};
+ghost use lib.Seq.{sets};
+ghost use Rattle.model.specs.Relations.{bit};
+ghost use Rattle.flat.specs.Flat.{flat, countsIn, cellCount, placeCount, callCount, cellFrom, placeFrom, callFrom, cellsFrom, placesFrom, callsFrom, stateFrom, placeCodes, callCodes, placeBy, cellBytes, placeBytes, callBytes, rawCells, rawPlaces, rawCalls, cellRecords, placeRecords, callRecords};
+use state::Call;
+use state::Calls;
+use state::Cell;
+use state::Cells;
+use state::Place;
+use state::PlaceRec;
+use state::Places;
+use state::State;
+use table::Counts;
+use table::LINK_BYTES;
+use table::TYPE_BYTES;
+
+// The bytes of all cells, places and calls.
+pub const CELL_BYTES: usize = 768;
+
+pub const PLACE_BYTES: usize = 384;
+
+pub const CALL_BYTES: usize = 1024;
+
+// A cell (B26).
+fn cell_from(b: &[u8; CELL_BYTES], k: usize) -> Cell
+    requires { ⌜ k < 256 ⌝ }
+    ensures { λ r. ⌜ r ≡ cellFrom (now (b .entry)) k ⌝ }
+{
+    let at = k * 3;
+    Cell {
+        holder: b[at],
+        sort: b[at + 1],
+        place: b[at + 2],
+    }
+}
+
+pub fn cells_from(b: &[u8; CELL_BYTES], count: usize) -> Cells
+    ensures { λ r. ⌜ r ≡ cellsFrom (now (b .entry)) count ⌝ }
+{
+    let blank = Cell {
+        holder: 0,
+        sort: 0,
+        place: 0,
+    };
+    let mut list = [blank; State::CELLS];
+    let mut k: usize = 0;
+    while k < State::CELLS {
+        list[k] = cell_from(b, k);
+        k += 1;
+    }
+    Cells { list, count }
+}
+
+// A place by its code (B27); a code that names nothing is read as an adapter's, and `codes_fit` refuses it.
+fn place_by(code: u8, first: u8, second: u8) -> Place
+    ensures { λ r. ⌜ r ≡ placeBy code first second ⌝ }
+{
+    if code == 0 {
+        return Place::Object {
+            class: first,
+            owner: second,
+        };
+    }
+    Place::Adapter {
+        behind: first,
+        closed: second,
+    }
+}
+
+fn place_from(b: &[u8; PLACE_BYTES], p: usize) -> PlaceRec
+    requires { ⌜ p < 128 ⌝ }
+    ensures { λ r. ⌜ r ≡ placeFrom (now (b .entry)) p ⌝ }
+{
+    let at = p * 3;
+    let place = place_by(b[at], b[at + 1], b[at + 2]);
+    PlaceRec { place }
+}
+
+pub fn places_from(b: &[u8; PLACE_BYTES], count: usize) -> Places
+    ensures { λ r. ⌜ r ≡ placesFrom (now (b .entry)) count ⌝ }
+{
+    let blank = PlaceRec {
+        place: Place::Object { class: 0, owner: 0 },
+    };
+    let mut list = [blank; State::PLACES];
+    let mut p: usize = 0;
+    while p < State::PLACES {
+        list[p] = place_from(b, p);
+        p += 1;
+    }
+    Places { list, count }
+}
+
+// A call (B28).
+fn call_from(b: &[u8; CALL_BYTES], j: usize) -> Call
+    requires { ⌜ j < 256 ⌝ }
+    ensures { λ r. ⌜ r ≡ callFrom (now (b .entry)) j ⌝ }
+{
+    let at = j * 4;
+    let answered = b[at + 3] == 1;
+    Call {
+        caller: b[at],
+        cell: b[at + 1],
+        method: b[at + 2],
+        answered,
+    }
+}
+
+pub fn calls_from(b: &[u8; CALL_BYTES], count: usize) -> Calls
+    ensures { λ r. ⌜ r ≡ callsFrom (now (b .entry)) count ⌝ }
+{
+    let blank = Call {
+        caller: 0,
+        cell: 0,
+        method: 0,
+        answered: false,
+    };
+    let mut list = [blank; State::CALLS];
+    let mut j: usize = 0;
+    while j < State::CALLS {
+        list[j] = call_from(b, j);
+        j += 1;
+    }
+    Calls { list, count }
+}
+
+// Whether every counted place has a code that names something (H2). A count past the array is the check's to refuse.
+fn place_codes(b: &[u8; PLACE_BYTES], count: usize) -> bool
+    ensures { λ r. ⌜ r ≡ placeCodes (now (b .entry)) count ⌝ }
+{
+    let mut p: usize = 0;
+    while p < count {
+        if p == State::PLACES {
+            return true;
+        }
+        if 1 < b[p * 3] {
+            return false;
+        }
+        p += 1;
+    }
+    true
+}
+
+// Whether every counted call has an answered flag of 0 or 1 (H2).
+fn call_codes(b: &[u8; CALL_BYTES], count: usize) -> bool
+    ensures { λ r. ⌜ r ≡ callCodes (now (b .entry)) count ⌝ }
+{
+    let mut j: usize = 0;
+    while j < count {
+        if j == State::CALLS {
+            return true;
+        }
+        if 1 < b[j * 4 + 3] {
+            return false;
+        }
+        j += 1;
+    }
+    true
+}
+
+pub fn codes_fit(places: &[u8; PLACE_BYTES], calls: &[u8; CALL_BYTES], pn: usize, cn: usize) -> bool
+    ensures { λ r. ⌜ r ≡ (placeCodes (now (places .entry)) pn && callCodes (now (calls .entry)) cn) ⌝ }
+{
+    if !place_codes(places, pn) {
+        return false;
+    }
+    call_codes(calls, cn)
+}
+
+// The bytes of a cell, at its place in the array.
+fn put_cell(b: &mut [u8; CELL_BYTES], k: usize, c: Cell)
+    requires { ⌜ k < 256 ⌝ }
+    ensures { λ _. ⌜ now (b .exit) ≡ sets (now (b .entry)) (k * 3) (cellBytes c) ⌝ }
+{
+    let at = k * 3;
+    b[at] = c.holder;
+    b[at + 1] = c.sort;
+    b[at + 2] = c.place;
+}
+
+pub fn cells_to(cs: Cells) -> [u8; CELL_BYTES]
+    ensures { λ r. ⌜ rawCells r ≡ cellRecords cs ⌝ }
+{
+    let mut b = [0u8; CELL_BYTES];
+    let mut k: usize = 0;
+    while k < State::CELLS {
+        let c = cs.list[k];
+        put_cell(&mut b, k, c);
+        k += 1;
+    }
+    b
+}
+
+fn put_three(b: &mut [u8; PLACE_BYTES], p: usize, code: u8, first: u8, second: u8)
+    requires { ⌜ p < 128 ⌝ }
+    ensures { λ _. ⌜ now (b .exit) ≡ sets (now (b .entry)) (p * 3) (code ∷ first ∷ second ∷ []) ⌝ }
+{
+    let at = p * 3;
+    b[at] = code;
+    b[at + 1] = first;
+    b[at + 2] = second;
+}
+
+// The bytes of a place.
+fn put_place(b: &mut [u8; PLACE_BYTES], p: usize, x: Place)
+    requires { ⌜ p < 128 ⌝ }
+    ensures { λ _. ⌜ now (b .exit) ≡ sets (now (b .entry)) (p * 3) (placeBytes x) ⌝ }
+{
+    match x {
+        Place::Object { class, owner } => put_three(b, p, 0, class, owner),
+        Place::Adapter { behind, closed } => put_three(b, p, 1, behind, closed),
+    }
+}
+
+pub fn places_to(ps: Places) -> [u8; PLACE_BYTES]
+    ensures { λ r. ⌜ rawPlaces r ≡ placeRecords ps ⌝ }
+{
+    let mut b = [0u8; PLACE_BYTES];
+    let mut p: usize = 0;
+    while p < State::PLACES {
+        let x = ps.list[p];
+        let y = x.place;
+        put_place(&mut b, p, y);
+        p += 1;
+    }
+    b
+}
+
+fn flag(answered: bool) -> u8
+    ensures { λ r. ⌜ r ≡ bit answered ⌝ }
+{
+    if answered {
+        return 1;
+    }
+    0
+}
+
+// The bytes of a call.
+fn put_call(b: &mut [u8; CALL_BYTES], j: usize, c: Call)
+    requires { ⌜ j < 256 ⌝ }
+    ensures { λ _. ⌜ now (b .exit) ≡ sets (now (b .entry)) (j * 4) (callBytes c) ⌝ }
+{
+    let at = j * 4;
+    b[at] = c.caller;
+    b[at + 1] = c.cell;
+    b[at + 2] = c.method;
+    b[at + 3] = flag(c.answered);
+}
+
+pub fn calls_to(js: Calls) -> [u8; CALL_BYTES]
+    ensures { λ r. ⌜ rawCalls r ≡ callRecords js ⌝ }
+{
+    let mut b = [0u8; CALL_BYTES];
+    let mut j: usize = 0;
+    while j < State::CALLS {
+        let c = js.list[j];
+        put_call(&mut b, j, c);
+        j += 1;
+    }
+    b
+}
+
+// The state that stands in the bytes; what `codes_fit` says of them is asked by itself.
+pub fn state_from(
+    types: &[u8; TYPE_BYTES],
+    links: &[u8; LINK_BYTES],
+    cells: &[u8; CELL_BYTES],
+    places: &[u8; PLACE_BYTES],
+    calls: &[u8; CALL_BYTES],
+    counts: [usize; 8],
+) -> State
+    ensures { λ r. ⌜ r ≡ stateFrom (flat (now (types .entry)) (now (links .entry)) (now (cells .entry)) (now (places .entry)) (now (calls .entry)) counts) ⌝ }
+{
+    let t = *types;
+    let l = *links;
+    let n = Counts {
+        subjects: counts[0],
+        methods: counts[1],
+        cats: counts[2],
+        sheet: counts[3],
+        types: counts[4],
+    };
+    let cs = cells_from(cells, counts[5]);
+    let ps = places_from(places, counts[6]);
+    let js = calls_from(calls, counts[7]);
+    State {
+        types: t,
+        links: l,
+        counts: n,
+        cells: cs,
+        places: ps,
+        calls: js,
+    }
+}
+
+// The counts of a state, in a row (B29).
+pub fn counts_to(c: Counts, cells: usize, places: usize, calls: usize) -> [usize; 8]
+    ensures { λ r. ⌜ (countsIn r ≡ c) × (cellCount r ≡ cells) × (placeCount r ≡ places) × (callCount r ≡ calls) ⌝ }
+{
+    [
+        c.subjects,
+        c.methods,
+        c.cats,
+        c.sheet,
+        c.types,
+        cells,
+        places,
+        calls,
+    ]
+}

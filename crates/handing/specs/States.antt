@@ -1,0 +1,96 @@
+-- What the C functions on a state hand out: the number returned, the values, and all that was lent.
+use mathlib.Core.Path.{_≡_}
+use mathlib.Core.Bool.{true, false}
+use mathlib.Core.List.{List, [], _∷_, _++_, map, flatten}
+use Prim.Native.Nat.{ℕ, _*_, _<_}
+use lib.IntN.{ℤ, pos}
+use lib.ListN.{take, drop}
+use Rattle.model.specs.Basics.{Res, need}
+use Rattle.model.specs.Table.{size}
+use Rattle.model.specs.Requests.{System, Request, Result, pair, number, nothing, Outcome, got, refused, serve, after}
+use Rattle.model.specs.Check.{RawSystem, systemOf, systemAccepted}
+use Rattle.model.specs.Handed.{serveHanded, Returns}
+use Rattle.table.specs.Store.{withCount}
+use Rattle.table.specs.Records.{bytesOf}
+use Rattle.state.specs.declared.State.{State}
+use Rattle.flat.specs.Flat.{Flat, countsIn, cellCount, placeCount, callCount, rawCells, rawPlaces, rawCalls, cellRecords, placeRecords, callRecords, rawFlat}
+use Rattle.steps.specs.declared.Answer.{Answer}
+use Rattle.steps.specs.declared.Answer.the-variants.{Refused, Pair, Number, Nothing}
+use Rattle.steps.specs.declared.Served.{Served}
+use Rattle.steps.specs.Served.{outcomeOf}
+use Rattle.calls.specs.Called.{isAccepted}
+
+-- what a caller lends to a request: the state, and where the values go
+pub record LentState : Type 0 where
+  pub state : Flat
+  pub values : List ℤ
+
+abbrev pub lentState : Flat → List ℤ → LentState
+lentState f v = record { state = f; values = v }
+
+-- the number returned: 0, or the refusal's (E12)
+abbrev pub outcomeNumber : Outcome → ℕ
+outcomeNumber (refused n) = n
+outcomeNumber (got x) = 0
+
+-- how many values there are, and the values; 0 where there is none
+abbrev pub resultValues : Result → List ℤ
+resultValues (pair a b) = pos 2 ∷ pos a ∷ pos b ∷ []
+resultValues (number v) = pos 1 ∷ v ∷ pos 0 ∷ []
+resultValues nothing = pos 0 ∷ pos 0 ∷ pos 0 ∷ []
+
+abbrev pub outcomeValues : List ℤ → Outcome → List ℤ
+outcomeValues old (refused n) = old
+outcomeValues old (got x) = resultValues x
+
+-- what the definition makes of a request on a state handed in, and the state that it leaves
+abbrev pub defined : RawSystem → Request → Res (System × Result)
+defined r q = need (systemAccepted r) 2 λ _. serve (systemOf r) q
+
+abbrev pub leaves : RawSystem → Request → System
+leaves r q = after (systemOf r) (defined r q)
+
+abbrev pub outcomeOn : Flat → Request → Outcome
+outcomeOn f q = serveHanded (rawFlat f) q .outcome
+
+-- What a request owes that returns n, of what was lent (old and new), for any bytes and any numbers.
+pub record Handed (q : Request) (n : ℕ) (old new : LentState) : Type 0 where
+  -- number and values are the definition's
+  pub number : n ≡ outcomeNumber (outcomeOn (old .state) q)
+  pub values : new .values ≡ outcomeValues (old .values) (outcomeOn (old .state) q)
+  -- all counts, and every counted record of table, cells, places and calls, are the definition's (Q14, Q15)
+  pub returns : Returns (rawFlat (old .state)) q (outcomeOn (old .state) q) (rawFlat (new .state))
+  -- refused, 2 included, all that was lent is as it was, every byte (Q14)
+  pub refused : (e : ℕ) → outcomeOn (old .state) q ≡ refused e → new ≡ old
+  -- the links stay, and every count of the table but that of its types
+  pub links : new .state .links ≡ old .state .links
+  pub counts : countsIn (new .state .counts) ≡ withCount (countsIn (old .state .counts)) (size (leaves (rawFlat (old .state)) q .table))
+  -- Every counted byte of the types: those that there were, and behind them the record that stands for each new one (B22).
+  pub types : take (size (leaves (rawFlat (old .state)) q .table) * 128) (new .state .types)
+      ≡ take (countsIn (old .state .counts) .types * 128) (old .state .types) ++ flatten (map bytesOf (drop (countsIn (old .state .counts) .types) (leaves (rawFlat (old .state)) q .table .types)))
+
+-- ---- On the way: what is stored of an answer and its state.
+-- two numbers that are small enough to be signed
+abbrev pub Small : Answer → Type 0
+Small (Refused e) = Unit
+Small (Pair a b) = (a < 65536) × (b < 65536)
+Small (Number v) = Unit
+Small Nothing = Unit
+
+-- the state is stored in these arrays
+pub record Stored (s : State) (t c p j n : List ℕ) : Type 0 where
+  pub types : t ≡ s .types
+  pub counts : countsIn n ≡ s .counts
+  pub cellNumber : cellCount n ≡ s .cells .count
+  pub placeNumber : placeCount n ≡ s .places .count
+  pub callNumber : callCount n ≡ s .calls .count
+  pub cells : rawCells c ≡ cellRecords (s .cells)
+  pub places : rawPlaces p ≡ placeRecords (s .places)
+  pub calls : rawCalls j ≡ callRecords (s .calls)
+
+-- what the answer r leaves of what was lent
+pub record Back (r : Served) (n : ℕ) (old new : LentState) : Type 0 where
+  pub number : n ≡ outcomeNumber (outcomeOf (r .answer))
+  pub values : new .values ≡ outcomeValues (old .values) (outcomeOf (r .answer))
+  pub refused : isAccepted (r .answer) ≡ false → new .state ≡ old .state
+  pub accepted : isAccepted (r .answer) ≡ true → Stored (r .state) (new .state .types) (new .state .cells) (new .state .places) (new .state .calls) (new .state .counts)

@@ -1,0 +1,102 @@
+// What comes back of a request at the C boundary: the number returned, the values, and the new state in the arrays that were lent; a refusal stores nothing (Q14, E12).
+// What each hands out is given by definitions in specs/States.antt; that it is all of a request's contract is proved in proofs/Handing.antt.
+ghost use mathlib.Core.Path.{_≡_};
+ghost use mathlib.Core.Bool.{true, false};
+ghost use mathlib.Core.List.{List, [], _∷_};
+ghost use Prim.Native.Nat.{ℕ, _<_};
+ghost use lib.IntN.{pos};
+ghost use Rattle.flat.specs.Flat.{flat};
+ghost use Rattle.steps.specs.Served.{outcomeOf};
+ghost use Rattle.handing.specs.States.{outcomeNumber, outcomeValues, Small, Stored, Back, lentState};
+use flat::CALL_BYTES;
+use flat::CELL_BYTES;
+use flat::PLACE_BYTES;
+use state::State;
+use steps::Answer;
+use steps::Served;
+use table::TYPE_BYTES;
+
+fn put_pair(first: usize, second: usize, values: &mut [i64; 3])
+    requires { ⌜ (first < 65536) × (second < 65536) ⌝ }
+    ensures { λ _. ⌜ now (values .exit) ≡ pos 2 ∷ pos first ∷ pos second ∷ [] ⌝ }
+{
+    *values = [2, first as i64, second as i64];
+}
+
+fn put_number(v: i64, values: &mut [i64; 3])
+    ensures { λ _. ⌜ now (values .exit) ≡ pos 1 ∷ v ∷ pos 0 ∷ [] ⌝ }
+{
+    *values = [1, v, 0];
+}
+
+fn put_nothing(values: &mut [i64; 3])
+    ensures { λ _. ⌜ now (values .exit) ≡ pos 0 ∷ pos 0 ∷ pos 0 ∷ [] ⌝ }
+{
+    *values = [0, 0, 0];
+}
+
+// The number of an answer, and its values (E12).
+fn answer_out(a: Answer, values: &mut [i64; 3]) -> usize
+    requires { ⌜ Small a ⌝ }
+    ensures { λ n. ⌜ (n ≡ outcomeNumber (outcomeOf a)) × (now (values .exit) ≡ outcomeValues (now (values .entry)) (outcomeOf a)) ⌝ }
+{
+    match a {
+        Answer::Refused(e) => e,
+        Answer::Pair { first, second } => {
+            put_pair(first, second, values);
+            0
+        }
+        Answer::Number(v) => {
+            put_number(v, values);
+            0
+        }
+        Answer::Nothing => {
+            put_nothing(values);
+            0
+        }
+    }
+}
+
+// The state in the arrays.
+pub fn store(
+    s: State,
+    types: &mut [u8; TYPE_BYTES],
+    cells: &mut [u8; CELL_BYTES],
+    places: &mut [u8; PLACE_BYTES],
+    calls: &mut [u8; CALL_BYTES],
+    counts: &mut [usize; 8],
+)
+    ensures { λ _. ⌜ Stored s (now (types .exit)) (now (cells .exit)) (now (places .exit)) (now (calls .exit)) (now (counts .exit)) ⌝ }
+{
+    let t = s.types;
+    *types = t;
+    let cs = s.cells;
+    let ps = s.places;
+    let js = s.calls;
+    *counts = flat::counts_to(s.counts, cs.count, ps.count, js.count);
+    *cells = flat::cells_to(cs);
+    *places = flat::places_to(ps);
+    *calls = flat::calls_to(js);
+}
+
+// What comes back of a request: refused, nothing is stored (Q14).
+pub fn hand_back(
+    r: Served,
+    types: &mut [u8; TYPE_BYTES],
+    cells: &mut [u8; CELL_BYTES],
+    places: &mut [u8; PLACE_BYTES],
+    calls: &mut [u8; CALL_BYTES],
+    counts: &mut [usize; 8],
+    values: &mut [i64; 3],
+) -> usize
+    requires { ⌜ Small (r .answer) ⌝ }
+    ensures { λ n. ⌜ ((l : List ℕ) → Back r n (lentState (flat (now (types .entry)) l (now (cells .entry)) (now (places .entry)) (now (calls .entry)) (now (counts .entry))) (now (values .entry))) (lentState (flat (now (types .exit)) l (now (cells .exit)) (now (places .exit)) (now (calls .exit)) (now (counts .exit))) (now (values .exit)))) ⌝ }
+{
+    let a = r.answer;
+    if !calls::accepted(a) {
+        return answer_out(a, values);
+    }
+    let s = r.state;
+    store(s, types, cells, places, calls, counts);
+    answer_out(a, values)
+}

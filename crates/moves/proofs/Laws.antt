@@ -1,0 +1,207 @@
+-- New and move by their tests, and the way that both go then.
+use mathlib.Core.Path.{_≡_, sym, ap, _∙_, subst}
+use mathlib.Core.Bool.{Bool, true, false}
+use mathlib.Core.List.{List, [], _∷_, _++_}
+use Prim.Native.Nat.{ℕ, _+_, _≤_, _<_}
+use native.Mathlib.Omega.{arith}
+use lib.Dec.{ltb}
+use lib.IntN.{ℤ}
+use lib.ListN.{length, getD}
+use borrow.Author.Tests.{eq-eqb, ne-eqb, lt-ltb, le-ltb}
+use Rattle.model.specs.Basics.{Res, refuse, ok, try, names, named}
+use Rattle.model.specs.Table.{Table}
+use Rattle.model.specs.Crossing.{Reference, object, cross, maxPlaces}
+use Rattle.model.specs.Crossing.{Place as Placeᵐ}
+use Rattle.model.specs.Requests.{System, Result, addCell, held, isSheetRef, noCell, newRequest, moveRequest}
+use Rattle.model.specs.Requests.{Cell as Cellᵐ}
+use Rattle.table.specs.declared.Counts.{Counts}
+use Rattle.table.specs.Store.{tableIn}
+use Rattle.state.specs.declared.Cell.{Cell}
+use Rattle.state.specs.declared.Places.{Places}
+use Rattle.state.specs.declared.Place.the-variants.{Object}
+use Rattle.state.specs.declared.State.{State}
+use Rattle.state.specs.View.{cellOf, cellsIn, placesIn, placeAdded, systemIn}
+use Rattle.state.specs.Sound.{Falling, Sound}
+use Rattle.state.proofs.Laws.{places-length, system-is}
+use Rattle.state.proofs.Kept.{falling-more, typed-more}
+use Rattle.cross.specs.declared.Crossed.{Crossed}
+use Rattle.cross.specs.declared.Crossed.the-variants.{Refused, Passes, Adapts}
+use Rattle.cross.specs.declared.Landed.{Landed}
+use Rattle.cross.specs.Crossed.{reference, Grew, Types, Lands, Leaves, crossedOf, landed, landedOf, Landing}
+use Rattle.steps.specs.Served.{isSheetClass, arrived, Arrives}
+use Rattle.steps.proofs.Laws.{places-are}
+use Rattle.moves.specs.Sent.{sentTo, Sends, Made}
+
+-- ---- The way that both go: the crossing's answer x, and y once its adapter is stored.
+landed-grew : (c : Counts) (b : List ℕ) (ps : Places) (x : Crossed) → Lands ps x → Types c b x → landed ps x .refusal ≡ 0 → Grew c (landed ps x .types) b
+landed-grew c b ps (Refused e) l t z = absurd (omega (arith, l, z))
+landed-grew c b ps (Passes p n) l t z = t
+landed-grew c b ps (Adapts r n) l t z = t .0
+
+landed-more : (ps : Places) (x : Crossed) → ps .count ≤ landed ps x .places .count
+landed-more ps (Refused e) = omega arith
+landed-more ps (Passes p n) = omega arith
+landed-more ps (Adapts r n) = omega arith
+
+module _ (s : State) (ps : Places) (t p to r : ℕ) (h : Sends s ps p to r) (types : List ℕ) (x : Crossed)
+    (is : crossedOf types (s .links) (s .counts) (placesIn ps) to x ≡ cross (reference (tableIn (s .types) (s .links) (s .counts)) (placesIn ps) t p) to r)
+    (left : Leaves (s .counts) ps (s .types) types x) (y : Landed) (lands : Landing ps x y) where
+  sent-is : sentTo s ps t p to r ≡ try (landedOf types (s .links) (s .counts) to y) (λ f. addCell (systemIn s) r f)
+  sent-is = sym (ap (λ (z : Res Reference). try z (λ f. addCell (systemIn s) r f)) (lands .means types (s .links) (s .counts) to ∙ is))
+
+  abbrev Lands-as : Bool → Res (System × Result)
+  Lands-as none = try (elim none [ false ↦ refuse (y .refusal) | true ↦ ok (arrived s types (y .types) (y .places) to (y .place)) ]) (λ f. addCell (systemIn s) r f)
+
+  pub sent-refused : (y .refusal ≡ 0 → ⊥) → sentTo s ps t p to r ≡ refuse (y .refusal)
+  sent-refused e = sent-is ∙ ap Lands-as (ne-eqb (y .refusal) 0 e)
+
+  module _ (e : y .refusal ≡ 0) where
+    pub sent-lands : sentTo s ps t p to r ≡ addCell (systemIn s) r (arrived s types (y .types) (y .places) to (y .place))
+    sent-lands = sent-is ∙ ap Lands-as (eq-eqb (y .refusal) 0 e)
+
+    grew : Grew (s .counts) (y .types) types
+    grew = subst (λ (q : Landed). q .refusal ≡ 0 → Grew (s .counts) (q .types) types) (sym (lands .is)) (landed-grew (s .counts) types ps x (left .lands) (left .types)) e
+
+    pub sent-arrives : Arrives s types (y .types) (y .places) to (y .place)
+    sent-arrives = record {
+      sound = h .sound;
+      long = left .long;
+      grew = grew;
+      kept = left .kept;
+      falling = lands .falling;
+      typed = lands .typed types (s .counts) (h .typed) (left .types) e;
+      more = let u = h .more in let w : ps .count ≤ y .places .count = subst (λ (q : Landed). ps .count ≤ q .places .count) (sym (lands .is)) (landed-more ps x) in omega arith;
+      sort = let u = h .target in let w = grew .more in omega arith;
+      place = lands .place e;
+    }
+
+-- ---- An object as the next place.
+pub made : (ps : Places) (class owner a b : ℕ) (qs : Places) → Falling ps → ps .count < 128 → a ≡ class → b ≡ owner →
+    qs ≡ placeAdded ps (record { place = Object a b })
+    → placesIn qs ≡ placesIn ps ++ (object a b ∷ []) → Made ps class owner qs
+made ps class owner a b qs fall room p q e are =
+    let are′ : placesIn qs ≡ placesIn ps ++ (object class owner ∷ []) = are ∙ ap (λ (n : ℕ). placesIn ps ++ (object n b ∷ [])) p ∙ ap (λ (n : ℕ). placesIn ps ++ (object class n ∷ [])) q in
+    let one : qs .count ≡ ps .count + 1 = ap (λ (z : Places). z .count) e in record {
+      are = are′;
+      count = one;
+      falling = falling-more ps qs (object class owner) one are′ fall room (λ (z : _≡_ {A = Bool} true false). absurd (let w : _≡_ {A = ℕ} 0 1 = cc in omega arith));
+      typed = λ c t l. typed-more ps qs (object class owner) one are′ c t l;
+    }
+
+abbrev tableOf : State → Table
+tableOf s = tableIn (s .types) (s .links) (s .counts)
+
+-- ---- New.
+module _ (s : State) (subject class to : ℤ) where
+  abbrev N : Res (System × Result)
+  N = newRequest (systemIn s) subject class to
+
+  pub new-5 : names subject (systemIn s .table .subjects) ≡ false → N ≡ refuse 5
+  unfolding newRequest
+  new-5 e = rw e
+
+  module _ (known : names subject (systemIn s .table .subjects) ≡ true) where
+    pub new-class : isSheetClass (systemIn s .table) class ≡ false → N ≡ refuse 7
+    unfolding newRequest
+    new-class e = rw (known, e)
+
+    module _ (sort : isSheetClass (systemIn s .table) class ≡ true) where
+      pub new-type : isSheetRef (systemIn s .table) to ≡ false → N ≡ refuse 7
+      unfolding newRequest
+      new-type e = rw (known, sort, e)
+
+      module _ (target : isSheetRef (systemIn s .table) to ≡ true) where
+        room : (b : Bool) → ltb (s .places .count) maxPlaces ≡ b → ltb (length (systemIn s .places)) maxPlaces ≡ b
+        room b e = ap (λ (n : ℕ). ltb n maxPlaces) (ap length (places-are s) ∙ places-length (s .places)) ∙ e
+
+        pub new-12 : 128 ≤ s .places .count → N ≡ refuse 12
+        unfolding newRequest
+        new-12 l = rw (known, sort, target, room false (le-ltb (s .places .count) 128 l))
+
+        -- the object of class k, owned by o, and the reference to it
+        abbrev Goes : Table → List Placeᵐ → ℕ → ℕ → ℕ → ℕ → Res (System × Result)
+        Goes t ps k p j o = try (cross (reference t ps k p) j o) λ f. addCell (systemIn s) o f
+
+        goes : s .places .count < 128 →
+            N ≡ Goes (systemIn s .table) (systemIn s .places ++ (object (named class) (named subject) ∷ [])) (named class) (length (systemIn s .places)) (named to) (named subject)
+        unfolding newRequest
+        goes l = rw (known, sort, target, room true (lt-ltb (s .places .count) 128 l))
+
+        pub new-goes : s .places .count < 128 → (o k j : ℕ) → o ≡ named subject → k ≡ named class → j ≡ named to →
+            (qs : Places) → Made (s .places) k o qs → N ≡ sentTo s qs k (s .places .count) j o
+        new-goes l o k j eo ek ej qs m =
+            let ps = placesIn (s .places) in
+            goes l
+            ∙ ap (λ (x : System). Goes (x .table) (x .places ++ (object (named class) (named subject) ∷ [])) (named class) (length (x .places)) (named to) (named subject)) (system-is s)
+            ∙ ap (λ (n : ℕ). Goes (tableOf s) (ps ++ (object (named class) n ∷ [])) (named class) (length ps) (named to) n) (sym eo)
+            ∙ ap (λ (n : ℕ). Goes (tableOf s) (ps ++ (object n o ∷ [])) n (length ps) (named to) o) (sym ek)
+            ∙ ap (λ (n : ℕ). Goes (tableOf s) (ps ++ (object k o ∷ [])) k (length ps) n o) (sym ej)
+            ∙ ap (λ (n : ℕ). Goes (tableOf s) (ps ++ (object k o ∷ [])) k n j o) (places-length (s .places))
+            ∙ ap (λ (x : List Placeᵐ). Goes (tableOf s) x k (s .places .count) j o) (sym (m .are))
+
+        pub new-sends : Sound s → s .places .count < 128 → (o k j : ℕ) → o < s .counts .subjects → k < s .counts .sheet → j < s .counts .sheet →
+            (qs : Places) → Made (s .places) k o qs → Sends s qs (s .places .count) j o
+        new-sends h l o k j lo lk lj qs m = let u = h .checked .limits .counted in record {
+          sound = h;
+          falling = m .falling;
+          typed = m .typed (s .counts) (h .typed) (omega arith);
+          more = let w = m .count in omega arith;
+          place = let w = m .count in omega arith;
+          target = omega arith;
+          receiver = let w = h .checked .limits .subjects in omega arith;
+        }
+
+-- ---- Move.
+module _ (s : State) (subject k receiver to : ℤ) where
+  abbrev M : Res (System × Result)
+  M = moveRequest (systemIn s) subject k receiver to
+
+  pub move-5 : names subject (systemIn s .table .subjects) ≡ false → M ≡ refuse 5
+  unfolding moveRequest
+  move-5 e = rw e
+
+  module _ (known : names subject (systemIn s .table .subjects) ≡ true) where
+    pub move-receiver : names receiver (systemIn s .table .subjects) ≡ false → M ≡ refuse 5
+    unfolding moveRequest
+    move-receiver e = rw (known, e)
+
+    module _ (met : names receiver (systemIn s .table .subjects) ≡ true) where
+      pub move-6 : held (systemIn s) subject k ≡ false → M ≡ refuse 6
+      unfolding moveRequest
+      move-6 e = rw (known, met, e)
+
+      module _ (holds : held (systemIn s) subject k ≡ true) where
+        pub move-7 : isSheetRef (systemIn s .table) to ≡ false → M ≡ refuse 7
+        unfolding moveRequest
+        move-7 e = rw (known, met, holds, e)
+
+        module _ (target : isSheetRef (systemIn s .table) to ≡ true) where
+          abbrev Leads : Table → List Placeᵐ → Cellᵐ → ℕ → ℕ → Res (System × Result)
+          Leads t ps c j r = try (cross (reference t ps (c .type) (c .place)) j r) λ f. addCell (systemIn s) r f
+
+          leads : M ≡ Leads (systemIn s .table) (systemIn s .places) (getD (systemIn s .cells) (named k) noCell) (named to) (named receiver)
+          unfolding moveRequest
+          leads = rw (known, met, holds, target)
+
+          -- cell i of the code is c, of static type t and place p
+          module _ (i : ℕ) (ei : i ≡ named k) (c : Cell) (at : cellOf c ≡ getD (cellsIn (s .cells)) i noCell) (t p j r : ℕ) (et : t ≡ c .sort) (ep : p ≡ c .place) where
+            pub move-goes : j ≡ named to → r ≡ named receiver → M ≡ sentTo s (s .places) t p j r
+            move-goes ej er =
+                leads
+                ∙ ap (λ (x : System). Leads (x .table) (x .places) (getD (x .cells) (named k) noCell) (named to) (named receiver)) (system-is s)
+                ∙ ap (λ (n : ℕ). Leads (tableOf s) (placesIn (s .places)) (getD (cellsIn (s .cells)) n noCell) (named to) (named receiver)) (sym ei)
+                ∙ ap (λ (x : Cellᵐ). Leads (tableOf s) (placesIn (s .places)) x (named to) (named receiver)) (sym at)
+                ∙ ap (λ (n : ℕ). Leads (tableOf s) (placesIn (s .places)) (cellOf c) n (named receiver)) (sym ej)
+                ∙ ap (λ (n : ℕ). Leads (tableOf s) (placesIn (s .places)) (cellOf c) j n) (sym er)
+                ∙ ap (λ (n : ℕ). sentTo s (s .places) n (c .place) j r) (sym et) ∙ ap (λ (n : ℕ). sentTo s (s .places) t n j r) (sym ep)
+
+            pub move-sends : Sound s → i < s .cells .count → j < s .counts .sheet → r < s .counts .subjects → Sends s (s .places) p j r
+            move-sends h l lj lr = let u = h .checked .limits .counted in record {
+              sound = h;
+              falling = h .falling;
+              typed = h .typed;
+              more = omega arith;
+              place = let w : c .place < s .places .count = subst (λ (x : Cellᵐ). x .place < s .places .count) (sym at) (h .cells i l .place) in omega arith;
+              target = omega arith;
+              receiver = let w = h .checked .limits .subjects in omega arith;
+            }

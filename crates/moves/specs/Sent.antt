@@ -1,0 +1,35 @@
+-- What new and move share: a reference that leaves a place, crosses, and becomes a cell.
+use mathlib.Core.Path.{_≡_}
+use mathlib.Core.List.{[], _∷_, _++_}
+use Prim.Native.Nat.{ℕ, _+_, _≤_, _<_}
+use Rattle.model.specs.Basics.{Res, try}
+use Rattle.model.specs.Crossing.{object, cross}
+use Rattle.model.specs.Requests.{System, Result, addCell}
+use Rattle.table.specs.declared.Counts.{Counts}
+use Rattle.table.specs.Store.{tableIn}
+use Rattle.state.specs.declared.Places.{Places}
+use Rattle.state.specs.declared.State.{State}
+use Rattle.state.specs.View.{placesIn, systemIn}
+use Rattle.state.specs.Sound.{Falling, Typed, Sound}
+use Rattle.cross.specs.Crossed.{reference}
+
+-- The reference of static type t to place p of the places ps crosses to type `to`, received by r, and becomes a cell of r.
+abbrev pub sentTo : State → Places → ℕ → ℕ → ℕ → ℕ → Res (System × Result)
+sentTo s ps t p to r = try (cross (reference (tableIn (s .types) (s .links) (s .counts)) (placesIn ps) t p) to r) λ f. addCell (systemIn s) r f
+
+-- what that asks: the places may be the state's with one more
+pub record Sends (s : State) (ps : Places) (p to r : ℕ) : Type 0 where
+  pub sound : Sound s
+  pub falling : Falling ps
+  pub typed : Typed ps (s .counts)
+  pub more : s .places .count ≤ ps .count
+  pub place : p < ps .count
+  pub target : to < s .counts .types
+  pub receiver : r < 256
+
+-- the places with an object as the next one
+pub record Made (ps : Places) (class owner : ℕ) (qs : Places) : Type 0 where
+  pub are : placesIn qs ≡ placesIn ps ++ (object class owner ∷ [])
+  pub count : qs .count ≡ ps .count + 1
+  pub falling : Falling qs
+  pub typed : (c : Counts) → Typed ps c → class < c .types → Typed qs c

@@ -1,0 +1,98 @@
+// New and move (N, M), on a state that is known to be sound. Their operands are tested in the order of the rules; then both go the same way: the reference crosses on a
+// copy of the types, and what came of it becomes a cell. A refusal gives back the state that was handed in, so that nothing of a refused crossing is left (Q14).
+ghost use mathlib.Core.Path.{_≡_};
+ghost use Prim.Native.Nat.{_<_};
+ghost use Rattle.model.specs.Requests.{newRequest, moveRequest};
+ghost use Rattle.state.specs.View.{systemIn};
+ghost use Rattle.state.specs.Sound.{Falling, Sound};
+ghost use Rattle.steps.specs.Served.{Step};
+ghost use Rattle.moves.specs.Sent.{sentTo, Sends, Made};
+use numbers::narrow;
+use numbers::wide;
+use operand::index_of;
+use state::Place;
+use state::PlaceRec;
+use state::Places;
+use state::State;
+use steps::Served;
+
+// A reference of static type `sort` to place p of `ps` crosses to type `to`, received by r, and becomes a cell of r (N6 to N8, M4 to M6).
+fn send(s: State, ps: Places, sort: usize, p: usize, to: usize, r: usize) -> Served
+    requires { ⌜ Sends s ps p to r ⌝ }
+    ensures { λ q. ⌜ Step s (sentTo s ps sort p to r) q ⌝ }
+{
+    let mut types = s.types;
+    let links = s.links;
+    let x = cross::cross(&mut types, &links, s.counts, ps, sort, p, to, r);
+    let y = cross::land(ps, x);
+    if y.refusal != 0 {
+        return steps::refused(s, y.refusal);
+    }
+    let places = y.places;
+    steps::add_cell(s, types, y.types, places, r, to, y.place)
+}
+
+// An object of the class, owned by the subject, is the next place (N5).
+fn make(ps: Places, class: usize, owner: usize) -> Places
+    requires { ⌜ Falling ps × (ps .count < 128) × (class < 256) × (owner < 256) ⌝ }
+    ensures { λ q. ⌜ Made ps class owner q ⌝ }
+{
+    let place = Place::Object {
+        class: narrow(class),
+        owner: narrow(owner),
+    };
+    ps.add(PlaceRec { place })
+}
+
+// New (N): an object of a sheet class, and a cell of the subject that refers to it.
+pub fn new_step(s: State, subject: i64, class: i64, to: i64) -> Served
+    requires { ⌜ Sound s ⌝ }
+    ensures { λ q. ⌜ Step s (newRequest (systemIn s) subject class to) q ⌝ }
+{
+    let c = s.counts;
+    if !steps::is_subject(c, subject) {
+        return steps::refused(s, 5);
+    }
+    if !steps::is_sheet_class(&s.types, c, class) {
+        return steps::refused(s, 7);
+    }
+    if !steps::is_sheet_ref(&s.types, c, to) {
+        return steps::refused(s, 7);
+    }
+    let ps = s.places;
+    if State::PLACES <= ps.count {
+        return steps::refused(s, 12);
+    }
+    let owner = index_of(subject, c.subjects);
+    let sort = index_of(class, c.sheet);
+    let target = index_of(to, c.sheet);
+    let made = make(ps, sort, owner);
+    send(s, made, sort, ps.count, target, owner)
+}
+
+// Move (M): another cell for the same object, perhaps behind one more adapter, with another holder and type.
+pub fn move_step(s: State, subject: i64, cell: i64, receiver: i64, to: i64) -> Served
+    requires { ⌜ Sound s ⌝ }
+    ensures { λ q. ⌜ Step s (moveRequest (systemIn s) subject cell receiver to) q ⌝ }
+{
+    let c = s.counts;
+    if !steps::is_subject(c, subject) {
+        return steps::refused(s, 5);
+    }
+    if !steps::is_subject(c, receiver) {
+        return steps::refused(s, 5);
+    }
+    let cells = s.cells;
+    let who = index_of(subject, c.subjects);
+    if !steps::is_held(cells, who, cell) {
+        return steps::refused(s, 6);
+    }
+    if !steps::is_sheet_ref(&s.types, c, to) {
+        return steps::refused(s, 7);
+    }
+    let r = index_of(receiver, c.subjects);
+    let target = index_of(to, c.sheet);
+    let x = state::cell_at(cells, index_of(cell, cells.count));
+    let ps = s.places;
+    send(s, ps, wide(x.sort), wide(x.place), target, r)
+}

@@ -1,0 +1,214 @@
+-- Requests by their codes, and what has been served so far.
+use mathlib.Core.Path.{_≡_, refl, sym, ap, subst, _∙_}
+use mathlib.Core.Bool.{Bool, true, false}
+use mathlib.Core.List.{List, [], _∷_}
+use mathlib.Core.Option.{Option, none, some}
+use Prim.Native.Nat.{ℕ, zero, suc, _+_, _-_, _*_, _≤_, _<_}
+use native.Mathlib.Omega.{arith}
+use lib.IntN.{ℤ, pos}
+use lib.ListN.{length, getD, drop, drop-of-length-le}
+use lib.Seq.{sets, length-sets}
+use borrow.Author.Tests.{eq-eqb, ne-eqb, le-leb, lt-leb}
+use Rattle.model.specs.Basics.{Res, ok, need}
+use Rattle.model.specs.Requests.{System, Request, Result, Outcome, got, refused, serve, newRequest, moveRequest, callRequest, answerRequest, after, outcome}
+use Rattle.model.specs.Check.{systemOf, systemAccepted}
+use Rattle.operand.specs.Index.{indexOf}
+use Rattle.operand.proofs.Laws.{index-unknown, index-known}
+use Rattle.state.specs.declared.State.{State}
+use Rattle.state.specs.View.{rawState, systemIn}
+use Rattle.state.specs.Sound.{Sound}
+use Rattle.steps.specs.declared.Answer.{Answer}
+use Rattle.steps.specs.declared.Answer.the-variants.{Refused, Pair, Number, Nothing}
+use Rattle.steps.specs.declared.Served.{Served}
+use Rattle.steps.specs.Served.{outcomeOf, servedWith, refusal, Stored, Step}
+use Rattle.steps.proofs.Laws.{stored-self, stored-on, step-refuses}
+use Rattle.run.specs.declared.Ran.{Ran}
+use Rattle.run.specs.Requested.{byCode, request, requests, serveAsked, runAsked, runHanded}
+use Rattle.run.specs.Ran.{wordsOf, answersOf, room, AllRefused, RanAs, Runs, askedAt, nextAt}
+use Rattle.run.proofs.Words.{request-at, words-next}
+use Rattle.run.proofs.Whole.{serveEach, each-is-run}
+
+-- ---- One request.
+pub step-as : {s : State} {m n : Res (System × Result)} {r : Served} → m ≡ n → Step s m r → Step s n r
+step-as {s} {m} {n} {r} e h = subst (λ (x : Res (System × Result)). Step s x r) e h
+
+pub refuses : (s : State) (q : Option Request) (r : Served) → Sound s → q ≡ none → r ≡ refusal s 1 → Step s (serveAsked (systemIn s) q) r
+unfolding serveAsked
+refuses s q r h e k = step-refuses h (ap (serveAsked (systemIn s)) e) k
+
+module _ (m : System) (ws : List ℤ) where
+  abbrev o : ℕ → ℤ
+  o i = getD ws i (pos 0)
+
+  pub new-none : (length ws ≡ 3 → ⊥) → byCode 0 ws ≡ none
+  new-none h = rw (ne-eqb (length ws) 3 h)
+
+  pub new-is : length ws ≡ 3 → newRequest m (o 0) (o 1) (o 2) ≡ serveAsked m (byCode 0 ws)
+  unfolding serveAsked serve
+  new-is h = rw (eq-eqb (length ws) 3 h)
+
+  pub move-none : (length ws ≡ 4 → ⊥) → byCode 1 ws ≡ none
+  move-none h = rw (ne-eqb (length ws) 4 h)
+
+  pub move-is : length ws ≡ 4 → moveRequest m (o 0) (o 1) (o 2) (o 3) ≡ serveAsked m (byCode 1 ws)
+  unfolding serveAsked serve
+  move-is h = rw (eq-eqb (length ws) 4 h)
+
+  pub call-none : length ws < 3 → byCode 2 ws ≡ none
+  call-none h = rw (lt-leb 3 (length ws) h)
+
+  pub call-is : 3 ≤ length ws → callRequest m (o 0) (o 1) (o 2) (drop 3 ws) ≡ serveAsked m (byCode 2 ws)
+  unfolding serveAsked serve
+  call-is h = rw (le-leb 3 (length ws) h)
+
+  pub answer-none : (length ws ≡ 2 → ⊥) → (length ws ≡ 3 → ⊥) → byCode 3 ws ≡ none
+  answer-none h k = rw (ne-eqb (length ws) 2 h, ne-eqb (length ws) 3 k)
+
+  pub nothing-is : length ws ≡ 2 → answerRequest m (o 0) (o 1) none ≡ serveAsked m (byCode 3 ws)
+  unfolding serveAsked serve
+  nothing-is h = rw (eq-eqb (length ws) 2 h)
+
+  pub answer-is : (length ws ≡ 2 → ⊥) → length ws ≡ 3 → answerRequest m (o 0) (o 1) (some (o 2)) ≡ serveAsked m (byCode 3 ws)
+  unfolding serveAsked serve
+  answer-is h k = rw (ne-eqb (length ws) 2 h, eq-eqb (length ws) 3 k)
+
+-- by the code
+module _ (code : ℤ) (ws : List ℤ) (k : ℕ) (e : k ≡ indexOf code 4) where
+  pub code-known : k < 4 → byCode k ws ≡ request code ws
+  code-known l = let d = index-known code 4 k e l in sym (rw (d .0, d .1))
+
+  pub code-unknown : 4 ≤ k → request code ws ≡ none
+  code-unknown l = rw (index-unknown code 4 k e l)
+
+-- ---- What a step leaves for those behind it.
+module _ (s : State) (m : Res (System × Result)) (r : Served) (h : Step s m r) where
+  outcome-is : outcome m ≡ outcomeOf (r .answer)
+  outcome-is = ap outcome (sym (h .is)) ∙ go (outcomeOf (r .answer)) where
+    go : (o : Outcome) → outcome (servedWith (systemIn (r .state)) o) ≡ o
+    go (refused e) = refl
+    go (got x) = refl
+
+  after-is : after (systemIn s) m ≡ systemIn (r .state)
+  after-is = ap (after (systemIn s)) (sym (h .is)) ∙ go (r .answer) refl where
+    go : (a : Answer) → r .answer ≡ a → after (systemIn s) (servedWith (systemIn (r .state)) (outcomeOf a)) ≡ systemIn (r .state)
+    go (Refused e) z = sym (ap systemIn (h .stays e z))
+    go (Pair a b) z = refl
+    go (Number v) z = refl
+    go Nothing z = refl
+
+-- ---- The run so far: `i` requests are served, the words from `at` on are still to come.
+abbrev rest : State → List ℤ → ℕ → ℕ → List Outcome × System
+rest s ws f at = serveEach (systemIn s) (requests f (drop at ws))
+
+pub record Going (s₀ : State) (ws old : List ℤ) (s : State) (cur : List ℤ) (i at : ℕ) : Type 0 where
+  pub system : rest s ws (room old - i) at .1 ≡ rest s₀ ws (room old) 0 .1
+  pub count : i + length (rest s ws (room old - i) at .0) ≡ length (rest s₀ ws (room old) 0 .0)
+  pub words : sets cur (i * 4) (answersOf (rest s ws (room old - i) at .0)) ≡ sets old 0 (answersOf (rest s₀ ws (room old) 0 .0))
+  pub untouched : AllRefused (rest s₀ ws (room old) 0 .0) → (s ≡ s₀) × AllRefused (rest s ws (room old - i) at .0)
+  pub stored : Stored s₀ s
+  pub sound : Sound s
+  pub long : length cur ≡ length old
+  pub few : i ≤ room old
+  pub within : at ≤ length ws
+
+module _ (s₀ : State) (ws old : List ℤ) where
+  abbrev whole : List Outcome × System
+  whole = runAsked (systemIn s₀) (requests (room old) ws)
+
+  pub going-starts : Sound s₀ → Going s₀ ws old s₀ old 0 0
+  going-starts h =
+      let e : room old - 0 ≡ room old = omega arith in
+      let z : (n : ℕ) → 0 + n ≡ n = λ n. omega arith in
+      record {
+        system = rw e;
+        count = z (length (rest s₀ ws (room old - 0) 0 .0)) ∙ rw e;
+        words = rw e;
+        untouched = λ a. (refl, subst (λ (f : ℕ). AllRefused (rest s₀ ws f 0 .0)) (sym e) a);
+        stored = stored-self s₀ h;
+        sound = h;
+        long = refl;
+        few = omega arith;
+        within = omega arith;
+      }
+
+  module _ (s : State) (cur : List ℤ) (i at : ℕ) (g : Going s₀ ws old s cur i at) where
+    -- nothing comes any more: no room, or no words
+    ended : rest s ws (room old - i) at ≡ ([], systemIn s) → (out : List ℤ) → out ≡ cur → (r : Ran) → r ≡ record { refusal = 0; served = i; state = s }
+        → RanAs s₀ old out (whole .0) (whole .1) r
+    unfolding answersOf
+    ended e out k r y =
+        let z : i + 0 ≡ i = omega arith in
+        subst (RanAs s₀ old out (whole .0) (whole .1)) (sym y)
+        (subst (λ (m : List Outcome × System). RanAs s₀ old out (m .0) (m .1) (record { refusal = 0; served = i; state = s })) (each-is-run (systemIn s₀) (requests (room old) ws)) (record {
+          refusal = refl;
+          served = sym z ∙ ap (λ (p : List Outcome × System). i + length (p .0)) (sym e) ∙ g .count;
+          answers = k ∙ ap (λ (p : List Outcome × System). sets cur (i * 4) (answersOf (p .0))) (sym e) ∙ g .words;
+          is = ap (λ (p : List Outcome × System). p .1) (sym e) ∙ g .system;
+          untouched = λ a. g .untouched a .0;
+          stored = g .stored;
+          sound = g .sound;
+        }))
+
+    pub going-full : room old ≤ i → (out : List ℤ) → out ≡ cur → (r : Ran) → r ≡ record { refusal = 0; served = i; state = s }
+        → RanAs s₀ old out (whole .0) (whole .1) r
+    unfolding serveEach requests
+    going-full l = let e : room old - i ≡ 0 = omega arith in ended (ap (λ (f : ℕ). rest s ws f at) e)
+
+    no-words : (f : ℕ) → serveEach (systemIn s) (requests f []) ≡ ([], systemIn s)
+    unfolding serveEach requests
+    no-words zero = refl
+    no-words (suc f) = refl
+
+    pub going-done : length ws ≤ at → (out : List ℤ) → out ≡ cur → (r : Ran) → r ≡ record { refusal = 0; served = i; state = s }
+        → RanAs s₀ old out (whole .0) (whole .1) r
+    going-done l = ended (ap (λ (xs : List ℤ). serveEach (systemIn s) (requests (room old - i) xs)) (drop-of-length-le ws {i = at} l) ∙ no-words (room old - i))
+
+    module _ (more : i < room old) (here : at < length ws) (r : Served) (step : Step s (serveAsked (systemIn s) (askedAt ws at)) r) where
+      abbrev on : List Outcome × System
+      on = rest (r .state) ws (room old - (i + 1)) (nextAt ws at)
+
+      one : rest s ws (room old - i) at ≡ (outcomeOf (r .answer) ∷ on .0, on .1)
+      unfolding serveEach
+      one =
+          let e : room old - i ≡ suc (room old - (i + 1)) = omega arith in
+          let qs : List (Option Request) = requests (room old - (i + 1)) (drop (nextAt ws at) ws) in
+          ap (λ (f : ℕ). rest s ws f at) e ∙ ap (serveEach (systemIn s)) (request-at ws at here (room old - (i + 1)))
+          ∙ ap (λ (o : Outcome). (o ∷ serveEach (after (systemIn s) (serveAsked (systemIn s) (askedAt ws at))) qs .0, serveEach (after (systemIn s) (serveAsked (systemIn s) (askedAt ws at))) qs .1)) (outcome-is s _ r step)
+          ∙ ap (λ (t : System). (outcomeOf (r .answer) ∷ serveEach t qs .0, serveEach t qs .1)) (after-is s _ r step)
+
+      pub going-on : (out : List ℤ) → out ≡ sets cur (i * 4) (wordsOf (outcomeOf (r .answer))) → (at′ : ℕ) → at′ ≡ nextAt ws at → at′ ≤ length ws
+          → Going s₀ ws old (r .state) out (i + 1) at′
+      unfolding answersOf
+      going-on out k at′ d w = subst (λ (n : ℕ). n ≤ length ws → Going s₀ ws old (r .state) out (i + 1) n) (sym d) (λ (w′ : nextAt ws at ≤ length ws). record {
+        system = ap (λ (p : List Outcome × System). p .1) (sym one) ∙ g .system;
+        count = let z : i + 1 + length (on .0) ≡ i + suc (length (on .0)) = omega arith in z ∙ ap (λ (p : List Outcome × System). i + length (p .0)) (sym one) ∙ g .count;
+        words = written (outcomeOf (r .answer)) k ∙ ap (λ (p : List Outcome × System). sets cur (i * 4) (answersOf (p .0))) (sym one) ∙ g .words;
+        untouched = λ a. let b = g .untouched a in let c = still (r .answer) refl (subst (λ (p : List Outcome × System). AllRefused (p .0)) one (b .1)) in (c .0 ∙ b .0, c .1);
+        stored = stored-on s₀ s (r .state) (g .stored) (step .stored);
+        sound = step .sound;
+        long = ap length k ∙ length-sets cur (i * 4) (wordsOf (outcomeOf (r .answer))) ∙ g .long;
+        few = omega arith;
+        within = w′;
+      }) w
+        where
+          still : (a : Answer) → r .answer ≡ a → AllRefused (outcomeOf a ∷ on .0) → (r .state ≡ s) × AllRefused (on .0)
+          still (Refused e) z h = (step .stays e z, h)
+          still (Pair m n) z h = absurd h
+          still (Number v) z h = absurd h
+          still Nothing z h = absurd h
+
+          written : (o : Outcome) → out ≡ sets cur (i * 4) (wordsOf o) → sets out ((i + 1) * 4) (answersOf (on .0)) ≡ sets cur (i * 4) (answersOf (o ∷ on .0))
+          written o z =
+              let e : (i + 1) * 4 ≡ i * 4 + 4 = omega arith in
+              ap (λ (l : List ℤ). sets l ((i + 1) * 4) (answersOf (on .0))) z ∙ ap (λ (n : ℕ). sets (sets cur (i * 4) (wordsOf o)) n (answersOf (on .0))) e
+              ∙ words-next o cur (i * 4) (answersOf (on .0))
+
+-- ---- A state handed in.
+module _ (s : State) (ws old new : List ℤ) (r : Ran) where
+  pub handed-unfit : systemAccepted (rawState s) ≡ false → r ≡ record { refusal = 2; served = 0; state = s } → new ≡ old → Runs s old new (runHanded (rawState s) (room old) ws) r
+  unfolding runHanded
+  handed-unfit h e k = subst (λ (q : Bool). Runs s old new (need q 2 λ _. ok (runAsked (systemOf (rawState s)) (requests (room old) ws))) r) (sym h) (e, k)
+
+  pub handed-fit : systemAccepted (rawState s) ≡ true → Runs s old new (ok (runAsked (systemIn s) (requests (room old) ws))) r → Runs s old new (runHanded (rawState s) (room old) ws) r
+  unfolding runHanded systemIn
+  handed-fit h e = subst (λ (q : Bool). Runs s old new (need q 2 λ _. ok (runAsked (systemOf (rawState s)) (requests (room old) ws))) r) (sym h) e

@@ -1,0 +1,4 @@
+pub mod Words
+pub mod Small
+pub mod Laws
+pub mod Whole

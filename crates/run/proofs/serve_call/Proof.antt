@@ -1,0 +1,60 @@
+-- Fewer than three operands, or the step, with what is behind the third as arguments.
+use mathlib.Core.Path.{ap, _∙_}
+use lib.IntN.{pos}
+use lib.ListN.{getD}
+use Rattle.model.specs.Requests.{callRequest}
+use Rattle.state.specs.View.{systemIn}
+use Rattle.run.specs.Requested.{byCode}
+use Rattle.run.proofs.Words.{is-read, all-behind}
+use Rattle.run.proofs.Laws.{refuses, step-as, call-none, call-is}
+use native.Mathlib.Omega.{arith}
+use borrow.Author.Needs.{needs}
+use Rattle.run.proofs.serve_call.Statement.{statement}
+use Rattle.run.proofs.serve_call.Tie as tie
+
+refused-requires : tie.Need-refused-requires
+refused-requires c κs = search needs
+
+returns : tie.Need-returns
+returns c = let a = c .before .before .args in let w = a .ops .now in refuses (a .s) (byCode 2 w) (c .refused .result) (c .before .before .pre) (call-none (systemIn (a .s)) w (c .before .if1 .taken)) (c .refused .ensures)
+
+shared-slice-copy-out-call-step : tie.Need-shared-slice-copy-out-call-step
+shared-slice-copy-out-call-step c = search needs
+
+shared-slice-copy-out-call-step-2 : tie.Need-shared-slice-copy-out-call-step-2
+shared-slice-copy-out-call-step-2 c = search needs
+
+shared-slice-copy-out-call-step-3 : tie.Need-shared-slice-copy-out-call-step-3
+shared-slice-copy-out-call-step-3 c = search needs
+
+sub-call-step : tie.Need-sub-call-step
+sub-call-step c = omega (arith, c .before .before .before .if1 .left)
+
+part-call-step-start : tie.Need-part-call-step-start
+part-call-step-start c = omega (arith, c .before .before .before .if1 .left)
+
+part-call-step-end : tie.Need-part-call-step-end
+part-call-step-end c = search needs
+
+call-step-requires : tie.Need-call-step-requires
+call-step-requires c κs = search needs
+
+returns-2 : tie.Need-returns-2
+returns-2 c = let a = c .before .before .before .before .before .before .args in let w = a .ops .now in let m = systemIn (a .s) in
+    step-as (ap (callRequest m (getD w 0 (pos 0)) (getD w 1 (pos 0)) (getD w 2 (pos 0))) (all-behind w 3) ∙ call-is m w (c .before .before .before .before .before .if1 .left))
+    (rw (is-read w 0 (c .before .before .before .before .call-step-arg .given), is-read w 1 (c .before .before .before .call-step-arg2 .given), is-read w 2 (c .before .before .call-step-arg3 .given)) at (c .call-step .ensures))
+
+pub serve-call-spec : {M : Type 1} → statement M
+serve-call-spec =
+    tie.close
+    (tie.spec
+    refused-requires
+    returns
+    shared-slice-copy-out-call-step
+    shared-slice-copy-out-call-step-2
+    shared-slice-copy-out-call-step-3
+    sub-call-step
+    part-call-step-start
+    part-call-step-end
+    call-step-requires
+    returns-2)

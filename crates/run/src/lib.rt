@@ -1,0 +1,228 @@
+// A run (U): the requests in a list of words, one after the other. What it answers is the definition `runHanded` in specs/Requested.antt, the model's run of those that are
+// requests; the state is checked once, and then each step leaves what the next one needs.
+ghost use mathlib.Core.Path.{_≡_};
+ghost use mathlib.Core.List.{[], _∷_};
+ghost use Prim.Native.Nat.{_+_, _≤_, _<_};
+ghost use lib.IntN.{pos};
+ghost use lib.ListN.{length, getD};
+ghost use lib.Seq.{sets};
+ghost use Rattle.model.specs.Basics.{ok};
+ghost use Rattle.state.specs.View.{rawState, systemIn};
+ghost use Rattle.state.specs.Sound.{Sound};
+ghost use Rattle.steps.specs.Served.{outcomeOf, Step};
+ghost use Rattle.run.specs.Requested.{byCode, request, serveAsked, requests, runAsked, runHanded};
+ghost use Rattle.run.specs.Ran.{wordsOf, room, Runs, SmallAnswer, leftAt, countAt, askedAt, nextAt};
+use answering::Given;
+use operand::index_of;
+use state::State;
+use steps::Answer;
+use steps::Served;
+use steps::refused;
+
+// How a run ended: 2 or 0, how many requests were served, and the state.
+pub struct Ran {
+    pub refusal: usize,
+    pub served: usize,
+    pub state: State,
+}
+
+// The codes of the requests (U3 to U5), and the words of an answer (U8).
+impl Ran {
+    pub const NEW: usize = 0;
+
+    pub const MOVE: usize = 1;
+
+    pub const CALL: usize = 2;
+
+    pub const ANSWER: usize = 3;
+
+    pub const CODES: usize = 4;
+
+    pub const WORDS: usize = 4;
+}
+
+fn word(n: usize) -> i64
+    requires { ⌜ n < 65536 ⌝ }
+    ensures { λ r. ⌜ r ≡ pos n ⌝ }
+{
+    n as i64
+}
+
+fn put_words(out: &mut [i64], at: usize, first: i64, second: i64, third: i64, fourth: i64)
+    requires { ⌜ at + 4 ≤ length (now out) ⌝ }
+    ensures { λ _. ⌜ now (out .exit) ≡ sets (now (out .entry)) at (first ∷ second ∷ third ∷ fourth ∷ []) ⌝ }
+{
+    out[at] = first;
+    out[at + 1] = second;
+    out[at + 2] = third;
+    out[at + 3] = fourth;
+}
+
+// An answer as four words (U8).
+fn put_answer(out: &mut [i64], at: usize, a: Answer)
+    requires { ⌜ (at + 4 ≤ length (now out)) × SmallAnswer a ⌝ }
+    ensures { λ _. ⌜ now (out .exit) ≡ sets (now (out .entry)) at (wordsOf (outcomeOf a)) ⌝ }
+{
+    match a {
+        Answer::Refused(e) => put_words(out, at, word(e), 0, 0, 0),
+        Answer::Pair { first, second } => put_words(out, at, 0, 2, word(first), word(second)),
+        Answer::Number(v) => put_words(out, at, 0, 1, v, 0),
+        Answer::Nothing => put_words(out, at, 0, 0, 0, 0),
+    }
+}
+
+// How many operands the request at `at` has (U2); as many as there are words behind its code where that says it has more, or nothing says it (U7).
+fn operands(words: &[i64], at: usize) -> usize
+    requires { ⌜ at < length (now words) ⌝ }
+    ensures { λ r. ⌜ r ≡ countAt (now (words .entry)) at ⌝ }
+{
+    let left = words.len() - at - 1;
+    if left == 0 {
+        return 0;
+    }
+    let n = words[at + 1];
+    index_of(n, left)
+}
+
+// Where the request behind the one at `at` begins (U6, U7).
+fn next(words: &[i64], at: usize) -> usize
+    requires { ⌜ at < length (now words) ⌝ }
+    ensures { λ r. ⌜ (r ≡ nextAt (now (words .entry)) at) × (at < r) × (r ≤ length (now (words .entry))) ⌝ }
+{
+    let left = words.len() - at - 1;
+    let n = operands(words, at);
+    if left <= n {
+        return words.len();
+    }
+    at + 2 + n
+}
+
+// New: three operands (U3).
+fn serve_new(s: State, ops: &[i64]) -> Served
+    requires { ⌜ Sound s ⌝ }
+    ensures { λ r. ⌜ Step s (serveAsked (systemIn s) (byCode 0 (now (ops .entry)))) r ⌝ }
+{
+    if ops.len() != 3 {
+        return refused(s, 1);
+    }
+    moves::new_step(s, ops[0], ops[1], ops[2])
+}
+
+// Move: four (U3).
+fn serve_move(s: State, ops: &[i64]) -> Served
+    requires { ⌜ Sound s ⌝ }
+    ensures { λ r. ⌜ Step s (serveAsked (systemIn s) (byCode 1 (now (ops .entry)))) r ⌝ }
+{
+    if ops.len() != 4 {
+        return refused(s, 1);
+    }
+    moves::move_step(s, ops[0], ops[1], ops[2], ops[3])
+}
+
+// Call: three, and its arguments (U4).
+fn serve_call(s: State, ops: &[i64]) -> Served
+    requires { ⌜ Sound s ⌝ }
+    ensures { λ r. ⌜ Step s (serveAsked (systemIn s) (byCode 2 (now (ops .entry)))) r ⌝ }
+{
+    if ops.len() < 3 {
+        return refused(s, 1);
+    }
+    calls::call_step(s, ops[0], ops[1], ops[2], &ops[3..])
+}
+
+// Answer: two operands and a value, or nothing (U5).
+fn serve_answer(s: State, ops: &[i64]) -> Served
+    requires { ⌜ Sound s ⌝ }
+    ensures { λ r. ⌜ Step s (serveAsked (systemIn s) (byCode 3 (now (ops .entry)))) r ⌝ }
+{
+    if ops.len() == 2 {
+        return answering::answer_step(s, ops[0], ops[1], Given::Nothing);
+    }
+    if ops.len() != 3 {
+        return refused(s, 1);
+    }
+    let v = ops[2];
+    answering::answer_step(s, ops[0], ops[1], Given::Value(v))
+}
+
+// The request of a code and its operands: 1 where there is none such (U6).
+fn serve(s: State, code: i64, ops: &[i64]) -> Served
+    requires { ⌜ Sound s ⌝ }
+    ensures { λ r. ⌜ Step s (serveAsked (systemIn s) (request code (now (ops .entry)))) r ⌝ }
+{
+    let k = index_of(code, Ran::CODES);
+    if k == Ran::NEW {
+        return serve_new(s, ops);
+    }
+    if k == Ran::MOVE {
+        return serve_move(s, ops);
+    }
+    if k == Ran::CALL {
+        return serve_call(s, ops);
+    }
+    if k == Ran::ANSWER {
+        return serve_answer(s, ops);
+    }
+    refused(s, 1)
+}
+
+// The request at `at` (U6, U7).
+fn serve_at(s: State, words: &[i64], at: usize) -> Served
+    requires { ⌜ Sound s × (at < length (now words)) ⌝ }
+    ensures { λ r. ⌜ Step s (serveAsked (systemIn s) (askedAt (now (words .entry)) at)) r ⌝ }
+{
+    let left = words.len() - at - 1;
+    let n = operands(words, at);
+    if left <= n {
+        return refused(s, 1);
+    }
+    let code = words[at];
+    let first = at + 2;
+    let end = first + n;
+    serve(s, code, &words[first..end])
+}
+
+// Each on the state that those before it left, as long as there is room for an answer (U9).
+fn run_checked(s: State, words: &[i64], answers: &mut [i64]) -> Ran
+    requires { ⌜ Sound s ⌝ }
+    ensures { λ r. ⌜ Runs s (now (answers .entry)) (now (answers .exit)) (ok (runAsked (systemIn s) (requests (room (now (answers .entry))) (now (words .entry))))) r ⌝ }
+{
+    let most = answers.len() / Ran::WORDS;
+    let mut state = s;
+    let mut served: usize = 0;
+    let mut at: usize = 0;
+    while served < most {
+        if words.len() <= at {
+            return Ran {
+                refusal: 0,
+                served,
+                state,
+            };
+        }
+        let r = serve_at(state, words, at);
+        let answer = r.answer;
+        put_answer(answers, served * Ran::WORDS, answer);
+        state = r.state;
+        served += 1;
+        at = next(words, at);
+    }
+    Ran {
+        refusal: 0,
+        served,
+        state,
+    }
+}
+
+// On any state handed in: 2 before all else, and nothing is served (U1).
+pub fn run(s: State, words: &[i64], answers: &mut [i64]) -> Ran
+    ensures { λ r. ⌜ Runs s (now (answers .entry)) (now (answers .exit)) (runHanded (rawState s) (room (now (answers .entry))) (now (words .entry))) r ⌝ }
+{
+    if statecheck::state_fits(s) {
+        return run_checked(s, words, answers);
+    }
+    Ran {
+        refusal: 2,
+        served: 0,
+        state: s,
+    }
+}

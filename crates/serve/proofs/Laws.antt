@@ -1,0 +1,151 @@
+-- A step on a state that passes the check of 2 serves the request, and so does a refusal with 2 on any other: what the entry points end with. And what `Serves` says of
+-- the meaning of the state that comes back.
+use mathlib.Core.Path.{_≡_, refl, ap, sym, subst, _∙_}
+use mathlib.Core.Bool.{Bool, true, false, So}
+use mathlib.Core.List.{List, _++_, map, flatten, append-nil}
+use Prim.Native.Nat.{ℕ, _*_, _≤_}
+use native.Mathlib.Omega.{arith}
+use lib.ListN.{take, drop, drop-of-length-le}
+use Rattle.model.specs.Basics.{Res, refuse, ok, need}
+use Rattle.model.specs.Table.{Ty, size}
+use Rattle.model.specs.Requests.{System, Request, Result, Outcome, got, refused, outcome, serve, after}
+use Rattle.model.specs.Check.{systemAccepted, systemOf}
+use Rattle.model.specs.Handed.{counted, handBack, serveHanded}
+use Rattle.model.proofs.Returned.{Before, handed-is}
+use Rattle.returned.proofs.Laws.{returns-means}
+use Rattle.returned.proofs.Before.{returns-before}
+use Rattle.table.specs.declared.Counts.{Counts}
+use Rattle.table.specs.Store.{typesIn, typesTo, withCount}
+use Rattle.table.specs.Records.{bytesOf}
+use Rattle.table.proofs.Tables.{size-is, types-of}
+use Rattle.restrict.proofs.Bytes.{exact-take}
+use Rattle.state.specs.declared.State.{State}
+use Rattle.state.specs.View.{rawState, systemIn}
+use Rattle.state.proofs.Laws.{system-is}
+use Rattle.steps.specs.declared.Answer.{Answer}
+use Rattle.steps.specs.declared.Answer.the-variants.{Refused, Pair, Number, Nothing}
+use Rattle.steps.specs.declared.Served.{Served}
+use Rattle.steps.specs.Served.{outcomeOf, servedWith, servedAs, refusal, Step}
+use Rattle.serve.specs.Serves.{defined, leaves, Serves}
+use Rattle.serve.proofs.Stored.{counted-stored}
+
+-- the answers that are refusals
+refused-answer : (a : Answer) (e : ℕ) → outcomeOf a ≡ refused e → a ≡ Refused e
+refused-answer (Refused n) e p = ap Refused (ap number p)
+  where
+    number : Outcome → ℕ
+    number (refused n) = n
+    number (got x) = 0
+refused-answer (Pair a b) e p = let z : _≡_ {A = ℕ} 0 1 = cc in absurd (omega arith)
+refused-answer (Number v) e p = let z : _≡_ {A = ℕ} 0 1 = cc in absurd (omega arith)
+refused-answer Nothing e p = let z : _≡_ {A = ℕ} 0 1 = cc in absurd (omega arith)
+
+-- the types of the state are those of its table, as many as are counted
+module _ (s : State) where
+  sized : size (systemIn s .table) ≡ s .counts .types
+  sized = ap (λ (x : System). size (x .table)) (system-is s) ∙ size-is (s .types) (s .links) (s .counts)
+
+  typed : systemIn s .table .types ≡ typesTo (s .counts .methods) (s .counts .sheet) (s .counts .types) (typesIn (s .types))
+  typed = ap (λ (x : System). x .table .types) (system-is s) ∙ types-of (s .types) (s .links) (s .counts)
+
+-- ---- a step
+module _ (s : State) (q : Request) (r : Served) (h : So (systemAccepted (rawState s))) (w : Step s (serve (systemIn s) q) r) where
+  abbrev s′ : State
+  s′ = r .state
+
+  defined-is : defined s q ≡ serve (systemIn s) q
+  defined-is = ap (λ (b : Bool). need b 2 λ _. serve (systemIn s) q) h
+
+  handed : serveHanded (rawState s) q ≡ handBack (rawState s) (servedAs r)
+  unfolding systemIn
+  handed = handed-is (rawState s) h q ∙ ap (handBack (rawState s)) (sym (w .is))
+
+  answers : (o : Outcome) → o ≡ handBack (rawState s) (servedWith (systemIn s′) o) .outcome
+  answers (refused e) = refl
+  answers (got x) = refl
+
+  stored : (o : Outcome) → outcomeOf (r .answer) ≡ o → counted (rawState s′) ≡ counted (handBack (rawState s) (servedWith (systemIn s′) o) .state)
+  stored (refused e) p = ap (λ x. counted (rawState x)) (w .stays e (refused-answer (r .answer) e p))
+  stored (got x) p = counted-stored s s′ (w .stored)
+
+  left-with : (o : Outcome) → outcomeOf (r .answer) ≡ o → after (systemIn s) (servedWith (systemIn s′) o) ≡ systemIn s′
+  left-with (refused e) p = ap systemIn (sym (w .stays e (refused-answer (r .answer) e p)))
+  left-with (got x) p = refl
+
+  left : leaves s q ≡ systemIn s′
+  left = ap (after (systemIn s)) (defined-is ∙ sym (w .is)) ∙ left-with (outcomeOf (r .answer)) refl
+
+  wrote : take (s′ .counts .types * 128) (s′ .types) ≡ take (s .counts .types * 128) (s .types) ++ flatten (map bytesOf (drop (s .counts .types) (systemIn s′ .table .types)))
+  wrote = exact-take (s .counts) (s .counts .types) (s′ .counts .types) (s .types) (s′ .types) (w .stored .grew .more) (w .stored .kept) (w .stored .grew .exact)
+      ∙ ap (λ (xs : List Ty). take (s .counts .types * 128) (s .types) ++ flatten (map bytesOf (drop (s .counts .types) xs)))
+      (sym (typed s′ ∙ ap (λ (c : Counts). typesTo (c .methods) (c .sheet) (s′ .counts .types) (typesIn (s′ .types))) (w .stored .counts)))
+
+  pub step-serves : Serves s q r
+  step-serves = record {
+    returns = record {
+      outcome = answers (outcomeOf (r .answer)) ∙ ap (λ x. x .outcome) (sym handed);
+      records = stored (outcomeOf (r .answer)) refl ∙ ap (λ x. counted (x .state)) (sym handed);
+      untouched = λ e p. ap rawState (w .stays e (refused-answer (r .answer) e p));
+    };
+    stays = w .stays;
+    links = w .stored .links;
+    counts = w .stored .counts ∙ ap (withCount (s .counts)) (sym (ap (λ (x : System). size (x .table)) left ∙ sized s′));
+    types = subst
+        (λ (x : System). take (size (x .table) * 128) (s′ .types) ≡ take (s .counts .types * 128) (s .types) ++ flatten (map bytesOf (drop (s .counts .types) (x .table .types))))
+        (sym left) (ap (λ (n : ℕ). take (n * 128) (s′ .types)) (sized s′) ∙ wrote);
+  }
+
+-- ---- a refusal with 2
+module _ (s : State) (q : Request) (no : systemAccepted (rawState s) ≡ false) where
+  refuses : serveHanded (rawState s) q ≡ handBack (rawState s) (refuse 2)
+  unfolding serveHanded
+  refuses = ap (λ (b : Bool). handBack (rawState s) (need b 2 λ _. serve (systemOf (rawState s)) q)) no
+
+  untouched : leaves s q ≡ systemIn s
+  untouched = ap (λ (b : Bool). after (systemIn s) (need b 2 λ _. serve (systemIn s) q)) no
+
+  all-old : take (s .counts .types * 128) (s .types) ≡ take (s .counts .types * 128) (s .types) ++ flatten (map bytesOf (drop (s .counts .types) (systemIn s .table .types)))
+  unfolding flatten
+  all-old = let e : size (systemIn s .table) ≤ s .counts .types = omega (arith, sized s) in
+      sym (ap (λ (xs : List Ty). take (s .counts .types * 128) (s .types) ++ flatten (map bytesOf xs)) (drop-of-length-le (systemIn s .table .types) e)
+      ∙ append-nil (take (s .counts .types * 128) (s .types)))
+
+  two-serves : Serves s q (refusal s 2)
+  two-serves = record {
+    returns = record {
+      outcome = ap (λ x. x .outcome) (sym refuses);
+      records = ap (λ x. counted (x .state)) (sym refuses);
+      untouched = λ e p. refl;
+    };
+    stays = λ e p. refl;
+    links = refl;
+    counts = ap (withCount (s .counts)) (sym (ap (λ (x : System). size (x .table)) untouched ∙ sized s));
+    types = subst
+        (λ (x : System). take (size (x .table) * 128) (s .types) ≡ take (s .counts .types * 128) (s .types) ++ flatten (map bytesOf (drop (s .counts .types) (x .table .types))))
+        (sym untouched) (ap (λ (n : ℕ). take (n * 128) (s .types)) (sized s) ∙ all-old);
+  }
+
+  pub refused-serves : (r : Served) → r ≡ refusal s 2 → Serves s q r
+  refused-serves r e = subst (λ x. Serves s q x) (sym e) two-serves
+
+-- ---- what `Serves` says in the words of the model: the answer, and the meaning of the state that comes back
+module _ (s : State) (q : Request) (r : Served) (w : Serves s q r) where
+  pub serves-answer : outcomeOf (r .answer) ≡ outcome (defined s q)
+  unfolding serveHanded systemIn
+  serves-answer = w .returns .outcome ∙ go (defined s q)
+    where
+      go : (m : Res (System × Result)) → handBack (rawState s) m .outcome ≡ outcome m
+      go (refuse e) = refl
+      go (ok x) = refl
+
+  pub serves-means : systemIn (r .state) ≡ leaves s q
+  unfolding systemIn
+  serves-means = go (systemAccepted (rawState s)) refl
+    where
+      go : (b : Bool) → systemAccepted (rawState s) ≡ b → systemIn (r .state) ≡ after (systemIn s) (need b 2 λ _. serve (systemIn s) q)
+      go true e = returns-means (rawState s) q (outcomeOf (r .answer)) (rawState (r .state)) (w .returns) e
+      go false e = ap systemIn (w .stays 2 (refused-answer (r .answer) 2 (w .returns .outcome ∙ ap (λ x. x .outcome) (refuses s q e))))
+
+  -- every record counted before is stored as it was, a call's but for its flag (Q15)
+  pub serves-before : Before (rawState s) (rawState (r .state))
+  serves-before = returns-before (rawState s) q (outcomeOf (r .answer)) (rawState (r .state)) (w .returns)

@@ -1,0 +1,35 @@
+-- What an entry point promises of every state and all numbers: result, counts and counted records are the definition's.
+use mathlib.Core.Path.{_≡_}
+use mathlib.Core.List.{_++_, map, flatten}
+use Prim.Native.Nat.{ℕ, _*_}
+use lib.ListN.{take, drop}
+use Rattle.model.specs.Basics.{Res, need}
+use Rattle.model.specs.Table.{size}
+use Rattle.model.specs.Requests.{System, Request, Result, serve, after}
+use Rattle.model.specs.Check.{systemAccepted}
+use Rattle.model.specs.Handed.{Returns}
+use Rattle.table.specs.Store.{withCount}
+use Rattle.table.specs.Records.{bytesOf}
+use Rattle.state.specs.declared.State.{State}
+use Rattle.state.specs.View.{rawState, systemIn}
+use Rattle.steps.specs.declared.Answer.the-variants.{Refused}
+use Rattle.steps.specs.declared.Served.{Served}
+use Rattle.steps.specs.Served.{outcomeOf}
+
+-- What the definition makes of the request: 2 before all else (Q13). And the state that it leaves: the one handed in where it refuses.
+abbrev pub defined : State → Request → Res (System × Result)
+defined s q = need (systemAccepted (rawState s)) 2 λ _. serve (systemIn s) q
+
+abbrev pub leaves : State → Request → System
+leaves s q = after (systemIn s) (defined s q)
+
+pub record Serves (s : State) (q : Request) (r : Served) : Type 0 where
+  -- the answer is the definition's, and so are all counts and every counted record of table, cells, places and calls (Q14, Q15)
+  pub returns : Returns (rawState s) q (outcomeOf (r .answer)) (rawState (r .state))
+  -- refused, 2 included, the state that comes back is the one handed in, every byte of it (Q14)
+  pub stays : (e : ℕ) → r .answer ≡ Refused e → r .state ≡ s
+  -- Every byte of the links stays, and every count of the table but that of its types.
+  pub links : r .state .links ≡ s .links
+  pub counts : r .state .counts ≡ withCount (s .counts) (size (leaves s q .table))
+  -- Every counted byte of the types: those that there were, and behind them the record that stands for each new one (B22).
+  pub types : take (size (leaves s q .table) * 128) (r .state .types) ≡ take (s .counts .types * 128) (s .types) ++ flatten (map bytesOf (drop (s .counts .types) (leaves s q .table .types)))

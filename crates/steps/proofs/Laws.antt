@@ -1,0 +1,248 @@
+-- What is left of a state from step to step, refusals, the operands of a request, and a reference that becomes a cell.
+use mathlib.Core.Path.{_≡_, refl, sym, ap, _∙_, subst}
+use mathlib.Core.Logic.{_⊎_, inl, inr}
+use mathlib.Core.Bool.{Bool, true, false, _&&_}
+use mathlib.Core.List.{List, [], _∷_, _++_}
+use Prim.Native.Nat.{ℕ, _+_, _≤_, _<_}
+use native.Mathlib.Omega.{arith}
+use lib.Dec.{eqb, ltb}
+use lib.IntN.{ℤ, pos, negsuc}
+use lib.ListN.{length, getD, List·getD-append}
+use lib.Seq.{getD-at}
+use borrow.Author.Tests.{ltb-true, lt-ltb, le-ltb}
+use Rattle.model.specs.Basics.{Res, refuse, ok, need, names, named}
+use Rattle.model.specs.Table.{Table, typeAt, isRef, isClass}
+use Rattle.model.specs.Crossing.{Reference}
+use Rattle.model.specs.Requests.{System, Result, pair, addCell, withCell, maxCells, held, isSheetRef, noCell}
+use Rattle.model.specs.Requests.{Cell as Cellᵐ}
+use Rattle.model.specs.Check.{noRawType, tableOf}
+use Rattle.model.proofs.Rules.{first}
+use Rattle.table.specs.declared.Counts.{Counts}
+use Rattle.table.specs.Store.{typesIn, tableIn, withCount}
+use Rattle.table.specs.Limits.{Limits}
+use Rattle.table.proofs.Lists.{lt-or-ge}
+use Rattle.operand.specs.Index.{indexOf}
+use Rattle.operand.proofs.Laws.{index-unknown, index-known}
+use Rattle.state.specs.declared.Cell.{Cell}
+use Rattle.state.specs.declared.Cells.{Cells}
+use Rattle.state.specs.declared.Places.{Places}
+use Rattle.state.specs.declared.State.{State}
+use Rattle.state.specs.View.{cellOf, cellsIn, placesIn, callsIn, cellAdded, systemIn}
+use Rattle.state.specs.Sound.{CellIn, Sound}
+use Rattle.state.proofs.Laws.{cells-length, system-is}
+use Rattle.statecheck.specs.Parts.{refAs, classAs}
+use Rattle.statecheck.proofs.Laws.{ref-is, class-is}
+use Rattle.cross.specs.Crossed.{Grew}
+use Rattle.cross.proofs.Laws.{grown-checked, grew-on}
+use Rattle.steps.specs.declared.Answer.{Answer}
+use Rattle.steps.specs.declared.Answer.the-variants.{Refused, Pair, Number, Nothing}
+use Rattle.steps.specs.declared.Served.{Served}
+use Rattle.steps.specs.Served.{refusal, Stored, Step, Arrives, arrived, isSheetClass}
+
+-- ---- What is left of a state.
+pub stored-self : (s : State) → Sound s → Stored s s
+stored-self s h = record {
+  links = refl;
+  counts = refl;
+  grew = record { more = omega arith; room = h .checked .limits .types; exact = λ i p q. absurd (omega arith) };
+  kept = λ i l. refl;
+}
+
+pub stored-on : (s s₁ s₂ : State) → Stored s s₁ → Stored s₁ s₂ → Stored s s₂
+stored-on s s₁ s₂ h k = record {
+  links = k .links ∙ h .links;
+  counts = k .counts ∙ ap (λ (c : Counts). withCount c (s₂ .counts .types)) (h .counts);
+  grew = grew-on (s .counts) (s₁ .counts .types) (s₂ .counts .types) (s₁ .types) (s₂ .types) (h .grew) (k .kept)
+      (subst (λ (c : Counts). Grew c (s₂ .counts .types) (s₂ .types)) (h .counts) (k .grew));
+  kept = λ i l. k .kept i (let u = h .grew .more in omega arith) ∙ h .kept i l;
+}
+
+pub step-refused : {s : State} {m : Res (System × Result)} {e : ℕ} → Sound s → m ≡ refuse e → Step s m (refusal s e)
+step-refused {s} h z = record { is = sym z; stays = λ d y. refl; stored = stored-self s h; sound = h }
+
+-- the same with the answer as `refused` gives it
+pub step-refuses : {s : State} {m : Res (System × Result)} {e : ℕ} {r : Served} → Sound s → m ≡ refuse e → r ≡ refusal s e → Step s m r
+step-refuses {s} {m} h z y = subst (Step s m) (sym y) (step-refused h z)
+
+-- a step of what comes to the same
+pub step-as : {s : State} {m n : Res (System × Result)} {r : Served} → m ≡ n → Step s n r → Step s m r
+step-as {s} {r = r} e h = subst (λ (x : Res (System × Result)). Step s x r) (sym e) h
+
+-- ---- What a state means, where the operands ask.
+module _ (s : State) where
+  pub subjects-are : systemIn s .table .subjects ≡ s .counts .subjects
+  unfolding tableIn tableOf
+  subjects-are = ap (λ (x : System). x .table .subjects) (system-is s)
+
+  pub sheet-are : systemIn s .table .sheet ≡ s .counts .sheet
+  unfolding tableIn tableOf
+  sheet-are = ap (λ (x : System). x .table .sheet) (system-is s)
+
+  pub table-is : systemIn s .table ≡ tableIn (s .types) (s .links) (s .counts)
+  table-is = ap (λ (x : System). x .table) (system-is s)
+
+  pub cells-are : systemIn s .cells ≡ cellsIn (s .cells)
+  cells-are = ap (λ (x : System). x .cells) (system-is s)
+
+  pub places-are : systemIn s .places ≡ placesIn (s .places)
+  places-are = ap (λ (x : System). x .places) (system-is s)
+
+  pub calls-are : systemIn s .calls ≡ callsIn (s .calls)
+  calls-are = ap (λ (x : System). x .calls) (system-is s)
+
+-- a number that names one of n things is the index that `index_of` gives
+pub index-named : (z : ℤ) (n i : ℕ) → i ≡ indexOf z n → names z n ≡ true → (i ≡ named z) × (i < n)
+index-named (pos k) n i e h = let q : i ≡ k = e ∙ rw h in (q, let l : k < n = ltb-true k n h in omega arith)
+index-named (negsuc k) n i e h = absurd (let f : _≡_ {A = Bool} false true = h in let e : _≡_ {A = ℕ} 0 1 = cc in omega arith)
+
+-- An operand that passed its test, as the index that `index_of` gives.
+module _ (s : State) (z : ℤ) (i : ℕ) where
+  pub subject-at : i ≡ indexOf z (s .counts .subjects) → names z (systemIn s .table .subjects) ≡ true → (i ≡ named z) × (i < s .counts .subjects)
+  subject-at e h = index-named z (s .counts .subjects) i e (ap (names z) (sym (subjects-are s)) ∙ h)
+
+  pub sheet-at : i ≡ indexOf z (s .counts .sheet) → (b : Bool) → names z (systemIn s .table .sheet) && b ≡ true → (i ≡ named z) × (i < s .counts .sheet)
+  sheet-at e b h = index-named z (s .counts .sheet) i e (ap (names z) (sym (sheet-are s)) ∙ first (names z (systemIn s .table .sheet)) b h)
+
+  pub held-at : i ≡ indexOf z (s .cells .count) → (subject : ℤ) → held (systemIn s) subject z ≡ true → (i ≡ named z) × (i < s .cells .count)
+  held-at e subject h = index-named z (s .cells .count) i e
+      (ap (names z) (sym (ap length (cells-are s) ∙ cells-length (s .cells))) ∙ first (names z (length (systemIn s .cells))) _ h)
+
+-- ---- The operands.
+pub subject-is : (c : Counts) (z : ℤ) (i : ℕ) → i ≡ indexOf z (c .subjects) → (s : State) → s .counts ≡ c → ltb i (c .subjects) ≡ names z (systemIn s .table .subjects)
+subject-is c z i e s h = go (lt-or-ge i (c .subjects)) ∙ ap (names z) (ap (λ (d : Counts). d .subjects) (sym h) ∙ sym (subjects-are s)) where
+  go : (i < c .subjects) ⊎ (c .subjects ≤ i) → ltb i (c .subjects) ≡ names z (c .subjects)
+  go (inl l) = lt-ltb i (c .subjects) l ∙ sym (index-known z (c .subjects) i e l .0)
+  go (inr l) = le-ltb i (c .subjects) l ∙ sym (index-unknown z (c .subjects) i e l)
+
+module _ (cs : Cells) (k : ℤ) (i : ℕ) (e : i ≡ indexOf k (cs .count)) (s : State) (subject : ℤ) (h : s .cells ≡ cs) where
+  abbrev heldIn : Bool
+  heldIn = names k (cs .count) && eqb (named subject) (getD (cellsIn cs) (named k) noCell .holder)
+
+  held-is : held (systemIn s) subject k ≡ heldIn
+  held-is = ap (λ (x : List Cellᵐ). names k (length x) && eqb (named subject) (getD x (named k) noCell .holder)) (cells-are s ∙ ap cellsIn h)
+      ∙ ap (λ (n : ℕ). names k n && eqb (named subject) (getD (cellsIn cs) (named k) noCell .holder)) (cells-length cs)
+
+  pub held-not : cs .count ≤ i → false ≡ held (systemIn s) subject k
+  held-not l = sym (held-is ∙ ap (λ (b : Bool). b && eqb (named subject) (getD (cellsIn cs) (named k) noCell .holder)) (index-unknown k (cs .count) i e l))
+
+  pub held-by : i < cs .count → (who o : ℕ) (c : Cell) → named subject ≡ who → o ≡ c .holder → cellOf c ≡ getD (cellsIn cs) i noCell → eqb who o ≡ held (systemIn s) subject k
+  held-by l who o c w p q = let z = index-known k (cs .count) i e l in sym (
+      held-is ∙ ap (λ (b : Bool). b && eqb (named subject) (getD (cellsIn cs) (named k) noCell .holder)) (z .0)
+      ∙ ap (λ (n : ℕ). eqb (named subject) (getD (cellsIn cs) n noCell .holder)) (z .1)
+      ∙ ap (λ (n : ℕ). eqb n (getD (cellsIn cs) i noCell .holder)) w
+      ∙ ap (λ (x : Cellᵐ). eqb who (x .holder)) (sym q) ∙ ap (eqb who) (sym p))
+
+-- a number among the sheet types, and what is asked of its type
+module _ (b : List ℕ) (c : Counts) (limits : Limits c) (z : ℤ) (i : ℕ) (e : i ≡ indexOf z (c .sheet)) (s : State) (types : s .types ≡ b) (counts : s .counts ≡ c) where
+  abbrev T : Table
+  T = tableIn b (s .links) c
+
+  table-of : systemIn s .table ≡ T
+  table-of = table-is s ∙ ap (λ (x : List ℕ). tableIn x (s .links) (s .counts)) types ∙ ap (tableIn b (s .links)) counts
+
+  -- `test` of the type named, of which the code has read r
+  sheet-not : (test : Table → ℕ → Bool) → c .sheet ≤ i → false ≡ names z (T .sheet) && test T (named z)
+  unfolding tableIn tableOf
+  sheet-not test l = sym (ap (λ (y : Bool). y && test T (named z)) (index-unknown z (c .sheet) i e l))
+
+  sheet-so : (test : Table → ℕ → Bool) → i < c .sheet → (r : Bool) → r ≡ test T i → r ≡ names z (T .sheet) && test T (named z)
+  unfolding tableIn tableOf
+  sheet-so test l r y = let w = index-known z (c .sheet) i e l in y ∙ ap (test T) (sym (w .1)) ∙ sym (ap (λ (x : Bool). x && test T (named z)) (w .0))
+
+  pub sheet-ref-not : c .sheet ≤ i → false ≡ isSheetRef (systemIn s .table) z
+  sheet-ref-not l = sheet-not (λ t n. isRef (typeAt t n .rep)) l ∙ ap (λ (t : Table). isSheetRef t z) (sym table-of)
+
+  pub sheet-class-not : c .sheet ≤ i → false ≡ isSheetClass (systemIn s .table) z
+  sheet-class-not l = sheet-not (λ t n. isClass (typeAt t n)) l ∙ ap (λ (t : Table). isSheetClass t z) (sym table-of)
+
+  module _ (l : i < c .sheet) (r : Bool) where
+    counted : i < c .types
+    counted = let u = limits .counted in omega arith
+
+    pub sheet-ref-is : r ≡ refAs (getD (typesIn b) i noRawType) → r ≡ isSheetRef (systemIn s .table) z
+    sheet-ref-is y = sheet-so (λ t n. isRef (typeAt t n .rep)) l r (y ∙ sym (ref-is b (s .links) c i counted)) ∙ ap (λ (t : Table). isSheetRef t z) (sym table-of)
+
+    pub sheet-class-is : r ≡ classAs (c .methods) (getD (typesIn b) i noRawType) → r ≡ isSheetClass (systemIn s .table) z
+    sheet-class-is y = sheet-so (λ t n. isClass (typeAt t n)) l r (y ∙ sym (class-is b (s .links) c i counted)) ∙ ap (λ (t : Table). isSheetClass t z) (sym table-of)
+
+-- ---- A reference that becomes a cell.
+abbrev cellBy : ℕ → ℕ → ℕ → Cellᵐ
+cellBy holder sort place = record { holder = holder; type = sort; place = place }
+
+pub cell-eq : (a b c x y z : ℕ) → a ≡ x → b ≡ y → c ≡ z → cellBy a b c ≡ cellBy x y z
+cell-eq a b c x y z p q r = ap (λ (n : ℕ). cellBy n b c) p ∙ ap (λ (n : ℕ). cellBy x n c) q ∙ ap (cellBy x y) r
+
+module _ (s : State) (types : List ℕ) (n : ℕ) (ps : Places) (holder sort place : ℕ) (h : Arrives s types n ps sort place) where
+  abbrev f : Reference
+  f = arrived s types n ps sort place
+
+  -- the state by its parts
+  abbrev S : System
+  S = record { table = tableIn (s .types) (s .links) (s .counts); cells = cellsIn (s .cells); places = placesIn (s .places); calls = callsIn (s .calls) }
+
+  abbrev Adds : Bool → Res (System × Result)
+  Adds room = elim room [ true ↦ ok (withCell S holder f, pair (s .cells .count) place) | false ↦ refuse 13 ]
+
+  adds-is : addCell (systemIn s) holder f ≡ Adds (ltb (s .cells .count) maxCells)
+  unfolding addCell
+  adds-is = ap (λ (x : System). addCell x holder f) (system-is s) ∙ rw (cells-length (s .cells)) (both (ltb (s .cells .count) maxCells))
+    where
+      both : (b : Bool) → need b 13 (λ _. ok (withCell S holder f, pair (s .cells .count) place)) ≡ Adds b
+      both true = refl
+      both false = refl
+
+  pub cell-refused : 256 ≤ s .cells .count → addCell (systemIn s) holder f ≡ refuse 13
+  cell-refused l = adds-is ∙ ap Adds (le-ltb (s .cells .count) 256 l)
+
+  pub sort-byte : sort < 256
+  sort-byte = let u = h .sort in let w = h .grew .room in omega arith
+
+  pub place-byte : place < 256
+  place-byte = let u = h .place in let w = h .falling .count in omega arith
+
+  module _ (room : s .cells .count < 256) (c : Cell) (is : cellOf c ≡ cellBy holder sort place)
+      (cells : Cells) (e : cells ≡ cellAdded (s .cells) c) (are : cellsIn cells ≡ cellsIn (s .cells) ++ (cellOf c ∷ [])) where
+    abbrev s′ : State
+    s′ = record { types = types; links = s .links; counts = withCount (s .counts) n; cells = cells; places = ps; calls = s .calls }
+
+    count-is : cells .count ≡ s .cells .count + 1
+    count-is = ap (λ (x : Cells). x .count) e
+
+    means : systemIn s′ ≡ withCell S holder f
+    means = system-is s′ ∙ ap (λ (x : List Cellᵐ). record { table = f .table; cells = x; places = f .places; calls = S .calls })
+        (are ∙ ap (λ (x : Cellᵐ). cellsIn (s .cells) ++ (x ∷ [])) is)
+
+    new-cell : CellIn s′ (cellOf c)
+    new-cell = subst (CellIn s′) (sym is) (record { type = h .sort; place = h .place })
+
+    old-cell : (k : ℕ) → k < s .cells .count → CellIn s′ (getD (cellsIn (s .cells)) k noCell)
+    old-cell k l = let x = h .sound .cells k l in record { type = let u = x .type in let w = h .grew .more in omega arith; place = let u = x .place in let w = h .more in omega arith }
+
+    each-cell : (k : ℕ) → k < cells .count → CellIn s′ (getD (cellsIn cells) k noCell)
+    each-cell k l = subst (λ (x : List Cellᵐ). CellIn s′ (getD x k noCell)) (sym are) (go (lt-or-ge k (s .cells .count)))
+      where
+        go : (k < s .cells .count) ⊎ (s .cells .count ≤ k) → CellIn s′ (getD (cellsIn (s .cells) ++ (cellOf c ∷ [])) k noCell)
+        go (inl u) = let z : length (cellsIn (s .cells)) ≡ s .cells .count = cells-length (s .cells) in
+            subst (CellIn s′) (sym (List·getD-append (cellsIn (s .cells)) (cellOf c ∷ []) noCell k (omega arith))) (old-cell k u)
+        go (inr u) =
+            let z : length (cellsIn (s .cells)) ≡ k = cells-length (s .cells) ∙ (let w = count-is in omega arith) in
+            subst (CellIn s′) (sym (getD-at (cellsIn (s .cells)) (cellOf c) [] noCell k z)) new-cell
+
+    pub cell-added : Step s (addCell (systemIn s) holder f) (record { answer = Pair (s .cells .count) place; state = s′ })
+    cell-added = record {
+      is = ap (λ (x : System). ok (x, pair (s .cells .count) place)) means ∙ sym (adds-is ∙ ap Adds (lt-ltb (s .cells .count) 256 room));
+      stays = λ d y. absurd (differ d y);
+      stored = record { links = refl; counts = refl; grew = h .grew; kept = h .kept };
+      sound = record {
+        checked = grown-checked (s .links) (s .counts) n (h .sound .checked) (h .grew .more) (h .grew .room);
+        falling = h .falling;
+        typed = h .typed;
+        cellCount = let w = count-is in omega arith;
+        callCount = h .sound .callCount;
+        cells = each-cell;
+        calls = λ j l. let x = h .sound .calls j l in record { cell = let u = x .cell in let w = count-is in omega arith; method = x .method };
+      };
+    }
+      where
+        differ : (d : ℕ) → Pair (s .cells .count) place ≡ Refused d → ⊥
+        differ d y = let z : _≡_ {A = ℕ} 0 1 = ap (λ (a : Answer). elim a [ Refused x ↦ 1 | Pair x y ↦ 0 | Number x ↦ 0 | Nothing ↦ 0 ]) y in omega arith

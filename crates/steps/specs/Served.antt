@@ -1,0 +1,76 @@
+-- What a request answers and leaves, in the words of the model. A step is a request, or a part of one, on a state that is known to be sound; what it comes to is the
+-- model's `m`.
+use mathlib.Core.Path.{_≡_}
+use mathlib.Core.Bool.{Bool, _&&_}
+use mathlib.Core.List.{List}
+use Prim.Native.Nat.{ℕ, _≤_, _<_}
+use lib.IntN.{ℤ}
+use lib.ListN.{length}
+use Rattle.model.specs.Basics.{Res, refuse, ok, names, named}
+use Rattle.model.specs.Table.{Table, typeAt, isClass}
+use Rattle.model.specs.Crossing.{Reference}
+use Rattle.model.specs.Requests.{System, Result, pair, number, nothing, Outcome, got, refused}
+use Rattle.table.specs.declared.Counts.{Counts}
+use Rattle.table.specs.Store.{tableIn, withCount}
+use Rattle.restrict.specs.Link.{Kept}
+use Rattle.state.specs.declared.Places.{Places}
+use Rattle.state.specs.declared.State.{State}
+use Rattle.state.specs.View.{placesIn, systemIn}
+use Rattle.state.specs.Sound.{Falling, Typed, Sound}
+use Rattle.cross.specs.Crossed.{Grew, reference}
+use Rattle.steps.specs.declared.Answer.{Answer}
+use Rattle.steps.specs.declared.Answer.the-variants.{Refused, Pair, Number, Nothing}
+use Rattle.steps.specs.declared.Served.{Served}
+
+-- the number of the refusal, or the values, for each case
+abbrev pub outcomeOf : Answer → Outcome
+outcomeOf (Refused e) = refused e
+outcomeOf (Pair a b) = got (pair a b)
+outcomeOf (Number v) = got (number v)
+outcomeOf Nothing = got nothing
+
+-- what the answer and the state left say together
+abbrev pub servedWith : System → Outcome → Res (System × Result)
+servedWith s (refused e) = refuse e
+servedWith s (got x) = ok (s, x)
+
+abbrev pub servedAs : Served → Res (System × Result)
+servedAs r = servedWith (systemIn (r .state)) (outcomeOf (r .answer))
+
+-- a refusal, with the state as it was handed in
+abbrev pub refusal : State → ℕ → Served
+refusal s e = record { answer = Refused e; state = s }
+
+-- What is left of the table: links and counts as they were but for the count of types, every byte of the types that there were, and each new type stored as the
+-- record that stands for it (B22).
+pub record Stored (s s′ : State) : Type 0 where
+  pub links : s′ .links ≡ s .links
+  pub counts : s′ .counts ≡ withCount (s .counts) (s′ .counts .types)
+  pub grew : Grew (s .counts) (s′ .counts .types) (s′ .types)
+  pub kept : Kept (s .counts .types) (s .types) (s′ .types)
+
+-- The step's answer is the model's; a refusal leaves the state that was handed in, every byte (Q14); the state left is one that the next step can start from.
+pub record Step (s : State) (m : Res (System × Result)) (r : Served) : Type 0 where
+  pub is : servedAs r ≡ m
+  pub stays : (e : ℕ) → r .answer ≡ Refused e → r .state ≡ s
+  pub stored : Stored s (r .state)
+  pub sound : Sound (r .state)
+
+-- A reference that has crossed and is to be a cell: the types and the places as they have become, its static type and its place.
+abbrev pub arrived : State → List ℕ → ℕ → Places → ℕ → ℕ → Reference
+arrived s types n ps sort place = reference (tableIn types (s .links) (withCount (s .counts) n)) (placesIn ps) sort place
+
+pub record Arrives (s : State) (types : List ℕ) (n : ℕ) (ps : Places) (t p : ℕ) : Type 0 where
+  pub sound : Sound s
+  pub long : length types ≡ 16384
+  pub grew : Grew (s .counts) n types
+  pub kept : Kept (s .counts .types) (s .types) types
+  pub falling : Falling ps
+  pub typed : Typed ps (withCount (s .counts) n)
+  pub more : s .places .count ≤ ps .count
+  pub sort : t < n
+  pub place : p < ps .count
+
+-- the number of a sheet class, as `new` asks for it (N2)
+abbrev pub isSheetClass : Table → ℤ → Bool
+isSheetClass t a = names a (t .sheet) && isClass (typeAt t (named a))
