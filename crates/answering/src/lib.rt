@@ -137,7 +137,7 @@ fn answer_call(s: State, who: usize, j: usize, given: Given) -> Served
     give(s, who, j, x, c, given)
 }
 
-// Answer (subject, call, a value or nothing).
+// Answer (A).
 pub fn answer_step(s: State, subject: i64, call: i64, given: Given) -> Served
     requires { ⌜ Sound s ⌝ }
     ensures { λ r. ⌜ Step s (answerRequest (systemIn s) subject call (givenAs given)) r ⌝ }

@@ -43,8 +43,8 @@ fn from_zero(v: i64) -> i64
     v
 }
 
-// The cell that v names. Where it names none it is read as one of zeros, as in the model: an argument type that names no type of the table before the call (H14) may name
-// one that an earlier argument brought, and then its value was not looked at by C5.
+// The cell that v names. Where it names none it is read as one of zeros, as in the model. No state that passed the check comes to that (H6, C5), but `Sound` says
+// nothing of signatures.
 fn named_cell(cs: Cells, v: i64) -> Cell
     requires { ⌜ cs .count ≤ 256 ⌝ }
     ensures { λ r. ⌜ cellOf r ≡ getD (cellsIn cs) (named v) noCell ⌝ }
@@ -282,7 +282,7 @@ fn call_held(s: State, who: usize, k: usize, m: usize, vs: &[i64]) -> Served
     call_through(s, who, k, m, x, vs)
 }
 
-// Call (subject, cell, method, arguments).
+// Call (C).
 pub fn call_step(s: State, subject: i64, cell: i64, method: i64, arguments: &[i64]) -> Served
     requires { ⌜ Sound s ⌝ }
     ensures { λ r. ⌜ Step s (callRequest (systemIn s) subject cell method (now (arguments .entry))) r ⌝ }

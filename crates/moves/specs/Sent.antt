@@ -17,7 +17,7 @@ use Rattle.cross.specs.Crossed.{reference}
 abbrev pub sentTo : State → Places → ℕ → ℕ → ℕ → ℕ → Res (System × Result)
 sentTo s ps t p to r = try (cross (reference (tableIn (s .types) (s .links) (s .counts)) (placesIn ps) t p) to r) λ f. addCell (systemIn s) r f
 
--- what that asks: the places may be the state's with one more
+-- what that asks: at least as many places as the state has (new has one more)
 pub record Sends (s : State) (ps : Places) (p to r : ℕ) : Type 0 where
   pub sound : Sound s
   pub falling : Falling ps

@@ -70,7 +70,7 @@ pub fn new_step(s: State, subject: i64, class: i64, to: i64) -> Served
     send(s, made, sort, ps.count, target, owner)
 }
 
-// Move (M): another cell for the same object, perhaps behind one more adapter, with another holder and type.
+// Move (M): the reference in the cell crosses and becomes a cell of the receiver; the cell that is moved stays (M6).
 pub fn move_step(s: State, subject: i64, cell: i64, receiver: i64, to: i64) -> Served
     requires { ⌜ Sound s ⌝ }
     ensures { λ q. ⌜ Step s (moveRequest (systemIn s) subject cell receiver to) q ⌝ }

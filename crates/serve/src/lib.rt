@@ -27,7 +27,7 @@ pub fn new(s: State, subject: i64, class: i64, to: i64) -> Served
     moves::new_step(s, subject, class, to)
 }
 
-// Move: the subject's cell, once more, as the receiver's of type `to` (M).
+// Move: the reference in the subject's cell becomes one of the receiver, of type `to` (M).
 pub fn move_cell(s: State, subject: i64, cell: i64, receiver: i64, to: i64) -> Served
     ensures { λ r. ⌜ Serves s (move subject cell receiver to) r ⌝ }
 {
