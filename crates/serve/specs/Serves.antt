@@ -23,6 +23,8 @@ defined s q = need (systemAccepted (rawState s)) 2 λ _. serve (systemIn s) q
 abbrev pub leaves : State → Request → System
 leaves s q = after (systemIn s) (defined s q)
 
+-- It follows (proofs/Laws) that the state left means the definition's (`serves-means`), and that every record counted before is stored as it was but for the flag of an
+-- answered call (`serves-before`, Q15).
 pub record Serves (s : State) (q : Request) (r : Served) : Type 0 where
   -- the answer is the definition's, and so are all counts and every counted record of table, cells, places and calls (Q14, Q15)
   pub returns : Returns (rawState s) q (outcomeOf (r .answer)) (rawState (r .state))
