@@ -99,15 +99,30 @@ impl Relations {
         self.get(relation, target, source)
     }
 
-    /// "V a subtype of R, own not compared". Own types stand in no signature,
-    /// so only the outer pair can differ from subtype.
+    /// "V a subtype of R, own not compared": at the pair and at every pair that
+    /// signatures lead to. A handed-in derived type with own may be used again
+    /// inside a signature, so own is left out there too.
     pub fn subtype_own_not_compared(&self, table: &Table, target: TypeNo, source: TypeNo) -> bool {
-        let (t, s) = (&table.types[target], &table.types[source]);
-        same_representation(t, s)
-            && table.category_le(t.category, s.category)
-            && states_keep(Relation::Subtype, t, s, self.fault)
-            && shapes_agree(t, s)
-            && self.signatures_keep(Relation::Subtype, table, target, source)
+        let mut found = vec![false; MAX_TYPES * MAX_TYPES];
+        let mut left = vec![(target, source)];
+        while let Some((target, source)) = left.pop() {
+            if std::mem::replace(&mut found[target * MAX_TYPES + source], true) {
+                continue;
+            }
+            let (t, s) = (&table.types[target], &table.types[source]);
+            let keeps = same_representation(t, s)
+                && table.category_le(t.category, s.category)
+                && states_keep(Relation::Subtype, t, s, self.fault)
+                && shapes_agree(t, s);
+            if !keeps {
+                return false;
+            }
+            for (t, s) in both_permit(t, s) {
+                left.extend(s.arguments.iter().copied().zip(t.arguments.iter().copied()));
+                left.extend(t.answer.zip(s.answer));
+            }
+        }
+        true
     }
 
     /// "answers are related in the same direction and arguments with sides
