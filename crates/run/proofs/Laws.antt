@@ -9,11 +9,10 @@ use lib.IntN.{ℤ, pos}
 use lib.ListN.{length, getD, drop, drop-of-length-le}
 use lib.Seq.{sets, length-sets}
 use borrow.Author.Tests.{eq-eqb, ne-eqb, le-leb, lt-leb}
-use Rattle.model.specs.Basics.{Res, ok, need}
+use Rattle.model.specs.Basics.{Res, ok, need, names}
 use Rattle.model.specs.Requests.{System, Request, Result, Outcome, got, refused, serve, newRequest, moveRequest, callRequest, answerRequest, after, outcome}
 use Rattle.model.specs.Check.{systemOf, systemAccepted}
 use Rattle.operand.specs.Index.{indexOf}
-use Rattle.operand.proofs.Laws.{index-unknown, index-known}
 use Rattle.state.specs.declared.State.{State}
 use Rattle.state.specs.View.{rawState, systemIn}
 use Rattle.state.specs.Sound.{Sound}
@@ -23,7 +22,8 @@ use Rattle.steps.specs.declared.Served.{Served}
 use Rattle.steps.specs.Served.{outcomeOf, servedWith, refusal, Stored, Step}
 use Rattle.steps.proofs.Laws.{stored-self, stored-on, step-refuses}
 use Rattle.run.specs.declared.Ran.{Ran}
-use Rattle.run.specs.Requested.{byCode, request, requests, serveAsked, runAsked, runHanded}
+use Rattle.operand.specs.Coded.{byCode}
+use Rattle.run.specs.Requested.{request, requests, serveAsked, runAsked, runHanded}
 use Rattle.run.specs.Ran.{wordsOf, answersOf, room, AllRefused, RanAs, Runs, askedAt, nextAt}
 use Rattle.run.proofs.Words.{request-at, words-next}
 use Rattle.run.proofs.Whole.{serveEach, each-is-run}
@@ -72,13 +72,20 @@ module _ (m : System) (ws : List ℤ) where
   unfolding serveAsked serve
   answer-is h k = rw (ne-eqb (length ws) 2 h, eq-eqb (length ws) 3 k)
 
--- by the code
-module _ (code : ℤ) (ws : List ℤ) (k : ℕ) (e : k ≡ indexOf code 4) where
-  pub code-known : k < 4 → byCode k ws ≡ request code ws
-  code-known l = let d = index-known code 4 k e l in sym (rw (d .0, d .1))
+-- by the code: 4 is that of no request
+pub code-is : (code : ℤ) (ws : List ℤ) → byCode (indexOf code 4) ws ≡ request code ws
+code-is code ws = go (names code 4) refl
+  where
+    go : (b : Bool) → names code 4 ≡ b → byCode (indexOf code 4) ws ≡ request code ws
+    go true e = rw e
+    go false e = rw e
 
-  pub code-unknown : 4 ≤ k → request code ws ≡ none
-  code-unknown l = rw (index-unknown code 4 k e l)
+pub code-none : (k : ℕ) (ws : List ℤ) → (k ≡ 0 → ⊥) → (k ≡ 1 → ⊥) → (k ≡ 2 → ⊥) → (k ≡ 3 → ⊥) → byCode k ws ≡ none
+code-none zero ws a b c d = absurd (a refl)
+code-none (suc zero) ws a b c d = absurd (b refl)
+code-none (suc (suc zero)) ws a b c d = absurd (c refl)
+code-none (suc (suc (suc zero))) ws a b c d = absurd (d refl)
+code-none (suc (suc (suc (suc k)))) ws a b c d = refl
 
 -- ---- What a step leaves for those behind it.
 module _ (s : State) (m : Res (System × Result)) (r : Served) (h : Step s m r) where

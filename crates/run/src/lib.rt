@@ -10,7 +10,8 @@ ghost use Rattle.model.specs.Basics.{ok};
 ghost use Rattle.state.specs.View.{rawState, systemIn};
 ghost use Rattle.state.specs.Sound.{Sound};
 ghost use Rattle.steps.specs.Served.{outcomeOf, Step};
-ghost use Rattle.run.specs.Requested.{byCode, request, serveAsked, requests, runAsked, runHanded};
+ghost use Rattle.operand.specs.Coded.{byCode};
+ghost use Rattle.run.specs.Requested.{request, serveAsked, requests, runAsked, runHanded};
 ghost use Rattle.run.specs.Ran.{wordsOf, room, Runs, SmallAnswer, leftAt, countAt, askedAt, nextAt};
 use answering::Given;
 use operand::index_of;
@@ -145,12 +146,11 @@ fn serve_answer(s: State, ops: &[i64]) -> Served
     answering::answer_step(s, ops[0], ops[1], Given::Value(v))
 }
 
-// The request of a code and its operands: 1 where there is none such (U6).
-fn serve(s: State, code: i64, ops: &[i64]) -> Served
+// The request of a code and its operands: 1 where there is none such (U6). The script's lines are served by it too.
+pub fn serve_coded(s: State, k: usize, ops: &[i64]) -> Served
     requires { ⌜ Sound s ⌝ }
-    ensures { λ r. ⌜ Step s (serveAsked (systemIn s) (request code (now (ops .entry)))) r ⌝ }
+    ensures { λ r. ⌜ Step s (serveAsked (systemIn s) (byCode k (now (ops .entry)))) r ⌝ }
 {
-    let k = index_of(code, Ran::CODES);
     if k == Ran::NEW {
         return serve_new(s, ops);
     }
@@ -164,6 +164,15 @@ fn serve(s: State, code: i64, ops: &[i64]) -> Served
         return serve_answer(s, ops);
     }
     refused(s, 1)
+}
+
+// The same by a code as a word (U6).
+fn serve(s: State, code: i64, ops: &[i64]) -> Served
+    requires { ⌜ Sound s ⌝ }
+    ensures { λ r. ⌜ Step s (serveAsked (systemIn s) (request code (now (ops .entry)))) r ⌝ }
+{
+    let k = index_of(code, Ran::CODES);
+    serve_coded(s, k, ops)
 }
 
 // The request at `at` (U6, U7).

@@ -1,6 +1,6 @@
 -- Two operands for an answer of nothing, three with the value; else none such.
 use Rattle.state.specs.View.{systemIn}
-use Rattle.run.specs.Requested.{byCode}
+use Rattle.operand.specs.Coded.{byCode}
 use Rattle.run.proofs.Words.{is-read}
 use Rattle.run.proofs.Laws.{refuses, step-as, answer-none, nothing-is, answer-is}
 use native.Mathlib.Omega.{arith}

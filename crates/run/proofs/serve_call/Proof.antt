@@ -4,7 +4,7 @@ use lib.IntN.{pos}
 use lib.ListN.{getD}
 use Rattle.model.specs.Requests.{callRequest}
 use Rattle.state.specs.View.{systemIn}
-use Rattle.run.specs.Requested.{byCode}
+use Rattle.operand.specs.Coded.{byCode}
 use Rattle.run.proofs.Words.{is-read, all-behind}
 use Rattle.run.proofs.Laws.{refuses, step-as, call-none, call-is}
 use native.Mathlib.Omega.{arith}
