@@ -33,7 +33,7 @@ pub struct Asked {
 // 2 to the 63rd
 const HALF: usize = 9223372036854775808;
 
-// The numbers n and -n.
+// The signed number n.
 fn plus(n: usize) -> i64
     requires { ⌜ n < half ⌝ }
     ensures { λ r. ⌜ r ≡ pos n ⌝ }
@@ -41,6 +41,7 @@ fn plus(n: usize) -> i64
     n as i64
 }
 
+// The signed number -n, as one below 0 less n - 1: 2 to the 63rd itself has no positive number of 64 bits.
 fn minus(n: usize) -> i64
     requires { ⌜ (1 ≤ n) × (n ≤ half) ⌝ }
     ensures { λ r. ⌜ r ≡ negsuc (n - 1) ⌝ }
@@ -49,7 +50,7 @@ fn minus(n: usize) -> i64
     -1 - k
 }
 
-// A number with no sign (P9), and one that stands behind a `-`.
+// A number that was scanned with no sign in front: past 64 bits it is none (P9).
 fn unsigned(t: Number) -> Integer
     ensures is { λ r. ⌜ ((l : List ℕ) → integerBy l r ≡ bindScan (scanBy (λ n. n) l t) positive) ⌝ }
     ensures within { λ r. ⌜ ((size : ℕ) → ScanWithin size t → IntegerWithin size r) ⌝ }
@@ -63,6 +64,7 @@ fn unsigned(t: Number) -> Integer
     Integer::Right(plus(n), next)
 }
 
+// A number that was scanned behind a `-`: neither past 64 bits nor `-0` (P9).
 fn negated(t: Number) -> Integer
     ensures is { λ r. ⌜ ((l : List ℕ) → integerBy l r ≡ bindScan (scanBy (λ n. n) l t) negative) ⌝ }
     ensures within { λ r. ⌜ ((size : ℕ) → ScanWithin size t → IntegerWithin size r) ⌝ }
@@ -111,7 +113,7 @@ fn operand_at(l: &[u8], at: usize) -> Integer
     integer_at(l, at + 1)
 }
 
-// Whether the line ends behind its operands: at its end, but behind the two of an answer with ` -` (P8, P10).
+// Whether what stands behind the operands is right: nothing (P10), but ` -` behind the two of an answer that gives nothing (P8).
 fn ends(l: &[u8], at: usize, code: usize, count: usize) -> bool
     requires { ⌜ at ≤ length (now l) ⌝ }
     ensures { λ r. ⌜ ((ws : List ℤ) → length ws ≡ count → r ≡ same (ending code ws) (drop at (now (l .entry)))) ⌝ }
@@ -126,7 +128,7 @@ fn ends(l: &[u8], at: usize, code: usize, count: usize) -> bool
     textread::is_word(&l[at..n], b" -")
 }
 
-// Whether the request of a code can have so many operands.
+// Whether the request of a code can have so many operands (P5 to P8).
 fn fits(code: usize, count: usize) -> bool
     ensures { λ r. ⌜ r ≡ countFits code count ⌝ }
 {
@@ -148,7 +150,7 @@ fn fits(code: usize, count: usize) -> bool
     false
 }
 
-// Both.
+// Whether a line whose operands end at `at` asks something: it ends there, and their count is one of the code's.
 fn right_at(l: &[u8], at: usize, code: usize, count: usize) -> bool
     requires { ⌜ at ≤ length (now l) ⌝ }
     ensures { λ r. ⌜ ((ws : List ℤ) → length ws ≡ count → r ≡ (same (ending code ws) (drop at (now (l .entry))) && countFits code count)) ⌝ }

@@ -7,10 +7,14 @@ use Rattle.requestread.proofs.ends.Statement.{statement}
 use Rattle.requestread.proofs.ends.Tie as tie
 
 returns : tie.Need-returns
-returns c = let a = c .before .before .args in λ ws n. same-empty (a .l .now) (a .at) (c .before .before .pre) ∙ end-code (drop (a .at) (a .l .now)) (a .code) (a .count) (c .if1 .taken) ws
+returns c =
+    let c2 = c .before .before in
+    let a = c2 .args in λ ws n. same-empty (a .l .now) (a .at) (c2 .pre) ∙ end-code (drop (a .at) (a .l .now)) (a .code) (a .count) (c .if1 .taken) ws
 
 returns-2 : tie.Need-returns-2
-returns-2 c = let a = c .before .before .before .args in λ ws n. same-empty (a .l .now) (a .at) (c .before .before .before .pre) ∙ end-count (drop (a .at) (a .l .now)) (a .code) (a .count) (c .before .if1 .left) (c .if2 .taken) ws n
+returns-2 c =
+    let c3 = c .before .before .before in
+    let a = c3 .args in λ ws n. same-empty (a .l .now) (a .at) (c3 .pre) ∙ end-count (drop (a .at) (a .l .now)) (a .code) (a .count) (c .before .if1 .left) (c .if2 .taken) ws n
 
 sub-is-word : tie.Need-sub-is-word
 sub-is-word c = search needs
@@ -28,7 +32,11 @@ is-word-requires : tie.Need-is-word-requires
 is-word-requires c κs = search needs
 
 returns-3 : tie.Need-returns-3
-returns-3 c = let a = c .before .before .before .before .before .before .args in end-dash (a .l .now) (a .at) (a .code) (a .count) (c .is-word .result) (c .before .before .before .before .if1 .left) (c .before .before .before .if2 .left) (c .is-word .ensures)
+returns-3 c =
+    let c3 = c .before .before .before in
+    let c4 = c3 .before in
+    let c6 = c4 .before .before in
+    let a = c6 .args in end-dash (a .l .now) (a .at) (a .code) (a .count) (c .is-word .result) (c4 .if1 .left) (c3 .if2 .left) (c .is-word .ensures)
 
 pub ends-spec : {M : Type 1} → statement M
 ends-spec =

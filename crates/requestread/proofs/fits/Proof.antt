@@ -22,7 +22,11 @@ returns-5 : tie.Need-returns-5
 returns-5 c = let a = c .before .before .before .before .before .args in fits-three (a .code) (a .count) (c .before .if4 .taken) (c .if5 .left)
 
 returns-6 : tie.Need-returns-6
-returns-6 c = let a = c .before .before .before .before .args in fits-none (a .code) (a .count) (c .before .before .before .if1 .left) (c .before .before .if2 .left) (c .before .if3 .left) (c .if4 .left)
+returns-6 c =
+    let c2 = c .before .before in
+    let c3 = c2 .before in
+    let c4 = c3 .before in
+    let a = c4 .args in fits-none (a .code) (a .count) (c3 .if1 .left) (c2 .if2 .left) (c .before .if3 .left) (c .if4 .left)
 
 pub fits-spec : {M : Type 1} → statement M
 fits-spec = tie.close (tie.spec returns returns-2 returns-3 returns-4 returns-5 returns-6)

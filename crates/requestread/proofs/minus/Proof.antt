@@ -19,10 +19,13 @@ cast-k : tie.Need-cast-k
 cast-k c = search needs
 
 sub-result : tie.Need-sub-result
-sub-result c = let k = c .args .n - 1 in let h : k < half = omega arith in subst (λ (z : ℤ). SFits w64 (negsuc 0 -ℤ z)) (sym (signed k h)) (subst (SFits w64) (sym (below k)) (below-fits k h))
+sub-result c =
+    let k = c .args .n - 1 in let h : k < half = omega arith in subst (λ (z : ℤ). SFits w64 (negsuc 0 -ℤ z)) (sym (signed k h)) (subst (SFits w64) (sym (below k)) (below-fits k h))
 
 returns : tie.Need-returns
-returns c = let k = c .args .n - 1 in let h : k < half = omega arith in ap (λ (z : ℤ). toZ w64 (ofZ w64 (negsuc 0 -ℤ z))) (signed k h) ∙ ap (λ (z : ℤ). toZ w64 (ofZ w64 z)) (below k) ∙ toZ-ofZ (below-fits k h)
+returns c =
+    let k = c .args .n - 1 in let h : k < half = omega arith in
+    ap (λ (z : ℤ). toZ w64 (ofZ w64 (negsuc 0 -ℤ z))) (signed k h) ∙ ap (λ (z : ℤ). toZ w64 (ofZ w64 z)) (below k) ∙ toZ-ofZ (below-fits k h)
 
 pub minus-spec : {M : Type 1} → statement M
 minus-spec = tie.close (tie.spec sub-k cast-k sub-result returns)

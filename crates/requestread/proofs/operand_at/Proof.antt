@@ -23,7 +23,9 @@ integer-at-requires : tie.Need-integer-at-requires
 integer-at-requires c κs = search needs
 
 returns-3 : tie.Need-returns-3
-returns-3 c = let a = c .before .before .before .before .before .args in let h : a .at < length (a .l .now) = omega arith in (operand-space _ _ h _ (c .before .if2 .left) (c .integer-at .ensures .0), c .integer-at .ensures .1)
+returns-3 c =
+    let c5 = c .before .before .before .before .before in
+    let a = c5 .args in let h : a .at < length (a .l .now) = omega arith in (operand-space _ _ h _ (c .before .if2 .left) (c .integer-at .ensures .0), c .integer-at .ensures .1)
 
 pub operand-at-spec : {M : Type 1} → statement M
 operand-at-spec =
