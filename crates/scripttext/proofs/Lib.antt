@@ -1,1 +1,2 @@
+pub mod Long
 pub mod Short

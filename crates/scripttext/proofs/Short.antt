@@ -1,21 +1,21 @@
 -- The output is at most five bytes longer than the input. A request line is no shorter than the line printed for it: it has 12 bytes at least, a refusal's line has at most 6
 -- and a pair's at most 11, its numbers being below 1,000; and a number answered is the one that the line gave. What ends the program is one line of five bytes.
-use mathlib.Core.Path.{_≡_, refl, ap, sym, subst, _∙_}
+use mathlib.Core.Path.{_≡_, refl, ap, subst}
 use mathlib.Core.Logic.{inl, inr}
-use mathlib.Core.Bool.{Bool, true, false, So, not, cond, _&&_}
+use mathlib.Core.Bool.{Bool, true, false, not, cond, _&&_}
 use mathlib.Core.List.{List, [], _∷_, _++_, map, reverse}
 use mathlib.Core.Option.{Option, none, some}
 use Prim.Native.Nat.{ℕ, zero, suc, _+_, _/_, _%_, _≤_, _<_}
 use native.Mathlib.Nat.{div-lt-iff-lt-mul}
 use native.Mathlib.Omega.{arith}
 use lib.Dec.{eqb, ltb}
-use lib.IntN.{ℤ, pos, negsuc}
-use lib.ListN.{length, drop, length-append, length-drop}
-use borrow.Author.Tests.{ltb-true, ltb-false}
+use lib.IntN.{ℤ}
+use lib.ListN.{length, length-append, length-drop}
+use borrow.Author.Tests.{ltb-false}
 use Rattle.model.specs.Basics.{Res, refuse, ok, try, need, names, named}
-use Rattle.model.specs.Table.{Table, typeAt, isRef, isAvail, isClass, answerAt, methodAt, validSheet}
+use Rattle.model.specs.Table.{typeAt, isRef, isAvail, isClass, answerAt, methodAt}
 use Rattle.model.specs.Crossing.{object, maxPlaces, baseOwner, Reference, cross}
-use Rattle.model.specs.Requests.{System, Request, new, move, call, answer, Result, pair, number, nothing, Outcome, got, refused, outcome, maxCells, maxCalls, cellAt, callAt, isSheetRef, held, leaving, addCell, newRequest, moveRequest, wayOf, crossLayers, passLayers, send, argumentsHeld, sendArguments, callRequest, withAnswer, give, answerRequest, serve, after, run}
+use Rattle.model.specs.Requests.{System, Request, new, move, call, answer, Result, pair, number, nothing, got, outcome, maxCells, maxCalls, cellAt, callAt, isSheetRef, held, leaving, addCell, newRequest, moveRequest, wayOf, crossLayers, passLayers, send, argumentsHeld, sendArguments, callRequest, withAnswer, give, answerRequest, serve, after, run}
 use Rattle.model.specs.Requests.{loaded as start}
 use Rattle.model.specs.Claim.{follow}
 use Rattle.model.proofs.Steps.{IfOk, ok-need, ok-try}
@@ -32,6 +32,7 @@ use Rattle.sheet.proofs.Exact.{loaded-valid}
 use Rattle.sheet.proofs.Refusals.{refusal-number}
 use Rattle.requestread.specs.Asked.{requestLine}
 use Rattle.answerwrite.specs.Answers.{integerText, outcomeText}
+use Rattle.scripttext.proofs.Long.{least, line-long}
 use Rattle.scripttext.specs.Output.{maxInput, sheetEnd, asked, servedLines, sheetLines, sheetPart, requestPart, scriptOutput}
 
 -- ---- a number below 10 to the g has at most g digits
@@ -146,6 +147,13 @@ serve-few s h q = go (serve s q) (small-serve s q) (bounded-kept s h q) (serve-g
     go (ok x) n k g = few (x .0) k (x .1) n g
 
 -- ---- the line that is printed
+least-some : (q : Request) → 12 ≤ least q
+least-some (new a b c) = omega arith
+least-some (move a b c d) = omega arith
+least-some (call a b c vs) = omega arith
+least-some (answer a b none) = omega arith
+least-some (answer a b (some v)) = omega arith
+
 word-few : (key : List ℕ) (n : ℕ) → n < 1000 → length (numberText key n) ≤ length key + 3
 unfolding numberText
 word-few key n h = let k : length (decimal n) ≤ 3 = decimal-few n h in omega (arith, k, length-append key (decimal n))
@@ -161,69 +169,74 @@ split-size s = ap length (unsplit-split s)
 abbrev lastLine : Bool → List (List ℕ)
 lastLine b = cond b (bytes "no=1" ∷ []) []
 
-last-short : (b : Bool) → length (join (lastLine b)) ≤ 5
-unfolding join
-last-short true = omega arith
-last-short false = omega arith
+number-short : (l : List ℕ) (q : Request) (v : ℤ) → requestLine l ≡ some q → Gives q v → length (outcomeText (got (number v))) ≤ length l
+unfolding outcomeText
+number-short l (new a b c) v e g = absurd g
+number-short l (move a b c d) v e g = absurd g
+number-short l (call a b c vs) v e g = absurd g
+number-short l (answer a b none) v e g = absurd g
+number-short l (answer a b (some w)) v e g = let k : 14 + length (integerText v) ≤ length l = subst (λ z. 14 + length (integerText z) ≤ length l) g (line-long l (answer a b (some w)) e) in
+    omega (arith, k, length-append (bytes "got=") (integerText v))
 
-module _ (long : (l : List ℕ) (q : Request) → requestLine l ≡ some q → 12 ≤ length l)
-    (given : (l : List ℕ) (a b v : ℤ) → requestLine l ≡ some (answer a b (some v)) → 14 + length (integerText v) ≤ length l) where
-  number-short : (l : List ℕ) (q : Request) (v : ℤ) → requestLine l ≡ some q → Gives q v → length (outcomeText (got (number v))) ≤ length l
-  unfolding outcomeText
-  number-short l (new a b c) v e g = absurd g
-  number-short l (move a b c d) v e g = absurd g
-  number-short l (call a b c vs) v e g = absurd g
-  number-short l (answer a b none) v e g = absurd g
-  number-short l (answer a b (some w)) v e g = let k : 14 + length (integerText v) ≤ length l = subst (λ z. 14 + length (integerText z) ≤ length l) g (given l a b w e) in
-      omega (arith, k, length-append (bytes "got=") (integerText v))
+line-short : (l : List ℕ) (q : Request) → requestLine l ≡ some q → (s : System) → Bounded s → length (outcomeText (outcome (serve s q))) ≤ length l
+unfolding outcomeText
+line-short l q e s h = go (serve s q) (small-serve s q) (serve-few s h q)
+  where
+    k : 12 ≤ length l
+    k = omega (arith, least-some q, line-long l q e)
 
-  line-short : (l : List ℕ) (q : Request) → requestLine l ≡ some q → (s : System) → Bounded s → length (outcomeText (outcome (serve s q))) ≤ length l
-  unfolding outcomeText
-  line-short l q e s h = go (serve s q) (small-serve s q) (serve-few s h q)
-    where
-      k : 12 ≤ length l
-      k = long l q e
+    result : (x : Result) → Few q x → length (outcomeText (got x)) ≤ length l
+    result (pair a b) w = omega (arith, k, word-few (bytes "got=") a (w .0), word-few (bytes " ") b (w .1), length-append (numberText (bytes "got=") a) (numberText (bytes " ") b))
+    result (number v) w = number-short l q v e w
+    result nothing w = omega (arith, k)
 
-      result : (x : Result) → Few q x → length (outcomeText (got x)) ≤ length l
-      result (pair a b) w = omega (arith, k, word-few (bytes "got=") a (w .0), word-few (bytes " ") b (w .1), length-append (numberText (bytes "got=") a) (numberText (bytes " ") b))
-      result (number v) w = number-short l q v e w
-      result nothing w = omega (arith, k)
+    go : (m : Res (System × Result)) → Small (λ (x : System × Result). Named s (x .0) (x .1)) m → IfOk m (λ x. Few q (x .1)) → length (outcomeText (outcome m)) ≤ length l
+    go (refuse n) w f = omega (arith, k, word-few (bytes "no=") n (omega (arith, w .1)))
+    go (ok x) w f = result (x .1) f
 
-      go : (m : Res (System × Result)) → Small (λ (x : System × Result). Named s (x .0) (x .1)) m → IfOk m (λ x. Few q (x .1)) → length (outcomeText (outcome m)) ≤ length l
-      go (refuse n) w f = omega (arith, k, word-few (bytes "no=") n (omega (arith, w .1)))
-      go (ok x) w f = result (x .1) f
+abbrev printed : System → List Request × Bool → List (List ℕ)
+printed s x = map outcomeText (run s (x .0) .0) ++ lastLine (x .1)
 
-  abbrev printed : System → List Request × Bool → List (List ℕ)
-  printed s x = map outcomeText (run s (x .0) .0) ++ lastLine (x .1)
+served-short : (rs : List Row) (s : System) → Bounded s → length (join (printed s (asked rs))) ≤ size rs + 5
+unfolding asked run join
+served-short [] s h = omega arith
+served-short (cut l ∷ rs) s h = omega arith
+served-short (row l ∷ rs) s h = go (requestLine l) refl (λ s h. served-short rs s h)
+  where
+    go : (o : Option Request) → requestLine l ≡ o → ((s : System) → Bounded s → length (join (printed s (asked rs))) ≤ size rs + 5)
+        → length (join (printed s (elim o [ none ↦ ([], true) | some q ↦ (q ∷ asked rs .0, asked rs .1) ]))) ≤ length (l ++ 10 ∷ unsplit rs) + 5
+    go none e ih = omega arith
+    go (some q) e ih =
+        let a = serve s q in let x = outcomeText (outcome a) in let r = join (printed (after s a) (asked rs)) in
+        let i : length r ≤ size rs + 5 = ih (after s a) (bounded-kept s h q) in
+        let u : length x ≤ length l = line-short l q e s h in
+        omega (arith, i, u, length-append x (10 ∷ r), length-append l (10 ∷ unsplit rs))
 
-  served-short : (rs : List Row) (s : System) → Bounded s → length (join (printed s (asked rs))) ≤ size rs + 5
-  unfolding asked run join
-  served-short [] s h = omega arith
-  served-short (cut l ∷ rs) s h = omega arith
-  served-short (row l ∷ rs) s h = go (requestLine l) refl (λ s h. served-short rs s h)
-    where
-      go : (o : Option Request) → requestLine l ≡ o → ((s : System) → Bounded s → length (join (printed s (asked rs))) ≤ size rs + 5)
-          → length (join (printed s (elim o [ none ↦ ([], true) | some q ↦ (q ∷ asked rs .0, asked rs .1) ]))) ≤ length (l ++ 10 ∷ unsplit rs) + 5
-      go none e ih = omega arith
-      go (some q) e ih =
-          let a = serve s q in let x = outcomeText (outcome a) in let r = join (printed (after s a) (asked rs)) in
-          let i : length r ≤ size rs + 5 = ih (after s a) (bounded-kept s h q) in
-          let u : length x ≤ length l = line-short l q e s h in
-          omega (arith, i, u, length-append x (10 ∷ r), length-append l (10 ∷ unsplit rs))
+sheet-short : (p s : List ℕ) (a : SheetAnswer) → read p ≡ a → length (join (sheetLines a (split s))) ≤ length s + 5
+unfolding join numberText servedLines follow
+sheet-short p s (malformed n at) e = let k = refusal-number p n at e in let d = digits-few 20 0 n (omega (arith, k .1)) in
+    omega (arith, d, length-append (bytes "no=") (decimal n), length-append (numberText (bytes "no=") n) (10 ∷ []))
+sheet-short p s (loaded t) e = omega (arith, served-short (split s) (start t) (fits-bounded (start t) (reached-fits t (loaded-valid p t e) [])), split-size s)
 
-  sheet-short : (p s : List ℕ) (a : SheetAnswer) → read p ≡ a → length (join (sheetLines a (split s))) ≤ length s + 5
-  unfolding join numberText servedLines follow
-  sheet-short p s (malformed n at) e = let k = refusal-number p n at e in let d = digits-few 20 0 n (omega (arith, k .1)) in
-      omega (arith, d, length-append (bytes "no=") (decimal n), length-append (numberText (bytes "no=") n) (10 ∷ []))
-  sheet-short p s (loaded t) e = omega (arith, served-short (split s) (start t) (fits-bounded (start t) (reached-fits t (loaded-valid p t e) [])), split-size s)
+abbrev outLines : List ℕ → Bool → List (List ℕ)
+outLines s b = cond b (bytes "no=2" ∷ []) (sheetLines (read (sheetPart s)) (split (requestPart s)))
 
-  pub output-short : (s : List ℕ) → length (scriptOutput s) ≤ length s + 5
-  unfolding scriptOutput join
-  output-short s = go (ltb maxInput (length s))
-    where
-      rest : List (List ℕ)
-      rest = sheetLines (read (sheetPart s)) (split (requestPart s))
+read-short : (s : List ℕ) → length (join (outLines s false)) ≤ length s + 5
+read-short s = omega (arith, sheet-short (sheetPart s) (requestPart s) (read (sheetPart s)) refl, length-drop (sheetEnd s) s)
 
-      go : (b : Bool) → length (join (cond b (bytes "no=2" ∷ []) rest)) ≤ length s + 5
-      go true = omega arith
-      go false = omega (arith, sheet-short (sheetPart s) (requestPart s) (read (sheetPart s)) refl, length-drop (sheetEnd s) s)
+pub output-short : (s : List ℕ) → length (scriptOutput s) ≤ length s + 5
+unfolding scriptOutput join
+output-short s = go (ltb maxInput (length s))
+  where
+    go : (b : Bool) → length (join (outLines s b)) ≤ length s + 5
+    go true = omega arith
+    go false = read-short s
+
+-- so that room for the longest input and five bytes more is enough for every input
+pub output-fits : (s : List ℕ) → length (scriptOutput s) ≤ maxInput + 5
+unfolding scriptOutput join
+output-fits s = go (ltb maxInput (length s)) refl
+  where
+    go : (b : Bool) → ltb maxInput (length s) ≡ b → length (join (outLines s b)) ≤ maxInput + 5
+    go true e = omega arith
+    go false e = let l : length s ≤ maxInput = ltb-false maxInput (length s) e in omega (arith, read-short s)

@@ -13,24 +13,25 @@ use lib.ListN.{length, take, drop, getElem?, length-append, length-drop}
 use lib.Seq.{take-append-seam, drop-append-seam}
 use borrow.Author.Tests.{leb-true, leb-false, ne-eqb, lt-ltb, le-ltb}
 use Rattle.model.specs.Basics.{Res, refuse, ok}
-use Rattle.model.specs.Table.{Table, validSheet}
+use Rattle.model.specs.Table.{Table}
 use Rattle.model.specs.Requests.{System, Request, call, Result, pair, number, nothing, Outcome, got, refused, outcome, serve, after, run}
 use Rattle.model.specs.Requests.{loaded as start}
 use Rattle.model.specs.Book.{Book, opened}
-use Rattle.model.specs.Claim.{accepted, feed, follow, reached}
+use Rattle.model.specs.Claim.{accepted, feed, follow}
 use Rattle.model.proofs.Rules.{both, never}
 use Rattle.model.proofs.Steps.{IfOk}
 use Rattle.sheet.specs.Lines.{Row, row, cut, bytes, split, join, starts, firstLine}
 use Rattle.sheet.specs.Numbers.{decimal, decimalIn}
 use Rattle.sheet.specs.Text.{numberText, Written, writeText}
 use Rattle.sheet.specs.Sheet.{SheetAnswer, malformed, loaded, read}
-use Rattle.sheet.proofs.Lines.{rows, rows-append, notLF, clean, Clean, clean-lines, all-append, split-full}
+use Rattle.sheet.proofs.Lines.{rows, notLF, clean, Clean, clean-lines, all-append, split-full}
 use Rattle.sheet.proofs.Exact.{loaded-valid, loaded-demand3}
 use Rattle.requestread.specs.Asked.{requestLine}
 use Rattle.answerwrite.specs.Answers.{integerText, outcomeText}
 use Rattle.scripttext.specs.Output.{maxInput, sheetPart, requestPart, asked, servedLines, sheetLines, scriptOutput}
+use Rattle.scripttext.proofs.Short.{output-short, output-fits}
 use Rattle.theorem.specs.Shown.{Permitted}
-use Rattle.theorem.specs.Scripted.{Fits, TooShort, lineOf, requestsOf, endsMalformed, stateAfter, bookAfter, Served, Script, ShownOfScripts}
+use Rattle.theorem.specs.Scripted.{Fits, TooShort, lineOf, requestsOf, endsMalformed, stateAfter, bookAfter, Served, ShownOfScripts}
 use Rattle.theorem.proofs.Calls.{call-tested, tested-permitted}
 
 -- ---- the buffer
@@ -180,9 +181,16 @@ module _ (input : List ℕ) where
       calls = calls;
     }
 
+enough : (input old : List ℕ) (w : Written) → Fits (scriptOutput input) old w ⊎ TooShort (scriptOutput input) old w → length (scriptOutput input) ≤ length old
+    → Fits (scriptOutput input) old w
+enough input old w (inl f) h = f
+enough input old w (inr s) h = absurd (omega (arith, s .short))
+
 pub shown-of-scripts : ShownOfScripts
-shown-of-scripts input old w e = record {
-  buffer = subst (λ z. Fits (scriptOutput input) old z ⊎ TooShort (scriptOutput input) old z) (sym e) (written (scriptOutput input) old);
+shown-of-scripts input old w e = let b = subst (λ z. Fits (scriptOutput input) old z ⊎ TooShort (scriptOutput input) old z) (sym e) (written (scriptOutput input) old) in record {
+  buffer = b;
+  room = λ h. enough input old w b (omega (arith, output-short input));
+  always = λ h. enough input old w b (omega (arith, output-fits input));
   long = output-long input;
   refused = λ small n at r. output-is input small (malformed n at) r;
   served = served input;

@@ -6,7 +6,7 @@ use mathlib.Core.Logic.{_⊎_}
 use mathlib.Core.Bool.{Bool, So, cond}
 use mathlib.Core.List.{List, [], _∷_}
 use mathlib.Core.Option.{some}
-use Prim.Native.Nat.{ℕ, _≤_, _<_}
+use Prim.Native.Nat.{ℕ, _+_, _≤_, _<_}
 use lib.IntN.{ℤ}
 use lib.ListN.{length, take, drop, getElem?}
 use Rattle.model.specs.Basics.{refuse, ok}
@@ -72,6 +72,9 @@ pub record Served (input : List ℕ) (t : Table) : Type 0 where
 -- ---- The theorem
 pub record Script (input old : List ℕ) (w : Written) : Type 0 where
   pub buffer : Fits (scriptOutput input) old w ⊎ TooShort (scriptOutput input) old w
+  -- five bytes more than the input has are enough, and 32,773 for every input
+  pub room : length input + 5 ≤ length old → Fits (scriptOutput input) old w
+  pub always : maxInput + 5 ≤ length old → Fits (scriptOutput input) old w
   -- input past the limit (P1), a refused sheet (P3), and a sheet that is read
   pub long : maxInput < length input → scriptOutput input ≡ join (bytes "no=2" ∷ [])
   pub refused : length input ≤ maxInput → (n at : ℕ) → read (sheetPart input) ≡ malformed n at → scriptOutput input ≡ join (numberText (bytes "no=") n ∷ [])
