@@ -5,10 +5,10 @@ use Rattle.model.specs.Requests.{answer}
 use Rattle.flat.specs.Flat.{flat}
 use Rattle.handing.proofs.Small.{served-small}
 use Rattle.handing.proofs.Handing.{request-unfit, request-handed}
-use Rattle.exports.specs.States.{givenIn}
+use Rattle.exports_states.specs.States.{givenIn}
 use borrow.Author.Needs.{needs}
-use Rattle.exports.proofs.states.pilgonca_answer.Statement.{statement}
-use Rattle.exports.proofs.states.pilgonca_answer.Tie as tie
+use Rattle.exports_states.proofs.pilgonca_answer.Statement.{statement}
+use Rattle.exports_states.proofs.pilgonca_answer.Tie as tie
 
 element-copy-out-codes-fit : tie.Need-element-copy-out-codes-fit
 element-copy-out-codes-fit c = search needs

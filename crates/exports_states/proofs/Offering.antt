@@ -13,7 +13,7 @@ use Rattle.state.specs.View.{rawState}
 use Rattle.flat.specs.Flat.{Flat, rawFlat, stateFrom}
 use Rattle.flat.proofs.Laws.{codesIn, read-counted, codes-refused}
 use Rattle.offers.specs.Chained.{offersNamed, offersHanded}
-use Rattle.exports.specs.States.{givenIn, offeredOut}
+use Rattle.exports_states.specs.States.{givenIn, offeredOut}
 
 module _ (f : Flat) (z : ℤ) (w : List ℤ) where
   abbrev asked : Bool → System → Res Bool

@@ -17,8 +17,7 @@ use Rattle.cross.specs.Crossed.{Grew}
 use Rattle.flat.specs.Flat.{Flat, countsIn, cellCount, placeCount, callCount, rawFlat}
 use Rattle.run.specs.Ran.{answersOf}
 use Rattle.sheet.specs.Sheet.{SheetAnswer}
-use Rattle.sheetread.specs.View.{answered}
-use Rattle.exports.specs.Codes.{sheetOf}
+use Rattle.sheetread.specs.View.{answered, sheetOf}
 
 -- what is given as an answer: nothing for 0, else the value
 abbrev pub givenIn : ℕ → ℤ → Option ℤ
@@ -36,7 +35,7 @@ noBytes n = replicate n 0
 
 -- Where `a` is the reader's answer: number, offset and table are its parts, as `pilgonca_read` hands them out; no cell, place or call is counted, and every byte of theirs is 0.
 pub record LoadedIs (a : SheetAnswer) (n at : ℕ) (f : Flat) : Type 0 where
-  pub sheet : sheetOf n at (f .types) (f .links) (f .counts) ≡ answered a
+  pub sheet : sheetOf n at (f .types) (f .links) (countsIn (f .counts)) ≡ answered a
   pub cells : f .cells ≡ noBytes 768
   pub places : f .places ≡ noBytes 384
   pub calls : f .calls ≡ noBytes 1024

@@ -9,7 +9,7 @@ ghost use Rattle.answering.specs.Given.{givenAs};
 ghost use Rattle.offers.specs.Chained.{offersHanded, offeredAs};
 ghost use Rattle.run.specs.Requested.{runHanded};
 ghost use Rattle.run.specs.Ran.{room};
-ghost use Rattle.exports.specs.States.{givenIn, offeredOut, noBytes, LoadedIs, lentRun, RunsOut};
+ghost use Rattle.exports_states.specs.States.{givenIn, offeredOut, noBytes, LoadedIs, lentRun, RunsOut};
 use answering::Given;
 use flat::CALL_BYTES;
 use flat::CELL_BYTES;
