@@ -3,9 +3,9 @@
 -- The code comes in by the contract of its entry point alone: `Written` is the answer and the buffer that it leaves (W1, W2). Proof: proofs/Scripted.
 use mathlib.Core.Path.{_≡_}
 use mathlib.Core.Logic.{_⊎_}
-use mathlib.Core.Bool.{Bool, So, cond}
+use mathlib.Core.Bool.{Bool, false, So, cond}
 use mathlib.Core.List.{List, [], _∷_}
-use mathlib.Core.Option.{some}
+use mathlib.Core.Option.{none, some}
 use Prim.Native.Nat.{ℕ, _+_, _≤_, _<_}
 use lib.IntN.{ℤ}
 use lib.ListN.{length, take, drop, getElem?}
@@ -58,7 +58,10 @@ bookAfter input t k = reached t (take k (requestsOf input)) .1
 pub record Served (input : List ℕ) (t : Table) : Type 0 where
   -- request k is what line k behind the sheet asks
   pub asks : (k : ℕ) (q : Request) → getElem? (requestsOf input) k ≡ some q → requestLine (lineOf (requestPart input) k) ≡ some q
-  -- line k of the output is what it comes to on the state that the k requests before it left (P4, P12, P13)
+  -- there are no more of them because the next line is malformed, or because no line is left (P11)
+  pub stops : So (endsMalformed input) → requestLine (lineOf (requestPart input) (length (requestsOf input))) ≡ none
+  pub all : endsMalformed input ≡ false → drop (length (requestsOf input)) (split (requestPart input)) ≡ []
+  -- line k of the output is what request k comes to on the state that the k requests before it left (P4, P12, P13)
   pub prints : (k : ℕ) (q : Request) → getElem? (requestsOf input) k ≡ some q → lineOf (scriptOutput input) k ≡ outcomeText (outcome (serve (stateAfter input t k) q))
   -- behind these lines stands `no=1` for a malformed line, and nothing else
   pub ends : drop (length (requestsOf input)) (split (scriptOutput input)) ≡ cond (endsMalformed input) (row (bytes "no=1") ∷ []) []
