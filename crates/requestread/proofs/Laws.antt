@@ -24,7 +24,7 @@ use Rattle.textread.specs.View.{scanBy, ScanWithin}
 use Rattle.textread.specs.declared.Number.{Number}
 use Rattle.textread.specs.declared.Number.the-variants.{Wrong as Wrongⁿ, Right as Rightⁿ}
 use Rattle.textread.proofs.Laws.{from-here, at-end}
-use Rattle.requestread.specs.Asked.{half, positive, negative, integer, operand, operands, ending, requestBy, word, requestLine}
+use Rattle.requestread.specs.Asked.{half, positive, negative, integer, operand, operands, leftover, requestBy, word, requestLine}
 use Rattle.requestread.specs.Read.{integerBy, IntegerWithin, countFits, Reads}
 use Rattle.requestread.specs.declared.Integer.{Integer}
 use Rattle.requestread.specs.declared.Integer.the-variants.{Wrong, Right}
@@ -142,17 +142,17 @@ integer-within size t v next e h = subst (IntegerWithin size) e h
 
 -- ---- The line's end
 pub end-dash : (l : List ℕ) (at k count : ℕ) (r : Bool) → k ≡ 3 → count ≡ 2 → r ≡ same (bytes " -") (take (length l - at) (drop at l)) → (ws : List ℤ) → length ws ≡ count
-    → r ≡ same (ending k ws) (drop at l)
+    → r ≡ same (leftover k ws) (drop at l)
 end-dash l at k count r e c q ws n =
     let d : length (drop at l) ≤ length l - at = let e : length (drop at l) ≡ length l - at = length-drop at l in omega arith in
     q ∙ ap (λ z. same (bytes " -") z) (take-all (length l - at) (drop at l) d)
     ∙ ap (λ z. same (cond z (bytes " -") []) (drop at l)) (sym (both (eq-eqb k 3 e) (eq-eqb (length ws) 2 (n ∙ c))))
 
 module _ (l : List ℕ) (k count : ℕ) where
-  pub end-code : (k ≡ 3 → ⊥) → (ws : List ℤ) → same [] l ≡ same (ending k ws) l
+  pub end-code : (k ≡ 3 → ⊥) → (ws : List ℤ) → same [] l ≡ same (leftover k ws) l
   end-code e ws = ap (λ z. same (cond (z && eqb (length ws) 2) (bytes " -") []) l) (sym (ne-eqb k 3 e))
 
-  pub end-count : k ≡ 3 → (count ≡ 2 → ⊥) → (ws : List ℤ) → length ws ≡ count → same [] l ≡ same (ending k ws) l
+  pub end-count : k ≡ 3 → (count ≡ 2 → ⊥) → (ws : List ℤ) → length ws ≡ count → same [] l ≡ same (leftover k ws) l
   end-count e c ws n = ap (λ z. same (cond z (bytes " -") []) l) (sym (ap (λ z. z && eqb (length ws) 2) (eq-eqb k 3 e) ∙ ne-eqb (length ws) 2 (λ q. c (sym n ∙ q))))
 
 pub same-empty : (l : List ℕ) (at : ℕ) → at ≤ length l → eqb at (length l) ≡ same [] (drop at l)
@@ -208,11 +208,11 @@ module _ (l : List ℕ) (at k : ℕ) (items : List ℤ) (count next : ℕ) (is :
   pub taken : length ws ≡ count
   taken = length-take-le count items (omega arith)
 
-  by-word : cond (same (ending k ws) (drop next l)) (byCode k ws) none ≡ requestBy k (drop at l)
-  by-word = ap (λ (z : Rest). cond (same (ending k (z .0)) (z .1)) (byCode k (z .0)) none) is
+  by-word : cond (same (leftover k ws) (drop next l)) (byCode k ws) none ≡ requestBy k (drop at l)
+  by-word = ap (λ (z : Rest). cond (same (leftover k (z .0)) (z .1)) (byCode k (z .0)) none) is
 
-  pub reads : (right : Bool) → right ≡ (same (ending k ws) (drop next l) && countFits k count) → Reads (requestBy k (drop at l)) (record { right = right; code = k; count = count; items = items })
-  reads right e = subst (λ z. Reads z (record { right = right; code = k; count = count; items = items })) by-word (go (same (ending k ws) (drop next l)) e)
+  pub reads : (right : Bool) → right ≡ (same (leftover k ws) (drop next l) && countFits k count) → Reads (requestBy k (drop at l)) (record { right = right; code = k; count = count; items = items })
+  reads right e = subst (λ z. Reads z (record { right = right; code = k; count = count; items = items })) by-word (go (same (leftover k ws) (drop next l)) e)
     where
       go : (b : Bool) → right ≡ (b && countFits k count) → Reads (cond b (byCode k ws) none) (record { right = right; code = k; count = count; items = items })
       go true e =

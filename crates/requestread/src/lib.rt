@@ -9,7 +9,7 @@ ghost use lib.ListN.{length, drop};
 ghost use Rattle.sheet.specs.Lines.{same};
 ghost use Rattle.sheet.specs.Numbers.{bindScan};
 ghost use Rattle.textread.specs.View.{scanBy, ScanWithin};
-ghost use Rattle.requestread.specs.Asked.{half, positive, negative, integer, operand, ending, requestBy, requestLine};
+ghost use Rattle.requestread.specs.Asked.{half, positive, negative, integer, operand, leftover, requestBy, requestLine};
 ghost use Rattle.requestread.specs.Read.{integerBy, IntegerWithin, countFits, Reads};
 use textread::Number;
 
@@ -116,7 +116,7 @@ fn operand_at(l: &[u8], at: usize) -> Integer
 // Whether what stands behind the operands is right: nothing (P10), but ` -` behind the two of an answer that gives nothing (P8).
 fn ends(l: &[u8], at: usize, code: usize, count: usize) -> bool
     requires { ⌜ at ≤ length (now l) ⌝ }
-    ensures { λ r. ⌜ ((ws : List ℤ) → length ws ≡ count → r ≡ same (ending code ws) (drop at (now (l .entry)))) ⌝ }
+    ensures { λ r. ⌜ ((ws : List ℤ) → length ws ≡ count → r ≡ same (leftover code ws) (drop at (now (l .entry)))) ⌝ }
 {
     let n = l.len();
     if code != 3 {
@@ -153,7 +153,7 @@ fn fits(code: usize, count: usize) -> bool
 // Whether a line whose operands end at `at` asks something: it ends there, and their count is one of the code's.
 fn right_at(l: &[u8], at: usize, code: usize, count: usize) -> bool
     requires { ⌜ at ≤ length (now l) ⌝ }
-    ensures { λ r. ⌜ ((ws : List ℤ) → length ws ≡ count → r ≡ (same (ending code ws) (drop at (now (l .entry))) && countFits code count)) ⌝ }
+    ensures { λ r. ⌜ ((ws : List ℤ) → length ws ≡ count → r ≡ (same (leftover code ws) (drop at (now (l .entry))) && countFits code count)) ⌝ }
 {
     if !ends(l, at, code, count) {
         return false;

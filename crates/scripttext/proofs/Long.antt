@@ -17,7 +17,7 @@ use Rattle.sheet.specs.Numbers.{Scan, fail, took, number, decimal, decimalIn}
 use Rattle.sheet.proofs.Steps.{cond-cases, fail-took, took-value, took-rest, bindScan-took}
 use Rattle.sheet.proofs.Numbers.{number-sound}
 use Rattle.sheet.proofs.Lines.{starts-sound, same-sound}
-use Rattle.requestread.specs.Asked.{half, positive, negative, integer, operand, operands, ending, requestBy, word, requestLine}
+use Rattle.requestread.specs.Asked.{half, positive, negative, integer, operand, operands, leftover, requestBy, word, requestLine}
 use Rattle.answerwrite.specs.Answers.{integerText}
 
 -- ---- one operand
@@ -104,7 +104,7 @@ three (a ∷ []) h = absurd (omega arith)
 three (a ∷ b ∷ []) h = absurd (omega arith)
 three (a ∷ b ∷ c ∷ ws) h = let i : 1 ≤ length (integerText a) = integer-some a in let j : 1 ≤ length (integerText b) = integer-some b in omega arith
 
-code-long : (k : ℕ) (ws : List ℤ) (q : Request) → byCode k ws ≡ some q → least q ≤ length (word k) + (spaced ws + length (ending k ws))
+code-long : (k : ℕ) (ws : List ℤ) (q : Request) → byCode k ws ≡ some q → least q ≤ length (word k) + (spaced ws + length (leftover k ws))
 code-long zero ws q h = cond-cases (eqb (length ws) 3) h
     (λ o e. let n : length ws ≡ 3 = eqb-true (length ws) 3 o in let l = spaced-low ws in subst (λ z. least z ≤ 6 + (spaced ws + 0)) (some-value e) (omega (arith, n, l)))
     (λ o e. none-some e)
@@ -116,10 +116,10 @@ code-long (suc (suc zero)) ws q h = cond-cases (leb 3 (length ws)) h
     (λ o e. none-some e)
 code-long (suc (suc (suc zero))) ws q h = cond-cases (eqb (length ws) 2) h
     (λ o e. let n : length ws ≡ 2 = eqb-true (length ws) 2 o in let l = spaced-low ws in
-    subst (λ z. least z ≤ 9 + (spaced ws + length (ending 3 ws))) (some-value e) (rw o (omega (arith, n, l))))
+    subst (λ z. least z ≤ 9 + (spaced ws + length (leftover 3 ws))) (some-value e) (rw o (omega (arith, n, l))))
     (λ o e. cond-cases (eqb (length ws) 3) e
     (λ u e. let n : length ws ≡ 3 = eqb-true (length ws) 3 u in let l = three ws n in
-    subst (λ z. least z ≤ 9 + (spaced ws + length (ending 3 ws))) (some-value e) (omega (arith, l)))
+    subst (λ z. least z ≤ 9 + (spaced ws + length (leftover 3 ws))) (some-value e) (omega (arith, l)))
     (λ u e. none-some e))
 code-long (suc (suc (suc (suc k)))) ws q h = none-some h
 
@@ -128,9 +128,9 @@ by-long k l q o h =
     let r = drop (length (word k)) l in let x = operands 7 [] r in
     let n : length l ≡ length (word k) + length r = ap length (starts-sound (word k) l o) ∙ length-append (word k) r in
     let p : 0 + length r ≡ spaced (x .0) + length (x .1) = operands-long 7 [] r in
-    cond-cases (same (ending k (x .0)) (x .1)) h
-    (λ s e. let i : least q ≤ length (word k) + (spaced (x .0) + length (ending k (x .0))) = code-long k (x .0) q e in
-    let j : length (x .1) ≡ length (ending k (x .0)) = ap length (same-sound (ending k (x .0)) (x .1) s) in omega arith)
+    cond-cases (same (leftover k (x .0)) (x .1)) h
+    (λ s e. let i : least q ≤ length (word k) + (spaced (x .0) + length (leftover k (x .0))) = code-long k (x .0) q e in
+    let j : length (x .1) ≡ length (leftover k (x .0)) = ap length (same-sound (leftover k (x .0)) (x .1) s) in omega arith)
     (λ s e. none-some e)
 
 pub line-long : (l : List ℕ) (q : Request) → requestLine l ≡ some q → least q ≤ length l

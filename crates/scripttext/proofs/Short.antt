@@ -33,7 +33,7 @@ use Rattle.sheet.proofs.Refusals.{refusal-number}
 use Rattle.requestread.specs.Asked.{requestLine}
 use Rattle.answerwrite.specs.Answers.{integerText, outcomeText}
 use Rattle.scripttext.proofs.Long.{least, line-long}
-use Rattle.scripttext.specs.Output.{maxInput, sheetEnd, asked, servedLines, sheetLines, sheetPart, requestPart, scriptOutput}
+use Rattle.scripttext.specs.Output.{maxInput, sheetEnd, asked, servedLines, printedLines, sheetPart, requestPart, scriptOutput}
 
 -- ---- a number below 10 to the g has at most g digits
 digits-few : (f g n : ℕ) → n < bound (suc g) → length (decimalIn f n) ≤ suc g
@@ -212,14 +212,14 @@ served-short (row l ∷ rs) s h = go (requestLine l) refl (λ s h. served-short 
         let u : length x ≤ length l = line-short l q e s h in
         omega (arith, i, u, length-append x (10 ∷ r), length-append l (10 ∷ unsplit rs))
 
-sheet-short : (p s : List ℕ) (a : SheetAnswer) → read p ≡ a → length (join (sheetLines a (split s))) ≤ length s + 5
+sheet-short : (p s : List ℕ) (a : SheetAnswer) → read p ≡ a → length (join (printedLines a (split s))) ≤ length s + 5
 unfolding join numberText servedLines follow
 sheet-short p s (malformed n at) e = let k = refusal-number p n at e in let d = digits-few 20 0 n (omega (arith, k .1)) in
     omega (arith, d, length-append (bytes "no=") (decimal n), length-append (numberText (bytes "no=") n) (10 ∷ []))
 sheet-short p s (loaded t) e = omega (arith, served-short (split s) (start t) (fits-bounded (start t) (reached-fits t (loaded-valid p t e) [])), split-size s)
 
 abbrev outLines : List ℕ → Bool → List (List ℕ)
-outLines s b = cond b (bytes "no=2" ∷ []) (sheetLines (read (sheetPart s)) (split (requestPart s)))
+outLines s b = cond b (bytes "no=2" ∷ []) (printedLines (read (sheetPart s)) (split (requestPart s)))
 
 read-short : (s : List ℕ) → length (join (outLines s false)) ≤ length s + 5
 read-short s = omega (arith, sheet-short (sheetPart s) (requestPart s) (read (sheetPart s)) refl, length-drop (sheetEnd s) s)

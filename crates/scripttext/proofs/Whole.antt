@@ -28,7 +28,7 @@ use Rattle.state.specs.Sound.{Sound}
 use Rattle.state.proofs.Kept.{loaded-sound}
 use Rattle.requestread.specs.Asked.{requestLine}
 use Rattle.answerwrite.specs.Answers.{outcomeText}
-use Rattle.scripttext.specs.Output.{maxInput, sheetEnd, asked, servedLines, sheetLines, scriptOutput}
+use Rattle.scripttext.specs.Output.{maxInput, sheetEnd, asked, servedLines, printedLines, scriptOutput}
 use Rattle.scripttext.specs.Parts.{linesBy, linesFrom}
 
 -- ---- the lines of the requests
@@ -79,8 +79,8 @@ module _ (s : List ℕ) where
     pub refused-prints : (x .refusal ≡ 0 → ⊥) → join (numberText (bytes "no=") (x .refusal) ∷ []) ≡ scriptOutput s
     unfolding scriptOutput
     refused-prints z =
-        ap (λ a. join (sheetLines a (split (drop e s)))) (sym (read-malformed (take e s) x h z))
-        ∙ ap (λ i. join (sheetLines (read (take i s)) (split (drop i s)))) w ∙ rw (le-ltb maxInput (length s) l)
+        ap (λ a. join (printedLines a (split (drop e s)))) (sym (read-malformed (take e s) x h z))
+        ∙ ap (λ i. join (printedLines (read (take i s)) (split (drop i s)))) w ∙ rw (le-ltb maxInput (length s) l)
 
     module _ (z : x .refusal ≡ 0) where
       pub served-sound : (st : State) → st ≡ stateLoaded (x .types) (x .links) (x .counts) → Sound st
@@ -94,5 +94,5 @@ module _ (s : List ℕ) where
           ∙ ap (λ (y : System). join (linesFrom y (split (restOf s e)))) (loaded-is (x .types) (x .links) (x .counts))
           ∙ ap (λ y. join (linesFrom (start (tableIn (x .types) (x .links) (x .counts))) (split y))) (rest-is s e)
           ∙ ap join (sym (served-from (tableIn (x .types) (x .links) (x .counts)) (split (drop e s))))
-          ∙ ap (λ a. join (sheetLines a (split (drop e s)))) (sym (read-loaded (take e s) x h z))
-          ∙ ap (λ i. join (sheetLines (read (take i s)) (split (drop i s)))) w ∙ rw (le-ltb maxInput (length s) l)
+          ∙ ap (λ a. join (printedLines a (split (drop e s)))) (sym (read-loaded (take e s) x h z))
+          ∙ ap (λ i. join (printedLines (read (take i s)) (split (drop i s)))) w ∙ rw (le-ltb maxInput (length s) l)

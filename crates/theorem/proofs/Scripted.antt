@@ -29,7 +29,7 @@ use Rattle.sheet.proofs.Lines.{rows, notLF, clean, Clean, clean-lines, all-appe
 use Rattle.sheet.proofs.Exact.{loaded-valid, loaded-demand3}
 use Rattle.requestread.specs.Asked.{requestLine}
 use Rattle.answerwrite.specs.Answers.{integerText, outcomeText}
-use Rattle.scripttext.specs.Output.{maxInput, sheetPart, requestPart, asked, servedLines, sheetLines, scriptOutput}
+use Rattle.scripttext.specs.Output.{maxInput, sheetPart, requestPart, asked, servedLines, printedLines, scriptOutput}
 use Rattle.scripttext.proofs.Short.{output-short, output-fits}
 use Rattle.theorem.specs.Shown.{Permitted}
 use Rattle.theorem.specs.Scripted.{Fits, TooShort, lineOf, requestsOf, endsMalformed, stateAfter, bookAfter, Served, ShownOfScripts}
@@ -167,12 +167,12 @@ last-rows false = refl
 module _ (input : List ℕ) where
   output-long : maxInput < length input → scriptOutput input ≡ join (bytes "no=2" ∷ [])
   unfolding scriptOutput
-  output-long h = ap (λ b. join (cond b (bytes "no=2" ∷ []) (sheetLines (read (sheetPart input)) (split (requestPart input))))) (lt-ltb maxInput (length input) h)
+  output-long h = ap (λ b. join (cond b (bytes "no=2" ∷ []) (printedLines (read (sheetPart input)) (split (requestPart input))))) (lt-ltb maxInput (length input) h)
 
-  output-is : length input ≤ maxInput → (a : SheetAnswer) → read (sheetPart input) ≡ a → scriptOutput input ≡ join (sheetLines a (split (requestPart input)))
+  output-is : length input ≤ maxInput → (a : SheetAnswer) → read (sheetPart input) ≡ a → scriptOutput input ≡ join (printedLines a (split (requestPart input)))
   unfolding scriptOutput
-  output-is h a e = ap (λ b. join (cond b (bytes "no=2" ∷ []) (sheetLines (read (sheetPart input)) (split (requestPart input))))) (le-ltb maxInput (length input) h)
-      ∙ ap (λ z. join (sheetLines z (split (requestPart input)))) e
+  output-is h a e = ap (λ b. join (cond b (bytes "no=2" ∷ []) (printedLines (read (sheetPart input)) (split (requestPart input))))) (le-ltb maxInput (length input) h)
+      ∙ ap (λ z. join (printedLines z (split (requestPart input)))) e
 
   module _ (small : length input ≤ maxInput) (t : Table) (e : read (sheetPart input) ≡ loaded t) where
     abbrev qs : List Request
