@@ -1,6 +1,6 @@
 -- The output is at most five bytes longer than the input. A request line is no shorter than the line printed for it: it has 12 bytes at least, a refusal's line has at most 6
 -- and a pair's at most 11, its numbers being below 1,000; and a number answered is the one that the line gave. What ends the program is one line of five bytes.
-use mathlib.Core.Path.{_≡_, refl, ap, subst}
+use mathlib.Core.Path.{_≡_, refl, ap}
 use mathlib.Core.Logic.{inl, inr}
 use mathlib.Core.Bool.{Bool, true, false, not, cond, _&&_}
 use mathlib.Core.List.{List, [], _∷_, _++_, map, reverse}
