@@ -30,6 +30,7 @@ use Rattle.sheet.proofs.Exact.{loaded-valid, loaded-demand3}
 use Rattle.requestread.specs.Asked.{requestLine}
 use Rattle.answerwrite.specs.Answers.{integerText, outcomeText}
 use Rattle.scripttext.specs.Output.{maxInput, sheetPart, requestPart, asked, servedLines, printedLines, scriptOutput}
+use Rattle.scripttext.specs.Answer.{writtenOf}
 use Rattle.scripttext.proofs.Short.{output-short, output-fits}
 use Rattle.theorem.specs.Shown.{Permitted}
 use Rattle.theorem.specs.Scripted.{Fits, TooShort, lineOf, requestsOf, endsMalformed, stateAfter, bookAfter, Served, ShownOfScripts}
@@ -212,11 +213,12 @@ enough input old w (inl f) h = f
 enough input old w (inr s) h = absurd (omega (arith, s .short))
 
 pub shown-of-scripts : ShownOfScripts
-shown-of-scripts input old w e = let b = subst (λ z. Fits (scriptOutput input) old z ⊎ TooShort (scriptOutput input) old z) (sym e) (written (scriptOutput input) old) in record {
-  buffer = b;
-  room = λ h. enough input old w b (omega (arith, output-short input));
-  always = λ h. enough input old w b (omega (arith, output-fits input));
-  long = output-long input;
-  refused = λ small n at r. output-is input small (malformed n at) r;
-  served = served input;
-}
+shown-of-scripts input old new r e = let w = writtenOf r new in
+    let b = subst (λ z. Fits (scriptOutput input) old z ⊎ TooShort (scriptOutput input) old z) (sym e) (written (scriptOutput input) old) in record {
+      buffer = b;
+      room = λ h. enough input old w b (omega (arith, output-short input));
+      always = λ h. enough input old w b (omega (arith, output-fits input));
+      long = output-long input;
+      refused = λ small n at r. output-is input small (malformed n at) r;
+      served = served input;
+    }

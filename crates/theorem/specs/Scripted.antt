@@ -1,6 +1,6 @@
 -- The theorem of the program `script`, from bytes to bytes: `ShownOfScripts`. For every input and every buffer that is lent, it says what stands in the buffer after the entry
 -- point, line by line; and what is known of every state on the way: demand 3 (L19 to L23), and that a call that is printed as accepted is of a permitted method.
--- The code comes in by the contract of its entry point alone: `Written` is the answer and the buffer that it leaves (W1, W2). Proof: proofs/Scripted.
+-- The code comes in by the contract of its entry point alone (crate scripttext, `script`): `Written` is the answer and the buffer that it leaves. Proof: proofs/Scripted.
 use mathlib.Core.Path.{_≡_}
 use mathlib.Core.Logic.{_⊎_}
 use mathlib.Core.Bool.{Bool, false, So, cond}
@@ -20,6 +20,8 @@ use Rattle.sheet.specs.Sheet.{malformed, loaded, read}
 use Rattle.requestread.specs.Asked.{requestLine}
 use Rattle.answerwrite.specs.Answers.{outcomeText}
 use Rattle.scripttext.specs.Output.{maxInput, sheetPart, requestPart, asked, scriptOutput}
+use Rattle.scripttext.specs.declared.Wrote.{Wrote}
+use Rattle.scripttext.specs.Answer.{writtenOf}
 use Rattle.theorem.specs.Shown.{Permitted}
 
 -- ---- The buffer, which was `old`
@@ -83,5 +85,6 @@ pub record Script (input old : List ℕ) (w : Written) : Type 0 where
   pub refused : length input ≤ maxInput → (n at : ℕ) → read (sheetPart input) ≡ malformed n at → scriptOutput input ≡ join (numberText (bytes "no=") n ∷ [])
   pub served : length input ≤ maxInput → (t : Table) → read (sheetPart input) ≡ loaded t → Served input t
 
+-- r and new are the answer and the buffer of `script`, by its contract.
 abbrev pub ShownOfScripts : Type 0
-ShownOfScripts = (input old : List ℕ) (w : Written) → w ≡ writeText (scriptOutput input) old → Script input old w
+ShownOfScripts = (input old new : List ℕ) (r : Wrote) → writtenOf r new ≡ writeText (scriptOutput input) old → Script input old (writtenOf r new)
