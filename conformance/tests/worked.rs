@@ -1,6 +1,6 @@
 //! The scripts of examples/ print what their comment files say, and docs/GUIDE.md is right about its own.
 
-use conformance::process::{built, plain, printed as ended_well, run};
+use conformance::scripts::proved;
 use conformance::worked::{printed, requests, steps, Step, SHEET};
 use reference::script::{self, split};
 use std::collections::BTreeSet;
@@ -28,8 +28,7 @@ fn examples(ending: &str) -> BTreeSet<PathBuf> {
 /// The program and the reference print what the steps say.
 fn same(input: &str, steps: &[Step], from: &str) {
     assert!(!steps.is_empty(), "{from}: no steps");
-    let output = ended_well(run(plain(&built("script")), input.as_bytes()));
-    let output = String::from_utf8(output).expect("ASCII");
+    let output = String::from_utf8(proved(input.as_bytes())).expect("ASCII");
     assert_eq!(output, printed(steps), "{from}");
     let output = script::run(input.as_bytes());
     assert_eq!(output, printed(steps).into_bytes(), "{from}, reference");
