@@ -14,7 +14,7 @@ same-length : tie.Need-same-length
 same-length c = search needs
 
 returns : tie.Need-returns
-returns c = written-is _ _ (c .before .before .before .before .script .ensures .0) (c .wrote-code .ensures .0) (c .wrote-code .ensures .1)
+returns c = written-is _ _ (c .before .before .before .before .script .ensures) (c .wrote-code .ensures .0) (c .wrote-code .ensures .1)
 
 pub pilgonca-script-spec : {M : Type 1} → statement M
 pilgonca-script-spec = tie.close (tie.spec script-requires wrote-code-requires same-length returns)
