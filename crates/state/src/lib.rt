@@ -70,14 +70,14 @@ pub struct Layers {
 
 // The cells as a lent slice of records (F6): lookup reads a record, append stores one. They decide nothing: whether a number is in use, who holds the cell and whether
 // there is room is asked above them.
-pub fn lookup(cells: &[Cell], k: usize) -> Cell
+fn lookup(cells: &[Cell], k: usize) -> Cell
     requires { ⌜ k < length (now cells) ⌝ }
     ensures { λ r. ⌜ r ≡ getD (now (cells .entry)) k blankCell ⌝ }
 {
     cells[k]
 }
 
-pub fn append(cells: &mut [Cell], count: usize, c: Cell)
+fn append(cells: &mut [Cell], count: usize, c: Cell)
     requires { ⌜ count < length (now cells) ⌝ }
     ensures { λ _. ⌜ now (cells .exit) ≡ set (now (cells .entry)) count c ⌝ }
 {
