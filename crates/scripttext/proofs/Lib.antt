@@ -1,4 +1,5 @@
 pub mod Buffer
+pub mod Cases
 pub mod Laws
 pub mod Long
 pub mod Rows
