@@ -4,10 +4,9 @@ use mathlib.Core.Bool.{Bool, true, false, not, _&&_, _||_, cond}
 use mathlib.Core.List.{List, [], _∷_, _++_}
 use mathlib.Core.Option.{Option, none, some}
 use Prim.Native.Nat.{ℕ, zero, suc, _+_, _-_, _^_, _≤_, _<_}
-use Prim.Native.Char.{code}
 use native.Mathlib.Omega.{arith}
 use native.Mathlib.Numerals.{add-one}
-use lib.Dec.{eqb, ltb, leb}
+use lib.Dec.{eqb, leb}
 use lib.IntN.{ℤ, pos, negsuc, _-ℤ_}
 use lib.ListN.{length, getD, set, take, drop, length-drop}
 use lib.Seq.{take-all, length-take-le, take-suc-set}
@@ -24,9 +23,9 @@ use Rattle.sheet.specs.Numbers.{Scan, fail, took, bindScan, number}
 use Rattle.textread.specs.View.{scanBy, ScanWithin}
 use Rattle.textread.specs.declared.Number.{Number}
 use Rattle.textread.specs.declared.Number.the-variants.{Wrong as Wrongⁿ, Right as Rightⁿ}
-use Rattle.textread.proofs.Laws.{from-here, at-end, starts-length}
+use Rattle.textread.proofs.Laws.{from-here, at-end}
 use Rattle.requestread.specs.Asked.{half, positive, negative, integer, operand, operands, ending, requestBy, word, requestLine}
-use Rattle.requestread.specs.Read.{integerBy, IntegerWithin, countFits, askedAs, Reads}
+use Rattle.requestread.specs.Read.{integerBy, IntegerWithin, countFits, Reads}
 use Rattle.requestread.specs.declared.Integer.{Integer}
 use Rattle.requestread.specs.declared.Integer.the-variants.{Wrong, Right}
 use Rattle.requestread.specs.declared.Asked.{Asked}

@@ -1,4 +1,4 @@
--- How long a line is at least that asks for something: so long that the line of its answer, and that of the value it gives, is no longer by more than a known amount.
+-- How long a line is at least that asks for something: what is printed for it has to find room (P12).
 -- A number is read exactly as it is written (`number-sound`), so an operand has one byte for its space and those of its decimal.
 use mathlib.Core.Path.{_≡_, refl, sym, ap, _∙_, subst}
 use mathlib.Core.Bool.{Bool, true, false, _&&_, cond}
@@ -6,16 +6,15 @@ use mathlib.Core.List.{List, [], _∷_, _++_, append-assoc, append-nil}
 use mathlib.Core.Option.{Option, none, some}
 use Prim.Native.Nat.{ℕ, zero, suc, _+_, _-_, _*_, _/_, _%_, _≤_, _<_}
 use native.Mathlib.Omega.{arith}
-use native.Mathlib.Nat.{not-suc-le-zero}
 use lib.Dec.{eqb, ltb, leb}
 use lib.IntN.{ℤ, pos, negsuc}
 use lib.ListN.{length, getD, drop, length-append}
-use borrow.Author.Tests.{ltb-true, leb-true, eqb-true, eqb-false}
+use borrow.Author.Tests.{ltb-true, leb-true, eqb-true}
 use Rattle.model.specs.Requests.{Request, new, move, call, answer}
 use Rattle.model.proofs.Rules.{first, second}
 use Rattle.operand.specs.Coded.{byCode}
 use Rattle.sheet.specs.Lines.{bytes, starts, same}
-use Rattle.sheet.specs.Numbers.{Scan, fail, took, bindScan, number, decimalIn, decimal}
+use Rattle.sheet.specs.Numbers.{Scan, fail, took, number, decimalIn, decimal}
 use Rattle.sheet.proofs.Steps.{cond-cases, fail-took, took-value, took-rest, bindScan-took}
 use Rattle.sheet.proofs.Numbers.{number-sound}
 use Rattle.sheet.proofs.Lines.{starts-sound}

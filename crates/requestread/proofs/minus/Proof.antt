@@ -1,5 +1,5 @@
 -- One below 0, less a number below 2 to the 63rd: `below`.
-use mathlib.Core.Path.{_≡_, ap, _∙_, subst, sym}
+use mathlib.Core.Path.{ap, _∙_, subst, sym}
 use Prim.Native.Nat.{_-_, _<_}
 use lib.IntN.{ℤ, negsuc, _-ℤ_}
 use mir.Facts.{toZ-ofZ}
