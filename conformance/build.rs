@@ -1,13 +1,21 @@
-//! Links target/staticlib/libexports.a, which `rt staticlib exports` writes (./test does that first).
+//! Links target/staticlib/libNAME.a for every crate of crates.txt whose name begins with `exports`; tools/libraries writes them (./test does that first).
+//! What a library doesn't export is local to it, so functions that two of them hold don't clash.
 
+use std::fs;
 use std::path::Path;
 
 fn main() {
-    let library = Path::new(env!("CARGO_MANIFEST_DIR")).join("../target/staticlib");
-    println!(
-        "cargo:rerun-if-changed={}",
-        library.join("libexports.a").display()
-    );
+    let root = Path::new(env!("CARGO_MANIFEST_DIR")).join("..");
+    let crates = root.join("crates.txt");
+    let library = root.join("target/staticlib");
+    println!("cargo:rerun-if-changed={}", crates.display());
     println!("cargo:rustc-link-search=native={}", library.display());
-    println!("cargo:rustc-link-lib=static=exports");
+    for line in fs::read_to_string(&crates).expect("crates.txt").lines() {
+        let name = line.split(':').next().unwrap_or("");
+        if name.starts_with("exports") {
+            let file = library.join(format!("lib{name}.a"));
+            println!("cargo:rerun-if-changed={}", file.display());
+            println!("cargo:rustc-link-lib=static={name}");
+        }
+    }
 }

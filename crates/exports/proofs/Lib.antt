@@ -1,4 +1,2 @@
 pub mod Leaving
 pub mod Handing
-pub mod Offering
-pub mod Running

@@ -13,7 +13,6 @@ use Rattle.compare.specs.Pairs.{pairCode}
 use Rattle.restrict.specs.Link.{Writes}
 use Rattle.restrict_entry.specs.Answer.{Derivation, derivationOf}
 use Rattle.sheet.specs.Text.{Written}
-use Rattle.sheetread.specs.declared.Sheet.{Sheet}
 
 -- 16 and the answers, as in the pair table
 abbrev pub answersCode : Answers → ℕ
@@ -23,10 +22,6 @@ answersCode a = 16 + pairCode a
 abbrev pub comparedCode : Res Answers → ℕ
 comparedCode (refuse n) = n
 comparedCode (ok a) = answersCode a
-
--- the reader's answer, each part of it handed out by itself: number, offset, bytes and counts
-abbrev pub sheetOf : ℕ → ℕ → List ℕ → List ℕ → List ℕ → Sheet
-sheetOf n at types links counts = record { refusal = n; at = at; types = types; links = links; counts = countsIn counts }
 
 -- the number of a refusal, or 0; and what is handed out beside it, which stays `old` where it is refused
 abbrev pub numberOf : {A : Type 0} → Res A → ℕ

@@ -11,13 +11,10 @@ ghost use Rattle.compare.specs.Pairs.{pairsHanded};
 ghost use Rattle.restrict_entry.specs.Handed.{deriveHanded};
 ghost use Rattle.sheet.specs.Sheet.{read as readSheet};
 ghost use Rattle.sheet.specs.Text.{write};
-ghost use Rattle.sheetread.specs.View.{answered};
+ghost use Rattle.sheetread.specs.View.{answered, sheetOf};
 ghost use Rattle.sheetwrite.specs.Answer.{wroteAnswer};
 ghost use Rattle.flat.specs.Flat.{countsIn};
-ghost use Rattle.exports.specs.Codes.{answersCode, comparedCode, sheetOf, numberOf, valueOf, WrittenIs, handedOut, DerivedIs, lent};
-
-pub mod states;
-
+ghost use Rattle.exports.specs.Codes.{answersCode, comparedCode, numberOf, valueOf, WrittenIs, handedOut, DerivedIs, lent};
 use compare::Compared;
 use compare::PAIR_BYTES;
 use numbers::wide;
@@ -85,7 +82,7 @@ pub extern "C" fn pilgonca_read(
     counts: &mut [usize; 5],
     at: &mut usize,
 ) -> usize
-    ensures { λ n. ⌜ sheetOf n (now (at .exit)) (now (types .exit)) (now (links .exit)) (now (counts .exit)) ≡ answered (readSheet (now (text .entry))) ⌝ }
+    ensures { λ n. ⌜ sheetOf n (now (at .exit)) (now (types .exit)) (now (links .exit)) (countsIn (now (counts .exit))) ≡ answered (readSheet (now (text .entry))) ⌝ }
 {
     let r = sheetread::read(text);
     let t = r.types;

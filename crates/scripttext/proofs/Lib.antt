@@ -1,7 +1,6 @@
 pub mod Buffer
 pub mod Cases
 pub mod Laws
-pub mod Long
 pub mod Rows
 pub mod Short
 pub mod Whole

@@ -1,6 +1,6 @@
 -- The output is at most five bytes longer than the input. A request line is no shorter than the line printed for it: it has 12 bytes at least, a refusal's line has at most 6
 -- and a pair's at most 11, its numbers being below 1,000; and a number answered is the one that the line gave. What ends the program is one line of five bytes.
-use mathlib.Core.Path.{_≡_, refl, ap, subst}
+use mathlib.Core.Path.{_≡_, refl, ap}
 use mathlib.Core.Logic.{inl, inr}
 use mathlib.Core.Bool.{Bool, true, false, not, cond, _&&_}
 use mathlib.Core.List.{List, [], _∷_, _++_, map, reverse}
@@ -9,7 +9,7 @@ use Prim.Native.Nat.{ℕ, zero, suc, _+_, _/_, _%_, _≤_, _<_}
 use native.Mathlib.Nat.{div-lt-iff-lt-mul}
 use native.Mathlib.Omega.{arith}
 use lib.Dec.{eqb, ltb}
-use lib.IntN.{ℤ}
+use lib.IntN.{ℤ, pos, negsuc}
 use lib.ListN.{length, length-append, length-drop}
 use borrow.Author.Tests.{ltb-false}
 use Rattle.model.specs.Basics.{Res, refuse, ok, try, need, names, named}
@@ -31,8 +31,8 @@ use Rattle.sheet.proofs.Lines.{unsplit, unsplit-split}
 use Rattle.sheet.proofs.Exact.{loaded-valid}
 use Rattle.sheet.proofs.Refusals.{refusal-number}
 use Rattle.requestread.specs.Asked.{requestLine}
+use Rattle.requestread.proofs.Long.{long, line-long, line-given}
 use Rattle.answerwrite.specs.Answers.{integerText, outcomeText}
-use Rattle.scripttext.proofs.Long.{least, line-long}
 use Rattle.scripttext.specs.Output.{maxInput, sheetEnd, asked, servedLines, sheetLines, sheetPart, requestPart, scriptOutput}
 
 -- ---- a number below 10 to the g has at most g digits
@@ -147,12 +147,10 @@ serve-few s h q = go (serve s q) (small-serve s q) (bounded-kept s h q) (serve-g
     go (ok x) n k g = few (x .0) k (x .1) n g
 
 -- ---- the line that is printed
-least-some : (q : Request) → 12 ≤ least q
-least-some (new a b c) = omega arith
-least-some (move a b c d) = omega arith
-least-some (call a b c vs) = omega arith
-least-some (answer a b none) = omega arith
-least-some (answer a b (some v)) = omega arith
+long-is : (v : ℤ) → long v ≡ length (integerText v)
+unfolding integerText
+long-is (pos n) = refl
+long-is (negsuc n) = omega arith
 
 word-few : (key : List ℕ) (n : ℕ) → n < 1000 → length (numberText key n) ≤ length key + 3
 unfolding numberText
@@ -175,15 +173,15 @@ number-short l (new a b c) v e g = absurd g
 number-short l (move a b c d) v e g = absurd g
 number-short l (call a b c vs) v e g = absurd g
 number-short l (answer a b none) v e g = absurd g
-number-short l (answer a b (some w)) v e g = let k : 14 + length (integerText v) ≤ length l = subst (λ z. 14 + length (integerText z) ≤ length l) g (line-long l (answer a b (some w)) e) in
-    omega (arith, k, length-append (bytes "got=") (integerText v))
+number-short l (answer a b (some w)) v e g = let k : 14 + long w ≤ length l = line-given l a b w e in
+    omega (arith, k, long-is w, ap (λ z. length (integerText z)) g, length-append (bytes "got=") (integerText v))
 
 line-short : (l : List ℕ) (q : Request) → requestLine l ≡ some q → (s : System) → Bounded s → length (outcomeText (outcome (serve s q))) ≤ length l
 unfolding outcomeText
 line-short l q e s h = go (serve s q) (small-serve s q) (serve-few s h q)
   where
     k : 12 ≤ length l
-    k = omega (arith, least-some q, line-long l q e)
+    k = line-long l q e
 
     result : (x : Result) → Few q x → length (outcomeText (got x)) ≤ length l
     result (pair a b) w = omega (arith, k, word-few (bytes "got=") a (w .0), word-few (bytes " ") b (w .1), length-append (numberText (bytes "got=") a) (numberText (bytes " ") b))

@@ -6,6 +6,7 @@ use lib.ListN.{getD, drop}
 use Rattle.model.specs.Basics.{from}
 use Rattle.model.specs.Table.{ref, Method as Methodᵐ, Ty, Table, maxSubjects, maxMethods, maxCategories, maxSheetTypes}
 use Rattle.model.specs.Check.{RawMethod, RawLinks, noRawMethod, noRawLinks, methodOf, linksOf}
+use Rattle.table.specs.declared.Counts.{Counts}
 use Rattle.table.specs.declared.Method.{Method}
 use Rattle.table.specs.Store.{rawMethod, emptyTypes, emptyLinks, emptyCounts}
 use Rattle.table.specs.Records.{MethodExact, typeBytes, linkBytes, countsOf}
@@ -94,3 +95,7 @@ afterFirst h = bind (times (eachUnder (h .cats)) (h .cats) 1 []) (afterCats h)
 abbrev pub answered : SheetAnswer → Sheet
 answered (malformed n at) = record { refusal = n; at = at; types = emptyTypes; links = emptyLinks; counts = emptyCounts }
 answered (loaded t) = record { refusal = 0; at = 0; types = typeBytes (t .types); links = linkBytes (t .cats); counts = countsOf t }
+
+-- that answer from its parts, where each of them is handed out by itself: number, offset, bytes and counts
+abbrev pub sheetOf : ℕ → ℕ → List ℕ → List ℕ → Counts → Sheet
+sheetOf n at types links counts = record { refusal = n; at = at; types = types; links = links; counts = counts }

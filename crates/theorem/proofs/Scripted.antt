@@ -24,11 +24,13 @@ use Rattle.sheet.specs.Lines.{Row, row, cut, bytes, split, join, starts, firstL
 use Rattle.sheet.specs.Numbers.{decimal, decimalIn}
 use Rattle.sheet.specs.Text.{numberText, Written, writeText}
 use Rattle.sheet.specs.Sheet.{SheetAnswer, malformed, loaded, read}
+use Rattle.sheet.proofs.Steps.{clash}
 use Rattle.sheet.proofs.Lines.{rows, notLF, clean, Clean, clean-lines, all-append, split-full}
 use Rattle.sheet.proofs.Exact.{loaded-valid, loaded-demand3}
 use Rattle.requestread.specs.Asked.{requestLine}
 use Rattle.answerwrite.specs.Answers.{integerText, outcomeText}
 use Rattle.scripttext.specs.Output.{maxInput, sheetPart, requestPart, asked, servedLines, sheetLines, scriptOutput}
+use Rattle.scripttext.specs.Answer.{writtenOf}
 use Rattle.scripttext.proofs.Short.{output-short, output-fits}
 use Rattle.theorem.specs.Shown.{Permitted}
 use Rattle.theorem.specs.Scripted.{Fits, TooShort, lineOf, requestsOf, endsMalformed, stateAfter, bookAfter, Served, ShownOfScripts}
@@ -107,6 +109,28 @@ line-asks (row l ∷ rs) k q h = go (requestLine l) refl k h (λ k. line-asks rs
     go (some p) e zero h ih = e ∙ h
     go (some p) e (suc k) h ih = ih k h
 
+lines-stop : (rs : List Row) → So (asked rs .1) → requestLine (firstLine (drop (length (asked rs .0)) rs)) ≡ none
+unfolding asked requestLine starts
+lines-stop [] h = never h
+lines-stop (cut l ∷ rs) h = refl
+lines-stop (row l ∷ rs) h = go (requestLine l) refl h (lines-stop rs)
+  where
+    go : (o : Option Request) → requestLine l ≡ o → let x : List Request × Bool = elim o [ none ↦ ([], true) | some q ↦ (q ∷ asked rs .0, asked rs .1) ] in So (x .1)
+        → (So (asked rs .1) → requestLine (firstLine (drop (length (asked rs .0)) rs)) ≡ none) → requestLine (firstLine (drop (length (x .0)) (row l ∷ rs))) ≡ none
+    go none e h ih = e
+    go (some q) e h ih = ih h
+
+lines-all : (rs : List Row) → asked rs .1 ≡ false → drop (length (asked rs .0)) rs ≡ []
+unfolding asked
+lines-all [] h = refl
+lines-all (cut l ∷ rs) h = clash h
+lines-all (row l ∷ rs) h = go (requestLine l) h (lines-all rs)
+  where
+    go : (o : Option Request) → let x : List Request × Bool = elim o [ none ↦ ([], true) | some q ↦ (q ∷ asked rs .0, asked rs .1) ] in x .1 ≡ false
+        → (asked rs .1 ≡ false → drop (length (asked rs .0)) rs ≡ []) → drop (length (x .0)) (row l ∷ rs) ≡ []
+    go none h ih = clash h
+    go (some q) h ih = ih h
+
 line-prints : (qs : List Request) (k : ℕ) (q : Request) → getElem? qs k ≡ some q → (s : System) (b : Book) (ls : List (List ℕ))
     → firstLine (drop k (rows (map outcomeText (run s qs .0) ++ ls))) ≡ outcomeText (outcome (serve (follow s b (take k qs) .0) q))
 unfolding run follow
@@ -175,6 +199,8 @@ module _ (input : List ℕ) where
     served : Served input t
     served = record {
       asks = line-asks (split (requestPart input));
+      stops = lines-stop (split (requestPart input));
+      all = lines-all (split (requestPart input));
       prints = prints;
       ends = ap (drop (length qs)) lines-are ∙ lines-end qs (start t) (lastLine (endsMalformed input)) ∙ last-rows (endsMalformed input);
       claim = λ k. loaded-demand3 (sheetPart input) t e (take k qs);
@@ -187,11 +213,12 @@ enough input old w (inl f) h = f
 enough input old w (inr s) h = absurd (omega (arith, s .short))
 
 pub shown-of-scripts : ShownOfScripts
-shown-of-scripts input old w e = let b = subst (λ z. Fits (scriptOutput input) old z ⊎ TooShort (scriptOutput input) old z) (sym e) (written (scriptOutput input) old) in record {
-  buffer = b;
-  room = λ h. enough input old w b (omega (arith, output-short input));
-  always = λ h. enough input old w b (omega (arith, output-fits input));
-  long = output-long input;
-  refused = λ small n at r. output-is input small (malformed n at) r;
-  served = served input;
-}
+shown-of-scripts input old new r e = let w = writtenOf r new in
+    let b = subst (λ z. Fits (scriptOutput input) old z ⊎ TooShort (scriptOutput input) old z) (sym e) (written (scriptOutput input) old) in record {
+      buffer = b;
+      room = λ h. enough input old w b (omega (arith, output-short input));
+      always = λ h. enough input old w b (omega (arith, output-fits input));
+      long = output-long input;
+      refused = λ small n at r. output-is input small (malformed n at) r;
+      served = served input;
+    }

@@ -1,11 +1,11 @@
 -- The theorem of the program `script`, from bytes to bytes: `ShownOfScripts`. For every input and every buffer that is lent, it says what stands in the buffer after the entry
 -- point, line by line; and what is known of every state on the way: demand 3 (L19 to L23), and that a call that is printed as accepted is of a permitted method.
--- The code comes in by the contract of its entry point alone: `Written` is the answer and the buffer that it leaves (W1, W2). Proof: proofs/Scripted.
+-- The code comes in by the contract of its entry point alone (crate scripttext, `script`): `Written` is the answer and the buffer that it leaves. Proof: proofs/Scripted.
 use mathlib.Core.Path.{_≡_}
 use mathlib.Core.Logic.{_⊎_}
-use mathlib.Core.Bool.{Bool, So, cond}
+use mathlib.Core.Bool.{Bool, false, So, cond}
 use mathlib.Core.List.{List, [], _∷_}
-use mathlib.Core.Option.{some}
+use mathlib.Core.Option.{none, some}
 use Prim.Native.Nat.{ℕ, _+_, _≤_, _<_}
 use lib.IntN.{ℤ}
 use lib.ListN.{length, take, drop, getElem?}
@@ -20,6 +20,8 @@ use Rattle.sheet.specs.Sheet.{malformed, loaded, read}
 use Rattle.requestread.specs.Asked.{requestLine}
 use Rattle.answerwrite.specs.Answers.{outcomeText}
 use Rattle.scripttext.specs.Output.{maxInput, sheetPart, requestPart, asked, scriptOutput}
+use Rattle.scripttext.specs.declared.Wrote.{Wrote}
+use Rattle.scripttext.specs.Answer.{writtenOf}
 use Rattle.theorem.specs.Shown.{Permitted}
 
 -- ---- The buffer, which was `old`
@@ -58,7 +60,10 @@ bookAfter input t k = reached t (take k (requestsOf input)) .1
 pub record Served (input : List ℕ) (t : Table) : Type 0 where
   -- request k is what line k behind the sheet asks
   pub asks : (k : ℕ) (q : Request) → getElem? (requestsOf input) k ≡ some q → requestLine (lineOf (requestPart input) k) ≡ some q
-  -- line k of the output is what it comes to on the state that the k requests before it left (P4, P12, P13)
+  -- there are no more of them because the next line is malformed, or because no line is left (P11)
+  pub stops : So (endsMalformed input) → requestLine (lineOf (requestPart input) (length (requestsOf input))) ≡ none
+  pub all : endsMalformed input ≡ false → drop (length (requestsOf input)) (split (requestPart input)) ≡ []
+  -- line k of the output is what request k comes to on the state that the k requests before it left (P4, P12, P13)
   pub prints : (k : ℕ) (q : Request) → getElem? (requestsOf input) k ≡ some q → lineOf (scriptOutput input) k ≡ outcomeText (outcome (serve (stateAfter input t k) q))
   -- behind these lines stands `no=1` for a malformed line, and nothing else
   pub ends : drop (length (requestsOf input)) (split (scriptOutput input)) ≡ cond (endsMalformed input) (row (bytes "no=1") ∷ []) []
@@ -80,5 +85,6 @@ pub record Script (input old : List ℕ) (w : Written) : Type 0 where
   pub refused : length input ≤ maxInput → (n at : ℕ) → read (sheetPart input) ≡ malformed n at → scriptOutput input ≡ join (numberText (bytes "no=") n ∷ [])
   pub served : length input ≤ maxInput → (t : Table) → read (sheetPart input) ≡ loaded t → Served input t
 
+-- r and new are the answer and the buffer of `script`, by its contract.
 abbrev pub ShownOfScripts : Type 0
-ShownOfScripts = (input old : List ℕ) (w : Written) → w ≡ writeText (scriptOutput input) old → Script input old w
+ShownOfScripts = (input old new : List ℕ) (r : Wrote) → writtenOf r new ≡ writeText (scriptOutput input) old → Script input old (writtenOf r new)
