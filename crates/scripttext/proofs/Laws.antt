@@ -18,7 +18,7 @@ use Rattle.steps.specs.declared.Served.{Served}
 use Rattle.steps.specs.Served.{outcomeOf, Step}
 use Rattle.run.specs.Requested.{serveAsked}
 use Rattle.run.proofs.Laws.{outcome-is, after-is}
-use Rattle.textread.specs.View.{LineAt}
+use Rattle.cursor.specs.View.{LineAt, past}
 use Rattle.textwrite.specs.Fill.{Lined}
 use Rattle.textwrite.proofs.Laws.{lines-none, lines-rest, lines-are}
 use Rattle.requestread.specs.declared.Asked.{Asked}
@@ -35,6 +35,11 @@ blank-line = refl
 none-some : {C : Type 0} {q : Request} → none ≡ some q → C
 none-some e = let z : _≡_ {A = ℕ} 0 1 = cc in absurd (omega arith)
 
+-- a line that asks something isn't empty
+asks-some : (l : List ℕ) (q : Request) → requestLine l ≡ some q → 0 < length l
+asks-some [] q e = none-some (sym blank-line ∙ e)
+asks-some (b ∷ l) q e = omega arith
+
 -- ---- the line l at `at`, before the end of the lines
 module _ (x : System) (s : List ℕ) (at : ℕ) (l : List ℕ) (h : LineAt s at l) (k : at < length s) where
   -- a malformed line ends the program
@@ -50,11 +55,18 @@ module _ (x : System) (s : List ℕ) (at : ℕ) (l : List ℕ) (h : LineAt s at 
   lines-more : (q : Request) → requestLine l ≡ some q
       → linesFrom x (split (drop at s)) ≡ outcomeText (outcome (serve x q)) ∷ linesFrom (after x (serve x q)) (split (drop (at + (length l + 1)) s))
   unfolding linesFrom
-  lines-more q e = ap (linesFrom x) (line-some s at l h k (filled l refl)) ∙ ap (linesBy x (λ y. linesFrom y (split (drop (at + (length l + 1)) s)))) e
+  lines-more q e = ap (linesFrom x) (line-some s at l h k (asks-some l q e)) ∙ ap (linesBy x (λ y. linesFrom y (split (drop (at + (length l + 1)) s)))) e
+
+-- ---- Where the cursor stands behind a line that asks something: behind its LF.
+module _ (rest : List ℕ) (at : ℕ) (l : List ℕ) (h : LineAt rest at l) (k : at < length rest) (q : Asked) (a : Reads (requestLine l) q) (d : ℕ) (n : d ≡ past at (split (drop at rest))) where
+  pub passed-line : cond (q .right) d (length rest) ≡ cond (q .right) (at + (length l + 1)) (length rest)
+  passed-line = go (requestLine l) refl
     where
-      filled : (m : List ℕ) → l ≡ m → 0 < length m
-      filled [] w = none-some (sym blank-line ∙ ap requestLine (sym w) ∙ e)
-      filled (b ∷ m) w = omega arith
+      go : (o : Option Request) → requestLine l ≡ o → cond (q .right) d (length rest) ≡ cond (q .right) (at + (length l + 1)) (length rest)
+      go none e =
+          let w : q .right ≡ false = a .right ∙ ap (λ z. not (isNone z)) e in
+          ap (λ z. cond z d (length rest)) w ∙ sym (ap (λ z. cond z (at + (length l + 1)) (length rest)) w)
+      go (some y) e = ap (λ z. cond (q .right) z (length rest)) (n ∙ ap (past at) (line-some rest at l h k (asks-some l y e)))
 
 -- ---- A turn: the line at `at` is read and served, and the next one begins where the code says.
 module _ (s : State) (rest : List ℕ) (at : ℕ) (l : List ℕ) (h : LineAt rest at l) (k : at < length rest) (q : Asked) (a : Reads (requestLine l) q)

@@ -1,16 +1,16 @@
--- The rows of a text by its first line: the line that is found at a place (crate `textread`) is the first row there, or nothing ends one.
+-- The rows of a text by its first line: the line that is found at a place (crate `cursor`) is the first row there, or nothing ends one.
 use mathlib.Core.Path.{_≡_, refl, sym, ap, _∙_, subst}
 use mathlib.Core.Bool.{Bool, true, false, cond}
 use mathlib.Core.List.{List, [], _∷_, _++_}
 use Prim.Native.Nat.{ℕ, zero, suc, _+_, _-_, _≤_, _<_}
 use native.Mathlib.Omega.{arith}
 use lib.Dec.{eqb}
-use lib.ListN.{length, getD, drop, length-drop, drop-of-length-le}
-use lib.Seq.{drop-drop, getD-drop, getD-append-seam}
-use borrow.Author.Tests.{eqb-true, eq-eqb}
+use lib.ListN.{length, drop, length-drop, drop-of-length-le}
+use lib.Seq.{drop-drop}
+use borrow.Author.Tests.{eqb-true}
 use Rattle.sheet.specs.Lines.{Row, row, cut, push, split, firstLine, same}
 use Rattle.sheet.specs.Text.{endText}
-use Rattle.textread.specs.View.{LineAt}
+use Rattle.cursor.specs.View.{LineAt, past}
 use Rattle.scripttext.specs.Output.{endFrom, sheetEnd}
 
 -- ---- what the rows of xs say of xs
@@ -31,15 +31,6 @@ shape (b ∷ bs) = go (eqb b 10) refl (split bs) refl (shape bs)
     go false e (row m ∷ rs) q h =
         let f : suc (length m) + 1 ≡ suc (length m + 1) = omega arith in
         (ap (λ z. b ∷ z) (h .0) ∙ ap (λ z. b ∷ (m ++ 10 ∷ drop z (b ∷ bs))) (sym f), h .1 ∙ ap (λ z. split (drop z (b ∷ bs))) (sym f))
-
--- where LF stands first, the first row is empty
-lf-first : {C : Type 0} (xs : List ℕ) (m : List ℕ) (rs : List Row) → getD xs 0 0 ≡ 10 → split xs ≡ cut m ∷ rs → C
-unfolding split
-lf-first [] m rs g e = let z : _≡_ {A = ℕ} 0 10 = g in absurd (omega arith)
-lf-first (b ∷ bs) m rs g e = clash (sym (ap (λ t. cond t (row [] ∷ split bs) (push b (split bs))) (eq-eqb b 10 g)) ∙ e)
-  where
-    clash : {C : Type 0} → row [] ∷ split bs ≡ cut m ∷ rs → C
-    clash e = let z : _≡_ {A = ℕ} 0 1 = cc in absurd (omega arith)
 
 -- ---- the line l at `at`, before the end of s
 module _ (s : List ℕ) (at : ℕ) (l : List ℕ) (h : LineAt s at l) (k : at < length s) where
@@ -73,51 +64,48 @@ module _ (s : List ℕ) (at : ℕ) (l : List ℕ) (h : LineAt s at l) (k : at < 
       go (cut m ∷ rs) e x = none (h .is ∙ ap firstLine e)
       go (row m ∷ rs) e x = row-is m rs e x
 
-  -- LF stands behind it, or nothing ends it
-  pub line-row : getD s (at + length l) 0 ≡ 10 → split (drop at s) ≡ row l ∷ split (drop (at + (length l + 1)) s)
-  line-row g = go (split (drop at s)) refl (shape (drop at s))
-    where
-      go : (rs : List Row) → split (drop at s) ≡ rs → Shape (drop at s) rs → split (drop at s) ≡ row l ∷ split (drop (at + (length l + 1)) s)
-      go [] e x = some-left x
-      go (cut m ∷ rs) e x =
-          let w : length l ≡ 0 = ap length (h .is ∙ ap firstLine e) in
-          lf-first (drop at s) m rs (getD-drop at s 0 0 ∙ ap (λ z. getD s (at + z) 0) (sym w) ∙ g) e
-      go (row m ∷ rs) e x = row-is m rs e x
+  -- ---- `next` is where the cursor stands behind it: it has passed the row, or no LF ends one
+  module _ (next : ℕ) (n : next ≡ past at (split (drop at s))) where
+    pub line-row : (next ≡ at → ⊥) → (next ≡ at + (length l + 1)) × (split (drop at s) ≡ row l ∷ split (drop next s))
+    line-row g = go (split (drop at s)) refl (shape (drop at s))
+      where
+        go : (rs : List Row) → split (drop at s) ≡ rs → Shape (drop at s) rs → (next ≡ at + (length l + 1)) × (split (drop at s) ≡ row l ∷ split (drop next s))
+        go [] e x = some-left x
+        go (cut m ∷ rs) e x = absurd (g (n ∙ ap (past at) e))
+        go (row m ∷ rs) e x =
+            let w : l ≡ m = h .is ∙ ap firstLine e in
+            let q : next ≡ at + (length l + 1) = n ∙ ap (past at) e ∙ ap (λ (z : List ℕ). at + (length z + 1)) (sym w) in
+            (q, row-is m rs e x ∙ ap (λ z. row l ∷ split (drop z s)) (sym q))
 
-  pub line-cut : (getD s (at + length l) 0 ≡ 10 → ⊥) → split (drop at s) ≡ cut (drop at s) ∷ []
-  line-cut g = go (split (drop at s)) refl (shape (drop at s))
-    where
-      go : (rs : List Row) → split (drop at s) ≡ rs → Shape (drop at s) rs → split (drop at s) ≡ cut (drop at s) ∷ []
-      go [] e x = some-left x
-      go (cut m ∷ rs) e x = e ∙ ap (λ z. cut m ∷ z) (x .1) ∙ ap (λ z. cut z ∷ []) (sym (x .0))
-      go (row m ∷ rs) e x =
-          let w : l ≡ m = h .is ∙ ap firstLine e in
-          let b : getD (drop at s) (length m) 0 ≡ 10 = ap (λ z. getD z (length m) 0) (x .0) ∙ getD-append-seam m 10 (drop (length m + 1) (drop at s)) 0 in
-          absurd (g (ap (λ (z : List ℕ). getD s (at + length z) 0) w ∙ sym (getD-drop at s (length m) 0) ∙ b))
+    line-cut : next ≡ at → split (drop at s) ≡ cut (drop at s) ∷ []
+    line-cut g = go (split (drop at s)) refl (shape (drop at s))
+      where
+        go : (rs : List Row) → split (drop at s) ≡ rs → Shape (drop at s) rs → split (drop at s) ≡ cut (drop at s) ∷ []
+        go [] e x = some-left x
+        go (cut m ∷ rs) e x = e ∙ ap (λ z. cut m ∷ z) (x .1) ∙ ap (λ z. cut z ∷ []) (sym (x .0))
+        go (row m ∷ rs) e x = let q : next ≡ at + (length m + 1) = n ∙ ap (past at) e in absurd (omega (arith, q, g))
 
-  -- ---- where the sheet ends
-  module _ (inv : sheetEnd s ≡ endFrom at (split (drop at s))) where
-    pub end-cut : (getD s (at + length l) 0 ≡ 10 → ⊥) → length s ≡ sheetEnd s
-    unfolding endFrom
-    end-cut g =
-        let d : length (drop at s) ≡ length s - at = length-drop at s in
-        let e : at + length (drop at s) ≡ length s = omega arith in
-        sym (inv ∙ ap (endFrom at) (line-cut g) ∙ e)
+    pub next-within : (next ≡ at → ⊥) → (at < next) × (next ≤ length s)
+    next-within g = let q = line-row g .0 in let w = line-within in (omega (arith, q), omega (arith, q, w))
 
-    abbrev next : at + (length l + 1) ≡ at + length l + 1
-    next = omega arith
+    -- ---- where the sheet ends
+    module _ (inv : sheetEnd s ≡ endFrom at (split (drop at s))) where
+      pub end-cut : next ≡ at → length s ≡ sheetEnd s
+      unfolding endFrom
+      end-cut g =
+          let d : length (drop at s) ≡ length s - at = length-drop at s in
+          let e : at + length (drop at s) ≡ length s = omega arith in
+          sym (inv ∙ ap (endFrom at) (line-cut g) ∙ e)
 
-    by-row : getD s (at + length l) 0 ≡ 10 → sheetEnd s ≡ cond (same endText l) (at + (length l + 1)) (endFrom (at + (length l + 1)) (split (drop (at + (length l + 1)) s)))
-    unfolding endFrom
-    by-row g = inv ∙ ap (endFrom at) (line-row g)
+      by-row : (next ≡ at → ⊥) → sheetEnd s ≡ cond (same endText l) next (endFrom next (split (drop next s)))
+      unfolding endFrom
+      by-row g = inv ∙ ap (endFrom at) (line-row g .1) ∙ ap (λ z. cond (same endText l) z (endFrom z (split (drop next s)))) (sym (line-row g .0))
 
-    pub end-here : (b : Bool) → getD s (at + length l) 0 ≡ 10 → b ≡ same endText l → b ≡ true → at + length l + 1 ≡ sheetEnd s
-    end-here b g q t = sym (by-row g ∙ ap (λ z. cond z (at + (length l + 1)) (endFrom (at + (length l + 1)) (split (drop (at + (length l + 1)) s)))) (sym q ∙ t) ∙ next)
+      pub end-here : (b : Bool) → (next ≡ at → ⊥) → b ≡ same endText l → b ≡ true → next ≡ sheetEnd s
+      end-here b g q t = sym (by-row g ∙ ap (λ z. cond z next (endFrom next (split (drop next s)))) (sym q ∙ t))
 
-    pub end-next : (b : Bool) → getD s (at + length l) 0 ≡ 10 → b ≡ same endText l → b ≡ false → sheetEnd s ≡ endFrom (at + length l + 1) (split (drop (at + length l + 1) s))
-    end-next b g q t =
-        by-row g ∙ ap (λ z. cond z (at + (length l + 1)) (endFrom (at + (length l + 1)) (split (drop (at + (length l + 1)) s)))) (sym q ∙ t)
-        ∙ ap (λ z. endFrom z (split (drop z s))) next
+      pub end-next : (b : Bool) → (next ≡ at → ⊥) → b ≡ same endText l → b ≡ false → sheetEnd s ≡ endFrom next (split (drop next s))
+      end-next b g q t = by-row g ∙ ap (λ z. cond z next (endFrom next (split (drop next s)))) (sym q ∙ t)
 
 pub end-starts : (s : List ℕ) → sheetEnd s ≡ endFrom 0 (split (drop 0 s))
 unfolding sheetEnd

@@ -1,15 +1,16 @@
 // The program `script`: a sheet and request lines in, a line for each request out (P1 to P15). `script` takes any bytes and says what is printed (specs/Output.antt).
 // Each line is written in the rest of the same lent buffer.
 use answerwrite::write_answer;
+use cursor::Cursor;
+use cursor::between;
+use cursor::next_line;
 use numbers::least;
 use requestread::Asked;
 use requestread::read_request;
 use state::State;
 use steps::Served;
 use steps::refused;
-use textread::Cursor;
 use textread::is_word;
-use textread::line_at;
 use textwrite::write_number;
 use textwrite::write_word;
 ghost use mathlib.Core.Path.{_≡_};
@@ -43,22 +44,24 @@ pub enum Wrote {
     Length(usize),
 }
 
-// Where the sheet ends (P2). A line that no LF ends is the last one.
+// Where the sheet ends (P2). A line that no LF ends is the last one: the cursor stays in front of it.
 fn sheet_end(s: &[u8]) -> usize
     ensures is { λ r. ⌜ r ≡ sheetEnd (now (s .entry)) ⌝ }
     ensures within { λ r. ⌜ r ≤ length (now (s .entry)) ⌝ }
 {
     let mut at: usize = 0;
     while at < s.len() {
-        let l = line_at(s, Cursor { at });
-        let e = at + l.len();
-        if s[e] != b'\n' {
+        let c = Cursor { at };
+        let d = next_line(s, c);
+        let next = d.at;
+        if next == at {
             return s.len();
         }
-        at = e + 1;
+        let l = between(s, c, d);
         if is_word(l, b"end=sheet") {
-            return at;
+            return next;
         }
+        at = next;
     }
     at
 }
@@ -76,15 +79,14 @@ fn serve_asked(s: State, q: Asked) -> Served
     run::serve_coded(s, q.code, &items[..count])
 }
 
-// Where the line behind the one at `at` begins: none is read behind a malformed line (P11).
-fn behind(right: bool, at: usize, size: usize, end: usize) -> usize
-    requires { ⌜ at + (size + 1) < 18446744073709551616 ⌝ }
-    ensures { λ r. ⌜ r ≡ cond right (at + (size + 1)) end ⌝ }
+// Where the line behind one begins that was passed: none is read behind a malformed line (P11).
+fn behind(right: bool, next: usize, end: usize) -> usize
+    ensures { λ r. ⌜ r ≡ cond right next end ⌝ }
 {
     if !right {
         return end;
     }
-    at + (size + 1)
+    next
 }
 
 // A line for each request, on the state that those before it left.
@@ -97,7 +99,9 @@ fn serve_lines(buf: &mut [u8], s: State, rest: &[u8]) -> usize
     let mut written: usize = 0;
     let mut at: usize = 0;
     while at < rest.len() {
-        let l = line_at(rest, Cursor { at });
+        let c = Cursor { at };
+        let d = next_line(rest, c);
+        let l = between(rest, c, d);
         let q = read_request(l);
         let right = q.right;
         let r = serve_asked(state, q);
@@ -106,7 +110,7 @@ fn serve_lines(buf: &mut [u8], s: State, rest: &[u8]) -> usize
         let more = write_answer(&mut buf[k..], answer);
         written += more;
         state = r.state;
-        at = behind(right, at, l.len(), rest.len());
+        at = behind(right, d.at, rest.len());
     }
     written
 }

@@ -1,9 +1,9 @@
-use native.Mathlib.Omega.{arith}
-use Rattle.scripttext.proofs.Rows.{line-within}
 -- The invariant is what is still to come (`Going`).
+use mathlib.Core.Path.{_∙_}
 use lib.ListN.{length}
 use Prim.Native.Nat.{_-_}
-use Rattle.scripttext.proofs.Laws.{Going, going-starts, going-on, going-done, next-behind}
+use native.Mathlib.Omega.{arith}
+use Rattle.scripttext.proofs.Laws.{Going, going-starts, going-on, going-done, next-behind, passed-line}
 use borrow.Author.Needs.{needs}
 use Rattle.scripttext.proofs.serve_lines.Statement.{statement}
 use Rattle.scripttext.proofs.serve_lines.Tie as tie
@@ -17,14 +17,17 @@ abbrev μ-loop : tie.MeasureT-loop
 loop-holds : tie.Need-loop-holds Inv-loop μ-loop
 loop-holds c = let a = c .before .before in going-starts (a .args .s) (a .args .rest .now) (a .args .buf .now) (a .pre .0)
 
-line-at-requires : tie.Need-line-at-requires Inv-loop μ-loop
-line-at-requires c κs = search needs
+next-line-requires : tie.Need-next-line-requires Inv-loop μ-loop
+next-line-requires c κs = search needs
+
+between-requires : tie.Need-between-requires Inv-loop μ-loop
+between-requires c κs = c .next-line .ensures
 
 read-request-requires : tie.Need-read-request-requires Inv-loop μ-loop
 read-request-requires c κs = search needs
 
 serve-asked-requires : tie.Need-serve-asked-requires Inv-loop μ-loop
-serve-asked-requires c κs = let q = c .read-request .ensures in (c .before .before .before .loop .inv .sound, q .count, q .items)
+serve-asked-requires c κs = let q = c .read-request .ensures in (c .before .before .before .before .loop .inv .sound, q .count, q .items)
 
 least-requires : tie.Need-least-requires Inv-loop μ-loop
 least-requires c κs = search needs
@@ -43,41 +46,37 @@ write-answer-requires c κs = search needs
 
 add-written : tie.Need-add-written Inv-loop μ-loop
 add-written c =
-    let inv = c .before .before .before .before .before .before .before .before .before .loop .inv in
+    let inv = c .before .before .before .before .before .before .before .before .before .before .loop .inv in
     let f = c .before .before .write-answer .ensures in
-    let p = c .before .before .before .before .before .before .before .before .before .before .before .before .pre in record { fits = omega (arith, inv .few, inv .within, f .1, p .1) }
+    let p = c .before .before .before .before .before .before .before .before .before .before .before .before .before .pre in record { fits = omega (arith, inv .few, inv .within, f .1, p .1) }
 
 behind-requires : tie.Need-behind-requires Inv-loop μ-loop
-behind-requires c κs =
-    let s = c .before .before .before .before .before .before .before .before .before .before .before .before .before .args .rest .now in
-    let p = c .before .before .before .before .before .before .before .before .before .before .before .before .before .pre in
-    let loop = c .before .before .before .before .before .before .before .before .before .before .loop in
-    let k = c .before .before .before .before .before .before .before .before .before .loop-test .taken in
-    let w = line-within s (loop .at) _ (c .before .before .before .before .before .before .before .before .line-at .ensures) k in omega (arith, w, p .1)
+behind-requires c κs = search needs
 
 loop-less : tie.Need-loop-less Inv-loop μ-loop
 loop-less c =
-    let rest = c .before .before .before .before .before .before .before .before .before .before .before .before .before .before .args .rest .now in
-    let loop = c .before .before .before .before .before .before .before .before .before .before .before .loop in
-    let h = c .before .before .before .before .before .before .before .before .before .line-at .ensures in
-    let k = c .before .before .before .before .before .before .before .before .before .before .loop-test .taken in
+    let rest = c .before .before .before .before .before .before .before .before .before .before .before .before .before .before .before .args .rest .now in
+    let loop = c .before .before .before .before .before .before .before .before .before .before .before .before .loop in
+    let h = c .before .before .before .before .before .before .before .before .before .between .ensures in
+    let k = c .before .before .before .before .before .before .before .before .before .before .before .loop-test .taken in
     let q = c .before .before .before .before .before .before .before .before .read-request in
     let r = c .before .before .before .before .before .before .before .serve-asked in
-    let n = c .behind in
-    let u = next-behind (loop .state) rest (loop .at) _ h k (q .result) (q .ensures) (r .result) (r .ensures) (n .result) (n .ensures) in
+    let n = c .behind .ensures ∙ passed-line rest (loop .at) _ h k (q .result) (q .ensures) _ (c .before .before .before .before .before .before .before .before .before .before .next-line .ensures) in
+    let u = next-behind (loop .state) rest (loop .at) _ h k (q .result) (q .ensures) (r .result) (r .ensures) (c .behind .result) n in
     omega (arith, u .0, u .1)
 
 loop-again : tie.Need-loop-again Inv-loop μ-loop
 loop-again c =
-    let a = c .before .before .before .before .before .before .before .before .before .before .before .before .before .before .args in
-    let loop = c .before .before .before .before .before .before .before .before .before .before .before .loop in
-    let h = c .before .before .before .before .before .before .before .before .before .line-at .ensures in
-    let k = c .before .before .before .before .before .before .before .before .before .before .loop-test .taken in
+    let a = c .before .before .before .before .before .before .before .before .before .before .before .before .before .before .before .args in
+    let loop = c .before .before .before .before .before .before .before .before .before .before .before .before .loop in
+    let h = c .before .before .before .before .before .before .before .before .before .between .ensures in
+    let k = c .before .before .before .before .before .before .before .before .before .before .before .loop-test .taken in
     let q = c .before .before .before .before .before .before .before .before .read-request in
     let r = c .before .before .before .before .before .before .before .serve-asked in
+    let n = c .behind .ensures ∙ passed-line (a .rest .now) (loop .at) _ h k (q .result) (q .ensures) _ (c .before .before .before .before .before .before .before .before .before .before .next-line .ensures) in
     let f = c .before .before .before .before .write-answer .ensures in
     going-on (a .s) (a .rest .now) (a .buf .now) (loop .state) (loop .buf) (loop .written) (loop .at) (loop .inv) _ h k (q .result) (q .ensures) (r .result) (r .ensures)
-    (c .behind .result) (c .behind .ensures) (c .before .before .before .before .before .before .least .ensures .0) (f .0) (f .1)
+    (c .behind .result) n (c .before .before .before .before .before .before .least .ensures .0) (f .0) (f .1)
 
 same-length : tie.Need-same-length Inv-loop μ-loop
 same-length c = c .before .loop .inv .lined .filled .size
@@ -97,7 +96,8 @@ serve-lines-spec =
     Inv-loop
     μ-loop
     loop-holds
-    line-at-requires
+    next-line-requires
+    between-requires
     read-request-requires
     serve-asked-requires
     least-requires
