@@ -34,10 +34,6 @@ at-end l i h = drop-of-length-le l {i = i} h
 
 -- Words: so far the line is the word.
 module _ (word l : List ℕ) (i : ℕ) (inv : starts word l ≡ starts (drop i word) (drop i l)) where
-  pub word-short : i < length word → i ≡ length l → false ≡ starts word l
-  unfolding starts
-  word-short h e = sym (inv ∙ ap (λ z. starts z (drop i l)) (from-here word i h) ∙ ap (λ z. starts (getD word i 0 ∷ drop (i + 1) word) z) (at-end l i (omega arith)))
-
   word-step : i < length word → i < length l → starts word l ≡ eqb (getD word i 0) (getD l i 0) && starts (drop (i + 1) word) (drop (i + 1) l)
   unfolding starts
   word-step h k = inv ∙ ap (λ z. starts z (drop i l)) (from-here word i h) ∙ ap (λ z. starts (getD word i 0 ∷ drop (i + 1) word) z) (from-here l i k)
@@ -68,6 +64,14 @@ same-other k l h = and-false (starts k l) ∙ ap (λ z. starts k l && z) (sym (n
 
 pub starts-length : (k l : List ℕ) → starts k l ≡ true → length k ≤ length l
 starts-length k l h = let e : length l ≡ length k + length (drop (length k) l) = ap length (starts-sound k l h) ∙ length-append k (drop (length k) l) in omega arith
+
+-- a line that is shorter than the word
+pub word-short : (word l : List ℕ) → length l < length word → false ≡ starts word l
+word-short word l h = go (starts word l) refl
+  where
+    go : (b : Bool) → starts word l ≡ b → false ≡ b
+    go true e = let k : length word ≤ length l = starts-length word l e in absurd (omega arith)
+    go false e = refl
 
 -- Digits.
 low-digit : (b : ℕ) → b < 48 → isDigit b ≡ false

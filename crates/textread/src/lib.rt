@@ -54,11 +54,11 @@ const TENTH: usize = 922337203685477580;
 pub fn begins(l: &[u8], word: &[u8]) -> bool
     ensures { λ r. ⌜ r ≡ starts (now (word .entry)) (now (l .entry)) ⌝ }
 {
+    if l.len() < word.len() {
+        return false;
+    }
     let mut i: usize = 0;
     while i < word.len() {
-        if i == l.len() {
-            return false;
-        }
         if word[i] != l[i] {
             return false;
         }

@@ -10,16 +10,16 @@ use Rattle.textread.proofs.begins.Statement.{statement}
 use Rattle.textread.proofs.begins.Tie as tie
 
 abbrev Inv-loop : tie.InvT-loop
-Inv-loop l word i₀ i = (i ≤ length word) × (i ≤ length l) × (starts word l ≡ starts (drop i word) (drop i l))
+Inv-loop l word i₀ i = (i ≤ length word) × (length word ≤ length l) × (starts word l ≡ starts (drop i word) (drop i l))
 
 abbrev μ-loop : tie.MeasureT-loop
 μ-loop l word i₀ i = length word - i
 
+returns : tie.Need-returns Inv-loop μ-loop
+returns c = word-short _ _ (c .if1 .taken)
+
 loop-holds : tie.Need-loop-holds Inv-loop μ-loop
 loop-holds c = search needs
-
-returns : tie.Need-returns Inv-loop μ-loop
-returns c = word-short _ _ _ (c .before .before .loop .inv .2) (c .before .loop-test .taken) (c .if1 .taken)
 
 shared-slice-read-if2 : tie.Need-shared-slice-read-if2 Inv-loop μ-loop
 shared-slice-read-if2 c = search needs
@@ -28,7 +28,7 @@ shared-slice-read-if2-2 : tie.Need-shared-slice-read-if2-2 Inv-loop μ-loop
 shared-slice-read-if2-2 c = search needs
 
 returns-2 : tie.Need-returns-2 Inv-loop μ-loop
-returns-2 c = word-other _ _ _ (c .before .before .before .before .before .loop .inv .2) (c .before .before .before .before .loop-test .taken) (omega arith) (c .if2 .taken)
+returns-2 c = word-other _ _ _ (c .before .before .before .before .loop .inv .2) (c .before .before .before .loop-test .taken) (omega arith) (c .if2 .taken)
 
 add-i : tie.Need-add-i Inv-loop μ-loop
 add-i c = search needs
@@ -37,7 +37,7 @@ loop-less : tie.Need-loop-less Inv-loop μ-loop
 loop-less c = search needs
 
 loop-again : tie.Need-loop-again Inv-loop μ-loop
-loop-again c = (omega arith, omega arith, word-next _ _ _ (c .before .before .before .before .before .loop .inv .2) (c .before .before .before .before .loop-test .taken) (omega arith) (c .if2 .left))
+loop-again c = (omega arith, omega arith, word-next _ _ _ (c .before .before .before .before .loop .inv .2) (c .before .before .before .loop-test .taken) (omega arith) (c .if2 .left))
 
 returns-3 : tie.Need-returns-3 Inv-loop μ-loop
 returns-3 c = word-whole _ _ _ (c .before .loop .inv .2) (c .loop-test .left)
@@ -48,8 +48,8 @@ begins-spec =
     (tie.spec
     Inv-loop
     μ-loop
-    loop-holds
     returns
+    loop-holds
     shared-slice-read-if2
     shared-slice-read-if2-2
     returns-2
