@@ -1,43 +1,12 @@
 //! The dearest requests known: on loaded sheets in which every pair of types is reached, and on a state handed in with 128 types.
 
 use crate::scenes::{after, Scene, LAYERS};
+use conformance::heavy::{climb, last_answer, put_numbers, side, wrapping};
 use conformance::inputs::worst;
 use conformance::states::{add_cell, add_place, call, moved, new, of_table};
 use reference::raw::{RawState, RawTable};
 use reference::requests::Request;
 use reference::table::{MAX_CATEGORIES, MAX_METHODS, MAX_SHEET_TYPES};
-
-/// Two number types, w32 and w64.
-fn put_numbers(table: &mut RawTable, first: usize) {
-    for (number, code) in [(first, 1), (first + 1, 2)] {
-        let entry = table.entry_mut(number);
-        entry.fill(0);
-        entry[0] = code;
-    }
-}
-
-/// The answer of the last method.
-fn last_answer(table: &mut RawTable, number: usize, answer: usize) {
-    table.method_mut(number, MAX_METHODS - 1)[6] = answer as u8 + 1;
-}
-
-/// 44 types of the worst case, two numbers, and two types that differ in one answer alone, w32 and w64: moves between them make
-/// an adapter each.
-fn wrapping() -> RawTable {
-    const ALIKE: usize = MAX_SHEET_TYPES - 4;
-    let mut table = worst(ALIKE, MAX_CATEGORIES);
-    (table.sheet_types, table.types) = (MAX_SHEET_TYPES as u32, MAX_SHEET_TYPES as u32);
-    put_numbers(&mut table, ALIKE);
-    for side in 0..2 {
-        let first = table.entry(0).to_vec();
-        table.entry_mut(SIDES + side).copy_from_slice(&first);
-        last_answer(&mut table, SIDES + side, ALIKE + side);
-    }
-    table
-}
-
-/// The first of the two types between which references move.
-const SIDES: usize = MAX_SHEET_TYPES - 2;
 
 /// What is left by accepted requests.
 fn left(state: RawState, requests: &[Request]) -> RawState {
@@ -48,10 +17,7 @@ fn left(state: RawState, requests: &[Request]) -> RawState {
 
 /// On a loaded sheet, through so many adapters: a move with an adapter, a call with two references, and its answer.
 fn loaded(layers: usize) -> [Scene; 3] {
-    let side = |number: usize| (SIDES + number % 2) as i64;
-    let mut list = vec![new(0, 1), new(0, 3), new(side(0), side(0))];
-    list.extend((0..layers).map(|one| moved(2 + one as i64, side(one + 1))));
-    let state = left(of_table(wrapping()), &list);
+    let state = left(of_table(wrapping()), &climb(layers));
     assert_eq!(state.places as usize, 3 + layers);
     let last = 2 + layers as i64;
     let request = call(last, 1, vec![0, 1]);

@@ -4,15 +4,19 @@
 //! Nothing checks these declarations against the Rattle source (crates/exports/src/lib.rt, crates/exports_states/src/lib.rt); keep them few and in its order.
 
 pub mod chains;
+pub mod heavy;
 pub mod inputs;
 pub mod layout;
 pub mod process;
 pub mod requests;
 pub mod run_lists;
 pub mod runs;
+pub mod scripts;
 pub mod served;
 pub mod states;
 pub mod stream;
+pub mod worked;
+pub mod worst_scripts;
 
 use reference::raw::{RawTable, BROADER_LENGTH, TYPES_LENGTH};
 use reference::table::MAX_SHEET_TYPES;

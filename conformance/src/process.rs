@@ -1,11 +1,23 @@
-//! Programs run with input on their standard input, on request in a stack of 256 KB.
+//! Programs run with input on their standard input, on request in a limited stack.
 
 use std::io::Write;
-use std::path::Path;
+use std::path::{Path, PathBuf};
 use std::process::{Command, Output, Stdio};
 
 /// The stack of a device, in KB.
 pub const STACK: usize = 256;
+
+/// A proved program of target/bin; without it nothing that runs it can pass.
+pub fn built(name: &str) -> PathBuf {
+    let folder = Path::new(env!("CARGO_MANIFEST_DIR")).join("../target/bin");
+    let path = folder.join(name);
+    assert!(
+        path.is_file(),
+        "{} is missing: build it with `rt check {name}`",
+        path.display()
+    );
+    path
+}
 
 /// The program as it is.
 pub fn plain(program: &Path) -> Command {
@@ -54,4 +66,30 @@ pub fn feed(
 /// Runs a program to its end on an input.
 pub fn run(command: Command, input: &[u8]) -> Output {
     feed(command, |stdin| stdin.write_all(input))
+}
+
+/// What a program printed, having ended well.
+pub fn printed(output: Output) -> Vec<u8> {
+    assert!(
+        output.status.success() && output.stderr.is_empty(),
+        "{}: {}",
+        output.status,
+        String::from_utf8_lossy(&output.stderr)
+    );
+    output.stdout
+}
+
+/// The least stack in which a program comes to its end, in steps of 4 KB. In `most` KB it does.
+pub fn least_stack(most: usize, ends: impl Fn(usize) -> bool) -> usize {
+    let (mut least, mut enough) = (0, most);
+    assert!(ends(enough), "{most} KB are too few");
+    while enough - least > 4 {
+        let middle = (least + enough) / 8 * 4;
+        if ends(middle) {
+            enough = middle;
+        } else {
+            least = middle;
+        }
+    }
+    enough
 }

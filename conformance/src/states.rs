@@ -73,15 +73,15 @@ pub fn worst_state(count: usize, adapters: usize) -> RawState {
 
 /// The last of the eight types on which a chain ends; it is a class. The top of the chain, and a class with it in a signature.
 const END: usize = 5;
-const TOP: usize = 8;
-const CLASS: usize = 9;
+pub const TOP: usize = 8;
+pub const CLASS: usize = 9;
 
 /// How many types Sub(8,0) nests, at the most, where there are ten to begin with.
-const NESTED: usize = 118;
+pub const NESTED: usize = 118;
 
 /// A chain (crate::chains) that a crossing from type 0 to 8 goes through: method 0 is optional where it is permitted, so that
 /// loose holds. Method 1 of type 9 takes two of type 8 and answers one.
-fn crossed_chain(seed: u64) -> RawTable {
+pub fn crossed_chain(seed: u64) -> RawTable {
     let mut table = chain(END, seed);
     for number in 0..=TOP {
         let state = &mut table.method_mut(number, 0)[0];
@@ -169,7 +169,7 @@ pub fn call(cell: i64, method: i64, arguments: Vec<i64>) -> Request {
 }
 
 /// Subject 0 answers call 0 with a cell.
-fn answer(cell: i64) -> Request {
+pub fn answer(cell: i64) -> Request {
     Request::Answer {
         subject: 0,
         call: 0,

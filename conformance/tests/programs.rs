@@ -1,43 +1,21 @@
 //! The proved program `pairs` (target/bin/pairs, built by `rt ci` or `rt check pairs`) against the reference's.
 
 use conformance::inputs::{damaged, largest, shares, table, with_48_types, worst};
-use conformance::process::{feed, limited, plain, run};
+use conformance::process::{built, feed, limited, plain, printed, run};
 use reference::pairs;
 use reference::raw;
 use reference::script::MAX_INPUT;
 use reference::sheet;
 use reference::shrink::shrink;
 use std::path::{Path, PathBuf};
-use std::process::{Command, Output};
+use std::process::Command;
 use std::time::Duration;
 
 /// A program as it is, or with its stack limited.
 type Start = fn(&Path) -> Command;
 
-/// The program; without it nothing here can pass.
-fn program() -> PathBuf {
-    let path = Path::new(env!("CARGO_MANIFEST_DIR")).join("../target/bin/pairs");
-    assert!(
-        path.is_file(),
-        "{} is missing: build it with `rt check pairs`",
-        path.display()
-    );
-    path
-}
-
-/// What a program printed, having ended well.
-fn printed(output: Output) -> Vec<u8> {
-    assert!(
-        output.status.success() && output.stderr.is_empty(),
-        "{}: {}",
-        output.status,
-        String::from_utf8_lossy(&output.stderr)
-    );
-    output.stdout
-}
-
 fn proved(start: Start, input: &[u8]) -> Vec<u8> {
-    printed(run(start(&program()), input))
+    printed(run(start(&built("pairs")), input))
 }
 
 /// How many inputs were answered with pairs, and with each refusal.
@@ -89,7 +67,7 @@ fn examples_are_answered() {
         for start in [plain, limited] {
             same(start, &input, &mut seen, &path.display().to_string());
         }
-        let mut command = plain(&program());
+        let mut command = plain(&built("pairs"));
         let file = std::fs::File::open(&path).unwrap();
         let output = command.stdin(file).output().unwrap();
         assert_eq!(printed(output), pairs::run(&input), "{}", path.display());
@@ -174,7 +152,7 @@ fn input_in_pieces() {
         (&long, 5000),
         (&long, MAX_INPUT),
     ] {
-        let output = feed(plain(&program()), |stdin| {
+        let output = feed(plain(&built("pairs")), |stdin| {
             for part in input.chunks(piece) {
                 stdin.write_all(part)?;
                 stdin.flush()?;

@@ -2,7 +2,7 @@
 //! then each runs on a main thread of twice that, at most 1 MB, and its whole output is the reference's.
 
 use conformance::inputs::largest;
-use conformance::process::{limited_to, run};
+use conformance::process::{least_stack, limited_to, run};
 use conformance::states::{deep_requests, deep_state, of_table, worst_requests, worst_state};
 use conformance::stream::{numbers, to_bytes};
 use reference::coverage::request_name;
@@ -34,18 +34,8 @@ impl Work {
         output.status.success().then_some(output.stdout)
     }
 
-    /// The least stack in which the program comes to its end, in steps of 4 KB.
     fn need(&self) -> usize {
-        let (mut least, mut enough) = (0, 2 * GOAL);
-        assert!(self.printed(enough).is_some(), "{} in 1 MB", self.name);
-        while enough - least > 4 {
-            let middle = (least + enough) / 8 * 4;
-            match self.printed(middle) {
-                Some(_) => enough = middle,
-                None => least = middle,
-            }
-        }
-        enough
+        least_stack(2 * GOAL, |stack| self.printed(stack).is_some())
     }
 }
 

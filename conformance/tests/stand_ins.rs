@@ -1,16 +1,19 @@
 //! The drivers of requests can fail: each deliberate fault of the reference is found, and so is a core that answers right and
-//! stores something wrong, or says wrongly what is offered.
+//! stores something wrong, or says wrongly what is offered. The scripts can too: programs that read or print something wrongly
+//! are found.
 
 use conformance::requests::{on_handed_in, on_loaded, on_offers, watch, Core};
+use conformance::scripts::damaged;
 use reference::book;
 use reference::chains::permits;
 use reference::check;
 use reference::coverage::Seen;
 use reference::faults::{Fault, ALL};
-use reference::gen::Profile;
+use reference::gen::{generate, Profile};
 use reference::raw::{self, RawState};
 use reference::refusal::{Refusal, RANGE};
 use reference::requests::{index, Got, Request};
+use reference::script::{self, MAX_INPUT};
 
 /// The reference with a fault.
 struct StandIn(Fault);
@@ -122,5 +125,73 @@ fn both_sides_of_offers_are_tried() {
         let found = (0..200).any(|seed| on_offers(&core, seed, &mut [0; 3]).is_some());
         let watched = (0..400).any(|seed| watch(&core, seed, Profile::Medium).is_some());
         assert_eq!((found, watched), (true, true), "{side}");
+    }
+}
+
+/// A program that reads these words as those, in requests.
+fn reads(wrong: &'static str, right: &'static str) -> impl Fn(&[u8]) -> Vec<u8> {
+    move |input| {
+        let (sheet, rest) = script::split(input);
+        let rest = String::from_utf8_lossy(rest).replace(wrong, right);
+        script::run(&[sheet, rest.as_bytes()].concat())
+    }
+}
+
+/// A program that leaves out malformed lines.
+fn skips(input: &[u8]) -> Vec<u8> {
+    let (sheet, rest) = script::split(input);
+    let lines = rest.split_inclusive(|byte| *byte == b'\n');
+    let right = lines.filter(|line| {
+        let line = line.strip_suffix(b"\n");
+        line.is_some_and(|line| script::parse(line).is_some())
+    });
+    script::run(&[sheet, &right.collect::<Vec<_>>().concat()].concat())
+}
+
+/// A program that prints the two numbers of a result the other way round.
+fn exchanges(input: &[u8]) -> Vec<u8> {
+    let text = String::from_utf8(script::run(input)).unwrap();
+    let lines = text.lines().map(|line| {
+        let numbers = line
+            .strip_prefix("got=")
+            .and_then(|two| two.split_once(' '));
+        numbers.map_or(format!("{line}\n"), |(a, b)| format!("got={b} {a}\n"))
+    });
+    lines.collect::<String>().into_bytes()
+}
+
+/// A program.
+type Program = Box<dyn Fn(&[u8]) -> Vec<u8>>;
+
+/// Each wrong program of scripts is found by a script of the gate.
+#[test]
+fn wrong_programs_are_found() {
+    let programs: [(&str, Program); 11] = [
+        ("-0", Box::new(reads(" -0", " 0"))),
+        ("a leading zero", Box::new(reads(" 01", " 1"))),
+        ("+1", Box::new(reads(" +1", " 1"))),
+        (
+            "past 64 bits",
+            Box::new(reads(" 18446744073709551617", " 1")),
+        ),
+        (
+            "past the lowest",
+            Box::new(reads(" -9223372036854775809", " 1")),
+        ),
+        ("two spaces", Box::new(reads("  ", " "))),
+        ("a space at the end", Box::new(reads(" \n", "\n"))),
+        ("a CR at the end", Box::new(reads("\r\n", "\n"))),
+        ("skips a line", Box::new(skips)),
+        ("exchanges numbers", Box::new(exchanges)),
+        (
+            "reads too much",
+            Box::new(|input| script::run(&input[..input.len().min(MAX_INPUT)])),
+        ),
+    ];
+    for (name, program) in programs {
+        let differs = |input: &[u8]| program(input) != script::run(input);
+        let found = (0..2000).any(|seed| differs(&damaged(seed)))
+            || (0..1000).any(|seed| differs(&generate(seed, Profile::Damaged)));
+        assert!(found, "{name}");
     }
 }

@@ -8,7 +8,7 @@ use Rattle.sheet.specs.Lines.{bytes}
 use Rattle.sheet.specs.Numbers.{decimal, decimalIn}
 use Rattle.sheet.specs.Text.{numberText}
 
--- a signed decimal: `negsuc n` is -(n + 1)
+-- a signed decimal: `negsuc n` is -(n + 1). Every value is one of 64 bits (Q12), so that its digits fit.
 unfoldable pub integerText : ℤ → List ℕ
 unfolding decimalIn
 integerText (pos n) = decimal n

@@ -37,33 +37,34 @@ unfolding integer
 operand [] = fail
 operand (b ∷ bs) = cond (eqb b (code " ")) (integer bs) fail
 
--- The operands in front of l, at most n of them, behind those of acc; and what is left of the line behind them.
+-- The operands in front of l, at most n of them, behind those of acc; and what is left of the line behind them. They end in front of the first that is none: what is left
+-- then makes the line malformed (`leftover`).
 unfoldable pub operands : ℕ → List ℤ → List ℕ → List ℤ × List ℕ
 unfolding operand
 operands zero acc l = (acc, l)
 operands (suc n) acc l = elim (operand l) [ fail ↦ (acc, l) | took v r ↦ operands n (acc ++ v ∷ []) r ]
 
--- a call's subject, cell and method, and up to four arguments (P7): no request has more operands
+-- a call's subject, cell and method, and up to four arguments (P7): a fifth one is left over, and so makes the line malformed (P11)
 abbrev pub maxOperands : ℕ
 maxOperands = 7
 
 -- ---- The line
 -- What has to be left behind the operands: nothing; but ` -` behind the two of an answer, which says that nothing is given (P8).
-abbrev pub ending : ℕ → List ℤ → List ℕ
-ending k ws = cond (eqb k 3 && eqb (length ws) 2) (bytes " -") []
+abbrev pub leftover : ℕ → List ℤ → List ℕ
+leftover k ws = cond (eqb k 3 && eqb (length ws) 2) (bytes " -") []
 
 -- the request of code k by what stands behind its word
 abbrev pub requestBy : ℕ → List ℕ → Option Request
-requestBy k l = let x = operands maxOperands [] l in cond (same (ending k (x .0)) (x .1)) (byCode k (x .0)) none
+requestBy k l = let x = operands maxOperands [] l in cond (same (leftover k (x .0)) (x .1)) (byCode k (x .0)) none
 
--- the word of each code
+-- the word of each of the four codes
 abbrev pub word : ℕ → List ℕ
 word zero = bytes "do=new"
 word (suc zero) = bytes "do=move"
 word (suc (suc zero)) = bytes "do=call"
 word (suc (suc (suc k))) = bytes "do=answer"
 
--- The request by the word that the line begins with; no word begins with another.
+-- The request by the word that the line begins with; no word begins with another. A byte behind the word that is no space is left over.
 unfoldable pub requestLine : List ℕ → Option Request
 unfolding operands starts
 requestLine l =

@@ -89,13 +89,13 @@ code-none (suc (suc (suc (suc k)))) ws a b c d = refl
 
 -- ---- What a step leaves for those behind it.
 module _ (s : State) (m : Res (System × Result)) (r : Served) (h : Step s m r) where
-  outcome-is : outcome m ≡ outcomeOf (r .answer)
+  pub outcome-is : outcome m ≡ outcomeOf (r .answer)
   outcome-is = ap outcome (sym (h .is)) ∙ go (outcomeOf (r .answer)) where
     go : (o : Outcome) → outcome (servedWith (systemIn (r .state)) o) ≡ o
     go (refused e) = refl
     go (got x) = refl
 
-  after-is : after (systemIn s) m ≡ systemIn (r .state)
+  pub after-is : after (systemIn s) m ≡ systemIn (r .state)
   after-is = ap (after (systemIn s)) (sym (h .is)) ∙ go (r .answer) refl where
     go : (a : Answer) → r .answer ≡ a → after (systemIn s) (servedWith (systemIn (r .state)) (outcomeOf a)) ≡ systemIn (r .state)
     go (Refused e) z = sym (ap systemIn (h .stays e z))

@@ -49,11 +49,11 @@ unfolding asked run outcomeText
 servedLines t rs = let x = asked rs in map outcomeText (run (start t) (x .0) .0) ++ cond (x .1) (bytes "no=1" ∷ []) []
 
 -- a refused sheet: its number, and nothing more (P3)
-abbrev pub sheetLines : SheetAnswer → List Row → List (List ℕ)
-sheetLines (malformed n at) rs = numberText (bytes "no=") n ∷ []
-sheetLines (loaded t) rs = servedLines t rs
+abbrev pub printedLines : SheetAnswer → List Row → List (List ℕ)
+printedLines (malformed n at) rs = numberText (bytes "no=") n ∷ []
+printedLines (loaded t) rs = servedLines t rs
 
 -- longer input: `no=2` alone (P1)
 unfoldable pub scriptOutput : List ℕ → List ℕ
 unfolding sheetEnd servedLines numberText split join read
-scriptOutput s = join (cond (ltb maxInput (length s)) (bytes "no=2" ∷ []) (sheetLines (read (sheetPart s)) (split (requestPart s))))
+scriptOutput s = join (cond (ltb maxInput (length s)) (bytes "no=2" ∷ []) (printedLines (read (sheetPart s)) (split (requestPart s))))

@@ -1,1 +1,145 @@
-// (definitions only)
+// The program `script`: a sheet and request lines in, a line for each request out (P1 to P15). `script` takes any bytes and says what is printed (specs/Output.antt).
+// Each line is written in the rest of the same lent buffer.
+use answerwrite::write_answer;
+use numbers::least;
+use requestread::Asked;
+use requestread::read_request;
+use state::State;
+use steps::Served;
+use steps::refused;
+use textread::Cursor;
+use textread::is_word;
+use textread::line_at;
+use textwrite::write_number;
+use textwrite::write_word;
+ghost use mathlib.Core.Path.{_≡_};
+ghost use mathlib.Core.Bool.{cond};
+ghost use mathlib.Core.List.{List, [], _∷_};
+ghost use mathlib.Core.Option.{Option};
+ghost use Prim.Native.Nat.{_+_, _≤_, _<_};
+ghost use lib.ListN.{length};
+ghost use Rattle.model.specs.Requests.{Request};
+ghost use Rattle.sheet.specs.Lines.{split};
+ghost use Rattle.sheet.specs.Text.{writeText};
+ghost use Rattle.state.specs.View.{systemIn};
+ghost use Rattle.state.specs.Sound.{Sound};
+ghost use Rattle.steps.specs.Served.{Step};
+ghost use Rattle.run.specs.Requested.{serveAsked};
+ghost use Rattle.requestread.specs.Read.{askedAs};
+ghost use Rattle.textwrite.specs.Fill.{Filled, Lined};
+ghost use Rattle.scripttext.specs.Output.{sheetEnd, scriptOutput};
+ghost use Rattle.scripttext.specs.Parts.{linesFrom};
+ghost use Rattle.scripttext.specs.Answer.{writtenOf};
+
+// The longest input that is read (P1).
+pub const INPUT_BYTES: usize = 32768;
+
+// Room for what is printed: no output is longer than its input and five bytes (proofs/Short.antt).
+pub const PRINTED_BYTES: usize = 32773;
+
+// What became of the buffer. specs/Answer.antt gives the number for each case.
+pub enum Wrote {
+    ShortBuffer,
+    Length(usize),
+}
+
+// Where the sheet ends (P2). A line that no LF ends is the last one.
+fn sheet_end(s: &[u8]) -> usize
+    ensures is { λ r. ⌜ r ≡ sheetEnd (now (s .entry)) ⌝ }
+    ensures within { λ r. ⌜ r ≤ length (now (s .entry)) ⌝ }
+{
+    let mut at: usize = 0;
+    while at < s.len() {
+        let l = line_at(s, Cursor { at });
+        let e = at + l.len();
+        if s[e] != b'\n' {
+            return s.len();
+        }
+        at = e + 1;
+        if is_word(l, b"end=sheet") {
+            return at;
+        }
+    }
+    at
+}
+
+// What a line asks, served (P4); a malformed line is refused with 1 (P11).
+fn serve_asked(s: State, q: Asked) -> Served
+    requires { ⌜ Sound s × (q .count ≤ 7) × (length (q .items) ≡ 7) ⌝ }
+    ensures { λ r. ⌜ Step s (serveAsked (systemIn s) (askedAs q)) r ⌝ }
+{
+    if !q.right {
+        return refused(s, 1);
+    }
+    let items = q.items;
+    let count = q.count;
+    run::serve_coded(s, q.code, &items[..count])
+}
+
+// Where the line behind the one at `at` begins: none is read behind a malformed line (P11).
+fn behind(right: bool, at: usize, size: usize, end: usize) -> usize
+    requires { ⌜ at + (size + 1) < 18446744073709551616 ⌝ }
+    ensures { λ r. ⌜ r ≡ cond right (at + (size + 1)) end ⌝ }
+{
+    if !right {
+        return end;
+    }
+    at + (size + 1)
+}
+
+// A line for each request, on the state that those before it left.
+fn serve_lines(buf: &mut [u8], s: State, rest: &[u8]) -> usize
+    requires { ⌜ Sound s × (length (now rest) ≤ 32768) ⌝ }
+    ensures is { λ r. ⌜ Lined (now (buf .entry)) (now (buf .exit)) (linesFrom (systemIn s) (split (now (rest .entry)))) r ⌝ }
+    ensures few { λ r. ⌜ r ≤ 2392064 ⌝ }
+{
+    let mut state = s;
+    let mut written: usize = 0;
+    let mut at: usize = 0;
+    while at < rest.len() {
+        let l = line_at(rest, Cursor { at });
+        let q = read_request(l);
+        let right = q.right;
+        let r = serve_asked(state, q);
+        let answer = r.answer;
+        let k = least(written, buf.len());
+        let more = write_answer(&mut buf[k..], answer);
+        written += more;
+        state = r.state;
+        at = behind(right, at, l.len(), rest.len());
+    }
+    written
+}
+
+// The whole output, in front of a lent buffer.
+fn put_script(buf: &mut [u8], s: &[u8]) -> usize
+    ensures { λ r. ⌜ Filled (now (buf .entry)) (now (buf .exit)) (scriptOutput (now (s .entry))) r ⌝ }
+{
+    if INPUT_BYTES < s.len() {
+        return write_word(buf, b"no=2");
+    }
+    let e = sheet_end(s);
+    let x = sheetread::read(&s[..e]);
+    if x.refusal != 0 {
+        return write_number(buf, b"no=", x.refusal);
+    }
+    let types = x.types;
+    let links = x.links;
+    let state = State::loaded(types, links, x.counts);
+    serve_lines(buf, state, &s[e..])
+}
+
+// What the program prints for any input, in front of a buffer of any length: 4 where it does not fit, and then the buffer stays as it was.
+// Five bytes more than the input are enough, so that most callers need not count first.
+pub fn script(s: &[u8], buf: &mut [u8]) -> Wrote
+    ensures { λ r. ⌜ writtenOf r (now (buf .exit)) ≡ writeText (scriptOutput (now (s .entry))) (now (buf .entry)) ⌝ }
+{
+    if least(s.len(), INPUT_BYTES) + 5 <= buf.len() {
+        return Wrote::Length(put_script(buf, s));
+    }
+    let need = put_script(&mut buf[..0], s);
+    if buf.len() < need {
+        return Wrote::ShortBuffer;
+    }
+    Wrote::Length(put_script(buf, s))
+}

@@ -13,7 +13,7 @@ use Rattle.model.specs.Basics.{Res, ok, try, need, all, unlessMissing}
 use Rattle.model.specs.Table.{State, denied, optional, avail, unavail, Rep, ref, w32, w64, Method, between, linksFit, permit, isNil, isNone, maxArguments}
 use Rattle.model.proofs.Rules.{both, first, second, never}
 use Rattle.sheet.specs.Lines.{bytes, starts, same, keyed, choice}
-use Rattle.sheet.specs.Numbers.{took, bindScan, whole, isDigit, number, numbers, decimal, tails, commas}
+use Rattle.sheet.specs.Numbers.{took, bindScan, whole, isDigit, top, number, numbers, decimal, tails, commas}
 use Rattle.sheet.specs.Text.{numberText, underText, repText, ownText, stateText, answerText, signatureText, methodTextBy, methodText, endText}
 use Rattle.sheet.specs.Sheet.{numberLine, underLine, repLine, ownLine, endLine, closing, arguments, answer, below, signature, unsigned, methodLine}
 use Rattle.sheet.proofs.Steps.{cond-cases, refuse-ok, ok-value, try-ok, need-ok, fail-took, took-value, took-rest, bindScan-took, whole-ok}
@@ -38,18 +38,18 @@ missing-weaken : (f g : ℕ → Bool) (o : Option ℕ) → ((n : ℕ) → So (f 
 missing-weaken f g none k h = refl
 missing-weaken f g (some n) k h = k n h
 
-below-small : (c : ℕ) → c ≤ 10000 → (n : ℕ) → So (ltb n c) → So (small n)
-below-small c h n e = let q : n < c = ltb-true n c e in lt-ltb n 10000 (omega arith)
+below-small : (c : ℕ) → c ≤ top → (n : ℕ) → So (ltb n c) → So (small n)
+below-small c h n e = let q : n < c = ltb-true n c e in lt-ltb n top (omega arith)
 
 -- a line with one number
 abbrev within : ℕ → ℕ → ℕ → Res ℕ
 within low high n = need (between low high n) 2 λ u. ok n
 
-pub number-exact : (key : List ℕ) (low high : ℕ) → high < 10000 → So (clean key) → LineExact (numberLine key low high) (λ n. So (between low high n)) (numberText key)
+pub number-exact : (key : List ℕ) (low high : ℕ) → high < top → So (clean key) → LineExact (numberLine key low high) (λ n. So (between low high n)) (numberText key)
 unfolding numberLine numberText
 number-exact key low high h ck = record { sound = from; full = to; lf = λ n b. all-append notLF key (decimal n) ck (decimal-clean n (fits n b)) }
   where
-    fits : (n : ℕ) → So (between low high n) → n < 10000
+    fits : (n : ℕ) → So (between low high n) → n < top
     fits n b = let q : n ≤ high = between-high low high n b in omega arith
 
     from : (l : List ℕ) (x : ℕ) → numberLine key low high l ≡ ok x → So (between low high x) × (l ≡ numberText key x)
@@ -68,7 +68,7 @@ number-exact key low high h ck = record { sound = from; full = to; lf = λ n b. 
 abbrev linksTried : ℕ → ℕ → List ℕ → Res (List ℕ)
 linksTried c k links = need (all (λ n. leb n c) links) 2 λ u. need (all (λ n. ltb n k) links) 3 λ u. ok links
 
-pub under-exact : (c k : ℕ) → c < 10000 → k ≤ c → LineExact (underLine c k) (λ links. So (linksFit k links)) underText
+pub under-exact : (c k : ℕ) → c < top → k ≤ c → LineExact (underLine c k) (λ links. So (linksFit k links)) underText
 unfolding underLine underText
 under-exact c k h kc = record { sound = from; full = to; lf = λ links b. all-append notLF (bytes "under=") (commas links) refl (commas-clean links (smalls links b)) }
   where
@@ -178,13 +178,13 @@ answer-sound (b ∷ bs) o r h s = cond-cases (eqb b 45) h
     (λ t v. bindScan-took (number (b ∷ bs)) (λ n r. took (some n) r) v
     (λ n q e w. let u : some n ≡ o = took-value w in
     let g : So (unlessMissing (some n) small) = subst (λ z. So (unlessMissing z small)) (sym u) s in
-    number-sound (b ∷ bs) n q e (ltb-true n 10000 g) ∙ ap (λ z. decimal n ++ z) (took-rest w) ∙ ap (λ z. answerText z ++ r) u))
+    number-sound (b ∷ bs) n q e (ltb-true n top g) ∙ ap (λ z. decimal n ++ z) (took-rest w) ∙ ap (λ z. answerText z ++ r) u))
 
 arguments-full : (xs r : List ℕ) → length xs ≤ maxArguments → So (all small xs) → arguments (commas xs ++ code ")" ∷ r) ≡ took xs r
 unfolding arguments
 arguments-full [] r h s = refl
 arguments-full (a ∷ xs) r h s =
-    let i = decimal-head a (ltb-true a 10000 (first (small a) (all small xs) s)) in
+    let i = decimal-head a (ltb-true a top (first (small a) (all small xs) s)) in
     let q : List ℕ = tails xs ++ 41 ∷ r in
     ap arguments (append-assoc (decimal a) (tails xs) (41 ∷ r)) ∙ ap (λ z. arguments (z ++ q)) (i .2) ∙ arguments-digit (i .0) (i .1 ++ q) (i .3)
     ∙ ap (λ z. bindScan (numbers maxArguments [] (z ++ q)) closing) (sym (i .2))
@@ -194,7 +194,7 @@ answer-full : (o : Option ℕ) → So (unlessMissing o small) → answer (answer
 unfolding answer
 answer-full none s = refl
 answer-full (some n) s =
-    let l : n < 10000 = ltb-true n 10000 s in
+    let l : n < top = ltb-true n top s in
     let i = decimal-head n l in
     ap answer (i .2) ∙ answer-digit (i .0) (i .1) (i .3) ∙ ap (λ z. bindScan (number z) (λ n r. took (some n) r)) (sym (i .2) ∙ sym (append-nil (decimal n)))
     ∙ ap (λ z. bindScan z (λ n r. took (some n) r)) (number-full n [] l refl)
@@ -212,13 +212,13 @@ method s xs o = record { state = s; args = xs; answer = o }
 abbrev named : ℕ → Method → Res Method
 named n m = need (all (below n) (m .args) && unlessMissing (m .answer) (below n)) 2 λ u. ok m
 
-args-small : (n : ℕ) (m : Method) → n ≤ 10000 → So (permitted n m) → So (all small (m .args))
+args-small : (n : ℕ) (m : Method) → n ≤ top → So (permitted n m) → So (all small (m .args))
 args-small n m h b = all-weaken (below n) small (m .args) (below-small n h) (first (all (below n) (m .args)) _ (second (leb (length (m .args)) maxArguments) _ b))
 
-answer-small : (n : ℕ) (m : Method) → n ≤ 10000 → So (permitted n m) → So (unlessMissing (m .answer) small)
+answer-small : (n : ℕ) (m : Method) → n ≤ top → So (permitted n m) → So (unlessMissing (m .answer) small)
 answer-small n m h b = missing-weaken (below n) small (m .answer) (below-small n h) (second (all (below n) (m .args)) _ (second (leb (length (m .args)) maxArguments) _ b))
 
-signature-sound : (n : ℕ) (s : State) (l : List ℕ) (m : Method) → n ≤ 10000 → signature n s l ≡ ok m → SignatureOf n s l m
+signature-sound : (n : ℕ) (s : State) (l : List ℕ) (m : Method) → n ≤ top → signature n s l ≡ ok m → SignatureOf n s l m
 unfolding signature
 signature-sound n s l m h e = try-ok (whole (bindScan (arguments l) _)) (named n) e λ y e₁ e. need-ok (all (below n) (y .args) && unlessMissing (y .answer) (below n)) 2 _ e λ b e.
     bindScan-took (arguments l) _ (whole-ok _ e₁) λ xs q a e₂. bindScan-took (answer q) _ e₂ λ o p w e₃. go y b (ok-value e) xs q a o p w (took-value e₃) (took-rest e₃)
@@ -235,7 +235,7 @@ signature-sound n s l m h e = try-ok (whole (bindScan (arguments l) _)) (named n
           i .1 (args-small n v h fit) ∙ ap (λ r. commas xs ++ code ")" ∷ r) (answer-sound q o p w (answer-small n v h fit) ∙ ap (λ r. answerText o ++ r) z ∙ append-nil (answerText o)),
         )
 
-signature-full : (n : ℕ) (m : Method) → n ≤ 10000 → So (permitted n m) → signature n (m .state) (signatureText m) ≡ ok m
+signature-full : (n : ℕ) (m : Method) → n ≤ top → So (permitted n m) → signature n (m .state) (signatureText m) ≡ ok m
 unfolding signature
 signature-full n m h b =
     ap (λ z. try (whole (bindScan z λ xs r. bindScan (answer r) λ o q. took (method (m .state) xs o) q)) (named n))
@@ -245,9 +245,9 @@ signature-full n m h b =
 
 answer-clean : (o : Option ℕ) → So (unlessMissing o small) → So (clean (answerText o))
 answer-clean none h = refl
-answer-clean (some n) h = decimal-clean n (ltb-true n 10000 h)
+answer-clean (some n) h = decimal-clean n (ltb-true n top h)
 
-signature-clean : (n : ℕ) (m : Method) → n ≤ 10000 → So (permitted n m) → So (clean (signatureText m))
+signature-clean : (n : ℕ) (m : Method) → n ≤ top → So (permitted n m) → So (clean (signatureText m))
 signature-clean n m h b = all-append notLF (commas (m .args)) (code ")" ∷ answerText (m .answer)) (commas-clean (m .args) (args-small n m h b)) (answer-clean (m .answer) (answer-small n m h b))
 
 no-arguments : (xs : List ℕ) (o : Option ℕ) → So (isNil xs && isNone o) → (xs ≡ []) × (o ≡ none)
@@ -256,7 +256,7 @@ no-arguments [] (some n) h = never h
 no-arguments (x ∷ xs) o h = never h
 
 -- an m= line
-pub method-exact : (n : ℕ) → n ≤ 10000 → LineExact (methodLine n) (λ m. So (signatureIn n m)) methodText
+pub method-exact : (n : ℕ) → n ≤ top → LineExact (methodLine n) (λ m. So (signatureIn n m)) methodText
 unfolding methodLine methodText starts
 method-exact n h = record { sound = from; full = λ m b. to (m .state) m refl b; lf = λ m b. lf (m .state) m b }
   where

@@ -11,7 +11,7 @@ use borrow.Author.Tests.{eqb-true, eq-eqb, ne-eqb, ltb-true}
 use Rattle.model.specs.Basics.{Res, ok, all, need}
 use Rattle.model.proofs.Rules.{both, first, second, never}
 use Rattle.sheet.specs.Lines.{Row, row, cut, push, split, join, starts, same, keyed, choice}
-use Rattle.sheet.specs.Numbers.{isDigit, decimal, tails, commas}
+use Rattle.sheet.specs.Numbers.{isDigit, top, decimal, tails, commas}
 use Rattle.sheet.proofs.Steps.{clash, cond-cases, ok-value, refuse-ok, need-ok}
 use Rattle.sheet.proofs.Numbers.{isDigit-low, decimal-digits, small}
 
@@ -92,16 +92,16 @@ digits-clean (b ∷ l) h =
     let low : 48 ≤ b = isDigit-low b (first (isDigit b) (all isDigit l) h) in
     both (ap (λ z. cond z false true) (ne-eqb b 10 (λ q. omega arith))) (digits-clean l (second (isDigit b) (all isDigit l) h))
 
-pub decimal-clean : (n : ℕ) → n < 10000 → So (clean (decimal n))
+pub decimal-clean : (n : ℕ) → n < top → So (clean (decimal n))
 decimal-clean n h = digits-clean (decimal n) (decimal-digits n h)
 
 tails-clean : (xs : List ℕ) → So (all small xs) → So (clean (tails xs))
 tails-clean [] h = refl
-tails-clean (x ∷ xs) h = all-append notLF (decimal x) (tails xs) (decimal-clean x (ltb-true x 10000 (first (small x) (all small xs) h))) (tails-clean xs (second (small x) (all small xs) h))
+tails-clean (x ∷ xs) h = all-append notLF (decimal x) (tails xs) (decimal-clean x (ltb-true x top (first (small x) (all small xs) h))) (tails-clean xs (second (small x) (all small xs) h))
 
 pub commas-clean : (xs : List ℕ) → So (all small xs) → So (clean (commas xs))
 commas-clean [] h = refl
-commas-clean (x ∷ xs) h = all-append notLF (decimal x) (tails xs) (decimal-clean x (ltb-true x 10000 (first (small x) (all small xs) h))) (tails-clean xs (second (small x) (all small xs) h))
+commas-clean (x ∷ xs) h = all-append notLF (decimal x) (tails xs) (decimal-clean x (ltb-true x top (first (small x) (all small xs) h))) (tails-clean xs (second (small x) (all small xs) h))
 
 -- words at the start of a line
 pub starts-sound : (k l : List ℕ) → So (starts k l) → l ≡ k ++ drop (length k) l

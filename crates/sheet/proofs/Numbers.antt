@@ -1,4 +1,4 @@
--- Decimals and lists of them: what is read is exactly what is written, for numbers below 10,000.
+-- Decimals and lists of them: what is read is exactly what is written, for numbers below `top`.
 use mathlib.Core.Path.{_≡_, refl, sym, ap, _∙_, subst}
 use mathlib.Core.Bool.{Bool, true, false, cond}
 use mathlib.Core.List.{List, [], _∷_, _++_, append-assoc, append-nil}
@@ -10,7 +10,7 @@ use lib.ListN.{length}
 use borrow.Author.Tests.{ltb-true, ltb-false, leb-true, eqb-true, eqb-false, lt-ltb, le-ltb, le-leb, ne-eqb}
 use Rattle.model.specs.Basics.{all}
 use Rattle.model.proofs.Rules.{both, first, second}
-use Rattle.sheet.specs.Numbers.{Scan, fail, took, bindScan, isDigit, limit, digits, number, comma, numbers, decimalIn, decimal, tails}
+use Rattle.sheet.specs.Numbers.{Scan, fail, took, bindScan, isDigit, top, limit, digits, number, comma, numbers, decimalIn, decimal, tails}
 use Rattle.sheet.proofs.Steps.{clash, cond-cases, fail-took, took-value, took-rest}
 
 pub isDigit-low : (b : ℕ) → isDigit b ≡ true → 48 ≤ b
@@ -30,14 +30,14 @@ val-up : (a : ℕ) (ds : List ℕ) → a ≤ val a ds
 val-up a [] = omega arith
 val-up a (b ∷ bs) = let h : a * 10 + (b - 48) ≤ val (a * 10 + (b - 48)) bs = val-up (a * 10 + (b - 48)) bs in omega arith
 
-limit-low : (x n : ℕ) → limit x ≤ n → n < 10000 → limit x ≡ x
+limit-low : (x n : ℕ) → limit x ≤ n → n < top → limit x ≡ x
 limit-low x n h l = omega arith
 
-pub limit-is : (x : ℕ) → x < 10000 → limit x ≡ x
+pub limit-is : (x : ℕ) → x < top → limit x ≡ x
 limit-is x h = omega arith
 
 -- the digits behind the first
-pub digits-sound : (a : ℕ) (l : List ℕ) (n : ℕ) (r : List ℕ) → digits a l ≡ took n r → n < 10000 → (ds : List ℕ) × (l ≡ ds ++ r) × (all isDigit ds ≡ true) × (val a ds ≡ n)
+pub digits-sound : (a : ℕ) (l : List ℕ) (n : ℕ) (r : List ℕ) → digits a l ≡ took n r → n < top → (ds : List ℕ) × (l ≡ ds ++ r) × (all isDigit ds ≡ true) × (val a ds ≡ n)
 unfolding digits
 digits-sound a [] n r h l = ([], took-rest h, refl, took-value h)
 digits-sound a (b ∷ bs) n r h l =
@@ -55,7 +55,7 @@ stop-here : (a b : ℕ) (r : List ℕ) → stops (b ∷ r) ≡ true → digits a
 unfolding digits
 stop-here a b r h = cond-cases (isDigit b) h (λ e k. clash (sym k)) (λ e k. rw e)
 
-pub digits-full : (a : ℕ) (ds r : List ℕ) → all isDigit ds ≡ true → stops r ≡ true → val a ds < 10000 → digits a (ds ++ r) ≡ took (val a ds) r
+pub digits-full : (a : ℕ) (ds r : List ℕ) → all isDigit ds ≡ true → stops r ≡ true → val a ds < top → digits a (ds ++ r) ≡ took (val a ds) r
 unfolding digits
 digits-full a [] [] d s l = refl
 digits-full a [] (b ∷ r) d s l = stop-here a b r s
@@ -101,10 +101,10 @@ decimal-one n h = rw (lt-ltb n 10 h)
 pub decimal-more : (n : ℕ) → 10 ≤ n → n < bound 20 → decimal n ≡ decimal (n / 10) ++ (48 + n % 10) ∷ []
 decimal-more n h l = digits-more 19 n h ∙ ap (λ z. z ++ (48 + n % 10) ∷ []) (fuel-more 18 (n / 10) (part-low n (bound 19) l))
 
-decimal-step : (a d : ℕ) → 1 ≤ a → d < 10 → a * 10 + d < 10000 → decimal (a * 10 + d) ≡ decimal a ++ (48 + d) ∷ []
+decimal-step : (a d : ℕ) → 1 ≤ a → d < 10 → a * 10 + d < top → decimal (a * 10 + d) ≡ decimal a ++ (48 + d) ∷ []
 decimal-step a d p h l = decimal-more (a * 10 + d) (omega arith) (omega arith) ∙ ap (λ z. decimal z ++ (48 + (a * 10 + d) % 10) ∷ []) (tenth a d h) ∙ ap (λ z. decimal a ++ (48 + z) ∷ []) (unit a d h)
 
-decimal-val : (a : ℕ) (ds : List ℕ) → 1 ≤ a → all isDigit ds ≡ true → val a ds < 10000 → decimal (val a ds) ≡ decimal a ++ ds
+decimal-val : (a : ℕ) (ds : List ℕ) → 1 ≤ a → all isDigit ds ≡ true → val a ds < top → decimal (val a ds) ≡ decimal a ++ ds
 decimal-val a [] p d l = sym (append-nil (decimal a))
 decimal-val a (b ∷ bs) p d l =
     let e : isDigit b ≡ true = first (isDigit b) (all isDigit bs) d in
@@ -118,7 +118,7 @@ decimal-val a (b ∷ bs) p d l =
     ∙ ap (λ z. decimal a ++ z ∷ bs) q
 
 -- one number
-pub number-sound : (l : List ℕ) (n : ℕ) (r : List ℕ) → number l ≡ took n r → n < 10000 → l ≡ decimal n ++ r
+pub number-sound : (l : List ℕ) (n : ℕ) (r : List ℕ) → number l ≡ took n r → n < top → l ≡ decimal n ++ r
 unfolding number
 number-sound [] n r h l = absurd (fail-took h)
 number-sound (b ∷ bs) n r h l =
@@ -131,7 +131,7 @@ number-sound (b ∷ bs) n r h l =
     let lo = isDigit-low b d in
     let hi = isDigit-high b d in
     let q : 48 + (b - 48) ≡ b = omega arith in
-    let w : val (b - 48) (i .0) < 10000 = subst (λ x. x < 10000) (sym (i .3)) l in
+    let w : val (b - 48) (i .0) < top = subst (λ x. x < top) (sym (i .3)) l in
     sym (ap (λ x. decimal x ++ r) (sym (i .3))
     ∙ ap (λ x. x ++ r) (decimal-val (b - 48) (i .0) (omega arith) (i .2) w ∙ ap (λ x. x ++ i .0) (decimal-one (b - 48) (omega arith)))
     ∙ ap (λ x. x ∷ (i .0 ++ r)) q ∙ ap (λ x. b ∷ x) (sym (i .1))))
@@ -170,18 +170,18 @@ shape (suc f) n p h = go (λ a q k. shape f a q k) (ltb n 10) refl
           val-snoc (i .0 - 48) (i .1) (48 + n % 10) ∙ ap (λ x. x * 10 + (48 + n % 10 - 48)) (i .6) ∙ omega arith,
         )
 
-number-pos : (n : ℕ) (r : List ℕ) → n < 10000 → stops r ≡ true → 1 ≤ n → number (decimal n ++ r) ≡ took n r
+number-pos : (n : ℕ) (r : List ℕ) → n < top → stops r ≡ true → 1 ≤ n → number (decimal n ++ r) ≡ took n r
 unfolding number
 number-pos n r h s p =
     let i = shape 20 n p (omega arith) in
-    let w : val (i .0 - 48) (i .1) < 10000 = subst (λ x. x < 10000) (sym (i .6)) h in
+    let w : val (i .0 - 48) (i .1) < top = subst (λ x. x < top) (sym (i .6)) h in
     ap (λ x. number (x ++ r)) (i .2)
     ∙ ap (λ x. cond x (took 0 (i .1 ++ r)) (cond (isDigit (i .0)) (digits (i .0 - 48) (i .1 ++ r)) fail)) (i .3)
     ∙ ap (λ x. cond x (digits (i .0 - 48) (i .1 ++ r)) fail) (i .4)
     ∙ digits-full (i .0 - 48) (i .1) r (i .5) s w
     ∙ ap (λ x. took x r) (i .6)
 
-pub number-full : (n : ℕ) (r : List ℕ) → n < 10000 → stops r ≡ true → number (decimal n ++ r) ≡ took n r
+pub number-full : (n : ℕ) (r : List ℕ) → n < top → stops r ≡ true → number (decimal n ++ r) ≡ took n r
 unfolding number decimalIn
 number-full n r h s = go (eqb n 0) refl
   where
@@ -189,7 +189,7 @@ number-full n r h s = go (eqb n 0) refl
     go true e = let q : n ≡ 0 = eqb-true n 0 e in rw q
     go false e = let q : n ≡ 0 → ⊥ = eqb-false n 0 e in number-pos n r h s (omega arith)
 
-pub decimal-digits : (n : ℕ) → n < 10000 → all isDigit (decimal n) ≡ true
+pub decimal-digits : (n : ℕ) → n < top → all isDigit (decimal n) ≡ true
 unfolding decimalIn
 decimal-digits n h = go (eqb n 0) refl
   where
@@ -199,7 +199,7 @@ decimal-digits n h = go (eqb n 0) refl
         let i = shape 20 n (omega arith) (omega arith) in
         ap (λ x. all isDigit x) (i .2) ∙ both (i .4) (i .5)
 
-pub decimal-head : (n : ℕ) → n < 10000 → (b : ℕ) × (ds : List ℕ) × (decimal n ≡ b ∷ ds) × (isDigit b ≡ true)
+pub decimal-head : (n : ℕ) → n < top → (b : ℕ) × (ds : List ℕ) × (decimal n ≡ b ∷ ds) × (isDigit b ≡ true)
 decimal-head n h = go (eqb n 0) refl
   where
     go : (t : Bool) → eqb n 0 ≡ t → (b : ℕ) × (ds : List ℕ) × (decimal n ≡ b ∷ ds) × (isDigit b ≡ true)
@@ -209,7 +209,7 @@ decimal-head n h = go (eqb n 0) refl
 
 -- numbers with commas
 abbrev pub small : ℕ → Bool
-small n = ltb n 10000
+small n = ltb n top
 
 -- what may stand behind a list of numbers
 abbrev pub free : List ℕ → Bool
@@ -236,7 +236,7 @@ numbers-sound zero acc l ns r h = absurd (fail-took h)
 numbers-sound (suc k) acc l ns r h = go (λ b q h. numbers-sound k b q ns r h) (number l) refl h
   where
     last : (a : ℕ) (r₁ : List ℕ) → number l ≡ took a r₁ → r₁ ≡ r → all small (a ∷ []) ≡ true → l ≡ decimal a ++ r
-    last a r₁ e q s = number-sound l a r₁ e (ltb-true a 10000 (first (small a) true s)) ∙ ap (λ x. decimal a ++ x) q
+    last a r₁ e q s = number-sound l a r₁ e (ltb-true a top (first (small a) true s)) ∙ ap (λ x. decimal a ++ x) q
 
     come : ((b q : List ℕ) → numbers k b q ≡ took ns r → Listed k b q ns r) → (a : ℕ) (r₁ : List ℕ) → number l ≡ took a r₁ → comma (acc ++ a ∷ []) (λ q. numbers k (acc ++ a ∷ []) q) r₁ ≡ took ns r → Listed (suc k) acc l ns r
     come ih a [] e h = (a, [], sym (took-value h), omega arith, last a [] e (took-rest h))
@@ -246,7 +246,7 @@ numbers-sound (suc k) acc l ns r h = go (λ b q h. numbers-sound k b q ns r h) (
           i .0 ∷ i .1,
           i .2 ∙ append-assoc acc (a ∷ []) (i .0 ∷ i .1),
           omega (arith, i .3),
-          λ s. number-sound l a (b ∷ q) e (ltb-true a 10000 (first (small a) _ s))
+          λ s. number-sound l a (b ∷ q) e (ltb-true a top (first (small a) _ s))
               ∙ ap (λ x. decimal a ++ x ∷ q) (eqb-true b 44 t) ∙ ap (λ x. decimal a ++ 44 ∷ x) (i .4 (second (small a) _ s))
               ∙ ap (λ x. decimal a ++ 44 ∷ x) (sym (append-assoc (decimal (i .0)) (tails (i .1)) r)),
         ))
@@ -264,10 +264,10 @@ pub numbers-full : (k : ℕ) (acc : List ℕ) (a : ℕ) (xs r : List ℕ) → su
 unfolding numbers
 numbers-full zero acc a xs r h s f = absurd (not-suc-le-zero h)
 numbers-full (suc k) acc a [] r h s f =
-    ap (λ z. bindScan z (λ a r. comma (acc ++ a ∷ []) (λ q. numbers k (acc ++ a ∷ []) q) r)) (number-full a r (ltb-true a 10000 (first (small a) true s)) (free-stops r f))
+    ap (λ z. bindScan z (λ a r. comma (acc ++ a ∷ []) (λ q. numbers k (acc ++ a ∷ []) q) r)) (number-full a r (ltb-true a top (first (small a) true s)) (free-stops r f))
     ∙ comma-free (acc ++ a ∷ []) (λ q. numbers k (acc ++ a ∷ []) q) r f
 numbers-full (suc k) acc a (x ∷ xs) r h s f =
-    ap (λ z. bindScan z (λ a r. comma (acc ++ a ∷ []) (λ q. numbers k (acc ++ a ∷ []) q) r)) (number-full a (44 ∷ (decimal x ++ tails xs) ++ r) (ltb-true a 10000 (first (small a) _ s)) refl)
+    ap (λ z. bindScan z (λ a r. comma (acc ++ a ∷ []) (λ q. numbers k (acc ++ a ∷ []) q) r)) (number-full a (44 ∷ (decimal x ++ tails xs) ++ r) (ltb-true a top (first (small a) _ s)) refl)
     ∙ ap (λ z. numbers k (acc ++ a ∷ []) z) (append-assoc (decimal x) (tails xs) r)
     ∙ numbers-full k (acc ++ a ∷ []) x xs r (le-of-suc-le-suc h) (second (small a) _ s) f
     ∙ ap (λ z. took z r) (append-assoc acc (a ∷ []) (x ∷ xs))

@@ -13,6 +13,7 @@ use Rattle.model.specs.Table.{Rep, ref, w32, w64, Key, Method, Ty, Table, isRef
 use Rattle.model.proofs.Rules.{both, first, second, never}
 use Rattle.sheet.specs.Lines.{bytes, pure, line}
 use Rattle.sheet.specs.Text.{newestForm, underText, methodText, each, memberLines, typeLines, sheetLines}
+use Rattle.sheet.specs.Numbers.{top}
 use Rattle.sheet.specs.Sheet.{underLine, methodLine, sheetType, members, oneType, body}
 use Rattle.sheet.proofs.LineKinds.{between-low, between-high, in-between, number-exact, under-exact, rep-exact, own-exact, signatureIn, method-exact}
 use Rattle.sheet.proofs.Readers.{Exact, line-exact, pure-exact, bind-exact, exact-lines, times-exact}
@@ -75,14 +76,14 @@ module _ (m c n : ℕ) (hm : m ≤ maxMethods) (hc : c ≤ maxCategories) (hn : 
   abbrev Rest : Type 0 → Rep → ℕ → Ty → Type 0
   Rest Q r k y = (y .cat ≡ k) × ((y .rep ≡ r) × (Q × So (typeRight m c n y)))
 
-  one-method : (j : ℕ) → j < 10000 → Exact (line (methodLine n)) (λ x. So (signatureIn n x)) (λ x. methodText x ∷ [])
+  one-method : (j : ℕ) → j < top → Exact (line (methodLine n)) (λ x. So (signatureIn n x)) (λ x. methodText x ∷ [])
   one-method j h = line-exact (method-exact n (omega arith))
 
   ref-exact : (Q : Type 0) → Q → (k : ℕ) → So (leb k c) → Exact (members m n ref k) (Rest Q ref k) (memberLines ref)
   unfolding members memberLines
   ref-exact Q q k hk = bind-exact (λ y. y .own) (line-exact own-exact) (λ y o. tt) λ o u.
       exact-lines (λ y f. append-nil (each (λ j x. methodText x ∷ []) 0 (y .methods)))
-      (bind-exact (λ y. y .methods) (times-exact (λ j. line (methodLine n)) (λ j. signatureIn n) (λ j x. methodText x ∷ []) 10000 one-method m 0 (omega arith))
+      (bind-exact (λ y. y .methods) (times-exact (λ j. line (methodLine n)) (λ j. signatureIn n) (λ j x. methodText x ∷ []) top one-method m 0 (omega arith))
       (λ y f. let p = type-parts m c n y (f .1 .1 .1 .1) in (p .count ∙ ap (λ z. methodCount z m) (f .1 .1 .0), every-all (signatureIn n) 0 (y .methods) ∙ p .methods))
       λ ms g. pure-exact (
         refl,
@@ -118,7 +119,7 @@ module _ (m c n : ℕ) (hm : m ≤ maxMethods) (hc : c ≤ maxCategories) (hn : 
   only : (i x : ℕ) → So (between i i x) → i ≡ x
   only i x h = let l : i ≤ x = between-low i i x h in let u : x ≤ i = between-high i i x h in omega arith
 
-  pub type-exact : (i : ℕ) → i < 10000 → Exact (oneType m c n i) (λ y. So (typeRight m c n y)) (typeLines i)
+  pub type-exact : (i : ℕ) → i < top → Exact (oneType m c n i) (λ y. So (typeRight m c n y)) (typeLines i)
   unfolding oneType typeLines
   type-exact i hi = bind-exact (λ y. i) (line-exact (number-exact (bytes "type=") i i hi refl)) (λ y f. in-between i i i (omega arith) (omega arith)) λ x hx.
       bind-exact (λ y. y .rep) (line-exact rep-exact) (λ y f. tt) λ r u.
@@ -154,7 +155,7 @@ body-exact = bind-exact (λ t. newestForm) (line-exact (number-exact (bytes "gui
     bind-exact (λ t. t .cats) (times-exact (λ k. line (underLine c k)) linksFit (λ k us. underText us ∷ []) (suc c) (one-under c (between-high 0 maxCategories c hc)) c 1 (omega arith)) (λ t f. (f .0, f .1 .1 .1 .1 .links)) λ us hu.
     bind-exact (λ t. t .sheet) (line-exact (number-exact (bytes "types=") 1 maxSheetTypes (omega arith) refl)) (λ t f. f .1 .1 .1 .1 .1 .sheet) λ n hn.
     exact-lines (λ t f. append-nil (each typeLines 0 (t .types)))
-    (bind-exact (λ t. t .types) (times-exact (oneType m c n) (λ i. typeRight m c n) typeLines 10000 (type-exact m c n (between-high 1 maxMethods m hm) (between-high 0 maxCategories c hc) (between-high 1 maxSheetTypes n hn)) n 0 (small n hn))
+    (bind-exact (λ t. t .types) (times-exact (oneType m c n) (λ i. typeRight m c n) typeLines top (type-exact m c n (between-high 1 maxMethods m hm) (between-high 0 maxCategories c hc) (between-high 1 maxSheetTypes n hn)) n 0 (small n hn))
     (λ t f. (
       f .1 .1 .1 .1 .1 .1 .count ∙ f .0,
       right-at t (f .1 .1 .1 .0) (f .1 .1 .0) (f .0) (f .1 .1 .1 .1 .1 .1 .types),
@@ -191,7 +192,7 @@ body-exact = bind-exact (λ t. newestForm) (line-exact (number-exact (bytes "gui
     )
     λ t f. table-is t (f .1 .1 .1 .1 .1 .0) (f .1 .1 .1 .1 .0) (f .1 .1 .0) (f .1 .0) (f .0))
   where
-    small : (n : ℕ) → So (between 1 maxSheetTypes n) → 0 + n ≤ 10000
+    small : (n : ℕ) → So (between 1 maxSheetTypes n) → 0 + n ≤ top
     small n h = let q : n ≤ maxSheetTypes = between-high 1 maxSheetTypes n h in omega arith
 
     only-form : (g : ℕ) → So (between 1 newestForm g) → newestForm ≡ g

@@ -25,9 +25,13 @@ whole (took x (b ∷ r)) = refuse 1
 abbrev pub isDigit : ℕ → Bool
 isDigit b = leb 48 b && leb b 57
 
--- A number of 10,000 or more counts as 10,000, which is above every range: its form is right and its value outside, 2 (docs/DECISIONS.md S2).
+-- 2 to the 63rd and one more: above every range of a sheet, and above every number of 64 bits with a sign (P9).
+abbrev pub top : ℕ
+top = 9223372036854775809
+
+-- A larger number counts as `top`, so its form is right and its value outside of every range: 2 (docs/DECISIONS.md S2).
 abbrev pub limit : ℕ → ℕ
-limit n = min n 10000
+limit n = min n top
 
 unfoldable pub digits : ℕ → List ℕ → Scan ℕ
 digits a [] = took a []

@@ -14,7 +14,7 @@ use Rattle.model.specs.Basics.{Res, refuse, ok, try, need, all}
 use Rattle.model.specs.Table.{between}
 use Rattle.model.proofs.Rules.{both, first, second}
 use Rattle.sheet.specs.Lines.{Row, row, cut, push, split, refused, got, line, lineAt, firstLine, starts, same, keyed}
-use Rattle.sheet.specs.Numbers.{Scan, fail, took, bindScan, whole, isDigit, limit, digits, number, comma, numbers}
+use Rattle.sheet.specs.Numbers.{Scan, fail, took, bindScan, whole, isDigit, top, limit, digits, number, comma, numbers}
 use Rattle.sheet.specs.Sheet.{numberLine}
 use Rattle.sheet.proofs.Steps.{clash, cond-cases, refuse-ok}
 use Rattle.sheet.proofs.Numbers.{isDigit-of}
@@ -138,7 +138,7 @@ module _ {A : Type 0} (f : ℕ → A) (l : List ℕ) (t : Number) (S : Scan A) (
   pub number-scan-right : (n next : ℕ) → t ≡ Right n next → took (f n) (drop next l) ≡ S
   number-scan-right n next e = ap (scanBy f l) (sym e) ∙ is
 
-pub right-within : (size : ℕ) (t : Number) (n next : ℕ) → t ≡ Right n next → ScanWithin size t → (next ≤ size) × (n ≤ 10000)
+pub right-within : (size : ℕ) (t : Number) (n next : ℕ) → t ≡ Right n next → ScanWithin size t → (next ≤ size) × (n ≤ top)
 right-within size t n next e h = subst (ScanWithin size) e h
 
 -- A scan whose form is right, and one whose form is wrong.

@@ -7,7 +7,7 @@ use lib.Dec.{eqb}
 use lib.ListN.{length, getD, take, drop}
 use Rattle.model.specs.Basics.{Res, refuse, ok, all}
 use Rattle.sheet.specs.Lines.{Reading, refused, got, split, firstLine}
-use Rattle.sheet.specs.Numbers.{Scan, fail, took}
+use Rattle.sheet.specs.Numbers.{Scan, fail, took, top}
 use Rattle.textread.specs.declared.Cursor.{Cursor}
 use Rattle.textread.specs.declared.Number.{Number}
 use Rattle.textread.specs.declared.Number.the-variants.{Wrong, Right}
@@ -27,7 +27,7 @@ scanBy f l (Right n next) = took (f n) (drop next l)
 
 abbrev pub ScanWithin : ℕ → Number → Type 0
 ScanWithin size Wrong = Unit {0}
-ScanWithin size (Right n next) = (next ≤ size) × (n ≤ 10000)
+ScanWithin size (Right n next) = (next ≤ size) × (n ≤ top)
 
 -- The answer for one line; f says what the line's number means.
 abbrev pub valueBy : {A : Type 0} → (ℕ → A) → Value → Res A

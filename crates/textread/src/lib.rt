@@ -3,11 +3,11 @@
 ghost use mathlib.Core.Path.{_≡_};
 ghost use mathlib.Core.Bool.{true, false, cond};
 ghost use mathlib.Core.List.{[]};
-ghost use Prim.Native.Nat.{_+_, _≤_, _<_};
+ghost use Prim.Native.Nat.{_+_, _*_, _≤_, _<_};
 ghost use lib.Dec.{eqb};
 ghost use lib.ListN.{length, take, drop};
 ghost use Rattle.sheet.specs.Lines.{split, line, starts, same};
-ghost use Rattle.sheet.specs.Numbers.{digits, number, numbers};
+ghost use Rattle.sheet.specs.Numbers.{top, limit, digits, number, numbers};
 ghost use Rattle.sheet.specs.Sheet.{numberLine};
 ghost use Rattle.textread.specs.View.{scanned, scanBy, ScanWithin, valueBy, AtMost, readBy, GotAtMost, Clear, LineEnd, LineAt, Passable, passedBy};
 use numbers::least;
@@ -56,8 +56,11 @@ pub enum Got {
     At(usize, Cursor),
 }
 
-// A longer number counts as this one, so that digits of any length are read without overflow.
-const LIMIT: usize = 10000;
+// A larger number counts as this one, so that digits of any length are read without overflow.
+const LIMIT: usize = 9223372036854775809;
+
+// Ten times this number and nine more is the limit.
+const TENTH: usize = 922337203685477580;
 
 // Whether a line begins with a word.
 pub fn begins(l: &[u8], word: &[u8]) -> bool
@@ -86,9 +89,20 @@ pub fn is_word(l: &[u8], word: &[u8]) -> bool
     false
 }
 
+// A digit more behind those that made n.
+fn more(n: usize, d: usize) -> usize
+    requires { ⌜ d < 10 ⌝ }
+    ensures { λ r. ⌜ r ≡ limit (n * 10 + d) ⌝ }
+{
+    if TENTH < n {
+        return LIMIT;
+    }
+    n * 10 + d
+}
+
 // The digits from `at` on, behind those that made a.
 fn digits_at(l: &[u8], at: usize, a: usize) -> Number
-    requires { ⌜ (at ≤ length (now l)) × (a ≤ 10000) ⌝ }
+    requires { ⌜ (at ≤ length (now l)) × (a ≤ top) ⌝ }
     ensures is { λ r. ⌜ scanBy (λ n. n) (now (l .entry)) r ≡ digits a (drop at (now (l .entry))) ⌝ }
     ensures within { λ r. ⌜ ScanWithin (length (now (l .entry))) r ⌝ }
 {
@@ -102,7 +116,7 @@ fn digits_at(l: &[u8], at: usize, a: usize) -> Number
         if 57 < b {
             return Number::Right(n, i);
         }
-        n = least(n * 10 + (b - 48), LIMIT);
+        n = more(n, b - 48);
         i += 1;
     }
     Number::Right(n, i)

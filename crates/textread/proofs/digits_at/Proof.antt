@@ -4,13 +4,13 @@ use Prim.Native.Nat.{_≤_, _-_}
 use native.Mathlib.Omega.{arith}
 use lib.ListN.{length, drop}
 use borrow.Author.Needs.{needs}
-use Rattle.sheet.specs.Numbers.{digits}
+use Rattle.sheet.specs.Numbers.{top, digits}
 use Rattle.textread.proofs.Laws.{digits-low, digits-high, digits-more, digits-end}
 use Rattle.textread.proofs.digits_at.Statement.{statement}
 use Rattle.textread.proofs.digits_at.Tie as tie
 
 abbrev Inv-loop : tie.InvT-loop
-Inv-loop l at a i₀ n₀ i n = (i ≤ length l) × (n ≤ 10000) × (digits n (drop i l) ≡ digits a (drop at l))
+Inv-loop l at a i₀ n₀ i n = (i ≤ length l) × (n ≤ top) × (digits n (drop i l) ≡ digits a (drop at l))
 
 abbrev μ-loop : tie.MeasureT-loop
 μ-loop l at a i₀ n₀ i n = length l - i
@@ -37,14 +37,8 @@ returns-2 c =
     let c5 = c4 .before in
     (digits-high _ _ _ _ (c4 .loop-test .taken) (c2 .wide .ensures .0) (c .before .if1 .left) (c .if2 .taken) ∙ c5 .loop .inv .2, (omega arith, omega arith))
 
-mul-least : tie.Need-mul-least Inv-loop μ-loop
-mul-least c = search needs
-
-add-least : tie.Need-add-least Inv-loop μ-loop
-add-least c = search needs
-
-least-requires : tie.Need-least-requires Inv-loop μ-loop
-least-requires c κs = search needs
+more-requires : tie.Need-more-requires Inv-loop μ-loop
+more-requires c κs = omega arith
 
 add-i : tie.Need-add-i Inv-loop μ-loop
 add-i c = search needs
@@ -58,7 +52,7 @@ loop-again c =
     let c3 = c2 .before in
     let c5 = c3 .before .before in
     let c6 = c5 .before in
-    (omega arith, omega arith, digits-more _ _ _ _ (c5 .loop-test .taken) (c3 .wide .ensures .0) _ (c2 .if1 .left) (c .before .if2 .left) (c .least .ensures .0) ∙ c6 .loop .inv .2)
+    (omega arith, omega arith, digits-more _ _ _ _ (c5 .loop-test .taken) (c3 .wide .ensures .0) _ (c2 .if1 .left) (c .before .if2 .left) (c .more .ensures) ∙ c6 .loop .inv .2)
 
 returns-3 : tie.Need-returns-3 Inv-loop μ-loop
 returns-3 c = (digits-end _ _ _ (c .loop-test .left) ∙ c .before .loop .inv .2, (omega arith, omega arith))
@@ -74,9 +68,7 @@ digits-at-spec =
     wide-requires
     returns
     returns-2
-    mul-least
-    add-least
-    least-requires
+    more-requires
     add-i
     loop-less
     loop-again

@@ -1,0 +1,92 @@
+//! Scripts that take the most stack and the most time that is known.
+
+use crate::chains::nesting;
+use crate::heavy::{climb, side, wrapping};
+use crate::inputs::largest;
+use crate::states::{answer, call, crossed_chain, moved, new, CLASS, NESTED, TOP};
+use reference::raw::{self, RawTable};
+use reference::requests::Request;
+use reference::script::{line, MAX_INPUT};
+use reference::sheet;
+use reference::table::MAX_METHODS;
+
+/// A sheet and requests, as many of them as fit into an input.
+pub fn script<'a>(table: &RawTable, requests: impl IntoIterator<Item = &'a Request>) -> Vec<u8> {
+    let mut input = vec![0; MAX_INPUT];
+    let length = raw::write(table, &mut input).expect("a sheet that fits");
+    input.truncate(length);
+    for request in requests {
+        let line = line(request);
+        if input.len() + line.len() > MAX_INPUT {
+            break;
+        }
+        input.extend_from_slice(line.as_bytes());
+    }
+    input
+}
+
+/// The methods of the class alone, of which one answers a reference and the other also takes two.
+const ANSWERS: usize = MAX_METHODS - 2;
+const TAKES: usize = MAX_METHODS - 1;
+
+/// A chain of states.rs with a class that can be loaded: it has all of type 0, whose subtype it is, and the two methods.
+fn loaded_chain(seed: u64) -> RawTable {
+    let mut table = crossed_chain(seed);
+    for number in 0..=TOP {
+        for method in [ANSWERS, TAKES] {
+            table.method_mut(number, method).fill(0);
+        }
+    }
+    let first = table.entry(0).to_vec();
+    table.entry_mut(CLASS).copy_from_slice(&first);
+    table.method_mut(CLASS, 0)[0] = 2;
+    let named = TOP as u8;
+    for (method, bytes) in [
+        (ANSWERS, [2, 0, 0, 0, 0, 0, named + 1]),
+        (TAKES, [2, 2, named, named, 0, 0, named + 1]),
+    ] {
+        table.method_mut(CLASS, method).copy_from_slice(&bytes);
+    }
+    table
+}
+
+/// Whether a crossing from type 0 to the top nests as many new types as it can.
+fn nests(table: &RawTable) -> bool {
+    let mut after = table.clone();
+    let number = raw::derive(&mut after, 0, TOP as i64, 0);
+    number.is_ok_and(|number| nesting(&after, number) == NESTED)
+}
+
+/// New, move, call and answer that each nest 118 new types, and then have no number left for the adapter's (11).
+pub fn nested() -> Vec<u8> {
+    let table = (0..).map(loaded_chain).find(nests);
+    let table = table.expect("one seed of some hundred nests so deep");
+    let (class, top) = (CLASS as i64, TOP as i64);
+    let requests = [
+        new(class, 0),
+        new(class, class),
+        call(1, ANSWERS as i64, vec![]),
+        new(class, top),
+        moved(0, top),
+        call(1, TAKES as i64, vec![0, 0]),
+        answer(0),
+    ];
+    script(&table, &requests)
+}
+
+/// Calls with two references and answers with one, through 40 adapters, where nearly every pair of types is reached.
+pub fn layered(calls: usize) -> Vec<u8> {
+    const LAYERS: usize = 40;
+    let mut requests = climb(LAYERS);
+    let last = 2 + LAYERS as i64;
+    requests.extend((0..calls).map(|_| call(last, 1, vec![0, 1])));
+    requests.push(answer(0));
+    requests.push(moved(last, side(LAYERS + 1)));
+    script(&wrapping(), &requests)
+}
+
+/// The largest sheet, with a request on it.
+pub fn largest_sheet() -> Vec<u8> {
+    let request = line(&new(2, 47));
+    [sheet::text(&largest()), request.into_bytes()].concat()
+}

@@ -1,0 +1,50 @@
+use native.Mathlib.Omega.{arith}
+use lib.Seq.{length-take-le}
+use mathlib.Core.Path.{_≡_, sym, ap}
+-- What is no request is refused (`refuses`); else the request is that of the code and the operands.
+use lib.ListN.{take}
+use Rattle.requestread.specs.Read.{askedAs}
+use Rattle.operand.specs.Coded.{byCode}
+use Rattle.state.specs.View.{systemIn}
+use Rattle.run.specs.Requested.{serveAsked}
+use Rattle.run.proofs.Laws.{refuses, step-as}
+use borrow.Author.Tests.{not-true, not-false}
+use borrow.Author.Needs.{needs}
+use Rattle.scripttext.proofs.serve_asked.Statement.{statement}
+use Rattle.scripttext.proofs.serve_asked.Tie as tie
+
+refused-requires : tie.Need-refused-requires
+refused-requires c κs = search needs
+
+returns : tie.Need-returns
+returns c =
+    let a = c .before .before .before .args in
+    refuses (a .s) (askedAs (a .q)) (c .refused .result) (c .before .before .before .pre .0) (rw (not-true (a .q .right) (c .before .if1 .taken))) (c .refused .ensures)
+
+array-share-prefix-items : tie.Need-array-share-prefix-items
+array-share-prefix-items c = search needs
+
+slice-aggregate-serve-coded : tie.Need-slice-aggregate-serve-coded
+slice-aggregate-serve-coded c =
+    let q = c .before .before .before .before .args .q in
+    let p = c .before .before .before .before .pre in sym (length-take-le (q .count) (q .items) (omega (arith, p .1, p .2)))
+
+serve-coded-requires : tie.Need-serve-coded-requires
+serve-coded-requires c κs = search needs
+
+returns-2 : tie.Need-returns-2
+returns-2 c =
+    let a = c .before .before .before .before .before .args in
+    let q : byCode (a .q .code) (take (a .q .count) (a .q .items)) ≡ askedAs (a .q) = rw (not-false (a .q .right) (c .before .before .before .if1 .left)) in
+    step-as (ap (serveAsked (systemIn (a .s))) q) (c .serve-coded .ensures)
+
+pub serve-asked-spec : {M : Type 1} → statement M
+serve-asked-spec =
+    tie.close
+    (tie.spec
+    refused-requires
+    returns
+    array-share-prefix-items
+    slice-aggregate-serve-coded
+    serve-coded-requires
+    returns-2)

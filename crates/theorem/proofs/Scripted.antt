@@ -1,0 +1,224 @@
+-- The theorem of the program `script` (specs/Scripted). No line that is printed has an LF in it, so splitting the output gives its lines back; a run is its requests followed; and
+-- the sheet being valid, demand 3 and the laws over calls hold of every state on the way.
+use mathlib.Core.Path.{_≡_, refl, ap, sym, subst, _∙_}
+use mathlib.Core.Logic.{_⊎_, inl, inr}
+use mathlib.Core.Bool.{Bool, true, false, So, cond}
+use mathlib.Core.List.{List, [], _∷_, _++_, map}
+use mathlib.Core.Option.{Option, none, some}
+use Prim.Native.Nat.{ℕ, zero, suc, _+_, _/_, _%_, _≤_, _<_}
+use native.Mathlib.Omega.{arith}
+use lib.Dec.{ltb, leb}
+use lib.IntN.{ℤ, pos, negsuc}
+use lib.ListN.{length, take, drop, getElem?, length-append, length-drop}
+use lib.Seq.{take-append-seam, drop-append-seam}
+use borrow.Author.Tests.{leb-true, leb-false, ne-eqb, lt-ltb, le-ltb}
+use Rattle.model.specs.Basics.{Res, refuse, ok}
+use Rattle.model.specs.Table.{Table}
+use Rattle.model.specs.Requests.{System, Request, call, Result, pair, number, nothing, Outcome, got, refused, outcome, serve, after, run}
+use Rattle.model.specs.Requests.{loaded as start}
+use Rattle.model.specs.Book.{Book, opened}
+use Rattle.model.specs.Claim.{accepted, feed, follow}
+use Rattle.model.proofs.Rules.{both, never}
+use Rattle.modellaws.proofs.Steps.{IfOk}
+use Rattle.sheet.specs.Lines.{Row, row, cut, bytes, split, join, starts, firstLine}
+use Rattle.sheet.specs.Numbers.{decimal, decimalIn}
+use Rattle.sheet.specs.Text.{numberText, Written, writeText}
+use Rattle.sheet.specs.Sheet.{SheetAnswer, malformed, loaded, read}
+use Rattle.sheet.proofs.Steps.{clash}
+use Rattle.sheet.proofs.Lines.{rows, notLF, clean, Clean, clean-lines, all-append, split-full}
+use Rattle.sheet.proofs.Exact.{loaded-valid, loaded-demand3}
+use Rattle.requestread.specs.Asked.{requestLine}
+use Rattle.answerwrite.specs.Answers.{integerText, outcomeText}
+use Rattle.scripttext.specs.Output.{maxInput, sheetPart, requestPart, asked, servedLines, printedLines, scriptOutput}
+use Rattle.scripttext.specs.Answer.{writtenOf}
+use Rattle.scripttext.proofs.Short.{output-short, output-fits}
+use Rattle.theorem.specs.Shown.{Permitted}
+use Rattle.theorem.specs.Scripted.{Fits, TooShort, lineOf, requestsOf, endsMalformed, stateAfter, bookAfter, Served, ShownOfScripts}
+use Rattle.theorem.proofs.Calls.{call-tested, tested-permitted}
+
+-- ---- the buffer
+written : (text old : List ℕ) → let w = writeText text old in Fits text old w ⊎ TooShort text old w
+unfolding writeText
+written text old = go (leb (length text) (length old)) refl
+  where
+    full : Written
+    full = record { answer = ok (length text); buffer = text ++ drop (length text) old }
+
+    short : Written
+    short = record { answer = refuse 4; buffer = old }
+
+    go : (b : Bool) → leb (length text) (length old) ≡ b → Fits text old (cond b full short) ⊎ TooShort text old (cond b full short)
+    go true e = inl (record {
+      answer = refl;
+      front = take-append-seam text (drop (length text) old);
+      behind = drop-append-seam text (drop (length text) old);
+      size = let l : length text ≤ length old = leb-true (length text) (length old) e in
+          length-append text (drop (length text) old) ∙ ap (λ z. length text + z) (length-drop (length text) old) ∙ omega arith;
+    })
+    go false e = inr (record { short = leb-false (length text) (length old) e; answer = refl; untouched = refl })
+
+-- ---- no line has an LF
+digit-clean : (n : ℕ) → So (notLF (48 + n))
+digit-clean n = ap (λ z. cond z false true) (ne-eqb (48 + n) 10 (λ q. omega arith))
+
+decimal-clean : (f n : ℕ) → So (clean (decimalIn f n))
+unfolding decimalIn
+decimal-clean zero n = refl
+decimal-clean (suc f) n = go (decimal-clean f (n / 10)) (ltb n 10)
+  where
+    go : So (clean (decimalIn f (n / 10))) → (b : Bool) → So (clean (cond b ((48 + n) ∷ []) (decimalIn f (n / 10) ++ (48 + n % 10) ∷ [])))
+    go ih true = both (digit-clean n) refl
+    go ih false = all-append notLF (decimalIn f (n / 10)) ((48 + n % 10) ∷ []) ih (both (digit-clean (n % 10)) refl)
+
+number-clean : (key : List ℕ) (n : ℕ) → So (clean key) → So (clean (numberText key n))
+unfolding numberText
+number-clean key n h = all-append notLF key (decimal n) h (decimal-clean 20 n)
+
+integer-clean : (v : ℤ) → So (clean (integerText v))
+unfolding integerText
+integer-clean (pos n) = decimal-clean 20 n
+integer-clean (negsuc n) = decimal-clean 20 (suc n)
+
+outcome-clean : (o : Outcome) → So (clean (outcomeText o))
+unfolding outcomeText
+outcome-clean (refused e) = number-clean (bytes "no=") e refl
+outcome-clean (got (pair a b)) = all-append notLF (numberText (bytes "got=") a) (numberText (bytes " ") b) (number-clean (bytes "got=") a refl) (number-clean (bytes " ") b refl)
+outcome-clean (got (number v)) = all-append notLF (bytes "got=") (integerText v) refl (integer-clean v)
+outcome-clean (got nothing) = refl
+
+outcomes-clean : (os : List Outcome) → Clean (map outcomeText os)
+outcomes-clean [] = tt
+outcomes-clean (o ∷ os) = (outcome-clean o, outcomes-clean os)
+
+-- ---- lines and requests
+some-value : {x y : Request} → some x ≡ some y → x ≡ y
+some-value p = cc
+
+none-some : {A C : Type 0} {x : A} → none ≡ some x → C
+none-some p = let z : _≡_ {A = ℕ} 0 1 = cc in absurd (omega arith)
+
+line-asks : (rs : List Row) (k : ℕ) (q : Request) → getElem? (asked rs .0) k ≡ some q → requestLine (firstLine (drop k rs)) ≡ some q
+unfolding asked
+line-asks [] k q h = none-some h
+line-asks (cut l ∷ rs) k q h = none-some h
+line-asks (row l ∷ rs) k q h = go (requestLine l) refl k h (λ k. line-asks rs k q)
+  where
+    go : (o : Option Request) → requestLine l ≡ o → (k : ℕ) → getElem? (elim o as (λ _. List Request × Bool) [ none ↦ ([], true) | some q ↦ (q ∷ asked rs .0, asked rs .1) ] .0) k ≡ some q
+        → ((k : ℕ) → getElem? (asked rs .0) k ≡ some q → requestLine (firstLine (drop k rs)) ≡ some q) → requestLine (firstLine (drop k (row l ∷ rs))) ≡ some q
+    go none e k h ih = none-some h
+    go (some p) e zero h ih = e ∙ h
+    go (some p) e (suc k) h ih = ih k h
+
+lines-stop : (rs : List Row) → So (asked rs .1) → requestLine (firstLine (drop (length (asked rs .0)) rs)) ≡ none
+unfolding asked requestLine starts
+lines-stop [] h = never h
+lines-stop (cut l ∷ rs) h = refl
+lines-stop (row l ∷ rs) h = go (requestLine l) refl h (lines-stop rs)
+  where
+    go : (o : Option Request) → requestLine l ≡ o → let x : List Request × Bool = elim o [ none ↦ ([], true) | some q ↦ (q ∷ asked rs .0, asked rs .1) ] in So (x .1)
+        → (So (asked rs .1) → requestLine (firstLine (drop (length (asked rs .0)) rs)) ≡ none) → requestLine (firstLine (drop (length (x .0)) (row l ∷ rs))) ≡ none
+    go none e h ih = e
+    go (some q) e h ih = ih h
+
+lines-all : (rs : List Row) → asked rs .1 ≡ false → drop (length (asked rs .0)) rs ≡ []
+unfolding asked
+lines-all [] h = refl
+lines-all (cut l ∷ rs) h = clash h
+lines-all (row l ∷ rs) h = go (requestLine l) h (lines-all rs)
+  where
+    go : (o : Option Request) → let x : List Request × Bool = elim o [ none ↦ ([], true) | some q ↦ (q ∷ asked rs .0, asked rs .1) ] in x .1 ≡ false
+        → (asked rs .1 ≡ false → drop (length (asked rs .0)) rs ≡ []) → drop (length (x .0)) (row l ∷ rs) ≡ []
+    go none h ih = clash h
+    go (some q) h ih = ih h
+
+line-prints : (qs : List Request) (k : ℕ) (q : Request) → getElem? qs k ≡ some q → (s : System) (b : Book) (ls : List (List ℕ))
+    → firstLine (drop k (rows (map outcomeText (run s qs .0) ++ ls))) ≡ outcomeText (outcome (serve (follow s b (take k qs) .0) q))
+unfolding run follow
+line-prints [] k q h s b ls = none-some h
+line-prints (p ∷ qs) zero q h s b ls = ap (λ z. outcomeText (outcome (serve s z))) (some-value h)
+line-prints (p ∷ qs) (suc k) q h s b ls = let a = serve s p in line-prints qs k q h (after s a) (feed b p (accepted a)) ls
+
+lines-end : (qs : List Request) (s : System) (ls : List (List ℕ)) → drop (length qs) (rows (map outcomeText (run s qs .0) ++ ls)) ≡ rows ls
+unfolding run
+lines-end [] s ls = refl
+lines-end (q ∷ qs) s ls = lines-end qs (after s (serve s q)) ls
+
+-- a line that begins with `got=` is that of an accepted request
+got-accepted : (m : Res (System × Result)) → So (starts (bytes "got=") (outcomeText (outcome m))) → So (accepted m)
+unfolding outcomeText numberText starts
+got-accepted (refuse e) h = never h
+got-accepted (ok x) h = refl
+
+if-accepted : {P : Type 0} (m : Res (System × Result)) → IfOk m (λ _. P) → So (accepted m) → P
+if-accepted (refuse e) p h = never h
+if-accepted (ok x) p h = p
+
+-- ---- the output by its cases
+abbrev lastLine : Bool → List (List ℕ)
+lastLine b = cond b (bytes "no=1" ∷ []) []
+
+last-clean : (b : Bool) → Clean (lastLine b)
+last-clean true = (refl, tt)
+last-clean false = tt
+
+last-rows : (b : Bool) → rows (lastLine b) ≡ cond b (row (bytes "no=1") ∷ []) []
+last-rows true = refl
+last-rows false = refl
+
+module _ (input : List ℕ) where
+  output-long : maxInput < length input → scriptOutput input ≡ join (bytes "no=2" ∷ [])
+  unfolding scriptOutput
+  output-long h = ap (λ b. join (cond b (bytes "no=2" ∷ []) (printedLines (read (sheetPart input)) (split (requestPart input))))) (lt-ltb maxInput (length input) h)
+
+  output-is : length input ≤ maxInput → (a : SheetAnswer) → read (sheetPart input) ≡ a → scriptOutput input ≡ join (printedLines a (split (requestPart input)))
+  unfolding scriptOutput
+  output-is h a e = ap (λ b. join (cond b (bytes "no=2" ∷ []) (printedLines (read (sheetPart input)) (split (requestPart input))))) (le-ltb maxInput (length input) h)
+      ∙ ap (λ z. join (printedLines z (split (requestPart input)))) e
+
+  module _ (small : length input ≤ maxInput) (t : Table) (e : read (sheetPart input) ≡ loaded t) where
+    abbrev qs : List Request
+    qs = requestsOf input
+
+    abbrev linesOut : List (List ℕ)
+    linesOut = map outcomeText (run (start t) qs .0) ++ lastLine (endsMalformed input)
+
+    lines-are : split (scriptOutput input) ≡ rows linesOut
+    unfolding servedLines
+    lines-are = ap split (output-is small (loaded t) e)
+        ∙ split-full linesOut (clean-lines (map outcomeText (run (start t) qs .0)) (lastLine (endsMalformed input)) (outcomes-clean (run (start t) qs .0)) (last-clean (endsMalformed input)))
+
+    prints : (k : ℕ) (q : Request) → getElem? qs k ≡ some q → lineOf (scriptOutput input) k ≡ outcomeText (outcome (serve (stateAfter input t k) q))
+    prints k q h = ap (λ z. firstLine (drop k z)) lines-are ∙ line-prints qs k q h (start t) (opened t) (lastLine (endsMalformed input))
+
+    calls : (k : ℕ) (subject cell method : ℤ) (vs : List ℤ) → getElem? qs k ≡ some (call subject cell method vs)
+        → So (starts (bytes "got=") (lineOf (scriptOutput input) k)) → Permitted (bookAfter input t k) cell method
+    calls k subject cell method vs h g = let m = serve (stateAfter input t k) (call subject cell method vs) in
+        tested-permitted t (loaded-valid (sheetPart input) t e) (take k qs) cell method
+        (if-accepted m (call-tested (stateAfter input t k) subject cell method vs) (got-accepted m (subst (λ z. So (starts (bytes "got=") z)) (prints k (call subject cell method vs) h) g)))
+
+    served : Served input t
+    served = record {
+      asks = line-asks (split (requestPart input));
+      stops = lines-stop (split (requestPart input));
+      all = lines-all (split (requestPart input));
+      prints = prints;
+      ends = ap (drop (length qs)) lines-are ∙ lines-end qs (start t) (lastLine (endsMalformed input)) ∙ last-rows (endsMalformed input);
+      claim = λ k. loaded-demand3 (sheetPart input) t e (take k qs);
+      calls = calls;
+    }
+
+enough : (input old : List ℕ) (w : Written) → Fits (scriptOutput input) old w ⊎ TooShort (scriptOutput input) old w → length (scriptOutput input) ≤ length old
+    → Fits (scriptOutput input) old w
+enough input old w (inl f) h = f
+enough input old w (inr s) h = absurd (omega (arith, s .short))
+
+pub shown-of-scripts : ShownOfScripts
+shown-of-scripts input old new r e = let w = writtenOf r new in
+    let b = subst (λ z. Fits (scriptOutput input) old z ⊎ TooShort (scriptOutput input) old z) (sym e) (written (scriptOutput input) old) in record {
+      buffer = b;
+      room = λ h. enough input old w b (omega (arith, output-short input));
+      always = λ h. enough input old w b (omega (arith, output-fits input));
+      long = output-long input;
+      refused = λ small n at r. output-is input small (malformed n at) r;
+      served = served input;
+    }
