@@ -16,6 +16,9 @@ use std::sync::OnceLock;
 /// The most stack that the program may be given, in KB.
 pub const MOST: usize = 1024;
 
+/// How many bytes longer than its input an output can be: `no=1` and LF for no input at all.
+pub const LONGER: usize = 5;
+
 /// The scripts that need the most stack known.
 pub fn deepest() -> [(&'static str, Vec<u8>); 3] {
     [
@@ -81,6 +84,7 @@ impl Met {
     }
 
     fn note(&mut self, input: &[u8], run: &Run) {
+        assert!(run.output.len() <= input.len() + LONGER);
         self.inputs += 1;
         self.requests += run.requests.len() as u64;
         for (request, result) in &run.requests {

@@ -3,6 +3,7 @@
 
 use conformance::inputs::largest;
 use conformance::process::{least_stack, limited_to, run};
+use conformance::runs::{self, ANSWER};
 use conformance::states::{deep_requests, deep_state, of_table, worst_requests, worst_state};
 use conformance::stream::{numbers, to_bytes};
 use reference::coverage::request_name;
@@ -63,6 +64,25 @@ fn request(name: &str, state: &RawState, asked: &Request) -> Work {
     }
 }
 
+/// The requests in one run.
+fn run_of(name: &str, state: &RawState, requests: &[Request]) -> Work {
+    let words: Vec<i64> = requests.iter().flat_map(runs::words).collect();
+    let (mut after, mut answers) = (state.clone(), vec![0; words.len()]);
+    let served = runs::run(&mut after, &words, &mut answers).expect("a state that is right");
+    let answers = &answers[..served * ANSWER];
+    Work {
+        name: format!("a run, {name}"),
+        word: "run",
+        input: [to_bytes(&mut state.clone()), numbers(&words)].concat(),
+        output: [
+            numbers(&[0, served as i64]),
+            numbers(answers),
+            to_bytes(&mut after),
+        ]
+        .concat(),
+    }
+}
+
 fn offers() -> Work {
     let mut state = worst_state(48, 40);
     let chain = [3; 1000];
@@ -103,7 +123,13 @@ fn all() -> Vec<Work> {
     let worst = worst_state(48, 40);
     let nested = deep_requests().map(|one| request("118 new types nested", &deep, &one));
     let layers = worst_requests().map(|one| request("40 adapters, 48 types", &worst, &one));
-    let others = [nothing(), offers(), load()];
+    let others = [
+        run_of("118 new types nested", &deep, &deep_requests()),
+        run_of("40 adapters, 48 types", &worst, &worst_requests()),
+        nothing(),
+        offers(),
+        load(),
+    ];
     nested.into_iter().chain(layers).chain(others).collect()
 }
 

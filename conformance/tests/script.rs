@@ -4,6 +4,7 @@
 use conformance::inputs::with_48_types;
 use conformance::process::{built, feed, limited_to, plain, printed};
 use conformance::scripts::{damaged, deepest, in_stack, need, proved, stack, Met, MOST};
+use conformance::worst_scripts::layered;
 use reference::coverage::OF_REQUESTS;
 use reference::gen::{generate, Profile};
 use reference::script::{self, MAX_INPUT};
@@ -94,6 +95,24 @@ fn ends_of_w32() {
         let read = on_case_p(&requests);
         let answered = format!("got={value}");
         assert_eq!(last(&read), if fits { &answered } else { "no=16" });
+    }
+}
+
+/// w64 takes and gives every number of 64 bits; the next one on either side is malformed (P9, P12).
+#[test]
+fn ends_of_w64() {
+    let sheet = "guide=1\nsubjects=1\nmethods=1\ncats=0\ntypes=2\ntype=0\nrep=w64\ncat=0\n\
+                 type=1\nrep=ref\ncat=0\nown=no\nm=avail(0)0\nend=sheet\n";
+    for value in [i128::from(i64::MIN), -1, 0, i128::from(i64::MAX)] {
+        let with = |value: i128| {
+            let requests = format!("do=new 0 1 1\ndo=call 0 0 0 {value}\ndo=answer 0 0 {value}\n");
+            on(sheet, &requests)
+        };
+        assert_eq!(with(value), format!("got=0 0\ngot=0 0\ngot={value}\n"));
+        let beyond = value + value.signum();
+        if i64::try_from(beyond).is_err() {
+            assert_eq!(with(beyond), "got=0 0\nno=1\n");
+        }
     }
 }
 
@@ -243,6 +262,19 @@ fn a_file() {
         printed(output.expect("a program that starts")),
         script::run(include_bytes!("../../examples/case-p.script"))
     );
+}
+
+/// An input full of the dearest calls known; they are accepted until the cells are full.
+#[test]
+fn calls_through_40_adapters() {
+    let input = layered(MAX_INPUT);
+    let output = Met::default().same(&proved, &input, "40 adapters").output;
+    let output = String::from_utf8(output).expect("ASCII");
+    // three new objects, 40 moves, and two cells for each call
+    let calls = output.lines().skip(43);
+    let accepted = calls.filter(|line| line.ends_with(" 40")).count();
+    assert_eq!(accepted, (256 - 43) / 2);
+    assert_eq!(last(&output), "no=13");
 }
 
 /// A sheet of 48 types without requests prints nothing (P15).

@@ -3,6 +3,7 @@
 //!
 //!   derive     in: counts, kind, T, S, links, types. out: answer, number, count of types, types
 //!   request    in: a state, a do= line without its LF. out: answer, three values, the state that is left
+//!   run        in: a state, words. out: answer, how many were served, their answers, the state that is left
 //!   offers     in: a state, cell, chain. out: answer, whether it is offered, the state
 //!   load       in: a sheet. out: answer, offset, the state
 //!   nothing    in: a state. out: the state
@@ -10,6 +11,7 @@
 //!   overflow   goes through as much stack as the limit, and so must not come to its end
 
 use conformance::process::STACK;
+use conformance::runs::ANSWER;
 use conformance::served::{self, set_counts};
 use conformance::stream::{empty, next_number, next_state, numbers, to_bytes};
 use conformance::{counts, derive, pairs, read, write, Asked, Loaded, PAIRS_LENGTH};
@@ -23,6 +25,7 @@ fn main() {
     let output = match std::env::args().nth(1).as_deref() {
         Some("derive") => derived(&input),
         Some("request") => served(&input),
+        Some("run") => ran(&input),
         Some("offers") => offered(&input),
         Some("load") => loaded(&input),
         Some("nothing") => to_bytes(&mut next_state(&mut &input[..])),
@@ -62,13 +65,33 @@ fn served(mut input: &[u8]) -> Vec<u8> {
     output
 }
 
+/// The numbers up to the end.
+fn all_numbers(mut input: &[u8]) -> Vec<i64> {
+    let mut list = Vec::new();
+    while !input.is_empty() {
+        list.push(next_number(&mut input));
+    }
+    list
+}
+
+fn ran(mut input: &[u8]) -> Vec<u8> {
+    let mut state = next_state(&mut input);
+    let words = all_numbers(input);
+    // a request has at least as many words as its answer
+    let mut answers = vec![0; words.len()];
+    let (mut counts, mut number) = (served::counts(&state), 0);
+    let code = served::run(&mut state, &mut counts, &words, &mut answers, &mut number);
+    set_counts(&mut state, counts);
+    let mut output = numbers(&[code as i64, number as i64]);
+    output.extend(numbers(&answers[..number * ANSWER]));
+    output.extend(to_bytes(&mut state));
+    output
+}
+
 fn offered(mut input: &[u8]) -> Vec<u8> {
     let mut state = next_state(&mut input);
     let cell = next_number(&mut input);
-    let mut chain = Vec::new();
-    while !input.is_empty() {
-        chain.push(next_number(&mut input));
-    }
+    let chain = all_numbers(input);
     let mut offered = 7;
     let code = served::offers(&state, served::counts(&state), cell, &chain, &mut offered);
     let mut output = numbers(&[code as i64, offered as i64]);

@@ -14,7 +14,7 @@ use Rattle.steps.specs.declared.Answer.{Answer}
 use Rattle.steps.specs.declared.Answer.the-variants.{Refused, Pair, Number, Nothing}
 use Rattle.steps.specs.Served.{outcomeOf}
 use borrow.Author.Tests.{ltb-true, lt-ltb}
-use Rattle.model.specs.Requests.{pair, number, nothing, got, refused}
+use Rattle.model.specs.Requests.{pair, number, got}
 use Rattle.sheet.specs.Lines.{bytes, join}
 use Rattle.sheet.specs.Numbers.{decimal}
 use Rattle.sheet.specs.Text.{numberText}

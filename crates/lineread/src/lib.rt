@@ -14,12 +14,14 @@ ghost use Rattle.sheet.specs.Lines.{split, line};
 ghost use Rattle.sheet.specs.Sheet.{repLine, ownLine, endLine, underLine, arguments, answer, below, signature, unsigned, methodLine};
 ghost use Rattle.textread.specs.View.{scanned, scanBy, valueBy, AtMost, readBy, GotAtMost, result, reading};
 ghost use Rattle.lineread.specs.View.{yesOf, underBy, underRead, UnderExact, UnderGotExact};
+use cursor::Cursor;
+use cursor::between;
+use cursor::next_line;
 use numbers::narrow;
 use table::Counts;
 use table::Head;
 use table::Links;
 use table::Method;
-use textread::Cursor;
 use textread::Got;
 use textread::NUMBERS;
 use textread::Number;
@@ -78,9 +80,10 @@ pub fn next_rep(s: &[u8], c: Cursor) -> Got
     ensures is { λ r. ⌜ readBy repOf (now (s .entry)) (c .at) r ≡ line repLine (c .at) (split (drop (c .at) (now (s .entry)))) ⌝ }
     ensures within { λ r. ⌜ GotAtMost 2 r ⌝ }
 {
-    let l = textread::line_at(s, c);
+    let d = next_line(s, c);
+    let l = between(s, c, d);
     let v = read_rep(l);
-    textread::passed(v, c, l)
+    textread::passed(v, d)
 }
 
 // An `own=` line (S25).
@@ -101,9 +104,10 @@ pub fn next_own(s: &[u8], c: Cursor) -> Got
     ensures is { λ r. ⌜ readBy yesOf (now (s .entry)) (c .at) r ≡ line ownLine (c .at) (split (drop (c .at) (now (s .entry)))) ⌝ }
     ensures within { λ r. ⌜ GotAtMost 1 r ⌝ }
 {
-    let l = textread::line_at(s, c);
+    let d = next_line(s, c);
+    let l = between(s, c, d);
     let v = read_own(l);
-    textread::passed(v, c, l)
+    textread::passed(v, d)
 }
 
 // The last line (S22).
@@ -119,9 +123,10 @@ fn read_end(l: &[u8]) -> Value
 pub fn next_end(s: &[u8], c: Cursor) -> Got
     ensures { λ r. ⌜ readBy (λ n. tt) (now (s .entry)) (c .at) r ≡ line endLine (c .at) (split (drop (c .at) (now (s .entry)))) ⌝ }
 {
-    let l = textread::line_at(s, c);
+    let d = next_line(s, c);
+    let l = between(s, c, d);
     let v = read_end(l);
-    textread::passed(v, c, l)
+    textread::passed(v, d)
 }
 
 // Whether the first count numbers are below n, and those numbers as bytes; the other bytes are 0.
@@ -186,11 +191,12 @@ pub fn next_under(s: &[u8], c: Cursor, cats: usize, k: usize) -> UnderGot
     ensures is { λ r. ⌜ underRead (now (s .entry)) (c .at) r ≡ line (underLine cats k) (c .at) (split (drop (c .at) (now (s .entry)))) ⌝ }
     ensures exact { λ r. ⌜ UnderGotExact r ⌝ }
 {
-    let l = textread::line_at(s, c);
+    let d = next_line(s, c);
+    let l = between(s, c, d);
     let v = read_under(l, cats, k);
     match v {
         Under::Refused(n) => UnderGot::Refused(n),
-        Under::Are(x) => UnderGot::At(x, textread::past(c, l)),
+        Under::Are(x) => UnderGot::At(x, d),
     }
 }
 
@@ -334,9 +340,10 @@ pub fn next_method(s: &[u8], c: Cursor, n: usize) -> MethodGot
     ensures is { λ r. ⌜ reading (now (s .entry)) (r .refusal) (methodOf (rawMethod (r .m))) (r .next .at) ≡ line (methodLine n) (c .at) (split (drop (c .at) (now (s .entry)))) ⌝ }
     ensures exact { λ r. ⌜ MethodExact (rawMethod (r .m)) ⌝ }
 {
-    let l = textread::line_at(s, c);
+    let d = next_line(s, c);
+    let l = between(s, c, d);
     let g = read_method(l, n);
-    let next = textread::past_accepted(g.refusal, c, l);
+    let next = textread::past_accepted(g.refusal, c, d);
     let m = g.m;
     MethodGot {
         refusal: g.refusal,

@@ -120,13 +120,17 @@ fn serve_move(s: State, ops: &[i64]) -> Served
     moves::move_step(s, ops[0], ops[1], ops[2], ops[3])
 }
 
-// Call: three, and its arguments (U4).
+// Call: three, and its arguments (U4). The step is called in two places, since the compiler makes what is called once a part of its caller: the stack of a call, the largest of
+// the four requests', would be taken by every other request too.
 fn serve_call(s: State, ops: &[i64]) -> Served
     requires { ⌜ Sound s ⌝ }
     ensures { λ r. ⌜ Step s (serveAsked (systemIn s) (byCode 2 (now (ops .entry)))) r ⌝ }
 {
     if ops.len() < 3 {
         return refused(s, 1);
+    }
+    if ops.len() == 3 {
+        return calls::call_step(s, ops[0], ops[1], ops[2], &ops[..0]);
     }
     calls::call_step(s, ops[0], ops[1], ops[2], &ops[3..])
 }

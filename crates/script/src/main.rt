@@ -1,10 +1,11 @@
 // The program `script`: a sheet and request lines from standard input, a line for each request to standard output.
-// What is printed for which bytes is proved of `scripttext::script`; 65,536 bytes are enough to see that an input is longer than 32,768.
+// What is printed for which bytes is proved of `scripttext::script`. One byte more than the longest input is enough to see that an input is longer (P1).
+use scripttext::INPUT_BYTES;
 use scripttext::PRINTED_BYTES;
 use scripttext::Wrote;
 
 fn main() {
-    let mut input = io::large_buffer();
+    let mut input = [0u8; INPUT_BYTES + 1];
     let n = io::read_full(0, &mut input);
     let mut out = [0u8; PRINTED_BYTES];
     let w = scripttext::script(&input[..n], &mut out);

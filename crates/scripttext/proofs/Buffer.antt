@@ -1,8 +1,8 @@
 -- The answers for a buffer: the text is counted on an empty part of it where its length is not known to be enough.
-use mathlib.Core.Path.{_≡_, refl, sym, ap, _∙_}
+use mathlib.Core.Path.{_≡_, sym, ap, _∙_}
 use mathlib.Core.Logic.{⊎-elim}
 use mathlib.Core.Bool.{Bool, true, false, cond}
-use mathlib.Core.List.{List, [], _∷_, _++_}
+use mathlib.Core.List.{List, [], _++_}
 use Prim.Native.Nat.{ℕ, min, _+_, _≤_, _<_}
 use native.Mathlib.Nat.{min-eq-left, min-eq-right}
 use native.Mathlib.Omega.{arith}
@@ -10,9 +10,9 @@ use lib.Dec.{leb}
 use lib.ListN.{length, take, drop, length-append}
 use lib.Seq.{length-take-le}
 use borrow.Author.Tests.{le-leb, lt-leb}
-use Rattle.model.specs.Basics.{Res, refuse, ok}
+use Rattle.model.specs.Basics.{refuse, ok}
 use Rattle.table.proofs.Lists.{lt-or-ge}
-use Rattle.sheet.specs.Lines.{bytes, join}
+use Rattle.sheet.specs.Lines.{join}
 use Rattle.sheet.specs.Text.{Written, writeText}
 use Rattle.sheet.proofs.Steps.{ok-value, refuse-ok}
 use Rattle.textwrite.specs.Fill.{Filled}

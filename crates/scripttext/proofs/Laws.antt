@@ -1,17 +1,16 @@
 -- What the loop has printed, and what a line more adds to it: a request's line and those behind it, or the line that ends the program.
-use mathlib.Core.Path.{_≡_, refl, sym, ap, _∙_, subst}
+use mathlib.Core.Path.{_≡_, refl, sym, ap, _∙_}
 use mathlib.Core.Bool.{Bool, true, false, not, cond}
 use mathlib.Core.List.{List, [], _∷_, _++_, append-assoc, append-nil}
 use mathlib.Core.Option.{Option, none, some}
-use Prim.Native.Nat.{ℕ, zero, suc, min, _+_, _-_, _*_, _≤_, _<_}
+use Prim.Native.Nat.{ℕ, min, _+_, _-_, _*_, _≤_, _<_}
 use native.Mathlib.Omega.{arith}
-use lib.ListN.{length, drop, length-drop, drop-of-length-le}
+use lib.ListN.{length, drop, drop-of-length-le}
 use borrow.Rule.Slice.PartMut.{midOf, putMid}
 use Rattle.model.specs.Basics.{refuse}
 use Rattle.model.specs.Table.{isNone}
 use Rattle.model.specs.Requests.{System, Request, refused, serve, after, outcome}
 use Rattle.sheet.specs.Lines.{Row, row, cut, bytes, split, firstLine}
-use Rattle.sheet.specs.Text.{numberText}
 use Rattle.state.specs.declared.State.{State}
 use Rattle.state.specs.View.{systemIn}
 use Rattle.state.specs.Sound.{Sound}

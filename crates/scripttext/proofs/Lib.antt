@@ -1,4 +1,5 @@
 pub mod Buffer
+pub mod Cases
 pub mod Laws
 pub mod Rows
 pub mod Short

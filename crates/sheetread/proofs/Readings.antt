@@ -15,7 +15,7 @@ use Rattle.sheet.specs.Text.{newestForm, endText}
 use Rattle.sheet.specs.Sheet.{numberLine, repLine, ownLine, methodLine, endLine, sheetType, members, oneType, body, signaturesStand, ending, sheet, sheetAnswer, read}
 use Rattle.textread.specs.View.{reading, readBy, GotAtMost}
 use Rattle.textread.proofs.Laws.{from-here, at-end}
-use Rattle.textread.specs.declared.Cursor.{Cursor}
+use Rattle.cursor.specs.declared.Cursor.{Cursor}
 use Rattle.textread.specs.declared.Got.{Got}
 use Rattle.textread.specs.declared.Got.the-variants.{Refused, At}
 use Rattle.lineread.specs.declared.UnderGot.{UnderGot}

@@ -14,6 +14,7 @@ ghost use Rattle.sheet.specs.Lines.{split, bind, times};
 ghost use Rattle.sheet.specs.Sheet.{malformed, sheetAnswer, sheetType, oneType, ending, read as readSheet};
 ghost use Rattle.textread.specs.View.{reading};
 ghost use Rattle.sheetread.specs.View.{doneBy, OnDone, firstBy, FirstWithin, linksTo, methodIs, MethodsExact, eachUnder, eachMethod, membersRead, first, afterCount, afterFirst, answered};
+use cursor::Cursor;
 use lineread::UnderGot;
 use numbers::narrow;
 use table::Counts;
@@ -23,7 +24,6 @@ use table::Method;
 use table::TYPE_BYTES;
 use table::TypeRec;
 use table::put_links;
-use textread::Cursor;
 use textread::Got;
 
 // Several lines read: the number of a refusal and the cursor at its line, or the cursor behind the lines.

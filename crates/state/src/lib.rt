@@ -4,7 +4,7 @@ ghost use mathlib.Core.Path.{_≡_};
 ghost use mathlib.Core.Bool.{true};
 ghost use mathlib.Core.List.{[], _∷_, _++_};
 ghost use Prim.Native.Nat.{_≤_, _<_};
-ghost use lib.ListN.{getD, set};
+ghost use lib.ListN.{length, getD, set};
 ghost use Rattle.model.specs.Crossing.{placeAt, placeType, ownerOf, baseOwner};
 ghost use Rattle.model.specs.Requests.{noCell, noCall, flagged, adapterCount};
 ghost use Rattle.state.specs.View.{cellOf, placeOf, callOf, cellsIn, placesIn, callsIn, blankCell, blankPlace, blankCall, noCells, noPlaces, noCalls, stateLoaded, cellAdded, placeAdded, callAdded, callAnswered, isObject, behindOf};
@@ -68,6 +68,39 @@ pub struct Layers {
     pub count: usize,
 }
 
+// The cells as a lent slice of records (F6): lookup reads a record, append stores one. They decide nothing: whether a number is in use, who holds the cell and whether
+// there is room is asked above them.
+fn lookup(cells: &[Cell], k: usize) -> Cell
+    requires { ⌜ k < length (now cells) ⌝ }
+    ensures { λ r. ⌜ r ≡ getD (now (cells .entry)) k blankCell ⌝ }
+{
+    cells[k]
+}
+
+fn append(cells: &mut [Cell], count: usize, c: Cell)
+    requires { ⌜ count < length (now cells) ⌝ }
+    ensures { λ _. ⌜ now (cells .exit) ≡ set (now (cells .entry)) count c ⌝ }
+{
+    cells[count] = c;
+}
+
+// The same for an array by value, which is lent here, so that no caller has a reference to a record.
+fn looked_up(cells: [Cell; State::CELLS], k: usize) -> Cell
+    requires { ⌜ k < 256 ⌝ }
+    ensures { λ r. ⌜ r ≡ getD cells k blankCell ⌝ }
+{
+    lookup(&cells, k)
+}
+
+fn appended(cells: [Cell; State::CELLS], count: usize, c: Cell) -> [Cell; State::CELLS]
+    requires { ⌜ count < 256 ⌝ }
+    ensures { λ r. ⌜ r ≡ set cells count c ⌝ }
+{
+    let mut a = cells;
+    append(&mut a, count, c);
+    a
+}
+
 impl Cells {
     pub fn none() -> Self
         ensures { λ r. ⌜ r ≡ noCells ⌝ }
@@ -88,11 +121,13 @@ impl Cells {
         requires { ⌜ self .count < 256 ⌝ }
         ensures { λ r. ⌜ (r ≡ cellAdded self c) × (cellsIn r ≡ cellsIn self ++ (cellOf c ∷ [])) ⌝ }
     {
-        let mut cs = self;
-        let at = cs.count;
-        cs.list[at] = c;
-        cs.count = at + 1;
-        cs
+        let list = self.list;
+        let count = self.count;
+        let list = appended(list, count, c);
+        Self {
+            list,
+            count: count + 1,
+        }
     }
 }
 
@@ -198,7 +233,8 @@ pub fn cell_at(cs: Cells, k: usize) -> Cell
     requires { ⌜ k < 256 ⌝ }
     ensures { λ r. ⌜ (r ≡ getD (cs .list) k blankCell) × (k < cs .count → cellOf r ≡ getD (cellsIn cs) k noCell) ⌝ }
 {
-    cs.list[k]
+    let list = cs.list;
+    looked_up(list, k)
 }
 
 pub fn place_at(ps: Places, p: usize) -> PlaceRec

@@ -1,37 +1,34 @@
--- Laws over plain values: what a byte more means for a word, a decimal, a list of numbers and a line. The proofs of the functions cite them.
+-- Laws over plain values: what a byte more means for a word, a decimal and a list of numbers, and what a line that is read means. The proofs of the functions cite them.
 use mathlib.Core.Path.{_≡_, refl, sym, ap, _∙_, subst}
-use mathlib.Core.Bool.{Bool, true, false, _&&_, So, cond}
+use mathlib.Core.Bool.{Bool, true, false, _&&_, cond}
 use mathlib.Core.List.{List, [], _∷_, _++_}
-use Prim.Native.Nat.{ℕ, zero, suc, min, _+_, _-_, _*_, _≤_, _<_}
+use Prim.Native.Nat.{ℕ, suc, _+_, _-_, _*_, _≤_, _<_}
 use native.Mathlib.Omega.{arith}
-use native.Mathlib.Nat.{min-eq-right}
 use native.Mathlib.Numerals.{add-one}
 use lib.Dec.{eqb, leb}
-use lib.ListN.{length, getD, set, take, drop, length-drop, drop-of-length-le, length-append, take-append-drop}
-use lib.Seq.{drop-cons, take-suc, getD-drop, drop-drop, take-all, length-take-le, take-suc-set}
+use lib.ListN.{length, getD, set, take, drop, drop-of-length-le, length-append}
+use lib.Seq.{take-suc-set}
 use borrow.Author.Tests.{le-leb, lt-leb, eq-eqb, ne-eqb}
-use Rattle.model.specs.Basics.{Res, refuse, ok, try, need, all}
+use Rattle.model.specs.Basics.{Res, refuse, ok, try, need}
 use Rattle.model.specs.Table.{between}
-use Rattle.model.proofs.Rules.{both, first, second}
-use Rattle.sheet.specs.Lines.{Row, row, cut, push, split, refused, got, line, lineAt, firstLine, starts, same, keyed}
+use Rattle.sheet.specs.Lines.{Row, row, cut, split, refused, got, line, lineAt, firstLine, starts, same, keyed}
 use Rattle.sheet.specs.Numbers.{Scan, fail, took, bindScan, whole, isDigit, top, limit, digits, number, comma, numbers}
 use Rattle.sheet.specs.Sheet.{numberLine}
-use Rattle.sheet.proofs.Steps.{clash, cond-cases, refuse-ok}
+use Rattle.sheet.proofs.Steps.{refuse-ok}
 use Rattle.sheet.proofs.Numbers.{isDigit-of}
-use Rattle.sheet.proofs.Lines.{all-append, starts-sound}
-use Rattle.textread.specs.View.{scanned, scanBy, ScanWithin, valueBy, AtMost, readBy, GotAtMost, result, reading, unbroken, Clear, LineAt, Passable, passedBy}
+use Rattle.sheet.proofs.Lines.{starts-sound}
+use Rattle.textread.specs.View.{scanned, scanBy, ScanWithin, valueBy, AtMost, readBy, GotAtMost, result, reading, LineAt, passedBy}
 use Rattle.textread.specs.declared.Value.{Value}
 use Rattle.textread.specs.declared.Value.the-variants.{Refused, Is}
 use Rattle.textread.specs.declared.Got.{Got}
-use Rattle.textread.specs.declared.Got.the-variants.{Refused as Refusedᵍ, At}
-use Rattle.textread.specs.declared.Cursor.{Cursor}
+use Rattle.cursor.specs.declared.Cursor.{Cursor}
+use Rattle.cursor.specs.View.{past}
+use Rattle.cursor.proofs.Laws.{past-rest}
+pub use Rattle.cursor.proofs.Laws.{from-here}
 use Rattle.textread.specs.declared.Number.{Number}
 use Rattle.textread.specs.declared.Number.the-variants.{Wrong, Right}
 
--- A list from one of its places on.
-pub from-here : (l : List ℕ) (i : ℕ) → i < length l → drop i l ≡ getD l i 0 ∷ drop (i + 1) l
-from-here l i h = drop-cons l i 0 h ∙ ap (λ (n : ℕ). getD l i 0 ∷ drop n l) (sym (add-one i))
-
+-- Past the end nothing is left.
 pub at-end : (l : List ℕ) (i : ℕ) → length l ≤ i → drop i l ≡ []
 at-end l i h = drop-of-length-le l {i = i} h
 
@@ -242,122 +239,8 @@ module _ (key l : List ℕ) (low high : ℕ) where
       unfolding ranged
       number-good k i j = ap (λ z. need z 2 λ _. ok n) (sym (le-leb n high j)) ∙ ap (λ z. need (z && leb n high) 2 λ _. ok n) (sym (le-leb low n i)) ∙ alone k
 
--- Lines. No LF in it:
-pub clear-none : (s : List ℕ) (at : ℕ) → Clear s at at
-clear-none s at = let e : at - at ≡ 0 = omega arith in record { after = omega arith; clear = ap (λ z. unbroken (take z (drop at s))) e }
-
-unbroken-more : (s : List ℕ) (at i : ℕ) → at ≤ i → i < length s → (getD s i 0 ≡ 10 → ⊥) → So (unbroken (take (i - at) (drop at s))) → So (unbroken (take (i + 1 - at) (drop at s)))
-unbroken-more s at i h k n c =
-    let e : i + 1 - at ≡ suc (i - at) = omega arith in
-    let f : at + (i - at) ≡ i = omega arith in
-    let g : getD (drop at s) (i - at) 0 ≡ getD s i 0 = getD-drop at s (i - at) 0 ∙ ap (λ z. getD s z 0) f in
-    let d : length (drop at s) ≡ length s - at = length-drop at s in
-    ap (λ z. unbroken (take z (drop at s))) e ∙ ap unbroken (take-suc (drop at s) (i - at) 0 (omega arith))
-    ∙ all-append (λ b. cond (eqb b 10) false true) (take (i - at) (drop at s)) (getD (drop at s) (i - at) 0 ∷ []) c
-    (both (ap (λ z. cond (eqb z 10) false true) g ∙ ap (λ z. cond z false true) (ne-eqb (getD s i 0) 10 n)) refl)
-
--- a byte more that is no LF
-pub clear-more : (s : List ℕ) (at i j : ℕ) → j ≡ i + 1 → i < length s → (getD s i 0 ≡ 10 → ⊥) → Clear s at i → Clear s at j
-clear-more s at i j e k n c =
-    let h = c .after in
-    record { after = omega arith; clear = subst (λ z. So (unbroken (take (z - at) (drop at s)))) (sym e) (unbroken-more s at i h k n (c .clear)) }
-
--- below this place four bytes stand
-pub last-four : (n r : ℕ) → r ≡ min n 3 → n - r ≤ n - 3
-last-four zero r e = omega arith
-last-four (suc zero) r e = let k : r ≡ 1 = e in omega arith
-last-four (suc (suc zero)) r e = let k : r ≡ 2 = e in omega arith
-last-four (suc (suc (suc n))) r e = let k : r ≡ 3 = e ∙ min-eq-right (omega arith) in omega arith
-
-unbroken-first : (b : ℕ) (l : List ℕ) → So (unbroken (b ∷ l)) → eqb b 10 ≡ false
-unbroken-first b l h = cond-cases (eqb b 10) (first (cond (eqb b 10) false true) (unbroken l) h) (λ e k. clash (sym k)) (λ e k. e)
-
-split-line : (l xs : List ℕ) → So (unbroken l) → split (l ++ 10 ∷ xs) ≡ row l ∷ split xs
-unfolding split
-split-line [] xs h = refl
-split-line (b ∷ l) xs h =
-    ap (λ z. cond z (row [] ∷ split (l ++ 10 ∷ xs)) (push b (split (l ++ 10 ∷ xs)))) (unbroken-first b l h)
-    ∙ ap (push b) (split-line l xs (second (cond (eqb b 10) false true) (unbroken l) h))
-
--- what is left has no LF
-split-cut : (b : ℕ) (l : List ℕ) → So (unbroken (b ∷ l)) → split (b ∷ l) ≡ cut (b ∷ l) ∷ []
-unfolding split
-split-cut b [] h = ap (λ z. cond z (row [] ∷ []) (cut (b ∷ []) ∷ [])) (unbroken-first b [] h)
-split-cut b (d ∷ l) h =
-    ap (λ z. cond z (row [] ∷ split (d ∷ l)) (push b (split (d ∷ l)))) (unbroken-first b (d ∷ l) h)
-    ∙ ap (push b) (split-cut d l (second (cond (eqb b 10) false true) (unbroken (d ∷ l)) h))
-
-first-cut : (l : List ℕ) → So (unbroken l) → firstLine (split l) ≡ []
-unfolding split
-first-cut [] h = refl
-first-cut (b ∷ l) h = ap firstLine (split-cut b l h)
-
--- The text ends before an LF: there is no line.
-pub line-none : (s : List ℕ) (at e : ℕ) → length s ≤ e → Clear s at e → LineAt s at []
-line-none s at e q c =
-    let k = c .after in
-    let h = c .clear in
-    let d : length (drop at s) ≡ length s - at = length-drop at s in
-    let w : take (e - at) (drop at s) ≡ drop at s = take-all (e - at) (drop at s) (omega arith) in
-    record { is = sym (first-cut (drop at s) (ap unbroken (sym w) ∙ h)); ended = λ n. absurd (omega arith) }
-
--- An LF at e ends the line.
-module _ (s : List ℕ) (at e : ℕ) (q : e < length s) (c : Clear s at e) (g : getD s e 0 ≡ 10) where
-  abbrev k : at ≤ e
-  k = c .after
-
-  abbrev h : So (unbroken (take (e - at) (drop at s)))
-  h = c .clear
-
-  one-line : split (drop at s) ≡ row (take (e - at) (drop at s)) ∷ split (drop (e + 1) s)
-  one-line =
-      let f : at + (e - at) ≡ e = omega (arith, k) in
-      let w : drop (e - at) (drop at s) ≡ 10 ∷ drop (e + 1) s = drop-drop (e - at) at s ∙ ap (λ z. drop z s) f ∙ from-here s e q ∙ ap (λ z. z ∷ drop (e + 1) s) g in
-      ap split (sym (take-append-drop (e - at) (drop at s)) ∙ ap (λ z. take (e - at) (drop at s) ++ z) w) ∙ split-line (take (e - at) (drop at s)) (drop (e + 1) s) h
-
-  pub line-found : LineAt s at (take (e - at) (drop at s))
-  line-found =
-      let d : length (drop at s) ≡ length s - at = length-drop at s in
-      let l : length (take (e - at) (drop at s)) ≡ e - at = length-take-le (e - at) (drop at s) (omega arith) in
-      record { is = sym (ap firstLine one-line); ended = λ n. omega arith }
-
--- the rows behind the first line are those of the bytes behind its LF
-behind-first : (l xs : List ℕ) (rs : List Row) → split xs ≡ row l ∷ rs → rs ≡ split (drop (length l + 1) xs)
-unfolding split
-behind-first l [] rs e = row-none e
-  where
-    row-none : {C : Type 0} → [] ≡ row l ∷ rs → C
-    row-none p = let z : _≡_ {A = ℕ} 0 1 = cc in absurd (omega arith)
-behind-first l (b ∷ xs) rs e = cond-cases (eqb b 10) e (λ t q. lf (row-value q) (rows-rest q)) (λ t q. pushed (split xs) refl q (λ m qs p. behind-first m xs qs p))
-  where
-    row-value : {k m : List ℕ} {qs ps : List Row} → row k ∷ qs ≡ row m ∷ ps → k ≡ m
-    row-value p = cc
-
-    rows-rest : {k m : Row} {qs ps : List Row} → k ∷ qs ≡ m ∷ ps → qs ≡ ps
-    rows-rest p = cc
-
-    cut-row : {C : Type 0} {k m : List ℕ} {qs ps : List Row} → cut k ∷ qs ≡ row m ∷ ps → C
-    cut-row p = let z : _≡_ {A = ℕ} 0 1 = cc in absurd (omega arith)
-
-    lf : [] ≡ l → split xs ≡ rs → rs ≡ split (drop (length l + 1) (b ∷ xs))
-    lf p q = sym q ∙ ap (λ (z : List ℕ). split (drop (length z + 1) (b ∷ xs))) p
-
-    pushed : (qs : List Row) → split xs ≡ qs → push b qs ≡ row l ∷ rs → ((m : List ℕ) (ps : List Row) → split xs ≡ row m ∷ ps → ps ≡ split (drop (length m + 1) xs))
-        → rs ≡ split (drop (length l + 1) (b ∷ xs))
-    pushed [] p q rec = cut-row q
-    pushed (cut m ∷ qs) p q rec = cut-row q
-    pushed (row m ∷ qs) p q rec =
-        let f : suc (length m) + 1 ≡ suc (length m + 1) = omega arith in
-        sym (rows-rest q) ∙ rec m qs p ∙ ap (λ (z : ℕ). split (drop z (b ∷ xs))) (sym f)
-        ∙ ap (λ (z : List ℕ). split (drop (length z + 1) (b ∷ xs))) (row-value q)
-
--- What the number of an answer says.
-module _ {A : Type 0} (nr : ℕ) (x : A) (R : Res A) (is : result nr x ≡ R) where
-  pub result-ok : nr ≡ 0 → ok x ≡ R
-  result-ok h = ap (λ z. cond z (ok x) (refuse nr)) (sym (eq-eqb nr 0 h)) ∙ is
-
--- The one law of reading a line: what f gives of the line at `at` is the reading there, for every f that refuses an empty line with 1.
-module _ {A : Type 0} (f : List ℕ → Res A) (empty : f [] ≡ refuse 1) (s : List ℕ) (at : ℕ) (l : List ℕ) (h : LineAt s at l) where
+-- The one law of reading a line: what f gives of the line at `at` is the reading there, for every f that refuses an empty line with 1. `next` is where the cursor is behind it.
+module _ {A : Type 0} (f : List ℕ → Res A) (empty : f [] ≡ refuse 1) (s : List ℕ) (at next : ℕ) (p : next ≡ past at (split (drop at s))) (l : List ℕ) (h : LineAt s at l) where
   by-first : (rs : List Row) → l ≡ firstLine rs → (k : ℕ) → refuse k ≡ f l → refused k at ≡ line f at rs
   by-first [] e k q = ap (λ z. lineAt z at [] []) (q ∙ ap f e ∙ empty)
   by-first (cut m ∷ rs) e k q = ap (λ z. lineAt z at [] []) (q ∙ ap f e ∙ empty)
@@ -369,68 +252,40 @@ module _ {A : Type 0} (f : List ℕ → Res A) (empty : f [] ≡ refuse 1) (s : 
   no-line : {C : Type 0} (x : A) → ok x ≡ f l → l ≡ [] → C
   no-line x q e = refuse-ok (sym empty ∙ ap f (sym e) ∙ sym q)
 
-  some-bytes : (x : A) → ok x ≡ f l → 0 < length l
-  some-bytes x q = go l refl
-    where
-      go : (m : List ℕ) → l ≡ m → 0 < length m
-      go [] e = no-line x q e
-      go (b ∷ m) e = omega arith
-
-  -- the place behind it is within the text
-  pub line-fits : (x : A) → ok x ≡ f l → at + (length l + 1) ≤ length s
-  line-fits x q = let k : at + length l < length s = h .ended (some-bytes x q) in omega arith
-
-  pub line-accepted : (x : A) → ok x ≡ f l → got x (at + (length l + 1)) (split (drop (at + (length l + 1)) s)) ≡ line f at (split (drop at s))
+  pub line-accepted : (x : A) → ok x ≡ f l → got x next (split (drop next s)) ≡ line f at (split (drop at s))
   line-accepted x q = go (split (drop at s)) refl
     where
-      go : (rs : List Row) → split (drop at s) ≡ rs → got x (at + (length l + 1)) (split (drop (at + (length l + 1)) s)) ≡ line f at rs
+      go : (rs : List Row) → split (drop at s) ≡ rs → got x next (split (drop next s)) ≡ line f at rs
       go [] e = no-line x q (h .is ∙ ap firstLine e)
       go (cut m ∷ rs) e = no-line x q (h .is ∙ ap firstLine e)
       go (row m ∷ rs) e =
-          let w : l ≡ m = h .is ∙ ap firstLine e in
-          let r : split (drop (at + (length l + 1)) s) ≡ rs =
-          ap split (sym (drop-drop (length l + 1) at s)) ∙ ap (λ (z : List ℕ). split (drop (length z + 1) (drop at s))) w ∙ sym (behind-first m (drop at s) rs e) in
-          ap (λ (z : List Row). got x (at + (length l + 1)) z) r ∙ ap (λ (z : List ℕ). got x (at + (length z + 1)) rs) w ∙ ap (λ z. lineAt z at m rs) (q ∙ ap f w)
+          ap (λ (z : List Row). got x next z) (past-rest s at next p m rs e) ∙ ap (λ (z : ℕ). got x z rs) (p ∙ ap (past at) e)
+          ∙ ap (λ z. lineAt z at m rs) (q ∙ ap f (h .is ∙ ap firstLine e))
 
   -- the same for an answer with a refusal's number
-  pub line-result : (nr : ℕ) (x : A) (next : ℕ) → result nr x ≡ f l → next ≡ cond (eqb nr 0) (at + (length l + 1)) at → reading s nr x next ≡ line f at (split (drop at s))
-  line-result nr x next q e = go (eqb nr 0) refl
+  pub line-result : (nr : ℕ) (x : A) (to : ℕ) → result nr x ≡ f l → to ≡ cond (eqb nr 0) next at → reading s nr x to ≡ line f at (split (drop at s))
+  line-result nr x to q e = go (eqb nr 0) refl
     where
-      go : (b : Bool) → eqb nr 0 ≡ b → reading s nr x next ≡ line f at (split (drop at s))
+      go : (b : Bool) → eqb nr 0 ≡ b → reading s nr x to ≡ line f at (split (drop at s))
       go true h =
-          let n : next ≡ at + (length l + 1) = e ∙ ap (λ z. cond z (at + (length l + 1)) at) h in
+          let n : to ≡ next = e ∙ ap (λ z. cond z next at) h in
           let a : ok x ≡ f l = sym (ap (λ z. cond z (ok x) (refuse nr)) h) ∙ q in
-          ap (λ z. cond z (got x next (split (drop next s))) (refused nr next)) h ∙ ap (λ (z : ℕ). got x z (split (drop z s))) n ∙ line-accepted x a
+          ap (λ z. cond z (got x to (split (drop to s))) (refused nr to)) h ∙ ap (λ (z : ℕ). got x z (split (drop z s))) n ∙ line-accepted x a
       go false h =
-          let n : next ≡ at = e ∙ ap (λ z. cond z (at + (length l + 1)) at) h in
+          let n : to ≡ at = e ∙ ap (λ z. cond z next at) h in
           let a : refuse nr ≡ f l = sym (ap (λ z. cond z (ok x) (refuse nr)) h) ∙ q in
-          ap (λ z. cond z (got x next (split (drop next s))) (refused nr next)) h ∙ ap (λ (z : ℕ). refused nr z) n ∙ line-refused nr a
+          ap (λ z. cond z (got x to (split (drop to s))) (refused nr to)) h ∙ ap (λ (z : ℕ). refused nr z) n ∙ line-refused nr a
 
-  -- and for one whose number g reads
-  module _ (g : ℕ → A) where
-    pub line-passable : (v : Value) → valueBy g v ≡ f l → length s < 18446744073709551616 → Passable v at (length l)
-    line-passable (Refused k) q k′ = tt
-    line-passable (Is n) q k′ = let w : at + (length l + 1) ≤ length s = line-fits (g n) q in omega arith
+-- and for one whose number g reads
+module _ {A : Type 0} (f : List ℕ → Res A) (empty : f [] ≡ refuse 1) (s : List ℕ) (c d : Cursor)
+    (p : d .at ≡ past (c .at) (split (drop (c .at) s))) (l : List ℕ) (h : LineAt s (c .at) l) (g : ℕ → A) where
+  pub line-read : (v : Value) (r : Got) → valueBy g v ≡ f l → r ≡ passedBy v d → readBy g s (c .at) r ≡ line f (c .at) (split (drop (c .at) s))
+  line-read (Refused k) r q e = ap (readBy g s (c .at)) e ∙ line-refused f empty s (c .at) (d .at) p l h k q
+  line-read (Is n) r q e = ap (readBy g s (c .at)) e ∙ line-accepted f empty s (c .at) (d .at) p l h (g n) q
 
-    pub line-read : (v : Value) (r : Got) → valueBy g v ≡ f l → r ≡ passedBy v at (length l) → readBy g s at r ≡ line f at (split (drop at s))
-    line-read (Refused k) r q e = ap (readBy g s at) e ∙ line-refused k q
-    line-read (Is n) r q e = ap (readBy g s at) e ∙ line-accepted (g n) q
-
--- A line's answer by its case.
-module _ (v : Value) (at size : ℕ) where
-  pub pass-refused : (k : ℕ) → v ≡ Refused k → Refusedᵍ k ≡ passedBy v at size
-  pass-refused k e = sym (ap (λ (z : Value). passedBy z at size) e)
-
-  module _ (n : ℕ) (e : v ≡ Is n) where
-    pub pass-fits : Passable v at size → at + (size + 1) < 18446744073709551616
-    pass-fits h = subst (λ (z : Value). Passable z at size) e h
-
-    pub pass-is : (c : Cursor) → c .at ≡ at + (size + 1) → At n c ≡ passedBy v at size
-    pass-is c q = ap (λ (z : ℕ). At n (record { at = z })) q ∙ sym (ap (λ (z : Value). passedBy z at size) e)
-
-pub passed-at-most : (high at size : ℕ) (v : Value) (r : Got) → AtMost high v → r ≡ passedBy v at size → GotAtMost high r
-passed-at-most high at size (Refused k) r h e = subst (GotAtMost high) (sym e) h
-passed-at-most high at size (Is n) r h e = subst (GotAtMost high) (sym e) h
+pub passed-at-most : (high : ℕ) (d : Cursor) (v : Value) (r : Got) → AtMost high v → r ≡ passedBy v d → GotAtMost high r
+passed-at-most high d (Refused k) r h e = subst (GotAtMost high) (sym e) h
+passed-at-most high d (Is n) r h e = subst (GotAtMost high) (sym e) h
 
 pub number-empty : (key : List ℕ) (low high : ℕ) → numberLine key low high [] ≡ refuse 1
 unfolding numberLine keyed starts number

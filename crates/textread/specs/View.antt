@@ -1,14 +1,14 @@
 -- What the answers of code that reads text say, in the words of crate `sheet`: scans, answers for a line, and readings of the lines from an offset on.
-use mathlib.Core.Path.{_≡_}
-use mathlib.Core.Bool.{Bool, true, false, So, cond}
+use mathlib.Core.Bool.{Bool, cond}
 use mathlib.Core.List.{List}
-use Prim.Native.Nat.{ℕ, _+_, _-_, _≤_, _<_}
+use Prim.Native.Nat.{ℕ, _≤_, _<_}
 use lib.Dec.{eqb}
-use lib.ListN.{length, getD, take, drop}
-use Rattle.model.specs.Basics.{Res, refuse, ok, all}
-use Rattle.sheet.specs.Lines.{Reading, refused, got, split, firstLine}
+use lib.ListN.{drop}
+use Rattle.model.specs.Basics.{Res, refuse, ok}
+use Rattle.sheet.specs.Lines.{Reading, refused, got, split}
 use Rattle.sheet.specs.Numbers.{Scan, fail, took, top}
-use Rattle.textread.specs.declared.Cursor.{Cursor}
+use Rattle.cursor.specs.declared.Cursor.{Cursor}
+pub use Rattle.cursor.specs.View.{LineAt}
 use Rattle.textread.specs.declared.Number.{Number}
 use Rattle.textread.specs.declared.Number.the-variants.{Wrong, Right}
 use Rattle.textread.specs.declared.Value.{Value}
@@ -55,30 +55,7 @@ result nr x = cond (eqb nr 0) (ok x) (refuse nr)
 abbrev pub reading : {A : Type 0} → List ℕ → ℕ → A → ℕ → Reading A
 reading s nr x at = cond (eqb nr 0) (got x at (split (drop at s))) (refused nr at)
 
--- no LF stands in these bytes
-abbrev pub unbroken : List ℕ → Bool
-unbroken l = all (λ b. cond (eqb b 10) false true) l
-
--- no LF stands in s from `at` to e
-pub record Clear (s : List ℕ) (at e : ℕ) : Type 0 where
-  pub after : at ≤ e
-  pub clear : So (unbroken (take (e - at) (drop at s)))
-
--- e is where the LF stands that ends the line of s at `at`, or past the end.
-pub record LineEnd (s : List ℕ) (at e : ℕ) : Type 0 where
-  pub clear : Clear s at e
-  pub found : e < length s → getD s e 0 ≡ 10
-
--- l is the line of s that begins at `at`, without its LF; where it isn't empty the LF stands behind it.
-pub record LineAt (s : List ℕ) (at : ℕ) (l : List ℕ) : Type 0 where
-  pub is : l ≡ firstLine (split (drop at s))
-  pub ended : 0 < length l → at + length l < length s
-
--- An accepted line of so many bytes at `at`, passed: the sum is no larger than a number can be.
-abbrev pub Passable : Value → ℕ → ℕ → Type 0
-Passable (Refusedᵛ k) at size = Unit {0}
-Passable (Is n) at size = at + (size + 1) < 18446744073709551616
-
-abbrev pub passedBy : Value → ℕ → ℕ → Got
-passedBy (Refusedᵛ k) at size = Refusedᵍ k
-passedBy (Is n) at size = At n (record { at = at + (size + 1) })
+-- An answer for a line with the cursor d behind it.
+abbrev pub passedBy : Value → Cursor → Got
+passedBy (Refusedᵛ k) d = Refusedᵍ k
+passedBy (Is n) d = At n d

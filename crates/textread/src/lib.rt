@@ -1,4 +1,4 @@
-// Lines and decimals (docs/SPEC.md S20, S21), for every program that reads text.
+// Words, decimals and what becomes of a line (docs/SPEC.md S20, S21), for every program that reads text. Crate `cursor` finds the lines.
 // Contracts say what is read in the words of crate `sheet`: scans of a line, and readings of the lines from a byte offset on (specs/View.antt).
 ghost use mathlib.Core.Path.{_≡_};
 ghost use mathlib.Core.Bool.{true, false, cond};
@@ -9,23 +9,11 @@ ghost use lib.ListN.{length, take, drop};
 ghost use Rattle.sheet.specs.Lines.{split, line, starts, same};
 ghost use Rattle.sheet.specs.Numbers.{top, limit, digits, number, numbers};
 ghost use Rattle.sheet.specs.Sheet.{numberLine};
-ghost use Rattle.textread.specs.View.{scanned, scanBy, ScanWithin, valueBy, AtMost, readBy, GotAtMost, Clear, LineEnd, LineAt, Passable, passedBy};
-use numbers::least;
+ghost use Rattle.textread.specs.View.{scanned, scanBy, ScanWithin, valueBy, AtMost, readBy, GotAtMost, LineAt, passedBy};
+use cursor::Cursor;
+use cursor::between;
+use cursor::next_line;
 use numbers::wide;
-
-// Where the next line begins: its byte offset.
-pub struct Cursor {
-    pub at: usize,
-}
-
-impl Cursor {
-    // the first line
-    pub fn start() -> Self
-        ensures { λ r. ⌜ r .at ≡ 0 ⌝ }
-    {
-        Self { at: 0 }
-    }
-}
 
 // A number scanned: the form is wrong, or the number and where the bytes behind it start.
 pub enum Number {
@@ -193,86 +181,31 @@ pub fn numbers_at(l: &[u8], at: usize, max: usize) -> Numbers
     no_numbers(at)
 }
 
-// Where the LF stands that ends the line at `at`, searched for from another place on; the text's end or beyond where there is none.
-fn end_from(s: &[u8], at: usize, from: usize) -> usize
-    requires { ⌜ Clear (now s) at from ⌝ }
-    ensures { λ r. ⌜ LineEnd (now (s .entry)) at r ⌝ }
-{
-    let mut e = from;
-    while e < s.len() {
-        if s[e] == b'\n' {
-            return e;
-        }
-        e += 1;
-    }
-    e
-}
-
-// The same from `at` on: four bytes a turn while there are four.
-fn line_end(s: &[u8], at: usize) -> usize
-    ensures { λ r. ⌜ LineEnd (now (s .entry)) at r ⌝ }
-{
-    let last = s.len() - least(s.len(), 3);
-    let mut e = at;
-    while e < last {
-        if s[e] == b'\n' {
-            return e;
-        }
-        if s[e + 1] == b'\n' {
-            return e + 1;
-        }
-        if s[e + 2] == b'\n' {
-            return e + 2;
-        }
-        if s[e + 3] == b'\n' {
-            return e + 3;
-        }
-        e += 4;
-    }
-    end_from(s, at, e)
-}
-
-// The line at the cursor, without its LF; empty where no LF ends a line there. Only this function and `past` know how a line is found.
+// The line at the cursor, without its LF; empty where no LF ends a line there.
 pub fn line_at(s: &[u8], c: Cursor) -> &[u8]
     ensures { λ r. ⌜ LineAt (now (s .entry)) (c .at) (now r) ⌝ }
 {
-    let at = c.at;
-    let e = line_end(s, at);
-    if e < s.len() {
-        return &s[at..e];
-    }
-    &s[..0]
+    let d = next_line(s, c);
+    between(s, c, d)
 }
 
-// The cursor behind a line and its LF.
-pub fn past(c: Cursor, l: &[u8]) -> Cursor
-    requires { ⌜ c .at + (length (now l) + 1) < 18446744073709551616 ⌝ }
-    ensures { λ r. ⌜ r .at ≡ c .at + (length (now (l .entry)) + 1) ⌝ }
-{
-    Cursor {
-        at: c.at + (l.len() + 1),
-    }
-}
-
-// The cursor behind a line that is accepted, whose refusal is 0: a line that is refused isn't passed.
-pub fn past_accepted(refusal: usize, c: Cursor, l: &[u8]) -> Cursor
-    requires { ⌜ (refusal ≡ 0 → c .at + (length (now l) + 1) < 18446744073709551616) ⌝ }
-    ensures { λ r. ⌜ r .at ≡ cond (eqb refusal 0) (c .at + (length (now (l .entry)) + 1)) (c .at) ⌝ }
+// Where the cursor goes on from behind a line that is accepted, whose refusal is 0: a line that is refused isn't passed.
+pub fn past_accepted(refusal: usize, c: Cursor, d: Cursor) -> Cursor
+    ensures { λ r. ⌜ r .at ≡ cond (eqb refusal 0) (d .at) (c .at) ⌝ }
 {
     if refusal != 0 {
         return c;
     }
-    past(c, l)
+    d
 }
 
 // A line's answer with the cursor behind the line: a line that is refused isn't passed.
-pub fn passed(v: Value, c: Cursor, l: &[u8]) -> Got
-    requires { ⌜ Passable v (c .at) (length (now l)) ⌝ }
-    ensures { λ r. ⌜ r ≡ passedBy v (c .at) (length (now (l .entry))) ⌝ }
+pub fn passed(v: Value, d: Cursor) -> Got
+    ensures { λ r. ⌜ r ≡ passedBy v d ⌝ }
 {
     match v {
         Value::Refused(k) => Got::Refused(k),
-        Value::Is(n) => Got::At(n, past(c, l)),
+        Value::Is(n) => Got::At(n, d),
     }
 }
 
@@ -305,7 +238,8 @@ pub fn next_number(s: &[u8], c: Cursor, key: &[u8], low: usize, high: usize) -> 
     ensures is { λ r. ⌜ readBy (λ n. n) (now (s .entry)) (c .at) r ≡ line (numberLine (now (key .entry)) low high) (c .at) (split (drop (c .at) (now (s .entry)))) ⌝ }
     ensures within { λ r. ⌜ GotAtMost high r ⌝ }
 {
-    let l = line_at(s, c);
+    let d = next_line(s, c);
+    let l = between(s, c, d);
     let v = read_number(l, key, low, high);
-    passed(v, c, l)
+    passed(v, d)
 }

@@ -1,29 +1,30 @@
--- Rests on `line-passable`, `line-read` and `end-empty`.
-use native.Mathlib.Omega.{arith}
+-- Rests on `line-read` and `end-empty`.
 use borrow.Author.Needs.{needs}
 use Rattle.sheet.specs.Sheet.{endLine}
-use Rattle.textread.proofs.Laws.{line-passable, line-read}
+use Rattle.textread.proofs.Laws.{line-read}
 use Rattle.lineread.proofs.Laws.{end-empty}
 use Rattle.lineread.proofs.next_end.Statement.{statement}
 use Rattle.lineread.proofs.next_end.Tie as tie
 
-line-at-requires : tie.Need-line-at-requires
-line-at-requires c κs = search needs
+next-line-requires : tie.Need-next-line-requires
+next-line-requires c κs = search needs
+
+between-requires : tie.Need-between-requires
+between-requires c κs = c .next-line .ensures
 
 read-end-requires : tie.Need-read-end-requires
 read-end-requires c κs = search needs
 
 passed-requires : tie.Need-passed-requires
-passed-requires c κs =
-    let c3 = c .before .before .before in
-    let a = c3 .args in line-passable endLine end-empty (a .s .now) (a .c .at) _ (c .before .line-at .ensures) (λ n. tt) (c .read-end .result) (c .read-end .ensures) (omega arith)
+passed-requires c κs = search needs
 
 returns : tie.Need-returns
 returns c =
-    let c2 = c .before .before in
-    let c4 = c2 .before .before in
-    let a = c4 .args in line-read endLine end-empty (a .s .now) (a .c .at) _ (c2 .line-at .ensures) (λ n. tt) (c .before .read-end .result) (c .passed .result)
-    (c .before .read-end .ensures) (c .passed .ensures)
+    let v = c .before .read-end in
+    let l = c .before .before .between in
+    let d = c .before .before .before .next-line in
+    let a = c .before .before .before .before .before .args in line-read endLine end-empty (a .s .now) (a .c) (d .result) (d .ensures) _ (l .ensures) (λ n. tt)
+    (v .result) (c .passed .result) (v .ensures) (c .passed .ensures)
 
 pub next-end-spec : {M : Type 1} → statement M
-next-end-spec = tie.close (tie.spec line-at-requires read-end-requires passed-requires returns)
+next-end-spec = tie.close (tie.spec next-line-requires between-requires read-end-requires passed-requires returns)

@@ -1,32 +1,33 @@
--- Rests on `line-passable`, `line-read`, `passed-at-most` and `rep-empty`.
-use native.Mathlib.Omega.{arith}
+-- Rests on `line-read`, `passed-at-most` and `rep-empty`.
 use borrow.Author.Needs.{needs}
 use Rattle.model.specs.Check.{repOf}
 use Rattle.sheet.specs.Sheet.{repLine}
-use Rattle.textread.proofs.Laws.{line-passable, line-read, passed-at-most}
+use Rattle.textread.proofs.Laws.{line-read, passed-at-most}
 use Rattle.lineread.proofs.Laws.{rep-empty}
 use Rattle.lineread.proofs.next_rep.Statement.{statement}
 use Rattle.lineread.proofs.next_rep.Tie as tie
 
-line-at-requires : tie.Need-line-at-requires
-line-at-requires c κs = search needs
+next-line-requires : tie.Need-next-line-requires
+next-line-requires c κs = search needs
+
+between-requires : tie.Need-between-requires
+between-requires c κs = c .next-line .ensures
 
 read-rep-requires : tie.Need-read-rep-requires
 read-rep-requires c κs = search needs
 
 passed-requires : tie.Need-passed-requires
-passed-requires c κs =
-    let c3 = c .before .before .before in
-    let a = c3 .args in line-passable repLine rep-empty (a .s .now) (a .c .at) _ (c .before .line-at .ensures) repOf (c .read-rep .result) (c .read-rep .ensures .0) (omega arith)
+passed-requires c κs = search needs
 
 returns : tie.Need-returns
 returns c =
-    let c2 = c .before .before in
-    let c4 = c2 .before .before in
-    let a = c4 .args in (
-      line-read repLine rep-empty (a .s .now) (a .c .at) _ (c2 .line-at .ensures) repOf (c .before .read-rep .result) (c .passed .result) (c .before .read-rep .ensures .0) (c .passed .ensures),
-      passed-at-most 2 (a .c .at) _ (c .before .read-rep .result) (c .passed .result) (c .before .read-rep .ensures .1) (c .passed .ensures),
+    let v = c .before .read-rep in
+    let l = c .before .before .between in
+    let d = c .before .before .before .next-line in
+    let a = c .before .before .before .before .before .args in (
+      line-read repLine rep-empty (a .s .now) (a .c) (d .result) (d .ensures) _ (l .ensures) repOf (v .result) (c .passed .result) (v .ensures .0) (c .passed .ensures),
+      passed-at-most 2 (d .result) (v .result) (c .passed .result) (v .ensures .1) (c .passed .ensures),
     )
 
 pub next-rep-spec : {M : Type 1} → statement M
-next-rep-spec = tie.close (tie.spec line-at-requires read-rep-requires passed-requires returns)
+next-rep-spec = tie.close (tie.spec next-line-requires between-requires read-rep-requires passed-requires returns)

@@ -1,33 +1,33 @@
--- Rests on `number-empty`, `line-passable`, `line-read` and `passed-at-most`.
-use native.Mathlib.Omega.{arith}
+-- Rests on `number-empty`, `line-read` and `passed-at-most`.
 use borrow.Author.Needs.{needs}
 use Rattle.sheet.specs.Sheet.{numberLine}
-use Rattle.textread.proofs.Laws.{number-empty, line-passable, line-read, passed-at-most}
+use Rattle.textread.proofs.Laws.{number-empty, line-read, passed-at-most}
 use Rattle.textread.proofs.next_number.Statement.{statement}
 use Rattle.textread.proofs.next_number.Tie as tie
 
-line-at-requires : tie.Need-line-at-requires
-line-at-requires c κs = search needs
+next-line-requires : tie.Need-next-line-requires
+next-line-requires c κs = search needs
+
+between-requires : tie.Need-between-requires
+between-requires c κs = c .next-line .ensures
 
 read-number-requires : tie.Need-read-number-requires
 read-number-requires c κs = search needs
 
 passed-requires : tie.Need-passed-requires
-passed-requires c κs =
-    let c4 = c .before .before .before .before in
-    let a = c4 .args in line-passable (numberLine (a .key .now) (a .low) (a .high)) (number-empty (a .key .now) (a .low) (a .high)) (a .s .now) (a .c .at) _ (c .before .line-at .ensures)
-    (λ n. n) (c .read-number .result) (c .read-number .ensures .0) (omega arith)
+passed-requires c κs = search needs
 
 returns : tie.Need-returns
 returns c =
-    let c2 = c .before .before in
-    let c5 = c2 .before .before .before in
-    let a = c5 .args in (
-      line-read (numberLine (a .key .now) (a .low) (a .high)) (number-empty (a .key .now) (a .low) (a .high)) (a .s .now) (a .c .at) _ (c2 .line-at .ensures) (λ n. n)
-          (c .before .read-number .result) (c .passed .result) (c .before .read-number .ensures .0) (c .passed .ensures),
-      passed-at-most (a .high) (a .c .at) _ (c .before .read-number .result) (c .passed .result) (c .before .read-number .ensures .1) (c .passed .ensures),
+    let v = c .before .read-number in
+    let l = c .before .before .between in
+    let d = c .before .before .before .next-line in
+    let a = c .before .before .before .before .before .before .args in (
+      line-read (numberLine (a .key .now) (a .low) (a .high)) (number-empty (a .key .now) (a .low) (a .high)) (a .s .now) (a .c) (d .result) (d .ensures) _ (l .ensures) (λ n. n)
+          (v .result) (c .passed .result) (v .ensures .0) (c .passed .ensures),
+      passed-at-most (a .high) (d .result) (v .result) (c .passed .result) (v .ensures .1) (c .passed .ensures),
     )
 
 pub next-number-spec : {M : Type 1} → statement M
 next-number-spec =
-    tie.close (tie.spec line-at-requires read-number-requires passed-requires returns)
+    tie.close (tie.spec next-line-requires between-requires read-number-requires passed-requires returns)

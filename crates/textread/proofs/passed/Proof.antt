@@ -1,7 +1,8 @@
--- Rests on `pass-refused`, `pass-fits` and `pass-is`.
-use lib.ListN.{length}
+-- By the answer's case.
+use mathlib.Core.Path.{sym, ap}
 use borrow.Author.Needs.{needs}
-use Rattle.textread.proofs.Laws.{pass-refused, pass-fits, pass-is}
+use Rattle.textread.specs.View.{passedBy}
+use Rattle.textread.specs.declared.Value.{Value}
 use Rattle.textread.proofs.passed.Statement.{statement}
 use Rattle.textread.proofs.passed.Tie as tie
 
@@ -11,17 +12,11 @@ enum-known-v c = search needs
 enum-known-v-2 : tie.Need-enum-known-v-2
 enum-known-v-2 c = search needs
 
-past-requires : tie.Need-past-requires
-past-requires c κs = pass-fits (c .before .before .before .before .args .v) _ _ _ (c .before .v2 .given .1) (c .before .before .before .before .pre)
-
 returns : tie.Need-returns
-returns c = pass-refused (c .before .before .before .before .args .v) _ _ _ (c .before .v .given .1)
+returns c = sym (ap (λ (z : Value). passedBy z (c .before .before .before .args .d)) (c .before .v .given .1))
 
 returns-2 : tie.Need-returns-2
-returns-2 c =
-    let c2 = c .before .before in
-    let c5 = c2 .before .before .before in
-    pass-is (c5 .args .v) (c5 .args .c .at) (length (c5 .args .l .now)) _ (c2 .v2 .given .1) (c .past .result) (c .past .ensures)
+returns-2 c = sym (ap (λ (z : Value). passedBy z (c .before .before .before .args .d)) (c .before .v2 .given .1))
 
 pub passed-spec : {M : Type 1} → statement M
-passed-spec = tie.close (tie.spec enum-known-v enum-known-v-2 past-requires returns returns-2)
+passed-spec = tie.close (tie.spec enum-known-v enum-known-v-2 returns returns-2)

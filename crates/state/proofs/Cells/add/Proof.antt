@@ -1,23 +1,26 @@
--- One record more at the end of the list: `cells-added`. The array has 256 elements.
-use lib.ListN.{length, length-map}
-use mathlib.Core.Path.{_≡_, refl}
-use Rattle.state.proofs.Laws.{cells-added}
+-- The list that comes back has the record at the count: one record more (`cells-added`). The array has 256 elements.
+use mathlib.Core.Path.{_≡_, _∙_, ap}
+use Prim.Native.Nat.{_+_}
 use native.Mathlib.Omega.{arith}
+use lib.ListN.{length, length-map}
+use Rattle.state.specs.View.{cellAdded, cellsIn}
+use Rattle.state.proofs.Laws.{cells-added}
 use borrow.Author.Needs.{needs}
 use Rattle.state.proofs.Cells.add.Statement.{statement}
 use Rattle.state.proofs.Cells.add.Tie as tie
 
-mul-c : tie.Need-mul-c
-mul-c c = search needs
+appended-requires : tie.Need-appended-requires
+appended-requires c κs = search needs
 
-element-set-from-c : tie.Need-element-set-from-c
-element-set-from-c c = search needs
-
-add-cs : tie.Need-add-cs
-add-cs c = search needs
+add-t6 : tie.Need-add-t6
+add-t6 c = search needs
 
 returns : tie.Need-returns
-returns c = let n : length (c .args .self .list) ≡ 256 = simp length-map at (c .good .0 .1 .1 .0 .1 .0 .1) in (refl, cells-added (c .args .self) (c .args .c) (omega arith))
+returns c =
+    let s = c .before .before .args .self in
+    let n : length (s .list) ≡ 256 = simp length-map at (c .before .before .good .0 .1 .1 .0 .1 .0 .1) in
+    let r : record { list = c .appended .result; count = s .count + 1 } ≡ cellAdded s (c .before .before .args .c) = λ i. record { list = c .appended .ensures i; count = s .count + 1 } in
+    (r, ap cellsIn r ∙ cells-added s (c .before .before .args .c) (omega arith))
 
 pub add-spec : {M : Type 1} → statement M
-add-spec = tie.close (tie.spec mul-c element-set-from-c add-cs returns)
+add-spec = tie.close (tie.spec appended-requires add-t6 returns)

@@ -4,10 +4,10 @@ use Prim.Native.Nat.{_-_}
 use native.Mathlib.Omega.{arith}
 use lib.ListN.{length}
 use borrow.Author.Needs.{needs}
-use Rattle.textread.specs.View.{Clear}
-use Rattle.textread.proofs.Laws.{clear-more}
-use Rattle.textread.proofs.end_from.Statement.{statement}
-use Rattle.textread.proofs.end_from.Tie as tie
+use Rattle.cursor.specs.View.{Clear}
+use Rattle.cursor.proofs.Laws.{clear-more}
+use Rattle.cursor.proofs.end_from.Statement.{statement}
+use Rattle.cursor.proofs.end_from.Tie as tie
 
 abbrev Inv-loop : tie.InvT-loop
 Inv-loop s at from e₀ e = Clear s at e

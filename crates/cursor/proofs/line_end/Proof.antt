@@ -2,11 +2,11 @@
 use Prim.Native.Nat.{_+_, _≤_, _-_}
 use native.Mathlib.Omega.{arith}
 use lib.ListN.{length}
-use Rattle.textread.specs.View.{Clear}
-use Rattle.textread.proofs.Laws.{clear-none, clear-more, last-four}
+use Rattle.cursor.specs.View.{Clear}
+use Rattle.cursor.proofs.Laws.{clear-none, clear-more, last-four}
 use borrow.Author.Needs.{needs}
-use Rattle.textread.proofs.line_end.Statement.{statement}
-use Rattle.textread.proofs.line_end.Tie as tie
+use Rattle.cursor.proofs.line_end.Statement.{statement}
+use Rattle.cursor.proofs.line_end.Tie as tie
 
 abbrev Inv-loop : tie.InvT-loop
 Inv-loop s at last e₀ e = Clear s at e × (last ≤ length s - 3)
@@ -27,7 +27,8 @@ shared-slice-read-if1 : tie.Need-shared-slice-read-if1 Inv-loop μ-loop
 shared-slice-read-if1 c = search needs
 
 returns : tie.Need-returns Inv-loop μ-loop
-returns c = let l = c .before .before .before .loop in let test = c .before .before .loop-test .taken in let room = l .inv .1 in
+returns c = let l = c .before .before .before .loop in
+    let test = c .before .before .loop-test .taken in let room = l .inv .1 in
     record { clear = l .inv .0; found = λ _. c .if1 .taken }
 
 add-if2 : tie.Need-add-if2 Inv-loop μ-loop
@@ -40,7 +41,8 @@ add-result : tie.Need-add-result Inv-loop μ-loop
 add-result c = search needs
 
 returns-2 : tie.Need-returns-2 Inv-loop μ-loop
-returns-2 c = let l = c .before .before .before .before .before .loop in let test = c .before .before .before .before .loop-test .taken in let room = l .inv .1 in
+returns-2 c = let l = c .before .before .before .before .before .loop in
+    let test = c .before .before .before .before .loop-test .taken in let room = l .inv .1 in
     let c1 = clear-more _ _ (l .e) (l .e + 1) (omega arith) (omega (arith, test, room)) (c .before .before .if1 .left) (l .inv .0) in
     record { clear = c1; found = λ _. c .if2 .taken }
 
@@ -54,7 +56,8 @@ add-result-2 : tie.Need-add-result-2 Inv-loop μ-loop
 add-result-2 c = search needs
 
 returns-3 : tie.Need-returns-3 Inv-loop μ-loop
-returns-3 c = let l = c .before .before .before .before .before .before .before .loop in let test = c .before .before .before .before .before .before .loop-test .taken in let room = l .inv .1 in
+returns-3 c = let l = c .before .before .before .before .before .before .before .loop in
+    let test = c .before .before .before .before .before .before .loop-test .taken in let room = l .inv .1 in
     let c1 = clear-more _ _ (l .e) (l .e + 1) (omega arith) (omega (arith, test, room)) (c .before .before .before .before .if1 .left) (l .inv .0) in
     let c2 = clear-more _ _ (l .e + 1) (l .e + 2) (omega arith) (omega (arith, test, room)) (c .before .before .if2 .left) c1 in
     record { clear = c2; found = λ _. c .if3 .taken }
@@ -69,7 +72,8 @@ add-result-3 : tie.Need-add-result-3 Inv-loop μ-loop
 add-result-3 c = search needs
 
 returns-4 : tie.Need-returns-4 Inv-loop μ-loop
-returns-4 c = let l = c .before .before .before .before .before .before .before .before .before .loop in let test = c .before .before .before .before .before .before .before .before .loop-test .taken in let room = l .inv .1 in
+returns-4 c = let l = c .before .before .before .before .before .before .before .before .before .loop in
+    let test = c .before .before .before .before .before .before .before .before .loop-test .taken in let room = l .inv .1 in
     let c1 = clear-more _ _ (l .e) (l .e + 1) (omega arith) (omega (arith, test, room)) (c .before .before .before .before .before .before .if1 .left) (l .inv .0) in
     let c2 = clear-more _ _ (l .e + 1) (l .e + 2) (omega arith) (omega (arith, test, room)) (c .before .before .before .before .if2 .left) c1 in
     let c3 = clear-more _ _ (l .e + 2) (l .e + 3) (omega arith) (omega (arith, test, room)) (c .before .before .if3 .left) c2 in
@@ -82,7 +86,8 @@ loop-less : tie.Need-loop-less Inv-loop μ-loop
 loop-less c = search needs
 
 loop-again : tie.Need-loop-again Inv-loop μ-loop
-loop-again c = let l = c .before .before .before .before .before .before .before .before .before .loop in let test = c .before .before .before .before .before .before .before .before .loop-test .taken in let room = l .inv .1 in
+loop-again c = let l = c .before .before .before .before .before .before .before .before .before .loop in
+    let test = c .before .before .before .before .before .before .before .before .loop-test .taken in let room = l .inv .1 in
     let c1 = clear-more _ _ (l .e) (l .e + 1) (omega arith) (omega (arith, test, room)) (c .before .before .before .before .before .before .if1 .left) (l .inv .0) in
     let c2 = clear-more _ _ (l .e + 1) (l .e + 2) (omega arith) (omega (arith, test, room)) (c .before .before .before .before .if2 .left) c1 in
     let c3 = clear-more _ _ (l .e + 2) (l .e + 3) (omega arith) (omega (arith, test, room)) (c .before .before .if3 .left) c2 in
