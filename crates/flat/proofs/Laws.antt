@@ -14,7 +14,7 @@ use Rattle.model.specs.Check.{placeOf as placeMeant, callOf as callMeant}
 use Rattle.model.specs.Handed.{placeRecord, callRecord, counted}
 use Rattle.model.proofs.Rules.{first, second}
 use Rattle.model.proofs.Lists.{is-from, from-same, from-first, length-from}
-use Rattle.model.proofs.Fitting.{all-at}
+use Rattle.modellaws.proofs.Fitting.{all-at}
 use Rattle.state.specs.declared.Place.{Place}
 use Rattle.state.specs.declared.Place.the-variants.{Object, Adapter}
 use Rattle.state.specs.declared.PlaceRec.{PlaceRec}

@@ -7,9 +7,9 @@ use native.Mathlib.Omega.{arith}
 use Rattle.model.specs.Basics.{Res, refuse, ok, need}
 use Rattle.model.specs.Requests.{System, Request, Result, pair, number, nothing, Outcome, got, refused, outcome, serve, after}
 use Rattle.model.specs.Check.{systemAccepted, systemFits, systemOf}
-use Rattle.model.proofs.Steps.{IfOk}
-use Rattle.model.proofs.Checked.{Bounded, fits-bounded, checked-stays}
-use Rattle.model.proofs.Returned.{accepted-codes}
+use Rattle.modellaws.proofs.Steps.{IfOk}
+use Rattle.modellaws.proofs.Checked.{Bounded, fits-bounded, checked-stays}
+use Rattle.modellaws.proofs.Returned.{accepted-codes}
 use Rattle.returned.proofs.Small.{Named, small-serve}
 use Rattle.returned.proofs.Small.{Small as SmallWith}
 use Rattle.state.specs.declared.State.{State}

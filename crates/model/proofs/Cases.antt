@@ -1,14 +1,14 @@
 -- The proved cases of document 01, worked derivations, and demand 3 evaluated on lists. Everything here is computed from the definitions.
 use mathlib.Core.Path.{_≡_, refl}
 use mathlib.Core.Bool.{Bool, true, false, _&&_}
-use mathlib.Core.List.{List, [], _∷_, _++_}
+use mathlib.Core.List.{List, [], _∷_, _++_, map}
 use mathlib.Core.Option.{none, some}
 use Prim.Native.Nat.{ℕ}
 use lib.IntN.{pos, negsuc}
 use lib.ListN.{drop}
 use Rattle.model.specs.Basics.{all}
 use Rattle.model.specs.Table.{denied, optional, avail, unavail, sub, sup, closed, Ty, Table, noType, size, validSheet, signed, bare}
-use Rattle.model.specs.Requests.{Request, move, pair, number, nothing, Outcome, got, refused, loaded, run}
+use Rattle.model.specs.Requests.{System, Request, move, pair, number, nothing, Outcome, got, refused, loaded, run}
 use Rattle.model.specs.Chains.{permits, offered}
 use Rattle.model.specs.Book.{Book, pageAt, enter}
 use Rattle.model.specs.Claim.{follow, reached}
@@ -66,48 +66,52 @@ two = new′ 0 1 4 ∷ move′ 0 0 1 2 ∷ []
 abbrev pub three : List Request
 three = two ++ (move′ 1 1 2 3 ∷ [])
 
--- ---- Demand 3 evaluated: what the state offers in a cell and what the book says of its page, each computed on its own
-pub record Look : Type 0 where
-  pub table : Table
-  pub requests : List Request
+-- ---- Demand 3 evaluated: what the state offers in a cell and what the book says of its page, each computed on its own. Requests are served once for all chains that are asked.
+pub record Ask : Type 0 where
   pub cell : ℕ
   pub chain : List ℕ
   pub says : Bool
 
+pub record Look : Type 0 where
+  pub table : Table
+  pub requests : List Request
+  pub asks : List Ask
+
 abbrev bookSays : Book → ℕ → List ℕ → Bool
 bookSays b k w = permits (b .table) (pageAt b k .class) w && all (λ x. permits (b .table) x w) (pageAt b k .trail)
 
+abbrev answersAt : System × Book → Ask → Bool × Bool
+answersAt x a = (offered (x .0) (a .cell) (a .chain), bookSays (x .1) (a .cell) (a .chain))
+
 abbrev pub Seen : Look → Type 0
-Seen l = (offered (reached (l .table) (l .requests) .0) (l .cell) (l .chain) ≡ l .says) × (bookSays (reached (l .table) (l .requests) .1) (l .cell) (l .chain) ≡ l .says)
+Seen l = map (answersAt (reached (l .table) (l .requests))) (l .asks) ≡ map (λ a. (a .says, a .says)) (l .asks)
 
 abbrev pub AllSeen : List Look → Type 0
 AllSeen [] = Unit
 AllSeen (l ∷ ls) = Seen l × AllSeen ls
+
+abbrev ask : ℕ → List ℕ → Bool → Ask
+ask k w b = record { cell = k; chain = w; says = b }
 
 abbrev adapted : List Request
 adapted = new′ 0 0 1 ∷ move′ 0 0 1 2 ∷ move′ 1 1 1 3 ∷ []
 
 abbrev pub looks : List Look
 looks =
-    -- Case P's third request: read is offered, mark is not, since type 2 was crossed
-    record { table = caseP; requests = three; cell = 2; chain = 0 ∷ []; says = true }
-    ∷ record { table = caseP; requests = three; cell = 2; chain = 1 ∷ []; says = false }
-    -- cell 1 has type 2: what the object provides beyond it is not offered
-    ∷ record { table = caseP; requests = three; cell = 1; chain = 1 ∷ []; says = false }
+    -- Case P's third request: read is offered, mark is not, since type 2 was crossed. Cell 1 has type 2: what the object provides beyond it is not offered
+    record { table = caseP; requests = three; asks = ask 2 (0 ∷ []) true ∷ ask 2 (1 ∷ []) false ∷ ask 1 (1 ∷ []) false ∷ [] }
     -- the owner unwraps: all is offered again
-    ∷ record { table = caseP; requests = three ++ (move′ 2 2 0 4 ∷ []); cell = 3; chain = 1 ∷ []; says = true }
+    ∷ record { table = caseP; requests = three ++ (move′ 2 2 0 4 ∷ []); asks = ask 3 (1 ∷ []) true ∷ [] }
     -- two adapters: the second takes method 2 away, the first method 1, and unwrapping takes both off
-    ∷ record { table = twice; requests = adapted; cell = 2; chain = 2 ∷ []; says = false }
-    ∷ record { table = twice; requests = adapted; cell = 0; chain = 2 ∷ []; says = true }
-    ∷ record { table = twice; requests = adapted ++ (move′ 1 2 0 4 ∷ []); cell = 3; chain = 1 ∷ []; says = true }
+    ∷ record { table = twice; requests = adapted; asks = ask 2 (2 ∷ []) false ∷ ask 0 (2 ∷ []) true ∷ [] }
+    ∷ record { table = twice; requests = adapted ++ (move′ 1 2 0 4 ∷ []); asks = ask 3 (1 ∷ []) true ∷ [] }
     -- the answer through an adapter is restricted too
-    ∷ record { table = answering; requests = new′ 0 0 1 ∷ move′ 0 0 1 3 ∷ []; cell = 1; chain = 0 ∷ 1 ∷ []; says = false }
-    ∷ record { table = answering; requests = new′ 0 0 1 ∷ move′ 0 0 1 3 ∷ []; cell = 1; chain = 0 ∷ []; says = true }
+    ∷ record { table = answering; requests = new′ 0 0 1 ∷ move′ 0 0 1 3 ∷ []; asks = ask 1 (0 ∷ 1 ∷ []) false ∷ ask 1 (0 ∷ []) true ∷ [] }
     ∷ []
 
 pub demand3-evaluated : AllSeen looks
 unfolding follow enter offered
-demand3-evaluated = ((refl, refl), ((refl, refl), ((refl, refl), ((refl, refl), ((refl, refl), ((refl, refl), ((refl, refl), ((refl, refl), ((refl, refl), tt)))))))))
+demand3-evaluated = (refl, (refl, (refl, (refl, (refl, tt)))))
 
 -- ---- The proved cases as a table: a sheet, requests, what they come to, and how many types there are at the end
 pub record Row : Type 0 where
@@ -116,8 +120,11 @@ pub record Row : Type 0 where
   pub gives : List Outcome
   pub types : ℕ
 
+abbrev ended : List Outcome × System → List Outcome × ℕ
+ended x = (x .0, size (x .1 .table))
+
 abbrev pub Holds : Row → Type 0
-Holds r = (run (loaded (r .table)) (r .requests) .0 ≡ r .gives) × (size (run (loaded (r .table)) (r .requests) .1 .table) ≡ r .types)
+Holds r = ended (run (loaded (r .table)) (r .requests)) ≡ (r .gives, r .types)
 
 abbrev pub AllHold : List Row → Type 0
 AllHold [] = Unit
@@ -165,7 +172,7 @@ provedCases =
 
 pub proved-cases : AllHold provedCases
 unfolding run
-proved-cases = ((refl, refl), ((refl, refl), ((refl, refl), ((refl, refl), ((refl, refl), ((refl, refl), ((refl, refl), ((refl, refl), ((refl, refl), tt)))))))))
+proved-cases = (refl, (refl, (refl, (refl, (refl, (refl, (refl, (refl, (refl, tt)))))))))
 
 -- ---- Worked derivations: every derived type with its number, key and methods. Methods in order, arguments before answer, each to its end; 9 is used again in
 -- method 1 of type 6, and the second request derives nothing.

@@ -1,1 +1,1 @@
-// The model of document 01: definitions in specs/, what is proved of them in proofs/. No code.
+// The model of document 01: definitions in specs/, cases computed from them and the laws of relations in proofs/ (the rest of what is proved: crate modellaws). No code.

@@ -25,7 +25,7 @@ use Rattle.table.proofs.Lists.{lt-or-ge}
 use Rattle.table.proofs.Laws.{types-length, put-length, put-types}
 use Rattle.table.proofs.Tables.{types-to-at, types-add}
 use Rattle.table.proofs.Codes.{number-rep}
-use Rattle.table.proofs.Exact.{blank, derived-key, number-exact}
+use Rattle.tablelaws.proofs.Exact.{blank, derived-key, number-exact}
 use Rattle.restrict.specs.declared.Derived.the-variants.{Full, At}
 use Rattle.restrict.specs.declared.Begun.the-variants.{Settled}
 use Rattle.restrict.specs.Link.{Alike, NumberIn, NumberRep, NumberType, Ready, Gives, Kept, Coded, Exact, ExactAt, foundOf, refIn, tabled}

@@ -10,9 +10,9 @@ use Rattle.model.specs.Requests.{System, Request, Result, Outcome, noCell, serv
 use Rattle.model.specs.Check.{RawCall, RawSystem, noRawType, noRawLinks, noRawPlace, noRawCall, typeOf, placeOf, callOf, firstOf, tableOf, systemOf, systemAccepted}
 use Rattle.model.specs.Handed.{counted, storedFrom, handBack, serveHanded, Returns}
 use Rattle.model.proofs.Lists.{length-from, from-first}
-use Rattle.model.proofs.Steps.{IfOk}
-use Rattle.model.proofs.Onward.{Onward, serve-onward}
-use Rattle.model.proofs.Returned.{Before, rawFlagged, returned-before}
+use Rattle.modellaws.proofs.Steps.{IfOk}
+use Rattle.modellaws.proofs.Onward.{Onward, serve-onward}
+use Rattle.modellaws.proofs.Returned.{Before, rawFlagged, returned-before}
 
 -- ---- no count becomes less
 record More (r r′ : RawSystem) : Type 0 where

@@ -8,7 +8,7 @@ use Rattle.model.specs.Requests.{Request, Outcome, refused, serve, after}
 use Rattle.model.specs.Check.{RawSystem, systemOf, systemFits, systemAccepted}
 use Rattle.model.specs.Claim.{reached}
 use Rattle.model.specs.Handed.{counted, serveHanded, Returns}
-use Rattle.model.proofs.Returned.{returned-means, accepted-again, sheet-again}
+use Rattle.modellaws.proofs.Returned.{returned-means, accepted-again, sheet-again}
 use Rattle.returned.proofs.Counted.{means-same, accepted-same, outcome-same, counted-same}
 
 module _ (r : RawSystem) (q : Request) (o : Outcome) (r′ : RawSystem) (w : Returns r q o r′) where

@@ -18,9 +18,9 @@ use Rattle.model.specs.Crossing.{object, maxPlaces, baseOwner, Reference, cross
 use Rattle.model.specs.Requests.{System, Request, new, move, call, answer, Result, pair, number, nothing, got, outcome, maxCells, maxCalls, cellAt, callAt, isSheetRef, held, leaving, addCell, newRequest, moveRequest, wayOf, crossLayers, passLayers, send, argumentsHeld, sendArguments, callRequest, withAnswer, give, answerRequest, serve, after, run}
 use Rattle.model.specs.Requests.{loaded as start}
 use Rattle.model.specs.Claim.{follow}
-use Rattle.model.proofs.Steps.{IfOk, ok-need, ok-try}
-use Rattle.model.proofs.Checked.{Bounded, fits-bounded, bounded-kept}
-use Rattle.model.proofs.Reached.{reached-fits}
+use Rattle.modellaws.proofs.Steps.{IfOk, ok-need, ok-try}
+use Rattle.modellaws.proofs.Checked.{Bounded, fits-bounded, bounded-kept}
+use Rattle.modellaws.proofs.Reached.{reached-fits}
 use Rattle.returned.proofs.Small.{Small, Named, small-serve}
 use Rattle.sheet.specs.Lines.{Row, row, cut, bytes, split, join}
 use Rattle.sheet.specs.Numbers.{decimal, decimalIn}

@@ -11,7 +11,7 @@ use Rattle.model.specs.Table.{Ty, size}
 use Rattle.model.specs.Requests.{System, Request, Result, Outcome, got, refused, outcome, serve, after}
 use Rattle.model.specs.Check.{systemAccepted, systemOf}
 use Rattle.model.specs.Handed.{counted, handBack, serveHanded}
-use Rattle.model.proofs.Returned.{Before, handed-is}
+use Rattle.modellaws.proofs.Returned.{Before, handed-is}
 use Rattle.returned.proofs.Laws.{returns-means}
 use Rattle.returned.proofs.Before.{returns-before}
 use Rattle.table.specs.declared.Counts.{Counts}

@@ -15,13 +15,13 @@ use Rattle.model.specs.Records.{typeRecord}
 use Rattle.model.specs.Handed.{placeRecord, callRecord, countedTable, counted, storedTable, storedFrom}
 use Rattle.model.proofs.Tests.{ltb-so, ltb-no}
 use Rattle.model.proofs.Lists.{from-same}
-use Rattle.model.proofs.Returned.{stored-counted}
+use Rattle.modellaws.proofs.Returned.{stored-counted}
 use Rattle.table.specs.declared.Counts.{Counts}
 use Rattle.table.specs.Store.{typesIn, rawTable, tableIn}
 use Rattle.table.specs.Records.{bytesOf}
 use Rattle.table.proofs.Laws.{Agree, type-in, type-agree, record-own}
 use Rattle.table.proofs.Tables.{size-is, type-is}
-use Rattle.table.proofs.Whole.{record-shaped}
+use Rattle.tablelaws.proofs.Whole.{record-shaped}
 use Rattle.restrict.specs.Link.{recordAt}
 use Rattle.restrict.proofs.Bytes.{record-same}
 use Rattle.state.specs.declared.Cells.{Cells}

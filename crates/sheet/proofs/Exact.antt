@@ -11,7 +11,7 @@ use lib.Dec.{leb}
 use borrow.Author.Tests.{leb-true}
 use Rattle.model.specs.Requests.{Request}
 use Rattle.model.specs.Claim.{reached, Claim}
-use Rattle.model.proofs.Sheets.{demand3}
+use Rattle.modellaws.proofs.Sheets.{demand3}
 use Rattle.model.specs.Basics.{refuse, ok}
 use Rattle.model.specs.Table.{Table, tableFits, validSheet}
 use Rattle.model.specs.Check.{RawTable, tableOf, codesFit, tableAccepted}

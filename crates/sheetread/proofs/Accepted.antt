@@ -9,7 +9,7 @@ use Rattle.model.specs.Table.{Table, tableFits, validSheet}
 use Rattle.model.specs.Check.{tableAccepted}
 use Rattle.model.proofs.Rules.{both, first}
 use Rattle.table.specs.Store.{rawTable, tableIn}
-use Rattle.table.proofs.Whole.{bytes-codes, bytes-mean}
+use Rattle.tablelaws.proofs.Whole.{bytes-codes, bytes-mean}
 use Rattle.sheet.specs.Sheet.{SheetAnswer, malformed, loaded, read}
 use Rattle.sheet.proofs.Exact.{loaded-valid}
 use Rattle.sheet.proofs.Refusals.{refusal-number}

@@ -20,8 +20,8 @@ use Rattle.table.specs.declared.Counts.{Counts}
 use Rattle.table.specs.declared.Head.{Head}
 use Rattle.table.specs.Store.{rawMethod, typesTo, recordBytes, linksBytes, emptyTypes, emptyLinks, emptyCounts, emptyMethod}
 use Rattle.table.specs.Records.{padded, bytesOf, linkBytesOf, typeBytes, linkBytes, MethodExact, TypeExact}
-use Rattle.table.proofs.Exact.{padded-next, padded-length}
-use Rattle.table.proofs.Whole.{flat-length, bytes-long}
+use Rattle.tablelaws.proofs.Exact.{padded-next, padded-length}
+use Rattle.tablelaws.proofs.Whole.{flat-length, bytes-long}
 use Rattle.table.proofs.Lists.{from-last, from-same, is-from, length-from, same-or}
 use Rattle.table.proofs.Tables.{types-add}
 use Rattle.table.proofs.Laws.{absent}

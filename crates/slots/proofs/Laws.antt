@@ -25,7 +25,7 @@ use Rattle.table.proofs.Lists.{set-next}
 use Rattle.table.specs.Records.{MethodExact, TypeExact}
 use Rattle.table.proofs.Laws.{absent, four}
 use Rattle.table.proofs.Codes.{closed-kind}
-use Rattle.table.proofs.Exact.{blank, unsigned-exact, signed-exact, derived-key, ref-exact}
+use Rattle.tablelaws.proofs.Exact.{blank, unsigned-exact, signed-exact, derived-key, ref-exact}
 use Rattle.slots.specs.declared.Work.{Work}
 use Rattle.slots.specs.declared.Slot.the-variants.{Empty, Argument, Answer}
 use Rattle.slots.specs.Slots.{argumentSlot, answerSlot, slotOf, shared, fill, fillAt, leftIn, rightIn, methodIn, rawIn, MethodCoded, bareMethod, slotByte, signedMethod, keyIn, kindIn, catIn, mainOf, newRecord, keptState, Finished}

@@ -11,7 +11,7 @@ use Rattle.model.specs.Check.{RawPlace, RawCall, noRawPlace, noRawCall, systemO
 use Rattle.model.specs.Check.{placeOf as placeMeant, callOf as callMeant}
 use Rattle.model.specs.Handed.{placeRecord, callRecord}
 use Rattle.model.proofs.Lists.{from-same}
-use Rattle.model.proofs.Records.{place-back, call-back}
+use Rattle.modellaws.proofs.Records.{place-back, call-back}
 use Rattle.table.specs.Store.{tableIn}
 use Rattle.state.specs.declared.Cell.{Cell}
 use Rattle.state.specs.declared.PlaceRec.{PlaceRec}

@@ -14,7 +14,7 @@ use Rattle.model.specs.Requests.{Cell as Cellᵐ, Call as Callᵐ, System, maxC
 use Rattle.model.specs.Check.{RawType, RawTable, noRawType, noRawMethod, methodOf, typeOf, repOf, cellFits, placeFits, callFits, systemFits, tableOf, codesFit, stateCodesFit, tableAccepted, systemAccepted, noRawPlace, noRawCall}
 use Rattle.model.specs.Handed.{placeRecord, callRecord}
 use Rattle.model.proofs.Rules.{both, first, second}
-use Rattle.model.proofs.Records.{place-code, call-code}
+use Rattle.modellaws.proofs.Records.{place-code, call-code}
 use Rattle.model.proofs.Lists.{all-from}
 use Rattle.table.specs.declared.Counts.{Counts}
 use Rattle.table.specs.Limits.{Limits}

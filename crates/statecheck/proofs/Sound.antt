@@ -11,8 +11,8 @@ use Rattle.model.specs.Requests.{System, cellAt, callAt, noCell, noCall}
 use Rattle.model.specs.Check.{cellFits, placeFits, callFits, systemFits, codesFit, stateCodesFit, tableAccepted, systemAccepted, tableOf}
 use Rattle.model.proofs.Tests.{ltb-so}
 use Rattle.model.proofs.Rules.{never, first, second}
-use Rattle.model.proofs.Fitting.{all-at, every-at}
-use Rattle.model.proofs.Checked.{SystemFitting, system-fitting}
+use Rattle.modellaws.proofs.Fitting.{all-at, every-at}
+use Rattle.modellaws.proofs.Checked.{SystemFitting, system-fitting}
 use Rattle.table.specs.Limits.{Checked}
 use Rattle.table.specs.Store.{tableIn, rawTable}
 use Rattle.table.proofs.Tables.{size-is}

@@ -3,5 +3,3 @@ pub mod Laws
 pub mod Tables
 pub mod Linked
 pub mod Codes
-pub mod Exact
-pub mod Whole

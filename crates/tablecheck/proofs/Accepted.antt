@@ -12,7 +12,7 @@ use Rattle.model.specs.Table.{between, linksFit}
 use Rattle.model.specs.Check.{tableOf, codesFit, tableAccepted}
 use Rattle.model.proofs.Tests.{ltb-so}
 use Rattle.model.proofs.Rules.{first, second}
-use Rattle.model.proofs.Fitting.{TableFitting, table-fitting, every-at}
+use Rattle.modellaws.proofs.Fitting.{TableFitting, table-fitting, every-at}
 use Rattle.model.proofs.Largest.{getD-from}
 use Rattle.table.specs.declared.Counts.{Counts}
 use Rattle.table.specs.Store.{rawTable, tableIn, broaderOf}

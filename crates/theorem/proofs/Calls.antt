@@ -25,12 +25,12 @@ use Rattle.model.proofs.Largest.{keeps-related, related-inside}
 use Rattle.model.proofs.Order.{same-sort}
 use Rattle.model.proofs.ChainLaws.{beq-so, steps}
 use Rattle.model.proofs.Growth.{method-same}
-use Rattle.model.proofs.Steps.{IfOk, ok-need, ok-try}
-use Rattle.model.proofs.Demand3.{reached-together, names-below}
-use Rattle.model.proofs.Sheets.{sheet-fitting, sheet-good}
-use Rattle.model.proofs.Checked.{fits-bounded}
-use Rattle.model.proofs.Reached.{reached-fits}
-use Rattle.model.proofs.Onward.{Onward, serve-onward}
+use Rattle.modellaws.proofs.Steps.{IfOk, ok-need, ok-try}
+use Rattle.modellaws.proofs.Demand3.{reached-together, names-below}
+use Rattle.modellaws.proofs.Sheets.{sheet-fitting, sheet-good}
+use Rattle.modellaws.proofs.Checked.{fits-bounded}
+use Rattle.modellaws.proofs.Reached.{reached-fits}
+use Rattle.modellaws.proofs.Onward.{Onward, serve-onward}
 use Rattle.theorem.specs.Shown.{Permitted, NotePermitted}
 use Rattle.theorem.proofs.Runs.{follow-both}
 

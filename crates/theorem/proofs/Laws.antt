@@ -15,10 +15,10 @@ use Rattle.model.specs.Handed.{rawLoaded, counted, storedFrom, handBack, serveH
 use Rattle.model.specs.Book.{Book, opened}
 use Rattle.model.specs.Claim.{accepted, feed, follow, reached, noteOf, Claim}
 use Rattle.model.proofs.Rules.{never}
-use Rattle.model.proofs.Steps.{IfOk}
-use Rattle.model.proofs.Sheets.{demand3}
-use Rattle.model.proofs.Returned.{handed-is}
-use Rattle.model.proofs.Loaded.{loaded-means, loaded-accepted}
+use Rattle.modellaws.proofs.Steps.{IfOk}
+use Rattle.modellaws.proofs.Sheets.{demand3}
+use Rattle.modellaws.proofs.Returned.{handed-is}
+use Rattle.modellaws.proofs.Loaded.{loaded-means, loaded-accepted}
 use Rattle.returned.proofs.Counted.{means-same, accepted-same}
 use Rattle.returned.proofs.Laws.{returns-reached}
 use Rattle.run.specs.Requested.{asked}

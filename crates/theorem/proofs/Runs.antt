@@ -19,10 +19,10 @@ use Rattle.model.specs.Claim.{accepted, feed, follow, reached}
 use Rattle.model.proofs.Rules.{both}
 use Rattle.model.proofs.Lists.{all-from}
 use Rattle.model.proofs.Growth.{grown-refl, grown-trans}
-use Rattle.model.proofs.Checked.{system-fitting, fits-bounded}
-use Rattle.model.proofs.Reached.{reached-fits}
-use Rattle.model.proofs.Records.{place-code, call-code}
-use Rattle.model.proofs.Returned.{NewType, Added, request-adds, system-means, accepted-codes, accept, stored-codes}
+use Rattle.modellaws.proofs.Checked.{system-fitting, fits-bounded}
+use Rattle.modellaws.proofs.Reached.{reached-fits}
+use Rattle.modellaws.proofs.Records.{place-code, call-code}
+use Rattle.modellaws.proofs.Returned.{NewType, Added, request-adds, system-means, accepted-codes, accept, stored-codes}
 use Rattle.run.specs.Requested.{asked, placed}
 use Rattle.theorem.specs.Shown.{taken, told}
 

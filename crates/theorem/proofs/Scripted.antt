@@ -19,7 +19,7 @@ use Rattle.model.specs.Requests.{loaded as start}
 use Rattle.model.specs.Book.{Book, opened}
 use Rattle.model.specs.Claim.{accepted, feed, follow}
 use Rattle.model.proofs.Rules.{both, never}
-use Rattle.model.proofs.Steps.{IfOk}
+use Rattle.modellaws.proofs.Steps.{IfOk}
 use Rattle.sheet.specs.Lines.{Row, row, cut, bytes, split, join, starts, firstLine}
 use Rattle.sheet.specs.Numbers.{decimal, decimalIn}
 use Rattle.sheet.specs.Text.{numberText, Written, writeText}

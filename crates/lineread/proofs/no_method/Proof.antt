@@ -2,7 +2,7 @@
 use mathlib.Core.Path.{refl, subst, sym}
 use native.Mathlib.Omega.{arith}
 use borrow.Author.Needs.{needs}
-use Rattle.table.proofs.Exact.{unsigned-exact}
+use Rattle.tablelaws.proofs.Exact.{unsigned-exact}
 use Rattle.table.specs.Records.{MethodExact}
 use Rattle.table.specs.Store.{rawMethod}
 use Rattle.table.specs.declared.Method.{Method}

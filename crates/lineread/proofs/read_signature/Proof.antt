@@ -7,7 +7,7 @@ use borrow.Author.Needs.{needs}
 use borrow.Author.Tests.{not-true, not-false}
 use Rattle.model.specs.Basics.{ok}
 use Rattle.model.specs.Check.{stateOf, answerOf}
-use Rattle.table.proofs.Exact.{signed-exact}
+use Rattle.tablelaws.proofs.Exact.{signed-exact}
 use Rattle.textread.proofs.Laws.{scan-right, scan-wrong, number-scan-wrong, number-scan-right}
 use Rattle.lineread.proofs.Laws.{signature-args, signature-answer, signature-behind, signature-high, signature-answer-high, signature-good, signed-means, permits-below}
 use Rattle.lineread.proofs.read_signature.Statement.{statement}

@@ -2,7 +2,7 @@
 use mathlib.Core.List.{[], _∷_}
 use mathlib.Core.Path.{ap}
 use Rattle.model.specs.Basics.{ok}
-use Rattle.table.proofs.Exact.{unsigned-exact}
+use Rattle.tablelaws.proofs.Exact.{unsigned-exact}
 use Rattle.lineread.proofs.Laws.{unsigned-means}
 use Rattle.lineread.proofs.read_unsigned.Statement.{statement}
 use Rattle.lineread.proofs.read_unsigned.Tie as tie

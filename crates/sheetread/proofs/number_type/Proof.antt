@@ -3,7 +3,7 @@ use mathlib.Core.Path.{refl, ap}
 use native.Mathlib.Omega.{arith}
 use lib.ListN.{replicate}
 use borrow.Author.Needs.{needs}
-use Rattle.table.proofs.Exact.{sheet-key, number-exact}
+use Rattle.tablelaws.proofs.Exact.{sheet-key, number-exact}
 use Rattle.table.specs.Store.{rawOf}
 use Rattle.table.specs.declared.Head.{Head}
 use Rattle.sheetread.proofs.Stored.{number-means, methods-blank}

@@ -6,7 +6,7 @@ use native.Mathlib.Omega.{arith}
 use lib.ListN.{length, drop, take, length-map}
 use borrow.Author.Needs.{needs}
 use Rattle.model.specs.Table.{Ty}
-use Rattle.table.proofs.Exact.{sheet-key, ref-exact}
+use Rattle.tablelaws.proofs.Exact.{sheet-key, ref-exact}
 use Rattle.table.specs.Store.{rawOf, rawMethod}
 use Rattle.table.specs.declared.Head.{Head}
 use Rattle.sheet.specs.Lines.{split, got}

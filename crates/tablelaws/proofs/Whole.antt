@@ -15,13 +15,13 @@ use Rattle.model.specs.Records.{methodRecord, typeRecord, linksRecord}
 use Rattle.model.specs.Handed.{rawTableOf}
 use Rattle.model.proofs.Tests.{leb-so}
 use Rattle.model.proofs.Rules.{first, second}
-use Rattle.model.proofs.Fitting.{table-fitting}
+use Rattle.modellaws.proofs.Fitting.{table-fitting}
 use Rattle.model.proofs.Lists.{getD-map-in}
-use Rattle.model.proofs.Loaded.{table-back, table-codes}
+use Rattle.modellaws.proofs.Loaded.{table-back, table-codes}
 use Rattle.table.specs.Store.{typesIn, linksIn, rawTable, tableIn, Shaped}
 use Rattle.table.specs.Records.{padded, bytesOf, linkBytesOf, typeBytes, linkBytes, countsOf}
 use Rattle.table.proofs.Lists.{from-first, from-same}
 use Rattle.table.proofs.Laws.{Agree, type-agree, type-in, links-in, record-length, record-own}
 
 -- Pieces of n bytes each, one behind the other: byte p of piece i.
 module _ {A : Type 0} (f : A → List ℕ) (n : ℕ) (long : (x : A) → length (f x) ≡ n) where

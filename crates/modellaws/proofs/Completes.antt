@@ -10,18 +10,18 @@ use native.Mathlib.Decide.{decLt, ℕ-discrete}
 use lib.Dec.{eqb, ltb}
 use lib.ListN.{length, getD}
 use lib.Seq.{getD-append-seam, getD-set-same, getD-set-other}
 use Rattle.model.specs.Basics.{_⇒_, then, AllBelow}
 use Rattle.model.specs.Table.{State, Kind, sub, sup, closed, Key, Method, Ty, Table, noMethod, noType, size, typeAt, methodAt, permit, isRef, signed, bare}
 use Rattle.model.specs.Relations.{free, related, ArgsBy, AnswerBy, MethodBy, Rule}
 use Rattle.model.specs.Restriction.{restricted, argKind, answerKind, mainSide, isKey, sameKind, find, withoutNew, entry, pending, Derivation, deriveArgs, deriveAnswer, deriveMethod, deriveMethods, derive}
 use Rattle.model.proofs.Tests.{eqb-so}
 use Rattle.model.proofs.Rules.{never, first, second, applied}
 use Rattle.model.proofs.Largest.{keeps-related}
 use Rattle.model.proofs.States.{each₂}
 use Rattle.model.proofs.Derived.{ofNumber, AnswerBelow, Known, itself, made, ArgsFrom, AnswerFrom, DerivedMethod, past, here, isOpen}
 use Rattle.model.proofs.ChainLaws.{sort-eq}
 use Rattle.model.proofs.Growth.{Grown, grown-refl, grown-trans, method-same}
-use Rattle.model.proofs.Deriving.{IfSome, some-then, some-map, some-pick, some-room, pushed, stored, pushed-size, stored-size, pushed-grown}
+use Rattle.modellaws.proofs.Deriving.{IfSome, some-then, some-map, some-pick, some-room, pushed, stored, pushed-size, stored-size, pushed-grown}
 
 abbrev pub SignatureBelow : ℕ → Method → Type 0
 SignatureBelow n x = AllBelow n (x .args) × AnswerBelow n (x .answer)

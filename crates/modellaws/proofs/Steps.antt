@@ -6,20 +6,20 @@ use mathlib.Core.List.{List}
 use mathlib.Core.Option.{Option, none, some}
 use Prim.Native.Nat.{ℕ, _<_}
 use native.Mathlib.Omega.{arith}
 use Rattle.model.specs.Basics.{_⇒_, Res, refuse, ok, try, need}
 use Rattle.model.specs.Table.{Kind, sub, closed, Method, Table, size, typeAt, methodAt, permit, isAvail}
 use Rattle.model.specs.Relations.{subtype, conforms, strict, loose, free, related}
 use Rattle.model.specs.Restriction.{restricted, derive, derived}
 use Rattle.model.specs.Chains.{Permits}
 use Rattle.model.proofs.Rules.{never}
 use Rattle.model.proofs.States.{each₂}
 use Rattle.model.proofs.Derived.{Known, itself, ofNumber, made, DerivedMethod, Complete, past, here}
 use Rattle.model.proofs.Order.{subtype→conforms, strict→loose, loose→free, conforms-trans, sub-le, closed-le}
 use Rattle.model.proofs.ChainLaws.{meet, meet-closed, permits-between}
 use Rattle.model.proofs.Growth.{Grown, grown-refl, grown-trans, method-same, related-grow}
-use Rattle.model.proofs.Deriving.{IfSome}
-use Rattle.model.proofs.Completes.{grown-keys, known-keys}
-use Rattle.model.proofs.Good.{Good, Derived, derive-good}
+use Rattle.modellaws.proofs.Deriving.{IfSome}
+use Rattle.modellaws.proofs.Completes.{grown-keys, known-keys}
+use Rattle.modellaws.proofs.Good.{Good, Derived, derive-good}
 
 abbrev pub IfOk : {A : Type 0} → Res A → (A → Type 0) → Type 0
 IfOk (refuse e) Q = Unit

@@ -9,17 +9,17 @@ use native.Mathlib.Omega.{arith}
 use native.Mathlib.Nat.{not-suc-le-zero, le-of-suc-le-suc}
 use lib.Dec.{eqb, ltb}
 use lib.ListN.{length, getD, set}
 use Rattle.model.specs.Basics.{Res, refuse, ok, need, then}
 use Rattle.model.specs.Table.{Kind, sub, closed, Ty, Table, noType, maxTypes, size, typeAt, withTypes}
 use Rattle.model.specs.Relations.{subtype, conforms, free, related}
 use Rattle.model.specs.Restriction.{isKey, find, withoutNew, entry, pending, deriveMethods, make, derive}
 use Rattle.model.specs.Crossing.{baseOf, baseOwner, Reference, adapt, cross}
 use Rattle.model.specs.Requests.{System, Request, serve, after}
 use Rattle.model.specs.Book.{Page, lastType, lastClosed, emptyPage, joins, addClosed, pageAdapt, pageCross}
 use Rattle.model.proofs.Tests.{eqb-so}
 use Rattle.model.proofs.Rules.{never}
-use Rattle.model.proofs.Deriving.{IfSome}
-use Rattle.model.proofs.Steps.{IfOk}
+use Rattle.modellaws.proofs.Deriving.{IfSome}
+use Rattle.modellaws.proofs.Steps.{IfOk}
 
 -- "T own: r must own the base (9)": an accepted crossing to an own type is received by the owner of the base.
 pub own-received : (f : Reference) (to r : ℕ) → typeAt (f .table) to .own ≡ true → IfOk (cross f to r) (λ g. r ≡ baseOwner (f .places) (f .place))

@@ -6,13 +6,13 @@ use Prim.Native.Nat.{ℕ, _≤_, _<_}
 use native.Mathlib.Omega.{arith}
 use native.Mathlib.Decide.{decLt}
 use lib.Dec.{leb}
 use Rattle.model.specs.Table.{Key, Table, size, typeAt, keyFits, tableFits, validSheet}
 use Rattle.model.specs.Claim.{Demand3}
 use Rattle.model.proofs.Tests.{eqb-so, leb-so}
 use Rattle.model.proofs.Rules.{first, second}
-use Rattle.model.proofs.Good.{Good, out}
-use Rattle.model.proofs.Demand3.{good-claim}
-use Rattle.model.proofs.Fitting.{TableFitting, table-fitting, fitting-counts, fitting-sigs, fitting-unowned, fitting-short, fitting-catIn}
+use Rattle.modellaws.proofs.Good.{Good, out}
+use Rattle.modellaws.proofs.Demand3.{good-claim}
+use Rattle.modellaws.proofs.Fitting.{TableFitting, table-fitting, fitting-counts, fitting-sigs, fitting-unowned, fitting-short, fitting-catIn}
 
 pub sheet-fitting : (t : Table) → So (validSheet t) → TableFitting t × (t .sheet ≡ size t)
 unfolding validSheet

@@ -11,24 +11,24 @@ use lib.Dec.{eqb, ltb}
 use lib.IntN.{ℤ, pos, negsuc}
 use lib.ListN.{length, getD, length-append, length-set, List·getD-append, List·getD-map}
 use lib.Seq.{getD-append-seam, getD-at, map-set-same}
 use Rattle.model.specs.Basics.{Res, refuse, ok, try, need, _⇒_, all, names, named, AllBelow}
 use Rattle.model.specs.Table.{Method, Table, noMethod, size, typeAt, methodAt, argumentAt, answerAt, isRef, permit, isAvail, isSettled, isClass}
 use Rattle.model.specs.Relations.{conforms}
 use Rattle.model.specs.Crossing.{Place, object, noPlace, maxPlaces, baseOf, baseOwner, Reference, cross}
 use Rattle.model.specs.Requests.{Cell, Call, System, maxCells, maxCalls, loaded, Request, new, move, call, answer, Result, pair, number, noCell, noCall, cellAt, callAt, isSheetRef, held, leaving, withCell, addCell, newRequest, moveRequest, adapterCount, wayOf, crossLayers, passLayers, send, argumentsHeld, sendArguments, withCall, callRequest, flagged, withAnswer, give, answerRequest, serve, after}
 use Rattle.model.specs.Chains.{permits, offered}
 use Rattle.model.specs.Book.{Page, Note, Book, lastType, emptyPage, pageCross, pageCrossAll, addPage, pageWay, copyPage, copyArguments, addNote, copyAnswer, enter}
 use Rattle.model.specs.Claim.{accepted, feed, follow, reached, noteOf, Claim}
 use Rattle.model.proofs.Tests.{ltb-so}
 use Rattle.model.proofs.Rules.{never, both, first, second, applied}
 use Rattle.model.proofs.States.{each}
 use Rattle.model.proofs.Lists.{prefix-refl, prefix-trans, prefix-add}
 use Rattle.model.proofs.Order.{related-refl}
 use Rattle.model.proofs.Growth.{Grown, grown-refl, grown-trans}
-use Rattle.model.proofs.Completes.{all-below-more}
-use Rattle.model.proofs.Good.{Good}
-use Rattle.model.proofs.Steps.{IfOk, ok-try, ok-map, ok-need, Settled}
-use Rattle.model.proofs.Trails.{Kept, unwinds-in, unwinds-type, layers-are, base-is, Track, Trailed, track-grow, Flown, cross-ok, crossLayers-ok}
+use Rattle.modellaws.proofs.Completes.{all-below-more}
+use Rattle.modellaws.proofs.Good.{Good}
+use Rattle.modellaws.proofs.Steps.{IfOk, ok-try, ok-map, ok-need, Settled}
+use Rattle.modellaws.proofs.Trails.{Kept, unwinds-in, unwinds-type, layers-are, base-is, Track, Trailed, track-grow, Flown, cross-ok, crossLayers-ok}
 
 -- the book of a state whose cells have the pages gs
 abbrev bookOf : System → List Page → Book

@@ -10,20 +10,20 @@ use native.Mathlib.Omega.{arith}
 use lib.Dec.{eqb, ltb}
 use lib.ListN.{length, length-append}
 use lib.Seq.{getD-append-seam}
 use Rattle.model.specs.Basics.{Res, refuse, ok, try, need, AllBelow}
 use Rattle.model.specs.Table.{sub, closed, Table, maxTypes, size, typeAt}
 use Rattle.model.specs.Relations.{subtype, conforms, strict, loose, free, related}
 use Rattle.model.specs.Restriction.{derive, derived}
 use Rattle.model.specs.Crossing.{Place, object, adapter, noPlace, maxPlaces, placeType, ownerOf, placeAt, base, baseOf, Reference, adapt, cross}
 use Rattle.model.specs.Requests.{layers, renumber, crossLayers}
 use Rattle.model.specs.Chains.{Permits, AllPermit}
 use Rattle.model.specs.Book.{Page, lastOr, lastType, lastClosed, emptyPage, joins, addClosed, pageAdapt, pageCross, pageCrossAll}
 use Rattle.model.proofs.Largest.{keeps-related}
 use Rattle.model.proofs.Lists.{Prefix, prefix-refl, prefix-trans, prefix-add}
 use Rattle.model.proofs.Growth.{Grown, grown-refl, grown-trans, related-grow, permits-grow}
-use Rattle.model.proofs.Completes.{all-below-more}
-use Rattle.model.proofs.Good.{Good}
-use Rattle.model.proofs.Steps.{IfOk, ok-try, ok-map, ok-need, finish, Crossed, typed, typed-ok, Settled, settled-grow, orElse, Before, Passed}
+use Rattle.modellaws.proofs.Completes.{all-below-more}
+use Rattle.modellaws.proofs.Good.{Good}
+use Rattle.modellaws.proofs.Steps.{IfOk, ok-try, ok-map, ok-need, finish, Crossed, typed, typed-ok, Settled, settled-grow, orElse, Before, Passed}
 
 -- places are only added
 abbrev pub Kept : List Place → List Place → Type 0

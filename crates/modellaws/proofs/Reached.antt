@@ -8,28 +8,28 @@ use native.Mathlib.Omega.{arith}
 use native.Mathlib.Decide.{decLt}
 use lib.Dec.{eqb, ltb, leb}
 use lib.ListN.{length}
 use Rattle.model.specs.Basics.{every, _⇒_, all, unlessMissing, AllBelow}
 use Rattle.model.specs.Table.{linksFit, Kind, sub, sup, closed, Key, Method, Table, noMethod, noType, maxTypes, maxArguments, size, typeAt, methodAt, isRef, permit, standsIn, isNil, isNone, signatureFits, keyFits, signatureBound, typeFits, tableFits, validSheet}
 use Rattle.model.specs.Relations.{free, related}
 use Rattle.model.specs.Restriction.{mainSide, derive, derived}
 use Rattle.model.specs.Crossing.{Place, object, adapter, noPlace, placeAt}
 use Rattle.model.specs.Requests.{System, loaded, Request, noCell, noCall, serve, after}
 use Rattle.model.specs.Check.{cellFits, placeFits, callFits, systemFits}
 use Rattle.model.specs.Book.{Book}
 use Rattle.model.specs.Claim.{accepted, feed, follow, reached}
 use Rattle.model.proofs.Tests.{eqb-self, ltb-so, so-ltb, leb-so, so-leb}
 use Rattle.model.proofs.Rules.{never, both, first, second}
 use Rattle.model.proofs.Largest.{keeps-related}
 use Rattle.model.proofs.Derived.{AnswerBelow, Known, itself, ofNumber, made, DerivedMethod, past, here, Complete}
 use Rattle.model.proofs.Growth.{Grown, grown-refl, grown-trans, method-same}
-use Rattle.model.proofs.Unowned.{AllUnowned, AnswerUnowned}
-use Rattle.model.proofs.Deriving.{IfSome}
-use Rattle.model.proofs.Good.{Good, Derived, grown-counts, grown-sheetSigs, derive-good}
-use Rattle.model.proofs.Steps.{IfOk}
-use Rattle.model.proofs.Fitting.{TableFitting, all-at, at-all, at-every, signature-below, fitting-sound}
-use Rattle.model.proofs.Sheets.{sheet-fitting, sheet-good}
-use Rattle.model.proofs.Within.{PlaceIn, SystemIn, serve-in}
-use Rattle.model.proofs.Checked.{derived-of, fitting-system}
+use Rattle.modellaws.proofs.Unowned.{AllUnowned, AnswerUnowned}
+use Rattle.modellaws.proofs.Deriving.{IfSome}
+use Rattle.modellaws.proofs.Good.{Good, Derived, grown-counts, grown-sheetSigs, derive-good}
+use Rattle.modellaws.proofs.Steps.{IfOk}
+use Rattle.modellaws.proofs.Fitting.{TableFitting, all-at, at-all, at-every, signature-below, fitting-sound}
+use Rattle.modellaws.proofs.Sheets.{sheet-fitting, sheet-good}
+use Rattle.modellaws.proofs.Within.{PlaceIn, SystemIn, serve-in}
+use Rattle.modellaws.proofs.Checked.{derived-of, fitting-system}
 
 -- ---- a table that has grown from a valid sheet by derivations fits
 not-false : {b : Bool} → b ≡ false → So (not b)

@@ -8,20 +8,20 @@ use native.Mathlib.Omega.{arith}
 use native.Mathlib.Decide.{decLt}
 use lib.Dec.{ltb, leb}
 use lib.ListN.{length, getD, List·getD-eq-default}
 use Rattle.model.specs.Basics.{from}
 use Rattle.model.specs.Table.{Key, Table, noMethod, noType, size, typeAt, methodAt, permit, between, linksFit, isNone, signatureFits, keyFits, signatureBound, tableFits}
 use Rattle.model.specs.Requests.{loaded}
 use Rattle.model.specs.Check.{RawTable, noRawLinks, noRawType, typeOf, linksOf, tableOf, systemOf, rawTypeFits, codesFit, tableAccepted, stateCodesFit, systemAccepted}
 use Rattle.model.specs.Records.{typeRecord, linksRecord}
 use Rattle.model.specs.Handed.{rawTableOf, rawLoaded}
 use Rattle.model.proofs.Tests.{ltb-so, leb-so}
 use Rattle.model.proofs.Rules.{both, first, second}
 use Rattle.model.proofs.Lists.{is-from, from-shift, getD-map-in, all-from, every-from}
-use Rattle.model.proofs.Good.{counted-of}
-use Rattle.model.proofs.Fitting.{TableFitting, all-at, every-at, fitting-short}
-use Rattle.model.proofs.Checked.{fitting-system}
-use Rattle.model.proofs.Reached.{unsigned}
-use Rattle.model.proofs.Records.{links-back, Shaped, type-back, type-codes}
+use Rattle.modellaws.proofs.Good.{counted-of}
+use Rattle.modellaws.proofs.Fitting.{TableFitting, all-at, every-at, fitting-short}
+use Rattle.modellaws.proofs.Checked.{fitting-system}
+use Rattle.modellaws.proofs.Reached.{unsigned}
+use Rattle.modellaws.proofs.Records.{links-back, Shaped, type-back, type-codes}
 
 module _ (t : Table) (f : TableFitting t) where
   key-shaped : (i : ℕ) (o : Option Key) → So (keyFits t i o) → isNone o ≡ ltb i (t .sheet)

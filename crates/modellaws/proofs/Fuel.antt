@@ -7,11 +7,11 @@ use Prim.Native.Nat.{ℕ, zero, suc, _+_, _≤_, _<_}
 use native.Mathlib.Omega.{arith}
 use lib.Dec.{ltb}
 use lib.ListN.{set, length-append}
 use Rattle.model.specs.Basics.{then}
 use Rattle.model.specs.Table.{Kind, Method, Table, size, typeAt, permit, withTypes, signed, bare}
 use Rattle.model.specs.Restriction.{restricted, argKind, answerKind, withoutNew, entry, pending, Derivation, deriveArgs, deriveAnswer, deriveMethod, deriveMethods, make, derive}
 use Rattle.model.proofs.Tests.{ltb-so}
-use Rattle.model.proofs.Deriving.{IfSome, Keeping, Larger, larger-once, larger-onward, larger-new, args-kept, method-kept, derive-larger}
+use Rattle.modellaws.proofs.Deriving.{IfSome, Keeping, Larger, larger-once, larger-onward, larger-new, args-kept, method-kept, derive-larger}
 
 -- two ways to derive that agree from n types on
 abbrev Agree : ℕ → Derivation → Derivation → Type 0

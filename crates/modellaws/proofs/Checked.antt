@@ -6,21 +6,21 @@ use Prim.Native.Nat.{ℕ, _≤_, _<_}
 use native.Mathlib.Omega.{arith}
 use lib.Dec.{ltb, leb}
 use lib.ListN.{length}
 use Rattle.model.specs.Basics.{refuse, ok, all, every}
 use Rattle.model.specs.Table.{Kind, Table, maxTypes, size, tableFits}
 use Rattle.model.specs.Relations.{free, related}
 use Rattle.model.specs.Restriction.{derive, derived}
 use Rattle.model.specs.Crossing.{Place, object, adapter, noPlace, maxPlaces, placeAt}
 use Rattle.model.specs.Requests.{System, maxCells, maxCalls, Request, noCell, noCall, cellAt, callAt, serve, after}
 use Rattle.model.specs.Check.{cellFits, placeFits, callFits, systemFits}
 use Rattle.model.proofs.Tests.{ltb-so, leb-so, so-leb}
 use Rattle.model.proofs.Rules.{both, first, second}
 use Rattle.model.proofs.Growth.{Grown}
-use Rattle.model.proofs.Deriving.{IfSome}
-use Rattle.model.proofs.Good.{Sound, counted-of, sheet-within, derive-sound}
-use Rattle.model.proofs.Steps.{IfOk}
-use Rattle.model.proofs.Fitting.{all-at, every-at, table-fitting, fitting-sound}
-use Rattle.model.proofs.Within.{PlaceIn, SystemIn, serve-in}
+use Rattle.modellaws.proofs.Deriving.{IfSome}
+use Rattle.modellaws.proofs.Good.{Sound, counted-of, sheet-within, derive-sound}
+use Rattle.modellaws.proofs.Steps.{IfOk}
+use Rattle.modellaws.proofs.Fitting.{all-at, every-at, table-fitting, fitting-sound}
+use Rattle.modellaws.proofs.Within.{PlaceIn, SystemIn, serve-in}
 
 -- ---- what 11 makes of a derivation
 pub derived-of : (Q : Table × ℕ → Type 0) (t : Table) (d : Kind) (l r : ℕ) → IfSome (derive maxTypes t d l r) Q → IfOk (derived t d l r) Q

@@ -10,19 +10,19 @@ use lib.Dec.{eqb, ltb}
 use lib.IntN.{ℤ}
 use lib.ListN.{length, getD, set, length-set}
 use lib.Seq.{getD-set-same, getD-set-other}
 use Rattle.model.specs.Basics.{ok, try, need, names, named}
 use Rattle.model.specs.Table.{Kind, sub, closed, Table, maxTypes, typeAt, methodAt, argumentAt, answerAt, isRef, isAvail, isClass}
 use Rattle.model.specs.Relations.{conforms, strict, loose, free, subtype, related}
 use Rattle.model.specs.Restriction.{derived}
 use Rattle.model.specs.Crossing.{Place, object, adapter, noPlace, maxPlaces, placeType, placeAt, baseOf, baseOwner, Reference, adapt, cross}
 use Rattle.model.specs.Requests.{Call, System, maxCells, maxCalls, Request, new, move, call, answer, Result, number, noCell, noCall, cellAt, callAt, isSheetRef, held, leaving, addCell, newRequest, moveRequest, wayOf, renumber, crossLayers, passLayers, send, argumentsHeld, sendArguments, withCall, callRequest, flagged, withAnswer, give, answerRequest, serve}
 use Rattle.model.proofs.Lists.{Prefix, prefix-refl, prefix-trans, prefix-add}
 use Rattle.model.proofs.Growth.{Grown, grown-refl, grown-trans}
-use Rattle.model.proofs.Deriving.{derive-grown}
-use Rattle.model.proofs.Steps.{IfOk, ok-try, ok-map, ok-need}
-use Rattle.model.proofs.Trails.{Kept, ok-renumber}
-use Rattle.model.proofs.Demand3.{whatever}
-use Rattle.model.proofs.Checked.{derived-of}
+use Rattle.modellaws.proofs.Deriving.{derive-grown}
+use Rattle.modellaws.proofs.Steps.{IfOk, ok-try, ok-map, ok-need}
+use Rattle.modellaws.proofs.Trails.{Kept, ok-renumber}
+use Rattle.modellaws.proofs.Demand3.{whatever}
+use Rattle.modellaws.proofs.Checked.{derived-of}
 
 derived-grown : (t : Table) (d : Kind) (l r : ℕ) → IfOk (derived t d l r) (λ x. Grown t (x .0))
 derived-grown t d l r = derived-of _ t d l r (derive-grown maxTypes t d l r)

@@ -1,14 +1,13 @@
--- What Compare answers (R8 to R14) and what restriction makes of two states, written out and computed from the definitions.
+-- What Compare answers (R8 to R14), written out and computed from the definitions.
 use mathlib.Core.Path.{_≡_, refl}
 use mathlib.Core.Bool.{Bool, true, false}
-use mathlib.Core.List.{List, [], _∷_, map}
+use mathlib.Core.List.{[], _∷_, map}
 use Prim.Native.Nat.{ℕ}
 use lib.IntN.{ℤ, pos, negsuc}
 use Rattle.model.specs.Basics.{Res, refuse, ok}
-use Rattle.model.specs.Table.{w32, w64, State, denied, optional, avail, unavail, Kind, sub, sup, closed, Table, validSheet, bare}
+use Rattle.model.specs.Table.{w32, w64, denied, optional, avail, unavail, Table, validSheet, bare}
 use Rattle.model.specs.Relations.{Answers, compare}
-use Rattle.model.specs.Restriction.{restricted}
 use Rattle.model.proofs.CasesWords.{typeIn, owned, numberIn, sheetIn}
 
 -- Categories 1 and 3 have none broader, 2 names 1. Types 0 to 3 differ in category alone, 4 and 5 are numbers, 6 to 8 have category 0 and another state, 9 is 0 with own.
 abbrev kinds : Table
@@ -56,37 +55,3 @@ pub compared : map asked (
     ∷ refuse 7 ∷ refuse 7 ∷ refuse 7 ∷ []
 unfolding compare
 compared = refl
-
--- ---- a method's state on the left, in the order denied, optional, avail, unavail, against each on the right in that order
-abbrev states : List State
-states = denied ∷ optional ∷ avail ∷ unavail ∷ []
-
-abbrev restrictedBy : Kind → List (List State)
-restrictedBy d = map (λ a. map (restricted d a) states) states
-
--- Sub: the left's, unless the right permits less (D2)
-pub sub-states : restrictedBy sub ≡
-    (denied ∷ denied ∷ denied ∷ denied ∷ [])
-    ∷ (unavail ∷ optional ∷ optional ∷ unavail ∷ [])
-    ∷ (unavail ∷ avail ∷ avail ∷ unavail ∷ [])
-    ∷ (unavail ∷ unavail ∷ unavail ∷ unavail ∷ [])
-    ∷ []
-sub-states = refl
-
--- Sup: the right's, unless the left permits less (D4)
-pub sup-states : restrictedBy sup ≡
-    (denied ∷ denied ∷ denied ∷ unavail ∷ [])
-    ∷ (denied ∷ optional ∷ avail ∷ unavail ∷ [])
-    ∷ (denied ∷ optional ∷ avail ∷ unavail ∷ [])
-    ∷ (denied ∷ denied ∷ denied ∷ unavail ∷ [])
-    ∷ []
-sup-states = refl
-
--- Closed: avail where the left permits and the right has it avail, else unavail (D8)
-pub closed-states : restrictedBy closed ≡
-    (unavail ∷ unavail ∷ unavail ∷ unavail ∷ [])
-    ∷ (unavail ∷ unavail ∷ avail ∷ unavail ∷ [])
-    ∷ (unavail ∷ unavail ∷ avail ∷ unavail ∷ [])
-    ∷ (unavail ∷ unavail ∷ unavail ∷ unavail ∷ [])
-    ∷ []
-closed-states = refl

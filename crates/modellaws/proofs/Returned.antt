@@ -11,31 +11,31 @@ use native.Mathlib.Omega.{arith}
 use native.Mathlib.Decide.{decLt}
 use lib.Dec.{ltb}
 use lib.ListN.{length, getD, List·getD-map, length-map}
 use Rattle.model.specs.Basics.{Res, refuse, ok, need, all, every, from}
 use Rattle.model.specs.Table.{Kind, Key, Ty, Table, noMethod, noType, maxMethods, maxTypes, size, typeAt, permit, isNone, methodCount, between, tableFits, validSheet}
 use Rattle.model.specs.Relations.{free, related}
 use Rattle.model.specs.Restriction.{derive, derived}
 use Rattle.model.specs.Crossing.{Place, noPlace, placeAt}
 use Rattle.model.specs.Requests.{Cell, Call, System, Request, Result, refused, noCell, noCall, callAt, flagged, loaded, serve, after}
 use Rattle.model.specs.Check.{RawType, RawTable, RawPlace, RawCall, RawSystem, noRawType, noRawLinks, noRawPlace, noRawCall, typeOf, linksOf, placeOf, callOf, firstOf, typesOf, tableOf, systemOf, rawTypeFits, codesFit, stateCodesFit, systemFits, systemAccepted}
 use Rattle.model.specs.Records.{typeRecord}
 use Rattle.model.specs.Handed.{placeRecord, callRecord, storedTable, storedFrom, counted, handBack, serveHanded, Returns}
 use Rattle.model.specs.Book.{Book, opened}
 use Rattle.model.specs.Claim.{accepted, feed, follow, reached}
 use Rattle.model.proofs.Tests.{ltb-so, so-ltb, ltb-no}
 use Rattle.model.proofs.Rules.{both, first, second}
 use Rattle.model.proofs.Lists.{length-from, from-first, is-from, from-same, all-from, every-from, first-all}
 use Rattle.model.proofs.Growth.{Grown, grown-refl, grown-trans}
-use Rattle.model.proofs.Deriving.{IfSome}
-use Rattle.model.proofs.Completes.{Inv, Got, Fresh}
-use Rattle.model.proofs.Good.{Sound, counted-of, sheet-within, derive-inv, derive-sound}
-use Rattle.model.proofs.Steps.{IfOk}
-use Rattle.model.proofs.Fitting.{all-at, every-at, table-fitting}
-use Rattle.model.proofs.Within.{SystemIn, serve-in}
-use Rattle.model.proofs.Checked.{derived-of, system-fitting, fits-bounded}
-use Rattle.model.proofs.Reached.{derived-unsigned, reached-fits}
-use Rattle.model.proofs.Records.{place-back, place-code, call-back, call-code, Shaped, type-back, type-codes}
-use Rattle.model.proofs.Onward.{Onward, serve-onward}
+use Rattle.modellaws.proofs.Deriving.{IfSome}
+use Rattle.modellaws.proofs.Completes.{Inv, Got, Fresh}
+use Rattle.modellaws.proofs.Good.{Sound, counted-of, sheet-within, derive-inv, derive-sound}
+use Rattle.modellaws.proofs.Steps.{IfOk}
+use Rattle.modellaws.proofs.Fitting.{all-at, every-at, table-fitting}
+use Rattle.modellaws.proofs.Within.{SystemIn, serve-in}
+use Rattle.modellaws.proofs.Checked.{derived-of, system-fitting, fits-bounded}
+use Rattle.modellaws.proofs.Reached.{derived-unsigned, reached-fits}
+use Rattle.modellaws.proofs.Records.{place-back, place-code, call-back, call-code, Shaped, type-back, type-codes}
+use Rattle.modellaws.proofs.Onward.{Onward, serve-onward}
 
 -- ---- the types that a request adds have the right shape
 pub record NewType (x : Ty) : Type 0 where

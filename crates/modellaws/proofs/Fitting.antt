@@ -9,14 +9,14 @@ use native.Mathlib.Omega.{arith}
 use native.Mathlib.Decide.{decLt}
 use lib.Dec.{eqb, ltb, leb}
 use lib.ListN.{length, getD, List·getD-eq-default}
 use Rattle.model.specs.Basics.{_⇒_, any, all, every, unlessMissing, AllBelow}
 use Rattle.model.specs.Table.{Key, Method, Ty, Table, noMethod, noType, size, typeAt, methodAt, isRef, permit, maxArguments, maxTypes, between, countsFit, linksFit, standsIn, isNone, isNil, signatureFits, methodCount, keyFits, signatureBound, typeFits, tableFits}
 use Rattle.model.specs.Relations.{reaches, broader, catLe}
 use Rattle.model.proofs.Tests.{eqb-so, eqb-self, ltb-so, leb-so, so-ltb}
 use Rattle.model.proofs.Rules.{never, both, first, second}
 use Rattle.model.proofs.Derived.{AnswerBelow, CategoryOrder, SignaturesIn}
-use Rattle.model.proofs.Unowned.{AllUnowned, AnswerUnowned, UnownedSignatures}
-use Rattle.model.proofs.Good.{MethodCounts, ShortSignatures, CategoriesIn, KeyBelow, Sound, counted-of, out}
+use Rattle.modellaws.proofs.Unowned.{AllUnowned, AnswerUnowned, UnownedSignatures}
+use Rattle.modellaws.proofs.Good.{MethodCounts, ShortSignatures, CategoriesIn, KeyBelow, Sound, counted-of, out}
 
 or-left : {a : Bool} (b : Bool) → So a → So (a || b)
 or-left b h = rw h
