@@ -38,14 +38,13 @@ pub fn need(input: &[u8]) -> usize {
     least_stack(MOST, |stack| in_stack(stack, input).status.success())
 }
 
-/// The stack that every run of the program gets here, in KB: twice what the deepest script needs, which is found once.
+/// The stack that every run of the program gets here, in KB: twice what the deepest script needs, which is found once, and never
+/// more than the most. That twice is not more is a test of its own.
 pub fn stack() -> usize {
     static STACK: OnceLock<usize> = OnceLock::new();
     *STACK.get_or_init(|| {
-        let twice = deepest().map(|(_, input)| 2 * need(&input));
-        let stack = twice.into_iter().max().expect("three scripts");
-        assert!(stack <= MOST, "twice the need is {stack} KB");
-        stack
+        let needs = deepest().map(|(_, input)| need(&input));
+        MOST.min(2 * needs.into_iter().max().expect("three scripts"))
     })
 }
 
