@@ -17,12 +17,12 @@ use Rattle.sheet.specs.Sheet.{numberLine}
 use Rattle.sheet.proofs.Steps.{refuse-ok}
 use Rattle.sheet.proofs.Numbers.{isDigit-of}
 use Rattle.sheet.proofs.Lines.{starts-sound}
-use Rattle.textread.specs.View.{scanned, scanBy, ScanWithin, valueBy, AtMost, readBy, GotAtMost, result, reading, LineAt, passedBy}
+use Rattle.textread.specs.View.{scanned, scanBy, ScanWithin, valueBy, AtMost, readBy, GotAtMost, result, reading, passedBy}
 use Rattle.textread.specs.declared.Value.{Value}
 use Rattle.textread.specs.declared.Value.the-variants.{Refused, Is}
 use Rattle.textread.specs.declared.Got.{Got}
 use Rattle.cursor.specs.declared.Cursor.{Cursor}
-use Rattle.cursor.specs.View.{past}
+use Rattle.cursor.specs.View.{LineAt, past}
 use Rattle.cursor.proofs.Laws.{past-rest}
 pub use Rattle.cursor.proofs.Laws.{from-here}
 use Rattle.textread.specs.declared.Number.{Number}

@@ -8,7 +8,6 @@ use Rattle.model.specs.Basics.{Res, refuse, ok}
 use Rattle.sheet.specs.Lines.{Reading, refused, got, split}
 use Rattle.sheet.specs.Numbers.{Scan, fail, took, top}
 use Rattle.cursor.specs.declared.Cursor.{Cursor}
-pub use Rattle.cursor.specs.View.{LineAt}
 use Rattle.textread.specs.declared.Number.{Number}
 use Rattle.textread.specs.declared.Number.the-variants.{Wrong, Right}
 use Rattle.textread.specs.declared.Value.{Value}

@@ -9,7 +9,7 @@ ghost use lib.ListN.{length, take, drop};
 ghost use Rattle.sheet.specs.Lines.{split, line, starts, same};
 ghost use Rattle.sheet.specs.Numbers.{top, limit, digits, number, numbers};
 ghost use Rattle.sheet.specs.Sheet.{numberLine};
-ghost use Rattle.textread.specs.View.{scanned, scanBy, ScanWithin, valueBy, AtMost, readBy, GotAtMost, LineAt, passedBy};
+ghost use Rattle.textread.specs.View.{scanned, scanBy, ScanWithin, valueBy, AtMost, readBy, GotAtMost, passedBy};
 use cursor::Cursor;
 use cursor::between;
 use cursor::next_line;
@@ -179,14 +179,6 @@ pub fn numbers_at(l: &[u8], at: usize, max: usize) -> Numbers
         i = e + 1;
     }
     no_numbers(at)
-}
-
-// The line at the cursor, without its LF; empty where no LF ends a line there.
-pub fn line_at(s: &[u8], c: Cursor) -> &[u8]
-    ensures { λ r. ⌜ LineAt (now (s .entry)) (c .at) (now r) ⌝ }
-{
-    let d = next_line(s, c);
-    between(s, c, d)
 }
 
 // Where the cursor goes on from behind a line that is accepted, whose refusal is 0: a line that is refused isn't passed.
