@@ -80,7 +80,7 @@ fn measure(name: &str, input: &[u8]) {
         input.len()
     );
     println!(
-        "  {:?} a request; in bytes {bytes}",
+        "  {:?} a request; against safe Rust in bytes {bytes}",
         bytes.time / lines as u32
     );
 }
