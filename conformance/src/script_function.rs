@@ -1,5 +1,7 @@
 //! What the program `script` prints, by a C function.
 
+use crate::scripts::LONGER;
+
 extern "C" {
     fn pilgonca_script(
         input: *const u8,
@@ -24,9 +26,6 @@ pub fn script(input: &[u8], out: &mut [u8], length: &mut usize) -> usize {
         )
     }
 }
-
-/// How many bytes longer than its input an output can be.
-pub const LONGER: usize = 5;
 
 /// What is printed, by a buffer that is always long enough.
 pub fn printed(input: &[u8]) -> Vec<u8> {
