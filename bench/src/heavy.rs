@@ -4,6 +4,7 @@ use crate::scenes::{after, Scene, LAYERS};
 use conformance::heavy::{climb, last_answer, put_numbers, side, wrapping};
 use conformance::inputs::worst;
 use conformance::states::{add_cell, add_place, call, moved, new, of_table};
+use conformance::worst_scripts::script;
 use reference::raw::{RawState, RawTable};
 use reference::requests::Request;
 use reference::table::{MAX_CATEGORIES, MAX_METHODS, MAX_SHEET_TYPES};
@@ -69,6 +70,12 @@ fn without_room() -> Scene {
         state,
         request: moved(0, 3),
     }
+}
+
+/// A script with that move.
+pub fn crowded() -> Vec<u8> {
+    let requests = [new(2, 2), moved(0, 3)];
+    script(&no_subtypes(MAX_SHEET_TYPES), &requests)
 }
 
 /// A move with an adapter in a full table handed in, whose types are known under the keys that are asked for.

@@ -1,5 +1,6 @@
 //! cargo run --profile speed -p bench: the proved core against safe Rust of the same algorithm, in one run.
 //! Prints ratios (proved time over Rust time): below 1 the proved core is faster. Buffers are cleared by both sides in each search, as the algorithm asks.
+//! With the argument `scripts` it measures whole scripts alone.
 
 mod fits;
 mod heavy;
@@ -7,6 +8,7 @@ mod measure;
 mod requests;
 mod restriction;
 mod scenes;
+mod scripts;
 mod search;
 mod served;
 mod sheets;
@@ -228,8 +230,12 @@ fn derivations() {
 }
 
 fn main() {
+    if std::env::args().nth(1).as_deref() == Some("scripts") {
+        return scripts::all();
+    }
     same_refusals();
     served::all();
+    scripts::all();
     comparisons();
     let random = with_48_types();
     let generated = sheet::text(&random);

@@ -27,6 +27,11 @@ pub fn request(raw: &mut RawState, request: &Request) -> Result<Got, Refusal> {
     if !fits::state(raw) {
         return Err(2);
     }
+    serve(raw, request)
+}
+
+/// A request on a state that is right.
+pub fn serve(raw: &mut RawState, request: &Request) -> Result<Got, Refusal> {
     let mut state = raw.clone();
     let got = match request {
         Request::New {

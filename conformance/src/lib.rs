@@ -11,6 +11,7 @@ pub mod process;
 pub mod requests;
 pub mod run_lists;
 pub mod runs;
+pub mod script_function;
 pub mod scripts;
 pub mod served;
 pub mod states;

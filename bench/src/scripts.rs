@@ -1,0 +1,125 @@
+//! Whole scripts of 32,768 bytes, or nearly, through the C function: against the reference, which is clear before it is fast, and
+//! against safe Rust of the same algorithm as the proved core's.
+
+use crate::heavy::crowded;
+use crate::measure::measured;
+use crate::{requests, sheets};
+use conformance::inputs::{lines, table, with_48_types};
+use conformance::script_function::printed;
+use conformance::states::of_table;
+use conformance::worst_scripts::layered;
+use reference::gen::{self, Plan, BIG, MEDIUM};
+use reference::random::Random;
+use reference::raw::RawTable;
+use reference::script::{self, got_line, MAX_INPUT};
+use reference::sheet;
+use reference::state::{Model, State};
+use reference::table::Table;
+use std::hint::black_box;
+
+/// A sheet and requests that have a fair chance, as many as there is room for. Long before that cells, places and calls are full,
+/// so most of them are refused.
+fn filled(table: &Table, plan: &Plan) -> Vec<u8> {
+    let mut random = Random::new(1);
+    let mut input = sheet::text(table);
+    let mut model = Model::new(State::of_sheet(table.clone()));
+    loop {
+        let request = gen::request(&mut random, plan, &model);
+        let line = script::line(&request);
+        if input.len() + line.len() > MAX_INPUT {
+            return input;
+        }
+        let _ = model.request(&request);
+        input.extend_from_slice(line.as_bytes());
+    }
+}
+
+/// An input with its last line again and again.
+fn repeated(input: &[u8]) -> Vec<u8> {
+    let last = lines(input).pop().expect("a line");
+    let times = (MAX_INPUT - input.len()) / last.len();
+    [input, &last.repeat(times)].concat()
+}
+
+/// The program in safe Rust, on a state in bytes.
+fn in_bytes(input: &[u8]) -> Vec<u8> {
+    let mut output = Vec::new();
+    let mut print = |line: String| output.extend_from_slice(format!("{line}\n").as_bytes());
+    let (text, rest) = script::split(input);
+    let mut table = RawTable::default();
+    if input.len() > MAX_INPUT {
+        print("no=2".to_string());
+    } else if let Err((number, _)) = sheets::read(text, &mut table) {
+        print(format!("no={number}"));
+    } else {
+        let mut state = of_table(table);
+        for line in rest.split_inclusive(|byte| *byte == b'\n') {
+            let Some(request) = line.strip_suffix(b"\n").and_then(script::parse) else {
+                print("no=1".to_string());
+                break;
+            };
+            print(match requests::serve(&mut state, &request) {
+                Ok(got) => got_line(got),
+                Err(number) => format!("no={number}"),
+            });
+        }
+    }
+    output
+}
+
+/// Measures an input against both; all three have to print the same.
+fn measure(name: &str, input: &[u8]) {
+    let output = script::run(input);
+    assert!(output == printed(input) && output == in_bytes(input));
+    let lines = output.iter().filter(|byte| **byte == b'\n').count();
+    let proved = || drop(black_box(printed(black_box(input))));
+    let reference = measured(proved, || drop(black_box(script::run(black_box(input)))));
+    let bytes = measured(proved, || drop(black_box(in_bytes(black_box(input)))));
+    println!(
+        "script, {name}, {} bytes, {lines} requests: against the reference {reference}",
+        input.len()
+    );
+    println!(
+        "  {:?} a request; against safe Rust in bytes {bytes}",
+        bytes.time / lines as u32
+    );
+}
+
+/// Ordinary sheets, and the worst known.
+pub fn all() {
+    let case = include_bytes!("../../examples/case-p.sheet");
+    let case = sheet::read(case).expect("a sheet");
+    measure("Case P", &filled(&case, &MEDIUM));
+    measure("generated, medium", &filled(&table(&MEDIUM, 3), &MEDIUM));
+    measure("generated, 48 types", &filled(&with_48_types(), &BIG));
+    measure(
+        "calls through 40 adapters, 44 of 48 types reach one another",
+        &layered(MAX_INPUT),
+    );
+    measure(
+        "moves refused with 11, 46 of 48 types reach one another",
+        &repeated(&crowded()),
+    );
+}
+
+#[cfg(test)]
+mod tests {
+    use super::*;
+    use conformance::scripts::{damaged, Met};
+    use reference::gen::{generate, PROFILES};
+
+    /// What is measured against does the same work.
+    #[test]
+    fn in_bytes_is_the_reference() {
+        let mut met = Met::default();
+        for profile in PROFILES {
+            for seed in 0..30 {
+                met.same(&in_bytes, &generate(seed, profile), profile.name());
+            }
+        }
+        for seed in 0..500 {
+            met.same(&in_bytes, &damaged(seed), "damaged");
+        }
+        assert_eq!(met.missing(), [4, 19]);
+    }
+}
