@@ -17,7 +17,7 @@ use Rattle.steps.specs.declared.Answer.the-variants.{Refused, Pair, Number, Not
 use Rattle.steps.specs.declared.Served.{Served}
 use Rattle.steps.specs.Served.{outcomeOf, servedWith, Step}
 use Rattle.steps.proofs.Laws.{cells-are, places-are}
-use Rattle.run.specs.Requested.{serveAsked}
+use Rattle.coded.specs.Coded.{serveAsked}
 use Rattle.run.specs.Ran.{SmallAnswer}
 
 small-asked : (s : System) (q : Option Request) → Small (λ (x : System × Result). Named s (x .0) (x .1)) (serveAsked s q)

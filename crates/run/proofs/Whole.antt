@@ -3,7 +3,8 @@ use mathlib.Core.Path.{_≡_, refl, ap}
 use mathlib.Core.List.{List, [], _∷_}
 use mathlib.Core.Option.{Option, none, some}
 use Rattle.model.specs.Requests.{System, Request, Outcome, refused, serve, after, outcome, run}
-use Rattle.run.specs.Requested.{serveAsked, runAsked}
+use Rattle.coded.specs.Coded.{serveAsked}
+use Rattle.run.specs.Requested.{runAsked}
 
 unfoldable pub serveEach : System → List (Option Request) → List Outcome × System
 unfolding serveAsked

@@ -3,16 +3,12 @@ use mathlib.Core.Path.{_≡_, refl, sym, ap, subst, _∙_}
 use mathlib.Core.Bool.{Bool, true, false, cond}
 use mathlib.Core.List.{List, [], _∷_, _++_}
 use mathlib.Core.Option.{Option, none}
-use Prim.Native.Nat.{ℕ, zero, suc, _+_, _-_, _≤_, _<_, _^_}
+use Prim.Native.Nat.{ℕ, zero, suc, _+_, _-_, _≤_, _<_}
 use native.Mathlib.Omega.{arith}
 use lib.Dec.{ltb}
-use mir.Facts.{toZ-ofZ}
-use mir.Syntax.{w64}
-use mir.Val.{toZ, ofZ, SFits}
-use lib.Signed.{mag}
 use lib.IntN.{ℤ, pos, negsuc}
 use lib.ListN.{length, getD, set, take, drop, drop-of-length-le, length-drop, length-set}
-use lib.Seq.{drop-cons, sets, getD-drop, drop-drop, take-length}
+use lib.Seq.{drop-cons, sets, getD-drop, drop-drop}
 use borrow.Author.Tests.{lt-ltb, le-ltb}
 use Rattle.model.specs.Basics.{names, named}
 use Rattle.model.specs.Requests.{Request, pair, number, nothing, Outcome, got, refused}
@@ -22,14 +18,6 @@ use Rattle.steps.specs.declared.Answer.{Answer}
 use Rattle.steps.specs.declared.Answer.the-variants.{Refused, Pair, Number, Nothing}
 use Rattle.steps.specs.Served.{outcomeOf}
 use Rattle.run.specs.Ran.{wordsOf, SmallAnswer, leftAt, countAt, askedAt, nextAt}
-
--- A signed number that is read is kept as 64 bits.
-pub is-read : (ws : List ℤ) (i : ℕ) → mag (getD ws i (pos 0)) < 2 ^ 63 → toZ w64 (ofZ w64 (getD ws i (pos 0))) ≡ getD ws i (pos 0)
-is-read ws i h = let f : SFits w64 (getD ws i (pos 0)) = record { sfits = h } in toZ-ofZ f
-
--- what is behind the first n words
-pub all-behind : (ws : List ℤ) (n : ℕ) → take (length ws - n) (drop n ws) ≡ drop n ws
-all-behind ws n = ap (λ (k : ℕ). take k (drop n ws)) (sym (length-drop n ws)) ∙ take-length (drop n ws)
 
 -- ---- The request in front of a list.
 abbrev frontCount : List ℤ → ℕ

@@ -5,8 +5,8 @@ use mathlib.Core.Option.{Option, none, some}
 use Prim.Native.Nat.{ℕ, zero, suc}
 use lib.IntN.{ℤ}
 use lib.ListN.{length, take, drop}
-use Rattle.model.specs.Basics.{Res, refuse, ok, need, names, named}
-use Rattle.model.specs.Requests.{System, Request, Result, Outcome, refused, serve, run}
+use Rattle.model.specs.Basics.{Res, ok, need, names, named}
+use Rattle.model.specs.Requests.{System, Request, Outcome, refused, run}
 use Rattle.model.specs.Check.{RawSystem, systemOf, systemAccepted}
 use Rattle.operand.specs.Coded.{byCode}
 
@@ -19,12 +19,6 @@ requests zero ws = []
 requests (suc f) [] = []
 requests (suc f) (code ∷ []) = none ∷ []
 requests (suc f) (code ∷ n ∷ ws) = cond (names n (suc (length ws))) (request code (take (named n) ws) ∷ requests f (drop (named n) ws)) (none ∷ [])
-
--- What is no request is refused with 1.
-unfoldable pub serveAsked : System → Option Request → Res (System × Result)
-unfolding serve
-serveAsked s none = refuse 1
-serveAsked s (some q) = serve s q
 
 -- The model's run of those that are requests, so that what is proved of that run (demand 3) holds of this one; and 1 in the place of each that is none.
 abbrev pub asked : List (Option Request) → List Request

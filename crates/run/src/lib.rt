@@ -10,10 +10,11 @@ ghost use Rattle.model.specs.Basics.{ok};
 ghost use Rattle.state.specs.View.{rawState, systemIn};
 ghost use Rattle.state.specs.Sound.{Sound};
 ghost use Rattle.steps.specs.Served.{outcomeOf, Step};
-ghost use Rattle.operand.specs.Coded.{byCode};
-ghost use Rattle.run.specs.Requested.{request, serveAsked, requests, runAsked, runHanded};
+ghost use Rattle.coded.specs.Coded.{serveAsked};
+ghost use Rattle.run.specs.Requested.{request, requests, runAsked, runHanded};
 ghost use Rattle.run.specs.Ran.{wordsOf, room, Runs, SmallAnswer, leftAt, countAt, askedAt, nextAt};
-use answering::Given;
+use coded::CODES;
+use coded::serve_coded;
 use operand::index_of;
 use state::State;
 use steps::Answer;
@@ -27,18 +28,8 @@ pub struct Ran {
     pub state: State,
 }
 
-// The codes of the requests (U3 to U5), and the words of an answer (U8).
+// The words of an answer (U8).
 impl Ran {
-    pub const NEW: usize = 0;
-
-    pub const MOVE: usize = 1;
-
-    pub const CALL: usize = 2;
-
-    pub const ANSWER: usize = 3;
-
-    pub const CODES: usize = 4;
-
     pub const WORDS: usize = 4;
 }
 
@@ -98,84 +89,12 @@ fn next(words: &[i64], at: usize) -> usize
     at + 2 + n
 }
 
-// New: three operands (U3).
-fn serve_new(s: State, ops: &[i64]) -> Served
-    requires { ⌜ Sound s ⌝ }
-    ensures { λ r. ⌜ Step s (serveAsked (systemIn s) (byCode 0 (now (ops .entry)))) r ⌝ }
-{
-    if ops.len() != 3 {
-        return refused(s, 1);
-    }
-    moves::new_step(s, ops[0], ops[1], ops[2])
-}
-
-// Move: four (U3).
-fn serve_move(s: State, ops: &[i64]) -> Served
-    requires { ⌜ Sound s ⌝ }
-    ensures { λ r. ⌜ Step s (serveAsked (systemIn s) (byCode 1 (now (ops .entry)))) r ⌝ }
-{
-    if ops.len() != 4 {
-        return refused(s, 1);
-    }
-    moves::move_step(s, ops[0], ops[1], ops[2], ops[3])
-}
-
-// Call: three, and its arguments (U4). The step is called in two places, since the compiler makes what is called once a part of its caller: the stack of a call, the largest of
-// the four requests', would be taken by every other request too.
-fn serve_call(s: State, ops: &[i64]) -> Served
-    requires { ⌜ Sound s ⌝ }
-    ensures { λ r. ⌜ Step s (serveAsked (systemIn s) (byCode 2 (now (ops .entry)))) r ⌝ }
-{
-    if ops.len() < 3 {
-        return refused(s, 1);
-    }
-    if ops.len() == 3 {
-        return calls::call_step(s, ops[0], ops[1], ops[2], &ops[..0]);
-    }
-    calls::call_step(s, ops[0], ops[1], ops[2], &ops[3..])
-}
-
-// Answer: two operands and a value, or nothing (U5).
-fn serve_answer(s: State, ops: &[i64]) -> Served
-    requires { ⌜ Sound s ⌝ }
-    ensures { λ r. ⌜ Step s (serveAsked (systemIn s) (byCode 3 (now (ops .entry)))) r ⌝ }
-{
-    if ops.len() == 2 {
-        return answering::answer_step(s, ops[0], ops[1], Given::Nothing);
-    }
-    if ops.len() != 3 {
-        return refused(s, 1);
-    }
-    let v = ops[2];
-    answering::answer_step(s, ops[0], ops[1], Given::Value(v))
-}
-
-// The request of a code and its operands: 1 where there is none such (U6). The script's lines are served by it too.
-pub fn serve_coded(s: State, k: usize, ops: &[i64]) -> Served
-    requires { ⌜ Sound s ⌝ }
-    ensures { λ r. ⌜ Step s (serveAsked (systemIn s) (byCode k (now (ops .entry)))) r ⌝ }
-{
-    if k == Ran::NEW {
-        return serve_new(s, ops);
-    }
-    if k == Ran::MOVE {
-        return serve_move(s, ops);
-    }
-    if k == Ran::CALL {
-        return serve_call(s, ops);
-    }
-    if k == Ran::ANSWER {
-        return serve_answer(s, ops);
-    }
-    refused(s, 1)
-}
-
-// The same by a code as a word (U6).
+// The request of a code as a word and its operands (U6).
 fn serve(s: State, code: i64, ops: &[i64]) -> Served
     requires { ⌜ Sound s ⌝ }
     ensures { λ r. ⌜ Step s (serveAsked (systemIn s) (request code (now (ops .entry)))) r ⌝ }
 {
-    let k = index_of(code, Ran::CODES);
+    let k = index_of(code, CODES);
     serve_coded(s, k, ops)
 }
 

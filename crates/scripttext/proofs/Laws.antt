@@ -16,8 +16,8 @@ use Rattle.state.specs.View.{systemIn}
 use Rattle.state.specs.Sound.{Sound}
 use Rattle.steps.specs.declared.Served.{Served}
 use Rattle.steps.specs.Served.{outcomeOf, Step}
-use Rattle.run.specs.Requested.{serveAsked}
-use Rattle.run.proofs.Laws.{outcome-is, after-is}
+use Rattle.coded.specs.Coded.{serveAsked}
+use Rattle.coded.proofs.Laws.{outcome-is, after-is}
 use Rattle.cursor.specs.View.{LineAt, past}
 use Rattle.textwrite.specs.Fill.{Lined}
 use Rattle.textwrite.proofs.Laws.{lines-none, lines-rest, lines-are}

@@ -25,7 +25,7 @@ ghost use Rattle.sheet.specs.Text.{writeText};
 ghost use Rattle.state.specs.View.{systemIn};
 ghost use Rattle.state.specs.Sound.{Sound};
 ghost use Rattle.steps.specs.Served.{Step};
-ghost use Rattle.run.specs.Requested.{serveAsked};
+ghost use Rattle.coded.specs.Coded.{serveAsked};
 ghost use Rattle.requestread.specs.Read.{askedAs};
 ghost use Rattle.textwrite.specs.Fill.{Filled, Lined};
 ghost use Rattle.scripttext.specs.Output.{sheetEnd, scriptOutput};
@@ -76,7 +76,7 @@ fn serve_asked(s: State, q: Asked) -> Served
     }
     let items = q.items;
     let count = q.count;
-    run::serve_coded(s, q.code, &items[..count])
+    coded::serve_coded(s, q.code, &items[..count])
 }
 
 // Where the line behind one begins that was passed: none is read behind a malformed line (P11).

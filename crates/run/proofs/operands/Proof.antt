@@ -1,5 +1,6 @@
 -- No words behind the code; else the number that stands there.
-use Rattle.run.proofs.Words.{count-none, is-read}
+use Rattle.coded.proofs.Words.{is-read}
+use Rattle.run.proofs.Words.{count-none}
 use Prim.Native.Nat.{_+_}
 use borrow.Author.Needs.{needs}
 use Rattle.run.proofs.operands.Statement.{statement}

@@ -7,8 +7,10 @@ use mir.Facts.{toZ-ofZ}
 use Rattle.operand.specs.Index.{indexOf}
 use Rattle.operand.specs.Coded.{byCode}
 use Rattle.state.specs.View.{systemIn}
-use Rattle.run.specs.Requested.{request, serveAsked}
-use Rattle.run.proofs.Laws.{step-as, code-is}
+use Rattle.coded.specs.Coded.{serveAsked}
+use Rattle.coded.proofs.Laws.{step-as}
+use Rattle.run.specs.Requested.{request}
+use Rattle.run.proofs.Laws.{code-is}
 use borrow.Author.Needs.{needs}
 use Rattle.run.proofs.serve.Statement.{statement}
 use Rattle.run.proofs.serve.Tie as tie

@@ -2,10 +2,11 @@
 use Prim.Native.Nat.{_+_, _-_}
 use mathlib.Core.Path.{_≡_, refl, ap}
 use Rattle.state.specs.View.{systemIn}
-use Rattle.run.specs.Requested.{serveAsked}
+use Rattle.coded.specs.Coded.{serveAsked}
+use Rattle.coded.proofs.Words.{is-read}
+use Rattle.coded.proofs.Laws.{refuses, step-as}
 use Rattle.run.specs.Ran.{askedAt}
-use Rattle.run.proofs.Words.{is-read, asked-none, asked-is}
-use Rattle.run.proofs.Laws.{refuses, step-as}
+use Rattle.run.proofs.Words.{asked-none, asked-is}
 use native.Mathlib.Omega.{arith}
 use borrow.Author.Needs.{needs}
 use Rattle.run.proofs.serve_at.Statement.{statement}

@@ -6,8 +6,8 @@ use lib.ListN.{take}
 use Rattle.requestread.specs.Read.{askedAs}
 use Rattle.operand.specs.Coded.{byCode}
 use Rattle.state.specs.View.{systemIn}
-use Rattle.run.specs.Requested.{serveAsked}
-use Rattle.run.proofs.Laws.{refuses, step-as}
+use Rattle.coded.specs.Coded.{serveAsked}
+use Rattle.coded.proofs.Laws.{refuses, step-as}
 use borrow.Author.Tests.{not-true, not-false}
 use borrow.Author.Needs.{needs}
 use Rattle.scripttext.proofs.serve_asked.Statement.{statement}

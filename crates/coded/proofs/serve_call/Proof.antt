@@ -6,12 +6,12 @@ use lib.ListN.{length, getD, drop, drop-of-length-le}
 use Rattle.model.specs.Requests.{callRequest}
 use Rattle.state.specs.View.{systemIn}
 use Rattle.operand.specs.Coded.{byCode}
-use Rattle.run.proofs.Words.{is-read, all-behind}
-use Rattle.run.proofs.Laws.{refuses, step-as, call-none, call-is}
+use Rattle.coded.proofs.Words.{is-read, all-behind}
+use Rattle.coded.proofs.Laws.{refuses, step-as, call-none, call-is}
 use native.Mathlib.Omega.{arith}
 use borrow.Author.Needs.{needs}
-use Rattle.run.proofs.serve_call.Statement.{statement}
-use Rattle.run.proofs.serve_call.Tie as tie
+use Rattle.coded.proofs.serve_call.Statement.{statement}
+use Rattle.coded.proofs.serve_call.Tie as tie
 
 -- three operands, and nothing behind them
 none-behind : (w : List ℤ) → length w ≡ 3 → drop 3 w ≡ []

@@ -6,12 +6,12 @@ use Prim.Native.Nat.{ℕ}
 use lib.IntN.{ℤ}
 use Rattle.state.specs.View.{systemIn}
 use Rattle.operand.specs.Coded.{byCode}
-use Rattle.run.specs.Requested.{serveAsked}
-use Rattle.run.proofs.Laws.{refuses, step-as, code-none}
+use Rattle.coded.specs.Coded.{serveAsked}
+use Rattle.coded.proofs.Laws.{refuses, step-as, code-none}
 use native.Mathlib.Omega.{arith}
 use borrow.Author.Needs.{needs}
-use Rattle.run.proofs.serve_coded.Statement.{statement}
-use Rattle.run.proofs.serve_coded.Tie as tie
+use Rattle.coded.proofs.serve_coded.Statement.{statement}
+use Rattle.coded.proofs.serve_coded.Tie as tie
 
 chosen : (k n : ℕ) (ws : List ℤ) → k ≡ n → byCode n ws ≡ byCode k ws
 chosen k n ws h = ap (λ (m : ℕ). byCode m ws) (sym h)

@@ -1,12 +1,12 @@
 -- Two operands for an answer of nothing, three with the value; else none such.
 use Rattle.state.specs.View.{systemIn}
 use Rattle.operand.specs.Coded.{byCode}
-use Rattle.run.proofs.Words.{is-read}
-use Rattle.run.proofs.Laws.{refuses, step-as, answer-none, nothing-is, answer-is}
+use Rattle.coded.proofs.Words.{is-read}
+use Rattle.coded.proofs.Laws.{refuses, step-as, answer-none, nothing-is, answer-is}
 use native.Mathlib.Omega.{arith}
 use borrow.Author.Needs.{needs}
-use Rattle.run.proofs.serve_answer.Statement.{statement}
-use Rattle.run.proofs.serve_answer.Tie as tie
+use Rattle.coded.proofs.serve_answer.Statement.{statement}
+use Rattle.coded.proofs.serve_answer.Tie as tie
 
 shared-slice-copy-out-answer-step : tie.Need-shared-slice-copy-out-answer-step
 shared-slice-copy-out-answer-step c = search needs
