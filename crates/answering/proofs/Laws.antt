@@ -36,9 +36,9 @@ use Rattle.steps.specs.declared.Answer.the-variants.{Refused, Pair, Number, Not
 use Rattle.steps.specs.declared.Served.{Served}
 use Rattle.steps.specs.Served.{outcomeOf, servedWith, refusal, Step}
 use Rattle.steps.proofs.Laws.{step-refuses, step-as, table-is, cells-are, places-are, calls-are, subject-at}
-use Rattle.calls.specs.Called.{isAccepted}
-use Rattle.calls.proofs.Sending.{step-after, step-stops}
-use Rattle.calls.proofs.Calling.{callsLeft, calls-step}
+use Rattle.sending.specs.Sent.{isAccepted}
+use Rattle.sending.proofs.Sending.{step-after, step-stops}
+use Rattle.sending.proofs.OtherCalls.{callsLeft, calls-step}
 use Rattle.answering.specs.declared.Given.{Given}
 use Rattle.answering.specs.declared.Given.the-variants as given
 use Rattle.answering.specs.declared.Given.the-variants.{Value}

@@ -9,7 +9,7 @@ ghost use Rattle.state.specs.View.{systemIn};
 ghost use Rattle.state.specs.Sound.{Sound};
 ghost use Rattle.carry.specs.Carried.{targetsIn};
 ghost use Rattle.steps.specs.Served.{outcomeOf, Step};
-ghost use Rattle.calls.specs.Called.{isAccepted};
+ghost use Rattle.sending.specs.Sent.{isAccepted};
 ghost use Rattle.answering.specs.Given.{givenAs, answersMet, dueFor, giveReference, giveValue, answerCall, Called};
 use carry::Slot;
 use carry::Targets;
@@ -66,9 +66,9 @@ fn give_reference(s: State, j: usize, r: usize, v: i64, targets: Targets) -> Ser
     requires { ⌜ Sound s × (j < s .calls .count) × (0 < s .places .count) × (0 < s .counts .types) × (r < 256) × (targets .count ≤ 129) ⌝ }
     ensures { λ q. ⌜ Step s (giveReference (systemIn s) j r v (targetsIn targets)) q ⌝ }
 {
-    let q = calls::send(s, r, v, targets);
+    let q = sending::send(s, r, v, targets);
     let answer = q.answer;
-    if !calls::accepted(answer) {
+    if !sending::accepted(answer) {
         return q;
     }
     answered(q.state, j, answer)
@@ -83,7 +83,7 @@ fn give_value(s: State, who: usize, j: usize, x: Call, c: Cell, a: usize, v: i64
     let cells = s.cells;
     let caller = wide(x.caller);
     let targets = answers_met(s, j, x, c);
-    if calls::is_ref(&s.types, counts, a) {
+    if sending::is_ref(&s.types, counts, a) {
         if !steps::is_held(cells, who, v) {
             return steps::refused(s, 15);
         }

@@ -16,9 +16,8 @@ use Rattle.model.specs.Table.{Table, methodAt, isAvail, permit, signed}
 use Rattle.model.specs.Table.{Method as Methodᵐ}
 use Rattle.model.specs.Crossing.{baseOwner}
 use Rattle.model.specs.Check.{stateOf, answerOf, methodOf, tableOf}
-use Rattle.model.specs.Requests.{System, Result, pair, noCell, noCall, cellAt, held, argumentsHeld, sendArguments, wayOf, layersOf, adapterCount, maxCalls, withCalls, withCall, callRequest, got}
+use Rattle.model.specs.Requests.{System, Result, pair, noCell, noCall, cellAt, held, argumentsHeld, sendArguments, wayOf, layersOf, adapterCount, maxCalls, withCalls, withCall, callRequest}
 use Rattle.model.specs.Requests.{Cell as Cellᵐ, Call as Callᵐ}
-use Rattle.model.proofs.Rules.{never}
 use Rattle.table.specs.declared.Counts.{Counts}
 use Rattle.table.specs.declared.Method.{Method}
 use Rattle.table.specs.Store.{tableIn, rawMethod}
@@ -36,33 +35,11 @@ use Rattle.steps.specs.declared.Answer.{Answer}
 use Rattle.steps.specs.declared.Answer.the-variants.{Pair}
 use Rattle.steps.specs.declared.Served.{Served}
 use Rattle.steps.specs.Served.{outcomeOf, servedWith, servedAs, refusal, Step}
-use Rattle.steps.proofs.Laws.{stored-self, step-refuses, step-as, table-is, cells-are, places-are, calls-are, subject-at, held-at}
-use Rattle.calls.specs.Called.{isAccepted, argumentsOf, allSent, newCall, callThrough, callHeld, Sent}
-use Rattle.calls.proofs.Sending.{goes-on, only-refused, step-after}
-
--- ---- A state with other calls.
-abbrev pub callsLeft : State → Calls → State
-callsLeft s calls = record { types = s .types; links = s .links; counts = s .counts; cells = s .cells; places = s .places; calls = calls }
-
-module _ (s : State) (h : Sound s) (calls : Calls) (few : calls .count ≤ 256) (each : (j : ℕ) → j < calls .count → CallIn s (getD (callsIn calls) j noCall)) where
-  pub calls-mean : systemIn (callsLeft s calls) ≡ withCalls (systemIn s) (callsIn calls)
-  calls-mean = system-is (callsLeft s calls) ∙ ap (λ (x : System). withCalls x (callsIn calls)) (sym (system-is s))
-
-  pub calls-step : (a : Answer) (x : Result) → outcomeOf a ≡ got x → isAccepted a ≡ true → Step s (ok (withCalls (systemIn s) (callsIn calls), x)) (record { answer = a; state = callsLeft s calls })
-  calls-step a x e k = record {
-    is = ap (servedWith (systemIn (callsLeft s calls))) e ∙ ap (λ (y : System). ok (y, x)) calls-mean;
-    stays = λ d y. never (sym (ap isAccepted y) ∙ k);
-    stored = let y = stored-self s h in record { links = refl; counts = refl; grew = y .grew; kept = y .kept };
-    sound = record {
-      checked = h .checked;
-      falling = h .falling;
-      typed = h .typed;
-      cellCount = h .cellCount;
-      callCount = few;
-      cells = λ i l. let y = h .cells i l in record { type = y .type; place = y .place };
-      calls = λ j l. let y = each j l in record { cell = y .cell; method = y .method };
-    };
-  }
+use Rattle.steps.proofs.Laws.{step-refuses, step-as, table-is, cells-are, places-are, calls-are, subject-at, held-at}
+use Rattle.sending.specs.Sent.{isAccepted, argumentsOf, allSent, Sent}
+use Rattle.sending.proofs.Sending.{goes-on, only-refused, step-after}
+use Rattle.sending.proofs.OtherCalls.{callsLeft, calls-step}
+use Rattle.calls.specs.Called.{newCall, callThrough, callHeld}
 
 pub call-eq : (a b c x y z : ℕ) → a ≡ x → b ≡ y → c ≡ z → newCall a b c ≡ newCall x y z
 call-eq a b c x y z p q r = ap (λ (n : ℕ). newCall n b c) p ∙ ap (λ (n : ℕ). newCall x n c) q ∙ ap (newCall x y) r

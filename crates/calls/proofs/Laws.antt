@@ -1,60 +1,31 @@
--- Numbers that name cells, methods of a cell's type, and the values of a call beside the arguments of a signature.
-use mathlib.Core.Path.{_≡_, refl, sym, ap, _∙_}
+-- Methods of a cell's type, and the values of a call beside the arguments of a signature.
+use mathlib.Core.Path.{_≡_, sym, ap, _∙_}
 use mathlib.Core.Bool.{Bool, true, false, not, cond, _&&_, _||_}
 use mathlib.Core.List.{List, [], _∷_}
-use mathlib.Core.Option.{none, some}
-use Prim.Native.Nat.{ℕ, zero, suc, _+_, _-_, _≤_, _<_}
-use native.Mathlib.Numerals.{add-one}
+use Prim.Native.Nat.{ℕ, _≤_, _<_}
 use native.Mathlib.Omega.{arith}
 use native.Mathlib.Decide.{ℕ-discrete}
 use lib.Dec.{eqb}
-use lib.IntN.{ℤ, pos, negsuc}
-use lib.Signed.{ltZ}
-use lib.ListN.{length, getD, getElem?, drop, drop-of-length-le, List·getD-eq-default}
-use lib.Seq.{drop-cons}
-use borrow.Author.Tests.{eq-eqb, ne-eqb, ltb-true, ltb-false}
-use Rattle.model.specs.Basics.{from, names, named}
+use lib.IntN.{ℤ}
+use lib.ListN.{length, getD, drop, drop-of-length-le}
+use borrow.Author.Tests.{eq-eqb, ne-eqb}
+use Rattle.model.specs.Basics.{from}
 use Rattle.model.specs.Table.{Table, Ty, noMethod, typeAt, methodAt, isRef}
 use Rattle.model.specs.Table.{Method as Methodᵐ}
-use Rattle.model.specs.Check.{RawType, repOf, answerOf, methodOf, noRawType, noRawMethod}
-use Rattle.model.specs.Requests.{System, noCell, held, argumentsHeld}
-use Rattle.model.proofs.Rules.{never}
+use Rattle.model.specs.Check.{RawType, repOf, methodOf, noRawType, noRawMethod}
+use Rattle.model.specs.Requests.{System, held, argumentsHeld}
 use Rattle.table.specs.declared.Counts.{Counts}
 use Rattle.table.specs.declared.Head.{Head}
 use Rattle.table.specs.declared.Method.{Method}
 use Rattle.table.specs.Store.{typesIn, tableIn, rawMethod, headOf, emptyMethod}
 use Rattle.table.proofs.Tables.{type-is}
-use Rattle.operand.specs.Index.{indexOf}
-use Rattle.operand.proofs.Laws.{index-unknown, index-known}
-use Rattle.state.specs.declared.Cell.{Cell}
-use Rattle.state.specs.declared.Cells.{Cells}
 use Rattle.state.specs.declared.State.{State}
-use Rattle.state.specs.View.{cellOf, cellsIn, systemIn}
-use Rattle.state.proofs.Laws.{cells-length}
+use Rattle.state.specs.View.{systemIn}
 use Rattle.carry.specs.Carried.{codeOf, argumentOf}
 use Rattle.carry.proofs.Methods.{rep-code, ref-is, method-is}
-use Rattle.carry.proofs.Laws.{code-is, answer-is}
 use Rattle.steps.proofs.Laws.{table-is}
-use Rattle.calls.specs.Called.{argumentsOf}
-
--- ---- The cell that a number names.
-pub zero-from : (v : ℤ) → ltZ v (pos 0) ≡ true → pos 0 ≡ pos (named v)
-zero-from (pos a) e = let z : a < 0 = ltb-true a 0 e in absurd (omega arith)
-zero-from (negsuc a) e = refl
-
-pub same-from : (v : ℤ) → ltZ v (pos 0) ≡ false → v ≡ pos (named v)
-same-from (pos a) e = refl
-same-from (negsuc a) e = never (sym e)
-
-module _ (cs : Cells) (v z : ℤ) (is : z ≡ pos (named v)) (k : ℕ) (e : k ≡ indexOf z (cs .count)) where
-  pub cell-named : k < cs .count → (r : Cell) → cellOf r ≡ getD (cellsIn cs) k noCell → cellOf r ≡ getD (cellsIn cs) (named v) noCell
-  cell-named l r w = w ∙ ap (λ (n : ℕ). getD (cellsIn cs) n noCell) (sym (index-known z (cs .count) k e l .1) ∙ ap named is)
-
-  pub cell-unnamed : cs .count ≤ k → noCell ≡ getD (cellsIn cs) (named v) noCell
-  cell-unnamed l =
-      let out : cs .count ≤ named v = ltb-false (named v) (cs .count) (sym (ap (λ (y : ℤ). names y (cs .count)) is) ∙ index-unknown z (cs .count) k e l) in
-      let n : length (cellsIn cs) ≡ cs .count = cells-length cs in
-      sym (List·getD-eq-default (cellsIn cs) noCell {n = named v} (omega arith))
+use Rattle.sending.specs.Sent.{argumentsOf}
+use Rattle.sending.proofs.Laws.{none-left, some-left}
 
 -- ---- A method of a type, read as h and x.
 module _ (b l : List ℕ) (c : Counts) (t m : ℕ) (low : t < c .types) (h : Head) (e : h ≡ headOf (getD (typesIn b) t noRawType)) (x : Method) where
@@ -68,37 +39,6 @@ module _ (b l : List ℕ) (c : Counts) (t m : ℕ) (low : t < c .types) (h : Hea
 
   pub method-some : h .rep ≡ 0 → m < c .methods → rawMethod x ≡ getD (getD (typesIn b) t noRawType .methods) m noRawMethod → methodOf (rawMethod x) ≡ methodAt (tableIn b l c) t m
   method-some z k w = ap methodOf w ∙ sym (method-is b l c t m (sym (ref-is b l c t h low e) ∙ eq-eqb (h .rep) 0 z) k)
-
--- ---- What is left of a signature's arguments and of the values, from the i-th on.
-elem-none : (xs : List ℕ) (i : ℕ) → getElem? xs i ≡ none → drop i xs ≡ []
-elem-none [] zero e = refl
-elem-none [] (suc i) e = refl
-elem-none (x ∷ xs) zero e = absurd (no-none e)
-  where
-    no-none : some x ≡ none → ⊥
-    no-none e = let z : _≡_ {A = ℕ} (suc x) 0 = ap codeOf e in omega arith
-elem-none (x ∷ xs) (suc i) e = elem-none xs i e
-
-elem-some : (xs : List ℕ) (i a : ℕ) → getElem? xs i ≡ some a → drop i xs ≡ a ∷ drop (suc i) xs
-elem-some [] i a e = absurd (no-none e)
-  where
-    no-none : none ≡ some a → ⊥
-    no-none e = let z : _≡_ {A = ℕ} 0 (suc a) = ap codeOf e in omega arith
-elem-some (x ∷ xs) zero a e = ap (λ (n : ℕ). n ∷ xs) (let z : suc x ≡ suc a = ap codeOf e in omega arith)
-elem-some (x ∷ xs) (suc i) a e = elem-some xs i a e
-
-module _ (x : Method) (i n : ℕ) (e : n ≡ codeOf (argumentOf x i)) where
-  coded : getElem? (argumentsOf x) i ≡ answerOf n
-  coded = sym (ap answerOf e ∙ code-is (argumentOf x i))
-
-  pub none-left : n ≡ 0 → drop i (argumentsOf x) ≡ []
-  none-left z = elem-none (argumentsOf x) i (coded ∙ ap answerOf z)
-
-  pub some-left : (n ≡ 0 → ⊥) → drop i (argumentsOf x) ≡ (n - 1) ∷ drop (i + 1) (argumentsOf x)
-  some-left z = elem-some (argumentsOf x) i (n - 1) (coded ∙ answer-is n z) ∙ ap (λ (k : ℕ). (n - 1) ∷ drop k (argumentsOf x)) (sym (add-one i))
-
-pub value-next : (vs : List ℤ) (i : ℕ) → i < length vs → drop i vs ≡ getD vs i (pos 0) ∷ drop (i + 1) vs
-value-next vs i h = drop-cons vs i (pos 0) h ∙ ap (λ (k : ℕ). getD vs i (pos 0) ∷ drop k vs) (sym (add-one i))
 
 -- ---- C4, C5.
 module _ (s : State) (a : ℕ) (r : Bool) (is : (l : List ℕ) → r ≡ isRef (typeAt (tableIn (s .types) l (s .counts)) a .rep)) where

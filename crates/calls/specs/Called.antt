@@ -1,42 +1,14 @@
--- The request call in the parts that the code has: one argument, all of them, and the call once its operands are known.
-use mathlib.Core.Path.{_≡_}
-use mathlib.Core.Bool.{Bool, true, false}
-use mathlib.Core.List.{List, map}
-use Prim.Native.Nat.{ℕ, _≤_}
+-- The request call in the parts that the code has: the call once its operands are known, and what is left of it then.
+use mathlib.Core.Bool.{false}
+use mathlib.Core.List.{List}
+use Prim.Native.Nat.{ℕ}
 use lib.Dec.{ltb}
 use lib.IntN.{ℤ}
-use lib.ListN.{length, take}
+use lib.ListN.{length}
 use Rattle.model.specs.Basics.{Res, ok, try, need, named}
-use Rattle.model.specs.Table.{typeAt, methodAt, argumentAt, isRef, isAvail}
+use Rattle.model.specs.Table.{methodAt, isAvail}
 use Rattle.model.specs.Crossing.{baseOwner}
-use Rattle.model.specs.Requests.{Call, System, Result, pair, nothing, cellAt, send, passLayers, argumentsHeld, sendArguments, wayOf, adapterCount, withCall, maxCalls}
-use Rattle.table.specs.declared.Method.{Method}
-use Rattle.state.specs.declared.State.{State}
-use Rattle.state.specs.Sound.{Sound}
-use Rattle.steps.specs.declared.Answer.{Answer}
-use Rattle.steps.specs.declared.Answer.the-variants.{Refused, Pair, Number, Nothing}
-use Rattle.steps.specs.declared.Served.{Served}
-use Rattle.steps.specs.Served.{servedAs, Stored}
-
-abbrev pub isAccepted : Answer → Bool
-isAccepted (Refused e) = false
-isAccepted (Pair a b) = true
-isAccepted (Number v) = true
-isAccepted Nothing = true
-
--- argument types of a signature as it is stored
-abbrev pub argumentsOf : Method → List ℕ
-argumentsOf x = take (x .count) (x .args)
-
--- Argument i, whose type in the cell type's signature is a: what `sendArguments` does with it before it goes on.
-abbrev pub sendArgument : System → ℕ → List ℕ → ℕ → ℕ → ℕ → ℤ → Res (System × Result)
-sendArgument s r way m i a v = elim (isRef (typeAt (s .table) a .rep)) [
-  | true ↦ send s r (named v) (map (argumentAt (s .table) m i) way)
-  | false ↦ try (passLayers true (s .table) v (map (argumentAt (s .table) m i) way)) λ _. ok (s, nothing)
-]
-
-abbrev pub allSent : Res System → Res (System × Result)
-allSent x = try x λ s. ok (s, nothing)
+use Rattle.model.specs.Requests.{Call, System, Result, pair, cellAt, argumentsHeld, sendArguments, wayOf, adapterCount, withCall, maxCalls}
 
 abbrev pub newCall : ℕ → ℕ → ℕ → Call
 newCall who k m = record { caller = who; cell = k; method = m; answered = false }
@@ -55,16 +27,3 @@ callHeld s subject k m vs =
     need (argumentsHeld s subject (x .args) vs) 15 λ _.
     need (ltb (length (s .calls)) maxCalls) 18 λ _.
     callThrough s (named subject) k m (x .args) vs
-
--- What a step on the way leaves of the counts: nothing is taken away, and calls are made at the end alone.
-pub record Went (s s′ : State) : Type 0 where
-  pub cells : s .cells .count ≤ s′ .cells .count
-  pub places : s .places .count ≤ s′ .places .count
-  pub calls : s′ .calls .count ≡ s .calls .count
-
--- What comes of the arguments together. After a refusal the state is the one that the refused argument met, and the call gives back its own (C20).
-pub record Sent (s : State) (m : Res (System × Result)) (q : Served) : Type 0 where
-  pub is : servedAs q ≡ m
-  pub stored : Stored s (q .state)
-  pub sound : Sound (q .state)
-  pub went : Went s (q .state)

@@ -27,7 +27,7 @@ use Rattle.steps.specs.declared.Answer.{Answer}
 use Rattle.steps.specs.declared.Answer.the-variants.{Refused, Pair, Number, Nothing}
 use Rattle.steps.specs.declared.Served.{Served}
 use Rattle.steps.specs.Served.{outcomeOf}
-use Rattle.calls.specs.Called.{isAccepted}
+use Rattle.sending.specs.Sent.{isAccepted}
 use Rattle.serve.specs.Serves.{Serves}
 use Rattle.serve.specs.Serves.{leaves as leavesState}
 use Rattle.handing.specs.States.{LentState, lentState, outcomeNumber, outcomeValues, leaves, outcomeOn, Handed, Stored, Back}

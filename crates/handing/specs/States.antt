@@ -18,7 +18,7 @@ use Rattle.steps.specs.declared.Answer.{Answer}
 use Rattle.steps.specs.declared.Answer.the-variants.{Refused, Pair, Number, Nothing}
 use Rattle.steps.specs.declared.Served.{Served}
 use Rattle.steps.specs.Served.{outcomeOf}
-use Rattle.calls.specs.Called.{isAccepted}
+use Rattle.sending.specs.Sent.{isAccepted}
 
 -- what a caller lends to a request: the state, and where the values go
 pub record LentState : Type 0 where

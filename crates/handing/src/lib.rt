@@ -93,7 +93,7 @@ pub fn hand_back(
     ensures { λ n. ⌜ ((l : List ℕ) → Back r n (lentState (flat (now (types .entry)) l (now (cells .entry)) (now (places .entry)) (now (calls .entry)) (now (counts .entry))) (now (values .entry))) (lentState (flat (now (types .exit)) l (now (cells .exit)) (now (places .exit)) (now (calls .exit)) (now (counts .exit))) (now (values .exit)))) ⌝ }
 {
     let a = r.answer;
-    if !calls::accepted(a) {
+    if !sending::accepted(a) {
         return answer_out(a, values);
     }
     let s = r.state;

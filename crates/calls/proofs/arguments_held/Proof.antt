@@ -10,8 +10,9 @@ use borrow.Author.Tests.{not-true, not-false}
 use borrow.Author.Needs.{needs}
 use Rattle.model.specs.Basics.{named}
 use Rattle.state.specs.View.{systemIn}
-use Rattle.calls.proofs.Laws.{HeldRest, none-left, some-left, value-next, held-over, held-fails, held-next, held-whole}
-use Rattle.calls.specs.Called.{argumentsOf}
+use Rattle.sending.proofs.Laws.{none-left, some-left, value-next}
+use Rattle.calls.proofs.Laws.{HeldRest, held-over, held-fails, held-next, held-whole}
+use Rattle.sending.specs.Sent.{argumentsOf}
 use Rattle.calls.proofs.arguments_held.Statement.{statement}
 use Rattle.calls.proofs.arguments_held.Tie as tie
 

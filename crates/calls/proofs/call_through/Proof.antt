@@ -6,7 +6,7 @@ use borrow.Author.Needs.{needs}
 use Rattle.state.specs.Sound.{layersIn}
 use Rattle.carry.specs.Carried.{wayIn}
 use Rattle.calls.proofs.Calling.{place-here, place-low, way-met, sort-low, through-stops, through-room, through-adds}
-use Rattle.calls.specs.Called.{argumentsOf}
+use Rattle.sending.specs.Sent.{argumentsOf}
 use Rattle.calls.proofs.call_through.Statement.{statement}
 use Rattle.calls.proofs.call_through.Tie as tie
 

@@ -5,9 +5,9 @@ use lib.ListN.{length}
 use borrow.Author.Needs.{needs}
 use Rattle.model.specs.Basics.{named}
 use Rattle.carry.specs.Carried.{targetsIn}
-use Rattle.calls.proofs.Sending.{any-cell, send-stands, send-refused, send-arrives, send-adds}
-use Rattle.calls.proofs.send.Statement.{statement}
-use Rattle.calls.proofs.send.Tie as tie
+use Rattle.sending.proofs.Sending.{any-cell, send-stands, send-refused, send-arrives, send-adds}
+use Rattle.sending.proofs.send.Statement.{statement}
+use Rattle.sending.proofs.send.Tie as tie
 
 named-cell-requires : tie.Need-named-cell-requires
 named-cell-requires c κs = search needs

@@ -9,11 +9,11 @@ use lib.IntN.{pos}
 use borrow.Author.Tests.{not-true, not-false}
 use borrow.Author.Needs.{needs}
 use Rattle.carry.specs.Carried.{wayIn}
-use Rattle.calls.proofs.Sending.{Sends, sends-starts, sends-over, sends-end, sends-stop, sends-next, sends-room}
-use Rattle.calls.proofs.Laws.{none-left, some-left, value-next}
-use Rattle.calls.specs.Called.{argumentsOf}
-use Rattle.calls.proofs.send_arguments.Statement.{statement}
-use Rattle.calls.proofs.send_arguments.Tie as tie
+use Rattle.sending.proofs.Sending.{Sends, sends-starts, sends-over, sends-end, sends-stop, sends-next, sends-room}
+use Rattle.sending.proofs.Laws.{none-left, some-left, value-next}
+use Rattle.sending.specs.Sent.{argumentsOf}
+use Rattle.sending.proofs.send_arguments.Statement.{statement}
+use Rattle.sending.proofs.send_arguments.Tie as tie
 
 abbrev Inv-loop : tie.InvT-loop
 Inv-loop r w m x vs n at₀ i₀ at i = (i ≤ length vs) × Sends at₀ r (wayIn w) m (argumentsOf x) vs at i

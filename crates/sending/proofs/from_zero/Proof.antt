@@ -1,8 +1,8 @@
 -- A signed local is kept as 64 bits, from which `toZ-ofZ` reads it back.
 use mir.Facts.{toZ-ofZ}
-use Rattle.calls.proofs.Laws.{zero-from, same-from}
-use Rattle.calls.proofs.from_zero.Statement.{statement}
-use Rattle.calls.proofs.from_zero.Tie as tie
+use Rattle.sending.proofs.Laws.{zero-from, same-from}
+use Rattle.sending.proofs.from_zero.Statement.{statement}
+use Rattle.sending.proofs.from_zero.Tie as tie
 
 returns : tie.Need-returns
 returns c = zero-from (c .before .args .v) (rw (toZ-ofZ (c .before .fits .v)) at (c .if1 .taken))

@@ -1,8 +1,8 @@
 -- A number past the count names no type; below it the code of the representation decides.
 use borrow.Author.Needs.{needs}
 use Rattle.carry.proofs.Methods.{ref-out, ref-is}
-use Rattle.calls.proofs.is_ref.Statement.{statement}
-use Rattle.calls.proofs.is_ref.Tie as tie
+use Rattle.sending.proofs.is_ref.Statement.{statement}
+use Rattle.sending.proofs.is_ref.Tie as tie
 
 returns : tie.Need-returns
 returns c = λ l. ref-out (c .before .before .args .types .now) l (c .before .before .args .c) (c .before .before .args .a) (c .if1 .taken)

@@ -3,9 +3,9 @@ use mir.Syntax.{w64}
 use mir.Facts.{toZ-ofZ}
 use native.Mathlib.Omega.{arith}
 use borrow.Author.Needs.{needs}
-use Rattle.calls.proofs.Laws.{cell-named, cell-unnamed}
-use Rattle.calls.proofs.named_cell.Statement.{statement}
-use Rattle.calls.proofs.named_cell.Tie as tie
+use Rattle.sending.proofs.Laws.{cell-named, cell-unnamed}
+use Rattle.sending.proofs.named_cell.Statement.{statement}
+use Rattle.sending.proofs.named_cell.Tie as tie
 
 from-zero-requires : tie.Need-from-zero-requires
 from-zero-requires c κs = search needs

@@ -32,7 +32,7 @@ use Rattle.steps.specs.declared.Answer.the-variants.{Refused, Pair, Number, Not
 use Rattle.steps.specs.declared.Served.{Served}
 use Rattle.steps.specs.Served.{outcomeOf, servedWith, servedAs, refusal, Stored, Step, Arrives, arrived}
 use Rattle.steps.proofs.Laws.{stored-self, stored-on, step-refuses, step-as, table-is, cells-are, places-are, calls-are}
-use Rattle.calls.specs.Called.{isAccepted, sendArgument, allSent, Went, Sent}
+use Rattle.sending.specs.Sent.{isAccepted, sendArgument, allSent, Went, Sent}
 
 -- ---- Answers.
 -- what goes on with the state of an accepted request alone

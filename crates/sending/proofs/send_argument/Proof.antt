@@ -3,9 +3,9 @@ use mir.Facts.{toZ-ofZ}
 use native.Mathlib.Omega.{arith}
 use borrow.Author.Needs.{needs}
 use Rattle.carry.specs.Carried.{wayIn, targetsIn}
-use Rattle.calls.proofs.Sending.{argument-sent, number-refused, number-passes}
-use Rattle.calls.proofs.send_argument.Statement.{statement}
-use Rattle.calls.proofs.send_argument.Tie as tie
+use Rattle.sending.proofs.Sending.{argument-sent, number-refused, number-passes}
+use Rattle.sending.proofs.send_argument.Statement.{statement}
+use Rattle.sending.proofs.send_argument.Tie as tie
 
 targets-of-requires : tie.Need-targets-of-requires
 targets-of-requires c κs = (c .before .before .before .pre .0 .checked .limits, c .before .before .before .pre .4)

@@ -1,0 +1,160 @@
+// What the arguments of a call and a reference that is answered share: each meets its way by the state as it stands, and a reference becomes a cell (C8 to C11, C17; A8, A10).
+ghost use mathlib.Core.Path.{_≡_};
+ghost use mathlib.Core.List.{List};
+ghost use Prim.Native.Nat.{ℕ, _≤_, _<_};
+ghost use lib.IntN.{pos};
+ghost use lib.ListN.{getD};
+ghost use Rattle.model.specs.Basics.{named};
+ghost use Rattle.model.specs.Table.{typeAt, isRef};
+ghost use Rattle.model.specs.Requests.{noCell, send, sendArguments};
+ghost use Rattle.table.specs.Store.{tableIn};
+ghost use Rattle.table.specs.Limits.{Limits};
+ghost use Rattle.state.specs.View.{cellOf, cellsIn, systemIn};
+ghost use Rattle.state.specs.Sound.{Sound};
+ghost use Rattle.carry.specs.Carried.{wayIn, targetsIn};
+ghost use Rattle.steps.specs.Served.{Step};
+ghost use Rattle.sending.specs.Sent.{isAccepted, argumentsOf, sendArgument, allSent, Went, Sent};
+use carry::Slot;
+use carry::Targets;
+use carry::Way;
+use numbers::wide;
+use operand::index_of;
+use state::Cell;
+use state::Cells;
+use state::State;
+use steps::Answer;
+use steps::Served;
+use table::Counts;
+use table::Head;
+use table::Method;
+use table::TYPE_BYTES;
+
+// What v names, and 0 where it is negative: as the model reads a number.
+fn from_zero(v: i64) -> i64
+    ensures { λ r. ⌜ r ≡ pos (named v) ⌝ }
+{
+    if v < 0 {
+        return 0;
+    }
+    v
+}
+
+// The cell that v names. Where it names none it is read as one of zeros, as in the model. No state that passed the check comes to that (H6, C5), but `Sound` says
+// nothing of signatures.
+fn named_cell(cs: Cells, v: i64) -> Cell
+    requires { ⌜ cs .count ≤ 256 ⌝ }
+    ensures { λ r. ⌜ cellOf r ≡ getD (cellsIn cs) (named v) noCell ⌝ }
+{
+    let k = index_of(from_zero(v), cs.count);
+    if k < cs.count {
+        return state::cell_at(cs, k);
+    }
+    Cell {
+        holder: 0,
+        sort: 0,
+        place: 0,
+    }
+}
+
+// Whether a number, which may name no type, names a reference type.
+pub fn is_ref(types: &[u8; TYPE_BYTES], c: Counts, a: usize) -> bool
+    requires { ⌜ Limits c ⌝ }
+    ensures { λ r. ⌜ ((l : List ℕ) → r ≡ isRef (typeAt (tableIn (now (types .entry)) l c) a .rep)) ⌝ }
+{
+    if c.types <= a {
+        return false;
+    }
+    let h = table::get_head(types, a);
+    h.rep == Head::REF
+}
+
+// The reference in the cell that v names crosses to each target and becomes a cell of r (C11, C17; A8, A10).
+pub fn send(s: State, r: usize, v: i64, targets: Targets) -> Served
+    requires { ⌜ Sound s × (0 < s .places .count) × (0 < s .counts .types) × (r < 256) × (targets .count ≤ 129) ⌝ }
+    ensures { λ q. ⌜ Step s (send (systemIn s) r (named v) (targetsIn targets)) q × Went s (q .state) ⌝ }
+{
+    let c = named_cell(s.cells, v);
+    let mut types = s.types;
+    let links = s.links;
+    let counts = s.counts;
+    let ps = s.places;
+    let x = carry::carry(
+        &mut types,
+        &links,
+        counts,
+        ps,
+        wide(c.sort),
+        wide(c.place),
+        targets,
+        r,
+    );
+    if x.refusal != 0 {
+        return steps::refused(s, x.refusal);
+    }
+    steps::add_cell(s, types, x.types, x.places, r, x.sort, x.place)
+}
+
+// Whether a request was accepted.
+pub fn accepted(a: Answer) -> bool
+    ensures { λ r. ⌜ r ≡ isAccepted a ⌝ }
+{
+    match a {
+        Answer::Refused(_) => false,
+        Answer::Pair {
+            first: _,
+            second: _,
+        } => true,
+        Answer::Number(_) => true,
+        Answer::Nothing => true,
+    }
+}
+
+// Argument i, of type a in the signature of the cell's type, meets the layers by the types as they are now (C8, C10).
+fn send_argument(s: State, r: usize, w: Way, m: usize, i: usize, a: usize, v: i64) -> Served
+    requires { ⌜ Sound s × (0 < s .places .count) × (0 < s .counts .types) × (r < 256) × (w .count ≤ 129) ⌝ }
+    ensures { λ q. ⌜ Step s (sendArgument (systemIn s) r (wayIn w) m i a v) q × Went s (q .state) ⌝ }
+{
+    let c = s.counts;
+    let targets = carry::targets_of(&s.types, c, m, Slot::Argument(i), w);
+    if is_ref(&s.types, c, a) {
+        return send(s, r, v, targets);
+    }
+    let e = carry::pass(&s.types, c, v, targets);
+    if e != 0 {
+        return steps::refused(s, e);
+    }
+    Served {
+        answer: Answer::Nothing,
+        state: s,
+    }
+}
+
+// The arguments in order, each before the next is begun (C10, C17).
+pub fn send_arguments(s: State, r: usize, w: Way, m: usize, x: Method, vs: &[i64]) -> Served
+    requires { ⌜ Sound s × (0 < s .places .count) × (0 < s .counts .types) × (r < 256) × (w .count ≤ 129) ⌝ }
+    ensures { λ q. ⌜ Sent s (allSent (sendArguments (systemIn s) r (wayIn w) m 0 (argumentsOf x) (now (vs .entry)))) q ⌝ }
+{
+    let n = vs.len();
+    let mut at = s;
+    let mut i: usize = 0;
+    while i < n {
+        let a = carry::argument_in(x, i);
+        if a == 0 {
+            return Served {
+                answer: Answer::Nothing,
+                state: at,
+            };
+        }
+        let q = send_argument(at, r, w, m, i, a - 1, vs[i]);
+        let answer = q.answer;
+        if !accepted(answer) {
+            return q;
+        }
+        at = q.state;
+        i += 1;
+    }
+    Served {
+        answer: Answer::Nothing,
+        state: at,
+    }
+}
