@@ -42,6 +42,16 @@ pub fn limited_to(stack: usize, program: &Path) -> Command {
     command
 }
 
+/// The same with memory laid out alike in every run, so that a need can be measured: the kernel else begins the stack up to 8 KB
+/// further down, at random.
+pub fn limited_still(stack: usize, program: &Path) -> Command {
+    let mut command = limited_to(stack, Path::new("/usr/bin/setarch"));
+    command
+        .args([std::env::consts::ARCH, "--addr-no-randomize"])
+        .arg(program);
+    command
+}
+
 /// Runs a program to its end; `write` feeds its standard input.
 pub fn feed(
     mut command: Command,

@@ -1,7 +1,7 @@
 //! Scripts: damage to them, what they meet, and the proved program beside the reference.
 
 use crate::inputs;
-use crate::process::{built, least_stack, limited_to, run};
+use crate::process::{built, least_stack, limited_still, limited_to, run};
 use crate::worst_scripts::{largest_sheet, layered, nested};
 use reference::coverage::Seen;
 use reference::external::difference;
@@ -35,7 +35,10 @@ pub fn in_stack(stack: usize, input: &[u8]) -> Output {
 
 /// The stack that a script needs, in KB.
 pub fn need(input: &[u8]) -> usize {
-    least_stack(MOST, |stack| in_stack(stack, input).status.success())
+    least_stack(MOST, |stack| {
+        let output = run(limited_still(stack, &built("script")), input);
+        output.status.success()
+    })
 }
 
 /// The stack that every run of the program gets here, in KB: twice what the deepest script needs, which is found once, and never
