@@ -20,8 +20,7 @@ asks = record { state = avail; args = []; answer = some 0 }
 takes : State → Method
 takes s = record { state = s; args = 0 ∷ []; answer = none }
 
--- "Case P. Three subjects, methods 0 read, 1 mark, 2 erase. Type 0 is w32; type 1 is `avail()0`, `avail(0)-`, `avail()-`; 2 is `avail()0`, denied, denied; 3 is `avail()0`,
--- `optional(0)-`, denied; 4 is as 1 with own=yes; 5 is denied, `avail(0)-`, denied; own=no elsewhere, cat 0."
+-- the sheet of Case P (K1)
 unfoldable pub caseP : Table
 unfolding bare asks takes
 caseP = record {
@@ -60,7 +59,7 @@ pub case-p-valid : So (validSheet caseP)
 unfolding validSheet caseP
 case-p-valid = refl
 
--- "Derived types aren't written."
+-- W5
 pub derived-not-written : text (withTypes caseP (caseP .types ++ (sheetType w32 0 false [] ∷ []))) ≡ sheetP
 unfolding text sheetP caseP
 derived-not-written = refl
@@ -89,7 +88,7 @@ pub mixed-text : text mixed ≡ mixedSheet
 unfolding text mixedSheet mixed
 mixed-text = refl
 
--- "4 if the buffer is short, buffer unchanged; else the length, with the bytes behind it unchanged"
+-- W2 to W4
 pub short-buffer : writeText (bytes "abc") (bytes "..") ≡ record { answer = refuse 4; buffer = bytes ".." }
 unfolding writeText
 short-buffer = refl
@@ -121,7 +120,7 @@ pub s1-unknown-form : read (bytes "guide=2\nsubjects=3\n") ≡ malformed 2 0
 unfolding read
 s1-unknown-form = refl
 
--- S2: a decimal too long for any word
+-- S2: a number that no word holds
 pub s2-too-long : read (bytes "guide=1\nsubjects=99999999999999999999999\n") ≡ malformed 2 8
 unfolding read
 s2-too-long = refl
@@ -176,7 +175,7 @@ pub s6-extra-line : read (own ++ bytes "end=sheet\nend=sheet\n") ≡ malformed 1
 unfolding read own
 s6-extra-line = refl
 
--- S7: a line missing in the middle, 1 at the line in its place
+-- S7: the line found where another is due
 pub s7-missing-line : read (bytes "guide=1\nmethods=1\ncats=0\n") ≡ malformed 1 8
 unfolding read
 s7-missing-line = refl
@@ -196,7 +195,7 @@ pub s9-empty : read (bytes "") ≡ malformed 1 0
 unfolding read
 s9-empty = refl
 
--- S9: lines missing at the end, 1 at the input's length
+-- S9: the input ends too early
 pub s9-missing-end : read (one ++ bytes "m=denied\n") ≡ malformed 1 81
 unfolding read one
 s9-missing-end = refl
@@ -236,7 +235,7 @@ pub s12-above : read (two ++ bytes "under=7\n") ≡ malformed 2 54
 unfolding read two
 s12-above = refl
 
--- S13: own in a signature, 3 at the last line
+-- S13: a signature names an own type
 pub s13-own : read (own ++ bytes "end=sheet\n") ≡ malformed 3 85
 unfolding read own
 s13-own = refl
@@ -246,7 +245,7 @@ pub s13-own-answer : read (ownAnswer ++ bytes "end=sheet\n") ≡ malformed 3 84
 unfolding read ownAnswer
 s13-own-answer = refl
 
--- "A type number out of turn .. is 2"
+-- S30
 pub out-of-turn : read (bytes "guide=1\nsubjects=3\nmethods=1\ncats=0\ntypes=2\ntype=1\n") ≡ malformed 2 44
 unfolding read
 out-of-turn = refl

@@ -180,7 +180,7 @@ write-ok r old n = go (tableAccepted r) refl
         record { accepted = e; length-of = i .length-of; size = i .size; front = i .front; behind = i .behind; read-back = ap read (i .front) ∙ read-of-fitting (tableOf r) (accepted-fits r e) }
     go false e h = refuse-ok h
 
--- "buffer unchanged"
+-- W3
 pub write-refused : (r : RawTable) (old : List ℕ) (n : ℕ) → write r old .answer ≡ refuse n → write r old .buffer ≡ old
 unfolding write
 write-refused r old n = go (tableAccepted r)

@@ -68,7 +68,7 @@ pub struct Layers {
     pub count: usize,
 }
 
-// The cells as a lent slice of records (F6): lookup reads a record, append stores one. They decide nothing: whether a number is in use, who holds the cell and whether
+// F6, the cells lent as a slice: lookup reads a record, append stores one. They decide nothing: whether a number is in use, who holds the cell and whether
 // there is room is asked above them.
 fn lookup(cells: &[Cell], k: usize) -> Cell
     requires { ⌜ k < length (now cells) ⌝ }
