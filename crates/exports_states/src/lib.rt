@@ -67,7 +67,7 @@ pub extern "C" fn pilgonca_move(
     handing::hand_back(r, types, cells, places, calls, counts, values)
 }
 
-// Call (C): subject, cell, method and any number of arguments; the values are the call and the adapters behind the cell.
+// Call (C): subject, cell, method and any number of arguments; the values are the call and how many adapters it goes through (C19).
 #[no_mangle]
 pub extern "C" fn pilgonca_call(
     types: &mut [u8; TYPE_BYTES],

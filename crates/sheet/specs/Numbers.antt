@@ -1,4 +1,4 @@
--- S21: decimals, read from the left of what is left of a line, and written.
+-- Decimals (S21), read from the left of what is left of a line, and written.
 use mathlib.Core.Bool.{Bool, _&&_, cond}
 use mathlib.Core.List.{List, [], _∷_, _++_}
 use Prim.Native.Nat.{ℕ, zero, suc, _+_, _-_, _*_, _/_, _%_, min}
@@ -15,7 +15,7 @@ abbrev pub bindScan : {A B : Type 0} → Scan A → (A → List ℕ → Scan B) 
 bindScan fail k = fail
 bindScan (took x r) k = k x r
 
--- 1 unless the scan went right, up to the line's end (S28)
+-- A line has the right form if its scan went right and nothing is left behind it; else 1 (S28).
 abbrev pub whole : {A : Type 0} → Scan A → Res A
 whole fail = refuse 1
 whole (took x []) = ok x

@@ -30,7 +30,7 @@ pub struct PlaceRec {
     pub place: Place,
 }
 
-// A call: who made it, on which cell, of which method, and whether it is answered.
+// A call (Q5): by whom, through which cell, of which method; and its answered flag.
 pub struct Call {
     pub caller: u8,
     pub cell: u8,
