@@ -1,4 +1,4 @@
--- Document 01, "Trails and chains": the book. It is written on its own: it is fed only the requests and which were accepted, reads T's own flag itself, and
+-- The book (L1 to L14). It is written on its own: nothing but the requests and whether each was accepted goes into it, it reads T's own flag itself, and
 -- shares with the state machine only the relations and the derivation (and the reading of the table and of a request's numbers).
 use mathlib.Core.Bool.{true, false}
 use mathlib.Core.List.{List, [], _∷_, _++_, map, reverse}
@@ -12,19 +12,18 @@ use Rattle.model.specs.Relations.{subtype, conforms, related}
 use Rattle.model.specs.Restriction.{derive}
 use Rattle.model.specs.Requests.{Request, new, move, call, answer}
 
--- "A page holds a class and two lists, closed types and trail": what a reference has crossed since its object was made or last unwrapped. The latest entry
--- of a list comes first.
+-- The class of an object, and what a reference to it has crossed since it was made or last unwrapped (L3). The latest entry of a list comes first.
 pub record Page : Type 0 where
   pub class : ℕ
   pub closed : List ℕ
   pub trail : List ℕ
 
--- "A call notes page and method."
+-- what is kept of a call (L12)
 pub record Note : Type 0 where
   pub page : ℕ
   pub method : ℕ
 
--- "It starts from the sheet's table and derives types as above. .. Pages and calls are numbered from 0."
+-- L2
 pub record Book : Type 0 where
   pub table : Table
   pub pages : List Page
@@ -37,7 +36,7 @@ abbrev pub lastOr : List ℕ → ℕ → ℕ
 lastOr [] c = c
 lastOr (x ∷ xs) c = x
 
--- "S is its last trail type and V its last closed type, each being the class where that list is empty."
+-- a page's S and V (L4)
 abbrev pub lastType : Page → ℕ
 lastType g = lastOr (g .trail) (g .class)
 
@@ -47,14 +46,14 @@ lastClosed g = lastOr (g .closed) (g .class)
 abbrev pub emptyPage : ℕ → Page
 emptyPage c = record { class = c; closed = []; trail = [] }
 
--- "T then joins the trail"
+-- L8
 abbrev pub joins : ℕ → Page → Page
 joins to g = record { class = g .class; closed = g .closed; trail = to ∷ g .trail }
 
 abbrev pub addClosed : ℕ → Page → Page
 addClosed c g = record { class = g .class; closed = c ∷ g .closed; trail = g .trail }
 
--- step 3 on a page: "a new adapter adds its closed type". Refusals aside, a derivation never fails here.
+-- L7 and L8. In a request that was accepted no derivation fails here.
 unfoldable pub pageAdapt : Table → Page → ℕ → ℕ → Table × Page
 unfolding related derive
 pageAdapt t g to r = elim (related conforms t r (lastClosed g)) [
@@ -62,7 +61,7 @@ pageAdapt t g to r = elim (related conforms t r (lastClosed g)) [
   | false ↦ elim (derive maxTypes t closed r (lastClosed g)) [ none ↦ (t, g) | some x ↦ (x .0, joins to (addClosed (x .1) g)) ]
 ]
 
--- "A page crosses to T as under Crossing, refusals aside .. Unwrapping empties both lists"
+-- L5 and L6: an own type empties both lists, another one restricts unless S is a subtype already
 unfoldable pub pageCross : Table → Page → ℕ → Table × Page
 unfolding related derive pageAdapt
 pageCross t g to = elim (typeAt t to .own) [
@@ -83,11 +82,11 @@ pageCrossAll t g (some to ∷ ts) = let x = pageCross t g to in pageCrossAll (x 
 abbrev pub pageAt : Book → ℕ → Page
 pageAt b k = getD (b .pages) k (emptyPage 0)
 
--- "Each is the next page."
+-- L14
 abbrev pub addPage : Book → Table × Page → Book
 addPage b x = record { table = x .0; pages = b .pages ++ (x .1 ∷ []); calls = b .calls }
 
--- "the called page's last trail type, closed types from the last back, and class"
+-- the types that a value meets, by the called cell's page: its S, its closed types from the latest on, its class (L11)
 abbrev pub pageWay : Page → List ℕ
 pageWay g = lastType g ∷ (g .closed ++ (g .class ∷ []))
 
@@ -96,7 +95,7 @@ unfoldable pub copyPage : Book → ℕ → List (Option ℕ) → Book
 unfolding pageCrossAll
 copyPage b k ts = addPage b (pageCrossAll (b .table) (pageAt b k) ts)
 
--- "Call: the page of each argument that is a reference, copied in order, crosses to the argument types": argument i and those after it
+-- The pages of a call's arguments (L11): argument i and those after it
 unfoldable pub copyArguments : Book → List ℕ → ℕ → ℕ → List ℕ → List ℤ → Book
 unfolding copyPage
 copyArguments b way m i [] vs = b
@@ -109,7 +108,7 @@ copyArguments b way m i (a ∷ xs) (v ∷ vs) = elim (isRef (typeAt (b .table) a
 abbrev pub addNote : Book → Note → Book
 addNote b n = record { table = b .table; pages = b .pages; calls = b .calls ++ (n ∷ []) }
 
--- "Answer: a reference's page, copied, crosses to the answer types of the call's page in reverse."
+-- the page of what is answered, the class's type first (L13)
 unfoldable pub copyAnswer : Book → Note → Option ℕ → Option ℤ → Book
 unfolding copyPage
 copyAnswer b n none v = b
@@ -122,12 +121,10 @@ copyAnswer b n (some a) (some v) = elim (isRef (typeAt (b .table) a .rep)) [
 abbrev pub noteAt : Book → ℕ → Note
 noteAt b j = getD (b .calls) j (record { page = 0; method = 0 })
 
--- An accepted request goes into the book.
+-- An accepted request goes into the book (L9 to L13).
 unfoldable pub enter : Book → Request → Book
 unfolding pageCross copyPage copyArguments copyAnswer
--- "New: an empty page of the class crosses to the cell type."
 enter b (new subject class to) = addPage b (pageCross (b .table) (emptyPage (named class)) (named to))
--- "Move: the cell's page, copied, crosses to T."
 enter b (move subject k receiver to) = copyPage b (named k) (some (named to) ∷ [])
 enter b (call subject k m vs) = let g = pageAt b (named k) in
     addNote (copyArguments b (pageWay g) (named m) 0 (methodAt (b .table) (lastType g) (named m) .args) vs) (record { page = named k; method = named m })

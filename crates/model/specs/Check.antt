@@ -1,6 +1,4 @@
--- Document 01: "A state or table handed in gets 2 before all else if a count is outside its limits, a record names a number not below that number's count
--- (a category above the last), the table breaks a rule of the first section, a cell's type isn't a sheet ref type, an object's class isn't a sheet class,
--- an adapter's type isn't ref, or an adapter's place behind isn't below it."
+-- The check of what is handed in (H): 2 before all else, for the reasons H1 to H11 and no other.
 -- What is handed in is a record of numbers: counts, and codes in arrays. Its meaning and the check are both total, so that any numbers have an answer.
 use mathlib.Core.Bool.{Bool, _&&_, _||_, cond}
 use mathlib.Core.List.{List, [], _∷_}

@@ -1,4 +1,4 @@
--- Concrete sheets: Case P is read with its table and written as it was read; refusals with their numbers and offsets, one or more for each of the readings S1 to S13 of docs/DECISIONS.md (S4 speaks of `do=` operands; its like in a sheet is S3).
+-- Concrete sheets: Case P is read with its table and written as it was read; refusals with their numbers and offsets, one or more for each of S1 to S13.
 use mathlib.Core.Path.{_≡_, refl}
 use mathlib.Core.Bool.{true, false, So}
 use mathlib.Core.List.{List, [], _∷_, _++_}
@@ -146,7 +146,7 @@ pub s3-empty : read (bytes "guide=1\nsubjects=\n") ≡ malformed 1 8
 unfolding read
 s3-empty = refl
 
--- S3 in a signature; S4 is its like for the operands of `do=`
+-- S3 in a signature; P9 is its like for the operands of `do=`
 pub s3-in-signature : read (one ++ bytes "m=avail(00)-\n") ≡ malformed 1 72
 unfolding read one
 s3-in-signature = refl
