@@ -1,4 +1,4 @@
--- The proved cases of document 01, worked derivations, and demand 3 evaluated on lists. Everything here is computed from the definitions.
+-- The proved cases (K), worked derivations, and demand 3 evaluated on lists. Everything here is computed from the definitions.
 use mathlib.Core.Path.{_≡_, refl}
 use mathlib.Core.Bool.{Bool, true, false, _&&_}
 use mathlib.Core.List.{List, [], _∷_, _++_, map}
@@ -142,7 +142,7 @@ provedCases =
     }
     -- K8: what was derived on the way is gone
     ∷ record { table = caseP; requests = three ++ (move′ 2 2 2 5 ∷ []); gives = got (pair 0 0) ∷ got (pair 1 0) ∷ got (pair 2 1) ∷ refused 10 ∷ []; types = 8 }
-    -- "new 0 2 2: 7"
+    -- K9
     ∷ record { table = caseP; requests = new′ 0 2 2 ∷ []; gives = refused 7 ∷ []; types = 6 }
     -- K10 and K11: erase is denied in type 2, mark only optional in type 3
     ∷ record { table = caseP; requests = two ++ (call′ 1 1 2 [] ∷ []); gives = got (pair 0 0) ∷ got (pair 1 0) ∷ refused 14 ∷ []; types = 6 }

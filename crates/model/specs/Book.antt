@@ -122,7 +122,7 @@ copyAnswer b n (some a) (some v) = elim (isRef (typeAt (b .table) a .rep)) [
 abbrev pub noteAt : Book → ℕ → Note
 noteAt b j = getD (b .calls) j (record { page = 0; method = 0 })
 
--- An accepted request goes into the book.
+-- An accepted request goes into the book (L9 to L13).
 unfoldable pub enter : Book → Request → Book
 unfolding pageCross copyPage copyArguments copyAnswer
 -- L9

@@ -23,7 +23,7 @@ noPlace = object 0 0
 abbrev pub placeAt : List Place → ℕ → Place
 placeAt ps p = getD ps p noPlace
 
--- a place's type: the class of an object, the closed type of an adapter
+-- Q3
 abbrev pub placeType : Place → ℕ
 placeType (object c o) = c
 placeType (adapter b c) = c

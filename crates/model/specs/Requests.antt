@@ -37,11 +37,11 @@ maxCells = 256
 abbrev pub maxCalls : ℕ
 maxCalls = 256
 
--- the state of a loaded sheet
+-- the state of a loaded sheet (Q10)
 abbrev pub loaded : Table → System
 loaded t = record { table = t; cells = []; places = []; calls = [] }
 
--- The requests with their operands in order, each a signed number; an answer gives a value or nothing.
+-- The requests with their operands in order, each a signed number (Q11, Q12); an answer gives a value or nothing.
 pub data Request : Type 0 where
   new : (subject class type : ℤ) → Request
   move : (subject cell receiver type : ℤ) → Request
@@ -119,7 +119,7 @@ layersOf ps p = layers (length ps) ps p
 abbrev pub adapterCount : List Place → ℕ → ℕ
 adapterCount ps p = length (layersOf ps p) - 1
 
--- what a value meets on its way: the cell's type, then the layers of its place
+-- what a value meets on its way: the cell's type, then the layers of its place (C9)
 abbrev pub wayOf : System → Cell → List ℕ
 wayOf s c = c .type ∷ layersOf (s .places) (c .place)
 
@@ -154,7 +154,7 @@ passLayers first t v (some a ∷ ts) = elim (typeAt t a .rep) [
   | w64 ↦ passLayers false t v ts
 ]
 
--- The reference in cell k crosses to each of the types and becomes a cell of r.
+-- The reference in cell k crosses to each of the types and becomes a cell of r (C17, A10).
 unfoldable pub send : System → ℕ → ℕ → List (Option ℕ) → Res (System × Result)
 unfolding crossLayers addCell
 send s r k ts = try (crossLayers true (leaving s k) r ts) λ f. addCell s r f
@@ -196,7 +196,7 @@ callRequest s subject k m vs =
     try (sendArguments s (baseOwner (s .places) (c .place)) (wayOf s c) (named m) 0 xs vs) λ x.
     ok (withCall x (record { caller = named subject; cell = named k; method = named m; answered = false }), pair (length (s .calls)) (adapterCount (s .places) (c .place)))
 
--- a call with its flag, and the state with call j answered
+-- a call with its flag, and the state with call j answered (A11)
 abbrev pub flagged : Call → Bool → Call
 flagged c b = record { caller = c .caller; cell = c .cell; method = c .method; answered = b }
 

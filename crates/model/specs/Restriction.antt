@@ -104,7 +104,7 @@ deriveMethods rec d t [] ys = some (t, [])
 deriveMethods rec d t (x ∷ xs) [] = some (t, [])
 deriveMethods rec d t (x ∷ xs) (y ∷ ys) = then (deriveMethod rec d t x y) λ p. then (deriveMethods rec d (p .0) xs ys) λ q. some (q .0, p .1 ∷ q .1)
 
--- one type, `rec` deriving those of its signatures
+-- one type, `rec` deriving those of its signatures (D15 to D17)
 unfoldable pub make : Derivation → Derivation
 unfolding withoutNew deriveMethods
 make rec t d l r = elim (withoutNew t d l r) [

@@ -52,7 +52,7 @@ pub record Method : Type 0 where
   pub args : List ℕ
   pub answer : Option ℕ
 
--- A type. A number type has no methods and own=no; a sheet type has no key.
+-- A type. A number type has no methods and own=no (T11); a sheet type has no key (T17).
 pub record Ty : Type 0 where
   pub rep : Rep
   pub cat : ℕ
@@ -75,7 +75,7 @@ signed s xs a = record { state = s; args = xs; answer = a }
 abbrev pub bare : State → Method
 bare s = signed s [] none
 
--- what is read where there is no such method, or no such type
+-- what is read where there is no such method (T19), or no such type
 abbrev pub noMethod : Method
 noMethod = bare denied
 
@@ -142,7 +142,7 @@ countsFit t = between 1 maxSubjects (t .subjects) && (between 1 maxMethods (t .m
 abbrev pub linksFit : ℕ → List ℕ → Bool
 linksFit k links = between 1 2 (length links) && all (λ c. ltb c k) links
 
--- What may stand in a signature: a type without own.
+-- What may stand in a signature: a type without own (T14).
 abbrev pub mayStand : Ty → Bool
 mayStand x = not (x .own)
 
@@ -171,7 +171,7 @@ methodCount ref n = n
 methodCount w32 n = 0
 methodCount w64 n = 0
 
--- Only a derived type, from the number of sheet types on, has a key, of types in the table.
+-- Only a derived type, from the number of sheet types on, has a key, of types in the table (T17).
 abbrev pub keyFits : Table → ℕ → Option Key → Bool
 keyFits t i none = ltb i (t .sheet)
 keyFits t i (some k) = leb (t .sheet) i && (ltb (k .left) (size t) && ltb (k .right) (size t))
@@ -184,11 +184,11 @@ abbrev pub typeFits : Table → ℕ → Ty → Bool
 typeFits t i x = leb (x .cat) (length (t .cats)) && ((x .own ⇒ isRef (x .rep)) && (eqb (length (x .methods)) (methodCount (x .rep) (t .methods))
     && (all (signatureFits t (signatureBound t i)) (x .methods) && keyFits t i (x .key))))
 
--- A table within its limits that keeps every rule of the section.
+-- A table that keeps T1 to T17.
 unfoldable pub tableFits : Table → Bool
 tableFits t = countsFit t && (every linksFit 1 (t .cats) && every (typeFits t) 0 (t .types))
 
--- What a sheet describes: such a table with sheet types only.
+-- What a sheet describes: such a table with sheet types only (T18).
 unfoldable pub validSheet : Table → Bool
 unfolding tableFits
 validSheet t = tableFits t && eqb (t .sheet) (size t)

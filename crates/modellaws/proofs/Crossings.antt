@@ -37,7 +37,7 @@ own-received f to r e = go (typeAt (f .table) to .own) e (related free (f .table
     go true e false ow q m n = tt
     go false e fr ow q m n = never e
 
--- step 3 on a page leaves its trail, with T joined or as it was
+-- L7 leaves a page its trail, with T joined or as it was
 adapt-trail : (t : Table) (g : Page) (to r : ℕ) → (pageAdapt t g to r .1 .trail ≡ to ∷ g .trail) ⊎ (pageAdapt t g to r .1 .trail ≡ g .trail)
 unfolding pageAdapt
 adapt-trail t g to r = go (related conforms t r (lastClosed g)) (derive maxTypes t closed r (lastClosed g))
