@@ -1,7 +1,7 @@
 //! The exported functions of the proved core, wrapped so that Rust's types ask what the C boundary cannot:
 //! arrays have their full length, so that nothing outside them is read or written.
 //!
-//! Nothing checks these declarations against the Rattle source (crates/exports/src/lib.rt, crates/exports_states/src/lib.rt); keep them few and in its order.
+//! Nothing checks these declarations against the Rattle source (crates/exports*/src/lib.rt); keep them few and in its order.
 
 pub mod chains;
 pub mod heavy;

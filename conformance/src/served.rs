@@ -59,6 +59,18 @@ requests! {
 }
 
 extern "C" {
+    fn pilgonca_load(
+        sheet: *const u8,
+        sheet_len: usize,
+        types: *mut [u8; TYPES_LENGTH],
+        links: *mut [u8; BROADER_LENGTH],
+        cells: *mut [u8; CELLS_LENGTH],
+        places: *mut [u8; PLACES_LENGTH],
+        calls: *mut [u8; CALLS_LENGTH],
+        counts: *mut StateCounts,
+        at: *mut usize,
+    ) -> usize;
+
     fn pilgonca_offers(
         types: *const [u8; TYPES_LENGTH],
         links: *const [u8; BROADER_LENGTH],
@@ -70,18 +82,6 @@ extern "C" {
         chain: *const i64,
         chain_len: usize,
         offered: *mut usize,
-    ) -> usize;
-
-    fn pilgonca_load(
-        sheet: *const u8,
-        sheet_len: usize,
-        types: *mut [u8; TYPES_LENGTH],
-        links: *mut [u8; BROADER_LENGTH],
-        cells: *mut [u8; CELLS_LENGTH],
-        places: *mut [u8; PLACES_LENGTH],
-        calls: *mut [u8; CALLS_LENGTH],
-        counts: *mut StateCounts,
-        at: *mut usize,
     ) -> usize;
 
     fn pilgonca_run(

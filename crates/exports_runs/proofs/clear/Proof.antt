@@ -1,8 +1,8 @@
 -- All 0.
-use Rattle.exports_states.specs.States.{noBytes}
+use Rattle.exports_runs.specs.Results.{noBytes}
 use borrow.Author.Needs.{needs}
-use Rattle.exports_states.proofs.clear.Statement.{statement}
-use Rattle.exports_states.proofs.clear.Tie as tie
+use Rattle.exports_runs.proofs.clear.Statement.{statement}
+use Rattle.exports_runs.proofs.clear.Tie as tie
 
 returns : tie.Need-returns
 unfolding noBytes

@@ -1,9 +1,8 @@
 -- What is offered on a state in flat bytes, from what is offered on the state that is read out of it.
-use mathlib.Core.Path.{_≡_, refl, ap, sym, _∙_}
+use mathlib.Core.Path.{_≡_, ap, sym, _∙_}
 use mathlib.Core.Bool.{Bool, true, false}
 use mathlib.Core.List.{List}
-use mathlib.Core.Option.{some}
-use Prim.Native.Nat.{ℕ, zero, suc}
+use Prim.Native.Nat.{ℕ}
 use lib.IntN.{ℤ}
 use Rattle.model.specs.Basics.{Res, ok, need}
 use Rattle.model.specs.Requests.{System}
@@ -13,7 +12,7 @@ use Rattle.state.specs.View.{rawState}
 use Rattle.flat.specs.Flat.{Flat, rawFlat, stateFrom}
 use Rattle.flat.proofs.Laws.{codesIn, read-counted, codes-refused}
 use Rattle.offers.specs.Chained.{offersNamed, offersHanded}
-use Rattle.exports_states.specs.States.{givenIn, offeredOut}
+use Rattle.exports_runs.specs.Results.{offeredOut}
 
 module _ (f : Flat) (z : ℤ) (w : List ℤ) where
   abbrev asked : Bool → System → Res Bool
@@ -27,8 +26,3 @@ module _ (f : Flat) (z : ℤ) (w : List ℤ) where
   unfolding offersHanded
   offers-same h = let e = read-counted f h in
       ap (λ (b : Bool). asked b (systemOf (rawState (stateFrom f)))) (accepted-same (rawState (stateFrom f)) (rawFlat f) e) ∙ ap (asked (systemAccepted (rawFlat f))) (means-same (rawState (stateFrom f)) (rawFlat f) e)
-
--- a value is given
-pub given-some : (n : ℕ) (v : ℤ) → (n ≡ 0 → ⊥) → some v ≡ givenIn n v
-given-some zero v h = absurd (h refl)
-given-some (suc n) v h = refl

@@ -5,11 +5,11 @@ use Rattle.tablecheck.proofs.Steps.{refused, passed}
 use Rattle.state.specs.View.{rawState}
 use Rattle.flat.specs.Flat.{flat}
 use Rattle.offers.specs.Chained.{offersHanded, offeredAs}
-use Rattle.exports_states.specs.States.{offeredOut}
-use Rattle.exports_states.proofs.Offering.{offers-unfit, offers-same}
+use Rattle.exports_runs.specs.Results.{offeredOut}
+use Rattle.exports_runs.proofs.Offering.{offers-unfit, offers-same}
 use borrow.Author.Needs.{needs}
-use Rattle.exports_states.proofs.pilgonca_offers.Statement.{statement}
-use Rattle.exports_states.proofs.pilgonca_offers.Tie as tie
+use Rattle.exports_runs.proofs.pilgonca_offers.Statement.{statement}
+use Rattle.exports_runs.proofs.pilgonca_offers.Tie as tie
 
 element-copy-out-codes-fit : tie.Need-element-copy-out-codes-fit
 element-copy-out-codes-fit c = search needs

@@ -21,7 +21,7 @@ use Rattle.handing.specs.States.{Stored}
 use Rattle.run.specs.declared.Ran.{Ran}
 use Rattle.run.specs.Requested.{requests, runAsked, runHanded}
 use Rattle.run.specs.Ran.{Runs, RanAs}
-use Rattle.exports_states.specs.States.{LentRun, lentRun, RanOut, RunsOut}
+use Rattle.exports_runs.specs.Results.{LentRun, lentRun, RanOut, RunsOut}
 
 module _ (f : Flat) (k : ℕ) (ws : List ℤ) where
   abbrev from : Bool → System → Res (List Outcome × System)

@@ -5,10 +5,10 @@ use Rattle.state.specs.View.{rawState}
 use Rattle.flat.specs.Flat.{flat}
 use Rattle.run.specs.Requested.{runHanded}
 use Rattle.run.specs.Ran.{room, Runs}
-use Rattle.exports_states.proofs.Running.{run-unfit, run-refused, run-taken}
+use Rattle.exports_runs.proofs.Running.{run-unfit, run-refused, run-taken}
 use borrow.Author.Needs.{needs}
-use Rattle.exports_states.proofs.pilgonca_run.Statement.{statement}
-use Rattle.exports_states.proofs.pilgonca_run.Tie as tie
+use Rattle.exports_runs.proofs.pilgonca_run.Statement.{statement}
+use Rattle.exports_runs.proofs.pilgonca_run.Tie as tie
 
 element-copy-out-codes-fit : tie.Need-element-copy-out-codes-fit
 element-copy-out-codes-fit c = search needs

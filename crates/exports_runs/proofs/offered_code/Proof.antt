@@ -1,10 +1,10 @@
 -- Each case of the answer.
 use mathlib.Core.Path.{sym, ap}
 use Rattle.offers.specs.Chained.{offeredAs}
-use Rattle.exports_states.specs.States.{offeredOut}
+use Rattle.exports_runs.specs.Results.{offeredOut}
 use borrow.Author.Needs.{needs}
-use Rattle.exports_states.proofs.offered_code.Statement.{statement}
-use Rattle.exports_states.proofs.offered_code.Tie as tie
+use Rattle.exports_runs.proofs.offered_code.Statement.{statement}
+use Rattle.exports_runs.proofs.offered_code.Tie as tie
 
 enum-told : tie.Need-enum-told
 enum-told c = search needs
