@@ -18,6 +18,15 @@ fn the_example_is_the_guides() {
     assert_eq!(sheet.as_bytes(), EXAMPLE);
 }
 
+/// What the guide says of memory.
+#[test]
+fn the_guide_has_the_sizes() {
+    let guide = include_str!("../../docs/GUIDE.md");
+    assert_eq!(size_of::<raw::State>(), 18_720);
+    assert_eq!(size_of::<raw::Table>(), 16_520);
+    assert!(guide.contains("| 18,720:") && guide.contains("| 16,520 |"));
+}
+
 /// A sheet with every limit reached and the longest lines that there can be.
 fn longest() -> String {
     let mut text = String::from("guide=1\nsubjects=16\nmethods=16\ncats=31\n");
