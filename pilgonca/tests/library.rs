@@ -1,8 +1,8 @@
 //! What the doc tests have no room for: the guide's sheet, the longest text, full states, references as answers, bytes that were kept.
 
 use pilgonca::{
-    raw, Answered, Call, Cell, Method, MethodInfo, PlaceKind, Refusal, Sheet, Subject, Type, Visit,
-    EXAMPLE,
+    Answered, Call, Cell, EXAMPLE, Method, MethodInfo, PlaceKind, Refusal, Sheet, Subject, Type,
+    Visit, raw,
 };
 use std::error::Error;
 use std::fmt::Write;

@@ -2,9 +2,9 @@
 
 mod declarations;
 
-use declarations::{between, rust_functions, Functions, Header, Passed};
-use pilgonca::raw;
+use declarations::{Functions, Header, Passed, between, rust_functions};
 use pilgonca::Refusal;
+use pilgonca::raw;
 use std::path::{Path, PathBuf};
 
 fn root() -> PathBuf {
