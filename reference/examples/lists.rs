@@ -2,11 +2,12 @@
 //! written by hand, the others chosen from generated ones so that together
 //! they meet as much as possible.
 
-use reference::coverage::Seen;
+use reference::coverage::{self, Seen};
 use reference::dump::account;
 use reference::gen::{generate, Profile};
-use reference::script::run_with;
-use reference::state::Model;
+use reference::script;
+use reference::serving;
+use reference::state::State;
 use reference::table::{Kind, MethodState, Table};
 use std::collections::BTreeSet;
 
@@ -139,12 +140,9 @@ fn chosen(count: usize) -> Vec<Vec<u8>> {
         if input.len() > 700 {
             continue;
         }
-        let run = run_with(&input, Default::default());
-        if let Some(model) = &run.model {
-            let features = features(model);
-            if features.len() >= 6 {
-                candidates.push((input, features));
-            }
+        let features = features(&input);
+        if features.len() >= 6 {
+            candidates.push((input, features));
         }
     }
     let mut met: std::collections::BTreeMap<String, u32> = Default::default();
@@ -170,9 +168,12 @@ fn chosen(count: usize) -> Vec<Vec<u8>> {
     list
 }
 
-fn features(model: &Model) -> BTreeSet<String> {
-    let mut features = of_seen(&model.seen);
-    features.extend(of_table(&model.state.table));
+fn features(input: &[u8]) -> BTreeSet<String> {
+    let script = script::read(input).expect("generated inputs are right");
+    let state = State::of_sheet(script.table);
+    let mut features = of_seen(&coverage::serve(state.clone(), &script.requests));
+    let (_, state) = serving::run(state, &script.requests);
+    features.extend(of_table(&state.table));
     features
 }
 

@@ -1,16 +1,15 @@
-//! "Trails and chains": the book of demand 3, "fed only the requests and which
-//! were accepted". It keeps no cells, places or owners of its own; it starts
-//! from the sheet's table and derives types as the paper says.
+//! The book of demand 3 (L): a second record of a run, fed the requests and
+//! which of them were accepted. It has no cells, places or owners.
 
-use crate::chains::{first_difference, All};
-use crate::faults::Fault;
+use crate::chains::{first_difference, offered, All};
+use crate::refusal::Refusal;
 use crate::relations::{Relation, Relations};
-use crate::requests::Request;
+use crate::requests::{Got, Request};
 use crate::restriction::{closed, sub};
-use crate::state::{Place, State};
+use crate::state::State;
 use crate::table::{Table, TypeNo};
 
-/// "A page holds a class and two lists, closed types and trail."
+/// The entry of one cell (L3).
 #[derive(Clone, PartialEq, Eq, Debug)]
 pub struct Page {
     pub class: TypeNo,
@@ -19,23 +18,29 @@ pub struct Page {
 }
 
 impl Page {
-    /// "S is its last trail type ..., the class where that list is empty".
+    /// S of a page's crossing (L4).
     pub fn last_trail(&self) -> TypeNo {
         self.trail.last().copied().unwrap_or(self.class)
     }
 
-    /// "V its last closed type, ... the class where that list is empty".
+    /// V of a page's crossing (L4).
     pub fn last_closed(&self) -> TypeNo {
         self.closed.last().copied().unwrap_or(self.class)
     }
 
-    /// "the called page's last trail type, closed types from the last back,
-    /// and class".
+    /// The types whose signatures a call goes by (L11).
     fn layers(&self) -> Vec<TypeNo> {
         let mut layers = vec![self.last_trail()];
         layers.extend(self.closed.iter().rev());
         layers.push(self.class);
         layers
+    }
+
+    /// The types that must all permit a chain for the cell to offer it (L21).
+    pub fn permitted(&self) -> Vec<TypeNo> {
+        let mut types = vec![self.class];
+        types.extend(&self.trail);
+        types
     }
 }
 
@@ -45,39 +50,58 @@ pub enum Trouble {
     /// An accepted request names a page, call, type or method that the book
     /// does not have, or derives past the 128 types.
     Impossible(Request),
-    /// The number of cells and the number of pages differ.
+    /// Not as many cells as pages (L19).
     PageCount { cells: usize, pages: usize },
-    /// "whose class is the object's".
+    /// The page's class is not the object's (L20).
     Class { cell: usize },
-    /// The adapters behind the cell do not have the page's closed types.
+    /// The adapters in front of the object are not of the page's closed types (L20).
     Closed { cell: usize },
-    /// The table of the state and that of the book differ.
+    /// The last type of the page's trail is not the cell's (L20).
+    Trail { cell: usize },
+    /// The table of the state and that of the book differ (L22).
     Table,
-    /// A chain that is offered and not permitted, or the reverse.
+    /// The calls of the state and the notes of the book differ (L22).
+    Notes,
+    /// A chain that is offered and not permitted, or the reverse (L21).
     Chain { cell: usize, chain: Vec<usize> },
 }
 
-/// The book.
+/// The book (L2).
 #[derive(Clone, Debug)]
 pub struct Book {
     pub table: Table,
     relations: Relations,
     pub pages: Vec<Page>,
-    /// "A call notes page and method."
-    pub calls: Vec<(usize, usize)>,
+    /// The page and the method of each call.
+    pub notes: Vec<(usize, usize)>,
 }
 
 impl Book {
+    /// The book as it begins.
     pub fn of_sheet(table: &Table) -> Book {
         Book {
-            relations: Relations::of(table, Fault::None),
+            relations: Relations::of(table),
             table: table.clone(),
             pages: Vec::new(),
-            calls: Vec::new(),
+            notes: Vec::new(),
         }
     }
 
-    /// Feeds one request. "A refusal changes nothing."
+    /// The book of requests and their results: of these it is only told which
+    /// accept.
+    pub fn of_run(
+        table: &Table,
+        requests: &[Request],
+        results: &[Result<Got, Refusal>],
+    ) -> Result<Book, Trouble> {
+        let mut book = Book::of_sheet(table);
+        for (request, result) in requests.iter().zip(results) {
+            book.feed(request, result.is_ok())?;
+        }
+        Ok(book)
+    }
+
+    /// Feeds one request (L1).
     pub fn feed(&mut self, request: &Request, accepted: bool) -> Result<(), Trouble> {
         if !accepted {
             return Ok(());
@@ -104,11 +128,10 @@ impl Book {
         }
     }
 
-    /// "New: an empty page of the class crosses to the cell type."
+    /// L9.
     fn new_page(&mut self, class: i64, cell_type: i64) -> Option<()> {
-        let class = self.sheet_type(class)?;
         let page = Page {
-            class,
+            class: self.sheet_type(class)?,
             closed: Vec::new(),
             trail: Vec::new(),
         };
@@ -116,68 +139,52 @@ impl Book {
         self.next_page(page, &types)
     }
 
-    /// "Move: the cell's page, copied, crosses to T."
+    /// L10.
     fn move_page(&mut self, cell: i64, cell_type: i64) -> Option<()> {
         let page = self.page(cell)?.clone();
         let types = [self.sheet_type(cell_type)?];
         self.next_page(page, &types)
     }
 
-    /// "Call: the page of each argument that is a reference, copied in order,
-    /// crosses to the argument types of the called page's last trail type,
-    /// closed types from the last back, and class."
+    /// L11 and L12.
     fn call(&mut self, cell: i64, method: i64, arguments: &[i64]) -> Option<()> {
-        let called = self.page(cell)?;
-        let layers = called.layers();
+        let layers = self.page(cell)?.layers();
         let page = usize::try_from(cell).ok()?;
         let method = usize::try_from(method).ok()?;
-        let named = &self.table.types[layers[0]].permits(method)?.arguments;
-        let references: Vec<bool> = named
-            .iter()
-            .map(|one| self.table.types[*one].is_ref())
-            .collect();
-        for (index, operand) in arguments.iter().enumerate() {
-            if *references.get(index)? {
-                let types: Option<Vec<TypeNo>> = layers
-                    .iter()
-                    .map(|layer| {
-                        let signature = self.table.types[*layer].permits(method)?;
-                        signature.arguments.get(index).copied()
-                    })
-                    .collect();
-                let page = self.page(*operand)?.clone();
-                self.next_page(page, &types?)?;
+        let signature = self.table.types[layers[0]].permits(method)?.clone();
+        for (position, operand) in arguments.iter().enumerate() {
+            let named = *signature.arguments.get(position)?;
+            if !self.table.types[named].is_ref() {
+                continue;
             }
+            let of_layer = |layer: &TypeNo| {
+                let signature = self.table.types[*layer].permits(method)?;
+                signature.arguments.get(position).copied()
+            };
+            let types: Option<Vec<TypeNo>> = layers.iter().map(of_layer).collect();
+            let page = self.page(*operand)?.clone();
+            self.next_page(page, &types?)?;
         }
-        self.calls.push((page, method));
+        self.notes.push((page, method));
         Some(())
     }
 
-    /// "Answer: a reference's page, copied, crosses to the answer types of the
-    /// call's page in reverse."
+    /// L13.
     fn answer(&mut self, call: i64, value: Option<i64>) -> Option<()> {
         let call = usize::try_from(call).ok()?;
-        let (page, method) = *self.calls.get(call)?;
-        let mut layers = self.pages.get(page)?.layers();
-        let due = self.table.types[layers[0]]
-            .permits(method)
-            .and_then(|signature| signature.answer);
-        let (Some(due), Some(value)) = (due, value) else {
+        let (page, method) = *self.notes.get(call)?;
+        let layers = self.pages.get(page)?.layers();
+        let of_layer = |layer: &TypeNo| self.table.types[*layer].permits(method)?.answer;
+        let due = of_layer(&layers[0]).filter(|due| self.table.types[*due].is_ref());
+        let (Some(_), Some(value)) = (due, value) else {
             return Some(());
         };
-        if !self.table.types[due].is_ref() {
-            return Some(());
-        }
-        layers.reverse();
-        let types: Option<Vec<TypeNo>> = layers
-            .iter()
-            .map(|layer| self.table.types[*layer].permits(method)?.answer)
-            .collect();
+        let types: Option<Vec<TypeNo>> = layers.iter().rev().map(of_layer).collect();
         let page = self.page(value)?.clone();
         self.next_page(page, &types?)
     }
 
-    /// The page crosses to the types in order, and "is the next page".
+    /// A page crosses to types in order and becomes the next one (L14).
     fn next_page(&mut self, mut page: Page, types: &[TypeNo]) -> Option<()> {
         for t in types {
             self.cross(&mut page, *t)?;
@@ -186,28 +193,27 @@ impl Book {
         Some(())
     }
 
-    /// "A page crosses to T as under Crossing, refusals aside: ... Unwrapping
-    /// empties both lists, a new adapter adds its closed type, T then joins
-    /// the trail."
+    /// L5, L6 and L8.
     fn cross(&mut self, page: &mut Page, t: TypeNo) -> Option<()> {
         let s = page.last_trail();
         if self.table.types[t].own {
             page.closed.clear();
             page.trail.clear();
-            self.wrap(page, t)?;
+            self.adapt(page, t)?;
         } else if !self.relations.holds(Relation::Subtype, t, s) {
-            let r = sub(&mut self.table, t, s, Fault::None).ok()?;
+            let r = sub(&mut self.table, t, s).ok()?;
             self.relations.extend(&self.table);
-            self.wrap(page, r)?;
+            self.adapt(page, r)?;
         }
         page.trail.push(t);
         Some(())
     }
 
-    fn wrap(&mut self, page: &mut Page, r: TypeNo) -> Option<()> {
+    /// L7.
+    fn adapt(&mut self, page: &mut Page, r: TypeNo) -> Option<()> {
         let v = page.last_closed();
-        if !self.relations.subtype_own_not_compared(&self.table, r, v) {
-            let adapter = closed(&mut self.table, r, v, Fault::None).ok()?;
+        if !self.relations.holds(Relation::SubtypeOwnAside, r, v) {
+            let adapter = closed(&mut self.table, r, v).ok()?;
             self.relations.extend(&self.table);
             page.closed.push(adapter);
         }
@@ -223,25 +229,20 @@ impl Book {
         (number < self.table.sheet_types).then_some(number)
     }
 
-    /// Holds the whole book against a state that came of the same requests.
+    /// Holds the whole book against a state that came of the same requests
+    /// (L19, L20 but for the adapters, L21).
     pub fn check(&self, state: &State) -> Result<(), Trouble> {
-        if state.cells.len() != self.pages.len() {
-            return Err(Trouble::PageCount {
-                cells: state.cells.len(),
-                pages: self.pages.len(),
-            });
+        let (cells, pages) = (state.cells.len(), self.pages.len());
+        if cells != pages {
+            return Err(Trouble::PageCount { cells, pages });
         }
-        for cell in 0..self.pages.len() {
-            self.check_cell(state, cell)?;
-        }
-        Ok(())
+        (0..pages).try_for_each(|cell| self.check_cell(state, cell))
     }
 
-    /// Demand 3 alone, for one cell: a chain is offered just where the class
-    /// and every type of the page's trail permit it, over all chains.
-    pub fn check_cell(&self, state: &State, cell: usize) -> Result<(), Trouble> {
+    /// The claim of one cell, over all chains (L21).
+    fn check_cell(&self, state: &State, cell: usize) -> Result<(), Trouble> {
         let page = &self.pages[cell];
-        let (offered, permitted) = (offered(state, cell), permitted(page));
+        let (offered, permitted) = (offered(state, cell), page.permitted());
         let left = All {
             table: &state.table,
             types: &offered,
@@ -259,42 +260,28 @@ impl Book {
         Ok(())
     }
 
-    /// More than demand 3: the book and the state agree in every type they
-    /// derived and in the adapters behind each cell.
+    /// All of the claim: the same, and adapters and types of cells, derived
+    /// types and calls (L19 to L22).
     pub fn check_exactly(&self, state: &State) -> Result<(), Trouble> {
         self.check(state)?;
         for (cell, page) in self.pages.iter().enumerate() {
-            let (adapters, _) = state.stack(state.cells[cell].place);
-            let closed = adapters
-                .iter()
-                .rev()
-                .map(|place| match state.places[*place] {
-                    Place::Adapter { closed, .. } => closed,
-                    Place::Object { class, .. } => class,
-                });
-            if !closed.eq(page.closed.iter().copied()) {
+            let layers = state.layers(cell);
+            if layers[0] != page.last_trail() {
+                return Err(Trouble::Trail { cell });
+            }
+            if layers != page.layers() {
                 return Err(Trouble::Closed { cell });
             }
         }
         if self.table != state.table {
             return Err(Trouble::Table);
         }
+        let calls = state.calls.iter().map(|call| (call.cell, call.method));
+        if !calls.eq(self.notes.iter().copied()) {
+            return Err(Trouble::Notes);
+        }
         Ok(())
     }
-}
-
-/// "Offered: the cell's type and its place's type both permit."
-pub fn offered(state: &State, cell: usize) -> Vec<TypeNo> {
-    let cell = state.cells[cell];
-    vec![cell.cell_type, state.place_type(cell.place)]
-}
-
-/// What must permit a chain for it to be permitted: the class and every type
-/// on the trail.
-pub fn permitted(page: &Page) -> Vec<TypeNo> {
-    let mut types = vec![page.class];
-    types.extend(&page.trail);
-    types
 }
 
 #[cfg(test)]

@@ -1,23 +1,27 @@
-//! Chains of methods, and whether two lists of types permit the same ones.
+//! Chains (L15 to L18): what types permit, what a cell offers, and whether two
+//! lists of types permit the same chains.
 
+use crate::state::State;
 use crate::table::{Table, TypeNo};
 use std::collections::{BTreeSet, VecDeque};
 
-/// "A type permits the empty chain if it is ref; m then w if it permits m and
-/// either w is empty or there is an answer type and it permits w. A number
-/// type permits no chain."
+/// Whether a type permits a chain (L15 to L17).
 pub fn permits(table: &Table, one: TypeNo, chain: &[usize]) -> bool {
     let one = &table.types[one];
     match chain {
         [] => one.is_ref(),
-        [method, rest @ ..] => match one.permits(*method) {
-            None => false,
-            Some(_) if rest.is_empty() => true,
-            Some(signature) => signature
-                .answer
-                .is_some_and(|answer| permits(table, answer, rest)),
-        },
+        [method] => one.permits(*method).is_some(),
+        [method, rest @ ..] => one
+            .permits(*method)
+            .and_then(|signature| signature.answer)
+            .is_some_and(|answer| permits(table, answer, rest)),
     }
+}
+
+/// The types that both have to permit a chain for a cell to offer it (L18).
+pub fn offered(state: &State, cell: usize) -> Vec<TypeNo> {
+    let cell = state.cells[cell];
+    vec![cell.cell_type, state.place_type(cell.place)]
 }
 
 /// Types of one table that must all permit a chain.
@@ -35,35 +39,30 @@ impl All<'_> {
     }
 }
 
-/// The types reached after a chain, without repetition; `None` where no longer
-/// chain can go on.
+/// The types reached by a chain, each once; `None` where no longer chain goes on.
 type Reached = Option<BTreeSet<TypeNo>>;
 
 fn start(all: All) -> Reached {
     Some(all.types.iter().copied().collect())
 }
 
-/// Whether all the types reached permit the method.
+/// Whether every type reached permits the method.
 fn step_permitted(table: &Table, reached: &Reached, method: usize) -> bool {
-    reached.as_ref().is_some_and(|types| {
-        types
-            .iter()
-            .all(|one| table.types[*one].permits(method).is_some())
-    })
+    let permits = |one: &TypeNo| table.types[*one].permits(method).is_some();
+    reached
+        .as_ref()
+        .is_some_and(|types| types.iter().all(permits))
 }
 
 /// The answer types of all the types reached, each having one.
 fn step(table: &Table, reached: &Reached, method: usize) -> Reached {
-    reached
-        .as_ref()?
-        .iter()
-        .map(|one| table.types[*one].permits(method)?.answer)
-        .collect()
+    let answer = |one: &TypeNo| table.types[*one].permits(method)?.answer;
+    reached.as_ref()?.iter().map(answer).collect()
 }
 
-/// A shortest chain that one side permits and the other does not, if there is
-/// one at all: a search of the product of the two automata, so that chains of
-/// every length are covered.
+/// A shortest chain that one side permits and the other does not. What the two
+/// sides have reached is searched pair by pair, each pair once, so that chains
+/// of every length are covered.
 pub fn first_difference(left: All, right: All) -> Option<Vec<usize>> {
     if left.permit(&[]) != right.permit(&[]) {
         return Some(Vec::new());

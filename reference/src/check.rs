@@ -1,14 +1,14 @@
-//! "A state or table handed in gets 2 before all else if ...": the check of
-//! raw tables and states, with the reason it finds first.
+//! The check of what is handed in (H): a table or a state, or the reason for 2
+//! that is met first (the order cannot be seen, H13).
 
 use crate::raw::{self, RawState, RawTable, BROADER_BYTES};
 use crate::state::{Call, Cell, Place, State, MAX_CALLS, MAX_CELLS, MAX_PLACES};
 use crate::table::*;
 
-/// Why a handed-in table or state gets 2.
+/// Why a table or state that is handed in gets 2.
 #[derive(Clone, Copy, PartialEq, Eq, Debug, Hash, PartialOrd, Ord)]
 pub enum Reason {
-    // "a count is outside its limits"
+    // H1
     SubjectsCount,
     MethodsCount,
     CategoriesCount,
@@ -17,7 +17,7 @@ pub enum Reason {
     CellsCount,
     PlacesCount,
     CallsCount,
-    // "the table breaks a rule of the first section"
+    // H2, H3, H5, H7 and half of H6: the table
     BroaderNeitherOneNorTwo,
     BroaderNotBelow,
     RepresentationCode,
@@ -27,8 +27,7 @@ pub enum Reason {
     OwnInSignature,
     DerivedInSheetSignature,
     KindCode,
-    // "a record names a number not below that number's count (a category
-    // above the last)"
+    // H4, H6, H8 to H11: numbers that name nothing
     CategoryAboveLast,
     ArgumentUnknown,
     AnswerUnknown,
@@ -41,7 +40,7 @@ pub enum Reason {
     CallCallerUnknown,
     CallCellUnknown,
     CallMethodUnknown,
-    // The rest of the sentence.
+    // H2, H9, H10: the rest
     CellTypeNotSheetRef,
     ObjectClassNotSheetClass,
     AdapterTypeNotRef,
@@ -89,7 +88,7 @@ pub const REASONS: [Reason; 35] = [
     Reason::AnsweredCode,
 ];
 
-/// Checks a raw table; gives it as a table if it is right.
+/// The table of counts and codes, if there is no reason for 2.
 pub fn table(raw: &RawTable) -> Result<Table, Reason> {
     let subjects = limited(raw.subjects, 1, MAX_SUBJECTS, Reason::SubjectsCount)?;
     let methods = limited(raw.methods, 1, MAX_METHODS, Reason::MethodsCount)?;
@@ -114,14 +113,14 @@ pub fn table(raw: &RawTable) -> Result<Table, Reason> {
     for number in sheet_types..types {
         table.keys.push(key(raw, number, types)?);
     }
-    // "A type with own=yes stands in no signature".
+    // H7
     if table.own_in_signature() {
         return Err(Reason::OwnInSignature);
     }
     Ok(table)
 }
 
-/// Checks a raw state; gives it as a state if it is right.
+/// The state of counts and codes, if there is no reason for 2.
 pub fn state(raw: &RawState) -> Result<State, Reason> {
     let mut state = State::of_sheet(table(&raw.table)?);
     let cells = limited(raw.cells, 0, MAX_CELLS, Reason::CellsCount)?;
@@ -145,7 +144,7 @@ pub fn state(raw: &RawState) -> Result<State, Reason> {
     Ok(state)
 }
 
-/// A count within its limits.
+/// A count within its limits (H1).
 fn limited(count: u32, lowest: usize, highest: usize, reason: Reason) -> Result<usize, Reason> {
     let count = count as usize;
     if (lowest..=highest).contains(&count) {
@@ -165,7 +164,7 @@ fn below(number: u8, count: usize, reason: Reason) -> Result<usize, Reason> {
     }
 }
 
-/// "Category k, from 1, names one or two broader categories below k".
+/// The links of a category (H5); the second is not looked at where it has one (H15).
 fn broader(raw: &RawTable, category: usize) -> Result<Broader, Reason> {
     let at = category * BROADER_BYTES;
     let first = below(raw.broader[at + 1], category, Reason::BroaderNotBelow);
@@ -183,7 +182,7 @@ fn broader(raw: &RawTable, category: usize) -> Result<Broader, Reason> {
     }
 }
 
-/// One type; of a number type only representation and category count.
+/// One type; of a number type nothing else is looked at (H15).
 fn one_type(raw: &RawTable, number: usize, table: &Table, types: usize) -> Result<Type, Reason> {
     let entry = raw.entry(number);
     let representation = raw::representation(entry[0]).ok_or(Reason::RepresentationCode)?;
@@ -210,6 +209,7 @@ fn one_type(raw: &RawTable, number: usize, table: &Table, types: usize) -> Resul
     })
 }
 
+/// A flag (H2).
 fn yes_or_no(code: u8, reason: Reason) -> Result<bool, Reason> {
     match code {
         0 => Ok(false),
@@ -218,33 +218,24 @@ fn yes_or_no(code: u8, reason: Reason) -> Result<bool, Reason> {
     }
 }
 
+/// A method by its code (H2); of one that is not permitted nothing else is looked at (H15).
 fn method_state(
     bytes: &[u8],
     is_sheet: bool,
     sheet_types: usize,
     types: usize,
 ) -> Result<MethodState, Reason> {
+    let signature = || signature(bytes, is_sheet, sheet_types, types);
     match bytes[0] {
         0 => Ok(MethodState::Denied),
-        1 => Ok(MethodState::Optional(signature(
-            bytes,
-            is_sheet,
-            sheet_types,
-            types,
-        )?)),
-        2 => Ok(MethodState::Avail(signature(
-            bytes,
-            is_sheet,
-            sheet_types,
-            types,
-        )?)),
+        1 => Ok(MethodState::Optional(signature()?)),
+        2 => Ok(MethodState::Avail(signature()?)),
         3 => Ok(MethodState::Unavail),
         _ => Err(Reason::StateCode),
     }
 }
 
-/// "0 to 2 argument types and one answer type or none"; "a derived type
-/// [stands] in none of a sheet type".
+/// A signature (H3, H6).
 fn signature(
     bytes: &[u8],
     is_sheet: bool,
@@ -261,18 +252,13 @@ fn signature(
     if signature.answer.is_some_and(|one| one >= types) {
         return Err(Reason::AnswerUnknown);
     }
-    let derived = signature
-        .arguments
-        .iter()
-        .chain(&signature.answer)
-        .any(|one| *one >= sheet_types);
-    if is_sheet && derived {
+    if is_sheet && signature.named().any(|one| one >= sheet_types) {
         return Err(Reason::DerivedInSheetSignature);
     }
     Ok(signature)
 }
 
-/// Kind, left and right of a derived type.
+/// The key of a derived type (H8).
 fn key(raw: &RawTable, number: usize, types: usize) -> Result<Key, Reason> {
     let key = raw::key(raw.entry(number)).ok_or(Reason::KindCode)?;
     if key.left >= types {
@@ -284,8 +270,7 @@ fn key(raw: &RawTable, number: usize, types: usize) -> Result<Key, Reason> {
     Ok(key)
 }
 
-/// "an object's class isn't a sheet class, an adapter's type isn't ref, or an
-/// adapter's place behind isn't below it".
+/// A place (H10).
 fn place(bytes: &[u8], number: usize, table: &Table) -> Result<Place, Reason> {
     match bytes[0] {
         0 => {
@@ -308,7 +293,7 @@ fn place(bytes: &[u8], number: usize, table: &Table) -> Result<Place, Reason> {
     }
 }
 
-/// "a cell's type isn't a sheet ref type".
+/// A cell (H9).
 fn cell(bytes: &[u8], places: usize, table: &Table) -> Result<Cell, Reason> {
     let holder = below(bytes[0], table.subjects, Reason::CellHolderUnknown)?;
     let cell_type = usize::from(bytes[1]);
@@ -323,6 +308,7 @@ fn cell(bytes: &[u8], places: usize, table: &Table) -> Result<Cell, Reason> {
     })
 }
 
+/// A call (H11).
 fn call(bytes: &[u8], cells: usize, table: &Table) -> Result<Call, Reason> {
     Ok(Call {
         caller: below(bytes[0], table.subjects, Reason::CallCallerUnknown)?,

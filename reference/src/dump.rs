@@ -1,16 +1,14 @@
 //! The program `dump`: the script's output, then what the model holds.
 
-use crate::book::offered;
-use crate::chains::All;
-use crate::faults::Fault;
-use crate::script::run_with;
+use crate::chains::{offered, All};
+use crate::script::run_whole;
 use crate::sheet::type_lines;
 use crate::state::{Place, State};
 use crate::table::{Kind, Table, TypeNo};
 
 /// The script's output, then every derived type, place, cell and call.
 pub fn run(input: &[u8]) -> Vec<u8> {
-    let run = run_with(input, Fault::None);
+    let run = run_whole(input);
     let mut output = run.output;
     if let Some(model) = run.model {
         output.extend_from_slice(state(&model.state).as_bytes());
@@ -74,7 +72,7 @@ pub fn derived(table: &Table, number: TypeNo) -> String {
 /// the count of types, derived types, places, cells and calls, and short
 /// chains with whether the last cells offer them.
 pub fn account(input: &[u8]) -> String {
-    let run = run_with(input, Fault::None);
+    let run = run_whole(input);
     let mut text = String::from("--- input\n");
     text.push_str(&String::from_utf8_lossy(input));
     text.push_str("--- printed\n");

@@ -3,10 +3,11 @@
 
 use crate::check::{self, Reason, REASONS};
 use crate::gen::{self, MEDIUM, SMALL};
+use crate::model::Model;
 use crate::random::Random;
 use crate::raw::{RawState, RawTable, METHODS_AT, METHOD_BYTES, TYPE_BYTES};
 use crate::requests::Request;
-use crate::state::{Call, Cell, Model, Place, State, MAX_CALLS, MAX_CELLS, MAX_PLACES};
+use crate::state::{Call, Cell, Place, State, MAX_CALLS, MAX_CELLS, MAX_PLACES};
 use crate::table::*;
 
 /// A hostile state and requests to put to it, each to the same state or to
@@ -40,8 +41,7 @@ pub fn crowded(seed: u64) -> Hostile {
 fn bent(random: &mut Random) -> State {
     let plan = if random.chance(75) { SMALL } else { MEDIUM };
     let table = gen::table(random, &plan);
-    let (_, model) = gen::requests(random, &plan, table);
-    let mut state = model.state;
+    let mut state = gen::requests(random, &plan, table).model.state;
     if random.chance(70) {
         for _ in 0..random.within((1, 12)) {
             bend(random, &mut state);

@@ -1,26 +1,82 @@
 //! An independent model of grant sheets, references and adapters, written from
-//! the paper (01) and its readings alone. Clear before fast.
+//! the paper (01) and its readings alone. Clear before fast. Comments cite the
+//! rules of docs/SPEC.md by letter and number.
+//!
+//! A module imports only modules that stand above it here. (Blank lines keep
+//! rustfmt from sorting them.)
+
+// ---- the model
+
+// refusals
+pub mod refusal;
+
+// T
+pub mod table;
+
+// S, W
+pub mod sheet;
+
+// R
+pub mod relations;
+
+// D
+pub mod restriction;
+
+// Q
+pub mod state;
+
+pub mod requests;
+
+pub mod model;
+
+// X
+pub mod crossing;
+
+// C8 to C17, A7 to A10
+pub mod carrying;
+
+// N, M, C, A
+pub mod serving;
+
+// L
+pub mod chains;
 
 pub mod book;
-pub mod chains;
-pub mod check;
-pub mod coverage;
-pub mod crossing;
-pub mod demand;
-pub mod dump;
-pub mod external;
-pub mod faults;
-pub mod gen;
-pub mod hostile;
-pub mod pairs;
-pub mod random;
-pub mod raw;
-pub mod refusal;
-pub mod relations;
-pub mod requests;
-pub mod restriction;
+
+// P
 pub mod script;
-pub mod sheet;
+
+pub mod pairs;
+
+// B
+pub mod raw;
+
+// H
+pub mod check;
+
+// E
+pub mod entry;
+
+// ---- what makes inputs for it, and looks at what they meet
+
+pub mod demand;
+
+pub mod dump;
+
+pub mod random;
+
+pub mod damage;
+
+pub mod gen;
+
+pub mod hostile;
+
+pub mod situations;
+
+pub mod coverage;
+
+pub mod report;
+
 pub mod shrink;
-pub mod state;
-pub mod table;
+
+pub mod external;

@@ -1,11 +1,12 @@
 //! The commands of the reference model.
 
-use reference::coverage;
+use reference::check;
 use reference::dump;
+use reference::entry;
 use reference::gen::{self, Profile};
 use reference::hostile;
 use reference::pairs;
-use reference::raw;
+use reference::report;
 use reference::script;
 use std::io::{Read, Write};
 use std::process::ExitCode;
@@ -44,10 +45,10 @@ fn output(words: &[&str]) -> Option<Vec<u8>> {
             Some(gen::generate(seed.parse().ok()?, profile))
         }
         ["hostile", seed] => Some(hostile_text(seed.parse().ok()?).into_bytes()),
-        ["cover"] => Some(coverage::collect(0..500).text().into_bytes()),
+        ["cover"] => Some(report::collect(0..500).text().into_bytes()),
         ["cover", seeds] => {
             let seeds = seeds.parse().ok()?;
-            Some(coverage::collect(0..seeds).text().into_bytes())
+            Some(report::collect(0..seeds).text().into_bytes())
         }
         _ => None,
     }
@@ -64,11 +65,11 @@ fn input() -> Vec<u8> {
 fn hostile_text(seed: u64) -> String {
     let hostile = hostile::generate(seed);
     let mut text = format!("{:?}", hostile.state);
-    let reason = reference::check::state(&hostile.state).err();
+    let reason = check::state(&hostile.state).err();
     text.push_str(&format!("reason for 2: {reason:?}\n"));
     let mut state = hostile.state.clone();
     for request in &hostile.requests {
-        let result = raw::request(&mut state, request);
+        let result = entry::request(&mut state, request);
         text.push_str(&format!("{request:?} {result:?}\n"));
     }
     text

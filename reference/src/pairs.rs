@@ -1,6 +1,5 @@
-//! Compare, and the program `pairs` that prints it for every pair.
+//! Compare (R14), and the program `pairs` (P16, P17).
 
-use crate::faults::Fault;
 use crate::refusal::{Refusal, TYPE};
 use crate::relations::{Relations, RELATIONS};
 use crate::requests::index;
@@ -8,25 +7,28 @@ use crate::script::MAX_INPUT;
 use crate::sheet;
 use crate::table::Table;
 
-/// "Compare (T, S): 7 if either number isn't in the table, else the four
-/// answers": subtype (S of T), strict, loose, free (T from S).
+/// The four answers at a pair of types (R14).
 pub fn compare(table: &Table, t: i64, s: i64) -> Result<[bool; 4], Refusal> {
     let t = index(t, table.types.len()).ok_or(TYPE)?;
     let s = index(s, table.types.len()).ok_or(TYPE)?;
-    let relations = Relations::of(table, Fault::None);
+    let relations = Relations::of(table);
     Ok(RELATIONS.map(|relation| relations.holds(relation, t, s)))
 }
 
-/// A line for every pair, T rising and then S: `T S a b c d`.
+/// What `pairs` prints for an input (P1, P16, P17).
 pub fn run(input: &[u8]) -> Vec<u8> {
     if input.len() > MAX_INPUT {
         return b"no=2\n".to_vec();
     }
-    let table = match sheet::read(input) {
-        Ok(table) => table,
-        Err((number, offset)) => return format!("no={number} at={offset}\n").into_bytes(),
-    };
-    let relations = Relations::of(&table, Fault::None);
+    match sheet::read(input) {
+        Ok(table) => lines(&table).into_bytes(),
+        Err(refusal) => refused(refusal),
+    }
+}
+
+/// A line for every pair of a sheet's types (P17).
+fn lines(table: &Table) -> String {
+    let relations = Relations::of(table);
     let mut output = String::new();
     for t in 0..table.types.len() {
         for s in 0..table.types.len() {
@@ -35,13 +37,17 @@ pub fn run(input: &[u8]) -> Vec<u8> {
             output.push_str(&format!("{t} {s} {}\n", answers.join(" ")));
         }
     }
-    output.into_bytes()
+    output
 }
 
-/// The program `sheet`: `ok`, or `no=N at=OFFSET`.
+/// Whether a sheet is read: `ok`, or where and why not.
 pub fn run_sheet(input: &[u8]) -> Vec<u8> {
     match sheet::read(input) {
         Ok(_) => b"ok\n".to_vec(),
-        Err((number, offset)) => format!("no={number} at={offset}\n").into_bytes(),
+        Err(refusal) => refused(refusal),
     }
+}
+
+fn refused((number, offset): sheet::SheetRefusal) -> Vec<u8> {
+    format!("no={number} at={offset}\n").into_bytes()
 }

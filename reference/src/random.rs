@@ -35,6 +35,11 @@ impl Random {
         &list[self.below(list.len())]
     }
 
+    /// One of a list, if there is any in it.
+    pub fn pick_some<'a, T>(&mut self, list: &'a [T]) -> Option<&'a T> {
+        (!list.is_empty()).then(|| self.pick(list))
+    }
+
     /// An index, chosen by weights that are not all 0.
     pub fn weighted(&mut self, weights: &[usize]) -> usize {
         let mut left = self.below(weights.iter().sum());

@@ -1,37 +1,20 @@
-//! Tables and states as they are handed in: counts and codes as plain
-//! integers, any of which may be wrong. This is the one place that knows the
-//! byte layout.
-//!
-//! A table's types are 128 bytes each: byte 0 representation (0 ref, 1 w32,
-//! 2 w64), 1 category, 2 own (0 no, 1 yes), 3 derived kind (0 Sub, 1 Sup,
-//! 2 Closed), 4 left, 5 right, 6 to 15 spare, then for each of 16 methods
-//! seven bytes: state (0 denied, 1 optional, 2 avail, 3 unavail), argument
-//! count, four argument types, answer (0 none, else type number + 1).
-//! Broader links are three bytes for each category from 0 (unused): how many
-//! (1 or 2), first, second.
-//! A cell is three bytes: holder, type, place. A place is three bytes: 0 for
-//! an object, class, owner; 1 for an adapter, place behind, closed type. A
-//! call is four bytes: caller, cell, method, answered (0 no, 1 yes).
+//! Tables and states as they are handed in (B): counts and codes as plain
+//! numbers, any of which may be wrong. Only this module knows the layout.
 
-use crate::book;
-use crate::chains::All;
-use crate::check;
-use crate::faults::Fault;
-use crate::pairs;
-use crate::refusal::{Refusal, RANGE, TYPE};
-use crate::requests::{index, Got, Request};
-use crate::restriction;
-use crate::sheet;
-use crate::state::{Call, Cell, Model, Place, State, MAX_CALLS, MAX_CELLS, MAX_PLACES};
+use crate::state::{Call, Cell, Place, State, MAX_CALLS, MAX_CELLS, MAX_PLACES};
 use crate::table::{
-    Broader, Key, Kind, MethodState, Representation, Signature, Table, TypeNo, MAX_CATEGORIES,
-    MAX_METHODS, MAX_TYPES,
+    Broader, Key, Kind, MethodState, Representation, Signature, Table, MAX_CATEGORIES, MAX_METHODS,
+    MAX_TYPES,
 };
 
+/// The bytes of a type (B1), and in it those of a method (B7), with the slots
+/// of its arguments (B9).
 pub const TYPE_BYTES: usize = 128;
 pub const METHODS_AT: usize = 16;
 pub const METHOD_BYTES: usize = 7;
 pub const ARGUMENT_SLOTS: usize = 4;
+/// The bytes of a category's links (B11), a cell (B26), a place (B27) and a
+/// call (B28).
 pub const BROADER_BYTES: usize = 3;
 pub const CELL_BYTES: usize = 3;
 pub const PLACE_BYTES: usize = 3;
@@ -43,7 +26,7 @@ pub const CELLS_LENGTH: usize = MAX_CELLS * CELL_BYTES;
 pub const PLACES_LENGTH: usize = MAX_PLACES * PLACE_BYTES;
 pub const CALLS_LENGTH: usize = MAX_CALLS * CALL_BYTES;
 
-/// A table of any counts and codes.
+/// A table of any counts (B12) and codes.
 #[derive(Clone, PartialEq, Eq)]
 pub struct RawTable {
     pub subjects: u32,
@@ -55,7 +38,7 @@ pub struct RawTable {
     pub type_bytes: [u8; TYPES_LENGTH],
 }
 
-/// A state of any counts and codes.
+/// A state of any counts (B29) and codes (B25).
 #[derive(Clone, PartialEq, Eq)]
 pub struct RawState {
     pub table: RawTable,
@@ -68,7 +51,7 @@ pub struct RawState {
 }
 
 impl Default for RawTable {
-    /// "here with every count 0".
+    /// The table of a refused sheet (B21).
     fn default() -> RawTable {
         RawTable {
             subjects: 0,
@@ -83,7 +66,7 @@ impl Default for RawTable {
 }
 
 impl RawTable {
-    /// The bytes of a table that is right.
+    /// The records of a table (B13 to B21).
     pub fn of(table: &Table) -> RawTable {
         let mut raw = RawTable {
             subjects: count(table.subjects),
@@ -132,8 +115,8 @@ impl RawTable {
         }
     }
 
-    /// Takes in the types that a table has from the given number on.
-    fn add_types(&mut self, table: &Table, from: usize) {
+    /// Takes in the types that a table has from a number on (B22).
+    pub fn add_types(&mut self, table: &Table, from: usize) {
         for number in from..table.types.len() {
             self.put_type(table, number);
         }
@@ -178,7 +161,7 @@ fn put_method(bytes: &mut [u8], state: &MethodState) {
 }
 
 impl RawState {
-    /// The bytes of a state that is right.
+    /// The records of a state (B30).
     pub fn of(state: &State) -> RawState {
         let mut raw = RawState {
             table: RawTable::of(&state.table),
@@ -212,8 +195,8 @@ impl RawState {
         self.calls = count(state.calls.len());
     }
 
-    /// Takes in what accepted requests changed from `before` to `after`:
-    /// records are added at the end, and calls may have been answered.
+    /// Takes in what requests changed from `before` to `after`: records at the
+    /// end, and answered flags (Q15).
     pub fn update(&mut self, before: &State, after: &State) {
         self.table.add_types(&after.table, before.table.types.len());
         for (number, call) in before.calls.iter().enumerate() {
@@ -275,14 +258,14 @@ fn call_bytes(call: Call) -> [u8; CALL_BYTES] {
 }
 
 fn byte(number: usize) -> u8 {
-    u8::try_from(number).expect("numbers of a right table fit a byte")
+    u8::try_from(number).expect("a table's numbers fit a byte")
 }
 
 fn count(number: usize) -> u32 {
-    u32::try_from(number).expect("counts of a right table are small")
+    u32::try_from(number).expect("a table's counts are small")
 }
 
-/// The representation of a code.
+/// The representation of a code (B2).
 pub fn representation(code: u8) -> Option<Representation> {
     match code {
         0 => Some(Representation::Ref),
@@ -292,7 +275,7 @@ pub fn representation(code: u8) -> Option<Representation> {
     }
 }
 
-/// The kind of a code.
+/// The kind of a code (B5).
 pub fn kind(code: u8) -> Option<Kind> {
     match code {
         0 => Some(Kind::Sub),
@@ -311,7 +294,7 @@ pub fn key(entry: &[u8]) -> Option<Key> {
     })
 }
 
-/// The signature in a method's bytes, its argument count not above four.
+/// The signature in a method's bytes (B9, B10).
 pub fn signature(bytes: &[u8]) -> Signature {
     let arguments = usize::from(bytes[1]).min(ARGUMENT_SLOTS);
     Signature {
@@ -321,84 +304,6 @@ pub fn signature(bytes: &[u8]) -> Signature {
             .collect(),
         answer: usize::from(bytes[2 + ARGUMENT_SLOTS]).checked_sub(1),
     }
-}
-
-/// Sheet read into a new table: on a refusal it has every count 0.
-pub fn read(input: &[u8]) -> (RawTable, Result<(), (Refusal, usize)>) {
-    match sheet::read(input) {
-        Ok(table) => (RawTable::of(&table), Ok(())),
-        Err(refusal) => (RawTable::default(), Err(refusal)),
-    }
-}
-
-/// Sheet write of a handed-in table: 2, then 4, the buffer unchanged in both.
-pub fn write(raw: &RawTable, buffer: &mut [u8]) -> Result<usize, Refusal> {
-    let table = check::table(raw).map_err(|_| RANGE)?;
-    sheet::write(&table, buffer)
-}
-
-/// Compare on a handed-in table: 2, then 7, else the four answers.
-pub fn compare(raw: &RawTable, t: i64, s: i64) -> Result<[bool; 4], Refusal> {
-    let table = check::table(raw).map_err(|_| RANGE)?;
-    pairs::compare(&table, t, s)
-}
-
-/// Sub (kind 0), Sup (1) or Closed (2) on a handed-in table: 2, then 7 for a
-/// kind or number that names nothing and for Closed of a type that is no
-/// reference, then 11. A refusal leaves the whole record as it was; otherwise
-/// types are added and no other byte changes.
-pub fn derive(raw: &mut RawTable, kind: usize, t: i64, s: i64) -> Result<TypeNo, Refusal> {
-    let mut table = check::table(raw).map_err(|_| RANGE)?;
-    let before = table.types.len();
-    let code = u8::try_from(kind).map_err(|_| TYPE)?;
-    let kind = self::kind(code).ok_or(TYPE)?;
-    let t = index(t, before).ok_or(TYPE)?;
-    let s = index(s, before).ok_or(TYPE)?;
-    let both_ref = table.types[t].is_ref() && table.types[s].is_ref();
-    let number = match kind {
-        Kind::Sub => restriction::sub(&mut table, t, s, Fault::None)?,
-        Kind::Sup => restriction::sup(&mut table, t, s, Fault::None)?,
-        Kind::Closed if both_ref => restriction::closed(&mut table, t, s, Fault::None)?,
-        Kind::Closed => return Err(TYPE),
-    };
-    raw.add_types(&table, before);
-    Ok(number)
-}
-
-/// A request on a handed-in state: 2 before all else. A refusal leaves the
-/// whole record as it was; an acceptance adds records and changes no other
-/// byte but the answered one of a call.
-pub fn request(raw: &mut RawState, request: &Request) -> Result<Got, Refusal> {
-    request_with(raw, request, Fault::None)
-}
-
-/// The same with a deliberate fault.
-pub fn request_with(raw: &mut RawState, request: &Request, fault: Fault) -> Result<Got, Refusal> {
-    let state = check::state(raw).map_err(|_| RANGE)?;
-    let mut model = Model::with_fault(state.clone(), fault);
-    let result = model.request(request);
-    // what a refusal leaves is the state as it was, without a fault
-    raw.update(&state, &model.state);
-    result
-}
-
-/// Whether a cell of a handed-in state offers a chain: 2 before all else; a
-/// number that names no cell or no method is offered nothing.
-pub fn offers(raw: &RawState, cell: i64, chain: &[i64]) -> Result<bool, Refusal> {
-    let state = check::state(raw).map_err(|_| RANGE)?;
-    let Some(cell) = index(cell, state.cells.len()) else {
-        return Ok(false);
-    };
-    let methods: Option<Vec<usize>> = chain
-        .iter()
-        .map(|method| index(*method, state.table.methods))
-        .collect();
-    let types = book::offered(&state, cell);
-    let all = All {
-        table: &state.table,
-        types: &types,
-    };
-    Ok(methods.is_some_and(|methods| all.permit(&methods)))
 }
 
 impl std::fmt::Debug for RawTable {

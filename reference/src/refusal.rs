@@ -1,43 +1,44 @@
-//! The refusal numbers of 01.
+//! The numbers of the refusals: each is that of the first test that failed.
 
-/// A refusal "returns its number alone".
+/// A refusal's number, from 1 to 19.
 pub type Refusal = u32;
 
-/// Form of a line.
+/// A line is not of the form that is due (S28, P11).
 pub const FORM: Refusal = 1;
-/// A number outside its range; a handed-in table or state that is not right.
+/// A number outside its range (S29), or something handed in that does not pass (H).
 pub const RANGE: Refusal = 2;
-/// A broader category not below; own in a signature.
+/// A broader category not below its own (S12); own in a signature (S13).
 pub const BROADER: Refusal = 3;
-/// Sheet write: the buffer is short.
+/// The buffer is shorter than the text (W2).
 pub const SHORT_BUFFER: Refusal = 4;
-/// Subject unknown.
+/// A subject is unknown (N1, M1, C1, A1).
 pub const SUBJECT: Refusal = 5;
-/// Cell or call unknown or another's.
+/// A cell is unknown or another's (M2, C2); a call is unknown or for another to answer (A2).
 pub const NOT_HELD: Refusal = 6;
-/// Not a type of the kind that is asked for.
+/// No type, or none of the kind that is asked for (R14, N2, N3, M3, E10).
 pub const TYPE: Refusal = 7;
-/// The pair does not cross: free (own target) or loose does not hold.
+/// Free or loose does not hold (X1); the first layer is unfit (C15).
 pub const CROSSING: Refusal = 8;
-/// Own target: the receiver does not own the base.
+/// The target is own, and the base is not the receiver's (X2).
 pub const NOT_OWNER: Refusal = 9;
-/// Strict does not hold.
+/// Strict does not hold (X7).
 pub const STRICT: Refusal = 10;
-/// The table is full.
+/// No type number is free (D15).
 pub const TYPES_FULL: Refusal = 11;
-/// The places are full.
+/// No place is free (N4, X9).
 pub const PLACES_FULL: Refusal = 12;
-/// The cells are full.
+/// No cell is free (N7, M5, C17, A10).
 pub const CELLS_FULL: Refusal = 13;
-/// Method unknown or not avail in the cell's type.
+/// The method is unknown, or not avail in the cell's type (C3).
 pub const METHOD: Refusal = 14;
-/// Wrong arguments, or the wrong thing as an answer.
+/// The wrong number of arguments, a cell not held, or a value where none is due or the reverse
+/// (C4, C5, A5, A6).
 pub const ARGUMENTS: Refusal = 15;
-/// A number that doesn't fit w32.
+/// A number too wide for w32 (C14).
 pub const WIDTH: Refusal = 16;
-/// Already answered.
+/// The call has its answer (A3).
 pub const ANSWERED: Refusal = 17;
-/// The calls are full.
+/// No call is free (C7).
 pub const CALLS_FULL: Refusal = 18;
-/// 8 or 10 at a later crossing.
+/// What would be 8 or 10, at a layer past the first (C13).
 pub const LATER_CROSSING: Refusal = 19;

@@ -1,124 +1,70 @@
-//! "Restriction": Sub, Sup and Closed, each bringing new types into the table
-//! or using known ones again.
+//! Restriction (D): Sub, Sup and Closed, which derive a type from two.
 
-use crate::faults::Fault;
 use crate::refusal::{Refusal, TYPES_FULL};
 use crate::table::{
     Key, Kind, MethodState, Representation, Signature, Table, Type, TypeNo, MAX_TYPES,
 };
+use MethodState::{Avail, Denied, Optional, Unavail};
 
-/// Sub(T,S): "has T's category and states, except that a method T permits and
-/// S doesn't becomes unavail".
-pub fn sub(table: &mut Table, t: TypeNo, s: TypeNo, fault: Fault) -> Result<TypeNo, Refusal> {
-    // "Sub and Sup of a type with itself are that type; of numbers, Sub is T"
+/// A restriction: the number of its type, or 11.
+type Restriction = fn(&mut Table, TypeNo, TypeNo) -> Result<TypeNo, Refusal>;
+
+/// Sub(T,S): T, of which only that is left which S permits too.
+pub fn sub(table: &mut Table, t: TypeNo, s: TypeNo) -> Result<TypeNo, Refusal> {
+    // D12, D13
     if t == s || !both_ref(table, t, s) {
         return Ok(t);
     }
-    let key = Key {
-        kind: Kind::Sub,
-        left: t,
-        right: s,
-    };
-    let category = table.types[t].category;
-    derive(table, key, category, fault, sub_method)
+    derive(table, key(Kind::Sub, t, s))
 }
 
-/// Sup(T,S): "has S's category and states, except that a method S permits and
-/// T doesn't becomes denied".
-pub fn sup(table: &mut Table, t: TypeNo, s: TypeNo, fault: Fault) -> Result<TypeNo, Refusal> {
-    // "of numbers, ... Sup is S"
+/// Sup(T,S): S, of which only that is left which T permits too.
+pub fn sup(table: &mut Table, t: TypeNo, s: TypeNo) -> Result<TypeNo, Refusal> {
+    // D12, D13
     if t == s || !both_ref(table, t, s) {
         return Ok(s);
     }
-    let key = Key {
-        kind: Kind::Sup,
-        left: t,
-        right: s,
-    };
-    let category = match fault {
-        Fault::SupCategoryOfTarget => table.types[t].category,
-        _ => table.types[s].category,
-    };
-    derive(table, key, category, fault, sup_method)
+    derive(table, key(Kind::Sup, t, s))
 }
 
-/// Closed(R,V): "is Sub(R,V) with optional made avail and denied made unavail
-/// on the outside; a method not avail in V is unavail. It takes one number".
-pub fn closed(table: &mut Table, r: TypeNo, v: TypeNo, fault: Fault) -> Result<TypeNo, Refusal> {
-    let key = Key {
-        kind: Kind::Closed,
-        left: r,
-        right: v,
-    };
-    let category = table.types[r].category;
-    derive(table, key, category, fault, closed_method)
+/// Closed(R,V): the type of an adapter in front of V that lets through what R permits.
+pub fn closed(table: &mut Table, r: TypeNo, v: TypeNo) -> Result<TypeNo, Refusal> {
+    derive(table, key(Kind::Closed, r, v))
 }
 
-/// A reference meets a number only where neither loose nor strict holds, which
-/// is never asked by a crossing (READINGS C17); then, as for two numbers,
-/// nothing is derived.
+fn key(kind: Kind, left: TypeNo, right: TypeNo) -> Key {
+    Key { kind, left, right }
+}
+
 fn both_ref(table: &Table, t: TypeNo, s: TypeNo) -> bool {
     table.types[t].is_ref() && table.types[s].is_ref()
 }
 
-/// How one method of a derived type follows from left and right type.
-type Method = fn(&mut Table, Key, usize, Fault) -> Result<MethodState, Refusal>;
-
-/// "The lowest known one is used again. A new one takes the next number before
-/// its signatures are derived, methods in order".
-fn derive(
-    table: &mut Table,
-    key: Key,
-    category: usize,
-    fault: Fault,
-    method_of: Method,
-) -> Result<TypeNo, Refusal> {
-    if let Some(known) = known(table, key, fault) {
+/// The known type of a key (D14), or a new one. It has its number while its
+/// signatures are derived (D16), and no methods yet: nothing reads them.
+fn derive(table: &mut Table, key: Key) -> Result<TypeNo, Refusal> {
+    if let Some(known) = table.known(key) {
         return Ok(known);
     }
-    if fault == Fault::NumberAfterSignatures && key.kind == Kind::Closed {
-        return derive_late(table, key, category, fault, method_of);
-    }
-    let number = take_number(table, key, category, fault)?;
-    for method in 0..table.methods {
-        let state = method_of(table, key, method, fault)?;
-        table.types[number].methods.push(state);
-    }
+    let number = take_number(table, key)?;
+    table.types[number].methods = methods(table, key)?;
     Ok(number)
 }
 
-/// The lowest known type with this key. (The fault still finds a type that is
-/// being derived, or it would not end.)
-fn known(table: &Table, key: Key, fault: Fault) -> Option<TypeNo> {
-    let known = table.known(key)?;
-    let complete = table.types[known].methods.len() == table.methods;
-    if fault == Fault::KnownNotReused && complete {
-        return (table.sheet_types..table.types.len())
-            .filter(|number| table.keys[number - table.sheet_types] == key)
-            .find(|number| table.types[*number].methods.len() < table.methods);
-    }
-    Some(known)
-}
-
-/// The next number, with representation ref and own=no, if one is left of the
-/// 128 (11).
-fn take_number(
-    table: &mut Table,
-    key: Key,
-    category: usize,
-    fault: Fault,
-) -> Result<TypeNo, Refusal> {
-    let limit = match fault {
-        Fault::TableFullEarly => MAX_TYPES - 1,
-        _ => MAX_TYPES,
-    };
+/// The next number, for a type of this key (D15). Own is no (D11).
+fn take_number(table: &mut Table, key: Key) -> Result<TypeNo, Refusal> {
     let number = table.types.len();
-    if number >= limit {
+    if number >= MAX_TYPES {
         return Err(TYPES_FULL);
     }
+    // D1, D3, D7
+    let like = match key.kind {
+        Kind::Sub | Kind::Closed => key.left,
+        Kind::Sup => key.right,
+    };
     table.types.push(Type {
         representation: Representation::Ref,
-        category,
+        category: table.types[like].category,
         own: false,
         methods: Vec::new(),
     });
@@ -126,126 +72,65 @@ fn take_number(
     Ok(number)
 }
 
-/// The fault of taking the number of a closed type behind its signatures.
-fn derive_late(
-    table: &mut Table,
-    key: Key,
-    category: usize,
-    fault: Fault,
-    method_of: Method,
-) -> Result<TypeNo, Refusal> {
-    let mut methods = Vec::new();
-    for method in 0..table.methods {
-        methods.push(method_of(table, key, method, fault)?);
-    }
-    let number = take_number(table, key, category, fault)?;
-    table.types[number].methods = methods;
-    Ok(number)
-}
-
-/// One method of Sub(T,S).
-fn sub_method(
-    table: &mut Table,
-    key: Key,
-    method: usize,
-    fault: Fault,
-) -> Result<MethodState, Refusal> {
-    let of_t = table.types[key.left].methods[method].clone();
-    let of_s = table.types[key.right].methods[method].clone();
-    match (&of_t, of_s.signature()) {
-        (MethodState::Denied | MethodState::Unavail, _) => Ok(of_t),
-        (_, None) => Ok(MethodState::Unavail),
-        (MethodState::Optional(t), Some(s)) => {
-            Ok(MethodState::Optional(sub_signature(table, t, s, fault)?))
-        }
-        (MethodState::Avail(t), Some(s)) => {
-            Ok(MethodState::Avail(sub_signature(table, t, s, fault)?))
-        }
-    }
-}
-
-/// One method of Sup(T,S).
-fn sup_method(
-    table: &mut Table,
-    key: Key,
-    method: usize,
-    fault: Fault,
-) -> Result<MethodState, Refusal> {
-    let of_t = table.types[key.left].methods[method].clone();
-    let of_s = table.types[key.right].methods[method].clone();
-    match (of_t.signature(), &of_s) {
-        (_, MethodState::Denied | MethodState::Unavail) => Ok(of_s),
-        (None, _) => Ok(MethodState::Denied),
-        (Some(t), MethodState::Optional(s)) => {
-            Ok(MethodState::Optional(sup_signature(table, t, s, fault)?))
-        }
-        (Some(t), MethodState::Avail(s)) => {
-            Ok(MethodState::Avail(sup_signature(table, t, s, fault)?))
-        }
-    }
-}
-
-/// One method of Closed(R,V). A method that ends unavail has no signature, so
-/// nothing is derived for it (READINGS C5).
-fn closed_method(
-    table: &mut Table,
-    key: Key,
-    method: usize,
-    fault: Fault,
-) -> Result<MethodState, Refusal> {
-    let of_r = table.types[key.left].methods[method].clone();
-    let of_v = table.types[key.right].methods[method].clone();
-    match (of_r.signature(), &of_v) {
-        (Some(r), MethodState::Avail(v)) => {
-            let mut signature = sub_signature(table, r, v, fault)?;
-            if fault == Fault::AnswerUnrestricted {
-                signature.answer = v.answer;
+/// The methods of a derived type, in order of their numbers (D17).
+fn methods(table: &mut Table, key: Key) -> Result<Vec<MethodState>, Refusal> {
+    let count = table.methods;
+    (0..count)
+        .map(|method| {
+            let left = table.types[key.left].state(method).clone();
+            let right = table.types[key.right].state(method).clone();
+            match key.kind {
+                Kind::Sub => sub_state(table, left, right),
+                Kind::Sup => sup_state(table, left, right),
+                Kind::Closed => closed_state(table, left, right),
             }
-            Ok(MethodState::Avail(signature))
-        }
-        _ => Ok(MethodState::Unavail),
-    }
+        })
+        .collect()
 }
 
-/// "Sub has arguments Sup(S argument, T argument) and answer Sub(T answer, S
-/// answer)", "arguments before answer, each to its end".
-fn sub_signature(
+/// D2, with the signatures of D5.
+fn sub_state(table: &mut Table, t: MethodState, s: MethodState) -> Result<MethodState, Refusal> {
+    Ok(match (t, s.signature()) {
+        (Optional(t), Some(s)) => Optional(signature(table, &t, s, sup, sub)?),
+        (Avail(t), Some(s)) => Avail(signature(table, &t, s, sup, sub)?),
+        (Optional(_) | Avail(_), None) => Unavail,
+        (other, _) => other,
+    })
+}
+
+/// D4, with the signatures of D6.
+fn sup_state(table: &mut Table, t: MethodState, s: MethodState) -> Result<MethodState, Refusal> {
+    Ok(match (t.signature(), s) {
+        (Some(t), Optional(s)) => Optional(signature(table, t, &s, sub, sup)?),
+        (Some(t), Avail(s)) => Avail(signature(table, t, &s, sub, sup)?),
+        (None, Optional(_) | Avail(_)) => Denied,
+        (_, other) => other,
+    })
+}
+
+/// D8, with the signatures of D9.
+fn closed_state(table: &mut Table, r: MethodState, v: MethodState) -> Result<MethodState, Refusal> {
+    Ok(match (r.signature(), v) {
+        (Some(r), Avail(v)) => Avail(signature(table, r, &v, sup, sub)?),
+        _ => Unavail,
+    })
+}
+
+/// The signature of a method that both sides permit: each argument with the
+/// sides exchanged, then the answer (D5, D6); as far as both have one (D20).
+fn signature(
     table: &mut Table,
     t: &Signature,
     s: &Signature,
-    fault: Fault,
+    of_arguments: Restriction,
+    of_answer: Restriction,
 ) -> Result<Signature, Refusal> {
     let mut arguments = Vec::new();
     for (of_t, of_s) in t.arguments.iter().zip(&s.arguments) {
-        arguments.push(match fault {
-            Fault::ArgumentsInAnswerDirection => sub(table, *of_t, *of_s, fault)?,
-            _ => sup(table, *of_s, *of_t, fault)?,
-        });
+        arguments.push(of_arguments(table, *of_s, *of_t)?);
     }
     let answer = match (t.answer, s.answer) {
-        (Some(of_t), Some(of_s)) => Some(sub(table, of_t, of_s, fault)?),
-        _ => None,
-    };
-    Ok(Signature { arguments, answer })
-}
-
-/// "Sup has arguments Sub(S argument, T argument) and answer Sup(T answer, S
-/// answer)."
-fn sup_signature(
-    table: &mut Table,
-    t: &Signature,
-    s: &Signature,
-    fault: Fault,
-) -> Result<Signature, Refusal> {
-    let mut arguments = Vec::new();
-    for (of_t, of_s) in t.arguments.iter().zip(&s.arguments) {
-        arguments.push(match fault {
-            Fault::ArgumentsInAnswerDirection => sup(table, *of_t, *of_s, fault)?,
-            _ => sub(table, *of_s, *of_t, fault)?,
-        });
-    }
-    let answer = match (t.answer, s.answer) {
-        (Some(of_t), Some(of_s)) => Some(sup(table, of_t, of_s, fault)?),
+        (Some(of_t), Some(of_s)) => Some(of_answer(table, of_t, of_s)?),
         _ => None,
     };
     Ok(Signature { arguments, answer })

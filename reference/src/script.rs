@@ -1,77 +1,104 @@
-//! The program: "A program reads a sheet and `do=` lines from standard input".
+//! The program `script` (P1 to P15): a sheet and requests come in as lines, a
+//! line of answer goes out for each.
 
-use crate::faults::Fault;
+use crate::model::Model;
 use crate::refusal::{Refusal, FORM, RANGE};
 use crate::requests::{Got, Request};
 use crate::sheet;
-use crate::state::{Model, State};
+use crate::state::State;
+use crate::table::Table;
 
-/// "32,768 bytes at most".
+/// The longest input, in bytes (P1).
 pub const MAX_INPUT: usize = 32_768;
 
-/// A run of the program: what it printed, and the model as it stood at the end.
+/// An input as it is read: a table, requests, and whether a malformed line
+/// ended them.
+pub struct Script {
+    pub table: Table,
+    pub requests: Vec<Request>,
+    pub malformed: bool,
+}
+
+/// Reads an input, refused where it is too long or its sheet is (P1 to P4).
+pub fn read(input: &[u8]) -> Result<Script, Refusal> {
+    if input.len() > MAX_INPUT {
+        return Err(RANGE);
+    }
+    let (text, mut rest) = split(input);
+    let mut script = Script {
+        table: sheet::read(text).map_err(|(number, _)| number)?,
+        requests: Vec::new(),
+        malformed: false,
+    };
+    while !rest.is_empty() && !script.malformed {
+        match next_request(rest) {
+            Some((request, behind)) => {
+                script.requests.push(request);
+                rest = behind;
+            }
+            None => script.malformed = true,
+        }
+    }
+    Ok(script)
+}
+
+/// A run of the program: what it printed, the requests in order with their
+/// results, and the model in the end.
 pub struct Run {
     pub output: Vec<u8>,
-    /// `None` where the sheet was refused or the input too long.
+    pub requests: Vec<Request>,
+    pub results: Vec<Result<Got, Refusal>>,
+    /// `None` where the input was refused.
     pub model: Option<Model>,
-    /// The requests in order, each with its result.
-    pub requests: Vec<(Request, Result<Got, Refusal>)>,
 }
 
 /// What the program prints for an input.
 pub fn run(input: &[u8]) -> Vec<u8> {
-    run_with(input, Fault::None).output
+    run_whole(input).output
 }
 
-/// Runs the program, with a deliberate fault or none.
-pub fn run_with(input: &[u8], fault: Fault) -> Run {
-    let mut run = Run {
-        output: Vec::new(),
-        model: None,
+/// A run of the program on an input.
+pub fn run_whole(input: &[u8]) -> Run {
+    let script = match read(input) {
+        Ok(script) => script,
+        Err(number) => return refused(number),
+    };
+    let mut model = Model::new(State::of_sheet(script.table));
+    let results = script.requests.iter().map(|one| model.request(one));
+    let results: Vec<Result<Got, Refusal>> = results.collect();
+    Run {
+        output: printed(&results, script.malformed),
+        requests: script.requests,
+        results,
+        model: Some(model),
+    }
+}
+
+/// The run of an input that is refused as a whole (P1, P3).
+fn refused(number: Refusal) -> Run {
+    Run {
+        output: printed(&[Err(number)], false),
         requests: Vec::new(),
-    };
-    if input.len() > MAX_INPUT {
-        run.refuse(RANGE);
-        return run;
-    }
-    let (sheet, mut rest) = split(input);
-    let table = match sheet::read(sheet) {
-        Ok(table) => table,
-        Err((number, _)) => {
-            run.refuse(number);
-            return run;
-        }
-    };
-    let mut model = Model::with_fault(State::of_sheet(table), fault);
-    while !rest.is_empty() {
-        let Some((request, behind)) = next_request(rest) else {
-            run.refuse(FORM);
-            break;
-        };
-        rest = behind;
-        let result = model.request(&request);
-        match result {
-            Ok(got) => run.print(&got_line(got)),
-            Err(number) => run.refuse(number),
-        }
-        run.requests.push((request, result));
-    }
-    run.model = Some(model);
-    run
-}
-
-impl Run {
-    fn print(&mut self, line: &str) {
-        self.output.extend_from_slice(line.as_bytes());
-        self.output.push(b'\n');
-    }
-
-    fn refuse(&mut self, number: Refusal) {
-        self.print(&format!("no={number}"));
+        results: Vec::new(),
+        model: None,
     }
 }
 
-/// "`got=` cell and place, or call and adapters, or a number, or `-`".
+/// A line for each result, and one for a malformed line (P11 to P13, P15).
+pub fn printed(results: &[Result<Got, Refusal>], malformed: bool) -> Vec<u8> {
+    let last = malformed.then_some(Err(FORM));
+    let lines = results
+        .iter()
+        .copied()
+        .chain(last)
+        .map(|result| match result {
+            Ok(got) => got_line(got),
+            Err(number) => format!("no={number}"),
+        });
+    lines.flat_map(|line| (line + "\n").into_bytes()).collect()
+}
+
+/// The line of an accepted request (P12).
 pub fn got_line(got: Got) -> String {
     match got {
         Got::Cell { cell, place } => format!("got={cell} {place}"),
@@ -81,8 +108,7 @@ pub fn got_line(got: Got) -> String {
     }
 }
 
-/// "The sheet runs to the first `end=sheet` line, or is the whole input if
-/// there is none."
+/// The sheet and what is behind it (P2).
 pub fn split(input: &[u8]) -> (&[u8], &[u8]) {
     let mut at = 0;
     while let Some(length) = input[at..].iter().position(|byte| *byte == b'\n') {
@@ -95,56 +121,55 @@ pub fn split(input: &[u8]) -> (&[u8], &[u8]) {
     (input, &[])
 }
 
-/// The next request and what is behind its line; `None` if it is malformed.
+/// The request of the next line and what is behind it; `None` where it is malformed (P11).
 fn next_request(rest: &[u8]) -> Option<(Request, &[u8])> {
     let length = rest.iter().position(|byte| *byte == b'\n')?;
     let request = parse(&rest[..length])?;
     Some((request, &rest[length + 1..]))
 }
 
-/// A `do=` line without its LF. "Operands are signed 64-bit decimals with
-/// single spaces".
+/// A line without its LF as a request (P5 to P11).
 pub fn parse(line: &[u8]) -> Option<Request> {
     let text = std::str::from_utf8(line).ok()?.strip_prefix("do=")?;
     let mut words = text.split(' ');
     let name = words.next()?;
     let words: Vec<&str> = words.collect();
-    match (name, words.as_slice()) {
-        ("new", [subject, class, cell_type]) => Some(Request::New {
+    Some(match (name, words.as_slice()) {
+        ("new", [subject, class, cell_type]) => Request::New {
             subject: operand(subject)?,
             class: operand(class)?,
             cell_type: operand(cell_type)?,
-        }),
-        ("move", [subject, cell, receiver, cell_type]) => Some(Request::Move {
+        },
+        ("move", [subject, cell, receiver, cell_type]) => Request::Move {
             subject: operand(subject)?,
             cell: operand(cell)?,
             receiver: operand(receiver)?,
             cell_type: operand(cell_type)?,
-        }),
+        },
         ("call", [subject, cell, method, arguments @ ..]) if arguments.len() <= 4 => {
-            Some(Request::Call {
+            let arguments = arguments.iter().map(|word| operand(word));
+            Request::Call {
                 subject: operand(subject)?,
                 cell: operand(cell)?,
                 method: operand(method)?,
-                arguments: arguments
-                    .iter()
-                    .map(|word| operand(word))
-                    .collect::<Option<_>>()?,
-            })
+                arguments: arguments.collect::<Option<_>>()?,
+            }
         }
-        ("answer", [subject, call, value]) => Some(Request::Answer {
+        ("answer", [subject, call, "-"]) => Request::Answer {
             subject: operand(subject)?,
             call: operand(call)?,
-            value: match *value {
-                "-" => None,
-                word => Some(operand(word)?),
-            },
-        }),
-        _ => None,
-    }
+            value: None,
+        },
+        ("answer", [subject, call, value]) => Request::Answer {
+            subject: operand(subject)?,
+            call: operand(call)?,
+            value: Some(operand(value)?),
+        },
+        _ => return None,
+    })
 }
 
-/// A signed 64-bit decimal: no sign but `-`, no leading zeros, not `-0`.
+/// An operand (P9).
 fn operand(word: &str) -> Option<i64> {
     let digits = word.strip_prefix('-').unwrap_or(word);
     let leading_zero = digits.starts_with('0') && word != "0";
@@ -154,7 +179,7 @@ fn operand(word: &str) -> Option<i64> {
     word.parse().ok()
 }
 
-/// The `do=` line of a request, with its LF.
+/// The line of a request, with its LF.
 pub fn line(request: &Request) -> String {
     match request {
         Request::New {

@@ -1,14 +1,13 @@
-//! "Sheet text", "Sheet read" and "Sheet write".
+//! The text of a sheet (S20 to S27), its reader (S) and its writer (W).
 
 use crate::refusal::{Refusal, BROADER, FORM, RANGE, SHORT_BUFFER};
 use crate::table::*;
 
-/// "number and byte offset of that line".
+/// The number, and the offset of the line that is refused (S31).
 pub type SheetRefusal = (Refusal, usize);
 
-/// Reads a whole sheet: "each line by 1 (form), 2 (number outside its range),
-/// 3 (broader category not below); then, every line being right, 3 for own in
-/// a signature, at the last line".
+/// Reads a whole sheet: line after line in the order of S22, and own in
+/// signatures last (S6, S13).
 pub fn read(input: &[u8]) -> Result<Table, SheetRefusal> {
     let mut lines = Lines { input, at: 0 };
     lines.next(guide)?;
@@ -32,6 +31,7 @@ pub fn read(input: &[u8]) -> Result<Table, SheetRefusal> {
     }
     let last = lines.at;
     lines.next(|line| exactly(line, "end=sheet"))?;
+    // S10
     if lines.at < input.len() {
         return Err((FORM, lines.at));
     }
@@ -49,8 +49,7 @@ pub fn read(input: &[u8]) -> Result<Table, SheetRefusal> {
     Ok(table)
 }
 
-/// "for each type `type=`, `rep=`, `cat=`, and for ref `own=`(yes or no) and
-/// an `m=` line for each method".
+/// The block of a type (S25).
 fn read_type(
     lines: &mut Lines,
     number: usize,
@@ -58,7 +57,7 @@ fn read_type(
     categories: usize,
     sheet_types: usize,
 ) -> Result<Type, SheetRefusal> {
-    // "A type number out of turn ... is 2"
+    // S30
     lines.next(|line| ranged(line, "type=", number, number))?;
     let representation = lines.next(representation)?;
     let category = lines.next(|line| ranged(line, "cat=", 0, categories))?;
@@ -78,15 +77,15 @@ fn read_type(
     })
 }
 
-/// The lines of the input, each ended by LF.
+/// The lines of the input (S20), and where the next one begins.
 struct Lines<'a> {
     input: &'a [u8],
     at: usize,
 }
 
 impl<'a> Lines<'a> {
-    /// Reads the next line with `reader`, refusing at its offset. A missing
-    /// line is 1 at the input's length, one without LF 1 at its offset.
+    /// Reads the next line by `reader`, refused at its offset. Where no LF is
+    /// left it is 1 (S8, S9).
     fn next<T>(
         &mut self,
         reader: impl FnOnce(&'a [u8]) -> Result<T, Refusal>,
@@ -103,11 +102,12 @@ impl<'a> Lines<'a> {
     }
 }
 
-/// What is left of a line behind a prefix (1 without it).
+/// What is behind a prefix that is due (S28).
 fn after<'a>(line: &'a [u8], prefix: &str) -> Result<&'a [u8], Refusal> {
     line.strip_prefix(prefix.as_bytes()).ok_or(FORM)
 }
 
+/// A line of one word.
 fn exactly(line: &[u8], text: &str) -> Result<(), Refusal> {
     if line == text.as_bytes() {
         Ok(())
@@ -116,8 +116,8 @@ fn exactly(line: &[u8], text: &str) -> Result<(), Refusal> {
     }
 }
 
-/// "decimal without leading zeros". A number too long for any word is outside
-/// every range: it saturates (READINGS S2).
+/// A decimal (S3, S21). One too large for a word stays at the largest, which
+/// is outside every range (S2).
 fn decimal(text: &[u8]) -> Result<usize, Refusal> {
     let leading_zero = text.len() > 1 && text[0] == b'0';
     if text.is_empty() || leading_zero || !text.iter().all(u8::is_ascii_digit) {
@@ -130,7 +130,7 @@ fn decimal(text: &[u8]) -> Result<usize, Refusal> {
     }))
 }
 
-/// A line of prefix and number, the number within its range (2).
+/// A line of prefix and number (S29).
 fn ranged(line: &[u8], prefix: &str, lowest: usize, highest: usize) -> Result<usize, Refusal> {
     let number = decimal(after(line, prefix)?)?;
     if (lowest..=highest).contains(&number) {
@@ -140,12 +140,12 @@ fn ranged(line: &[u8], prefix: &str, lowest: usize, highest: usize) -> Result<us
     }
 }
 
+/// S1.
 fn guide(line: &[u8]) -> Result<usize, Refusal> {
     ranged(line, "guide=", 1, 1)
 }
 
-/// "one `under=` line (one or two numbers, comma) for each category". Above
-/// the last category 2, not below this one 3, over the whole line.
+/// The line of a category (S11, S12, S24): over all of it 1 before 2 before 3 (S5).
 fn under(line: &[u8], category: usize, categories: usize) -> Result<Broader, Refusal> {
     let mut numbers = Vec::new();
     for text in after(line, "under=")?.split(|byte| *byte == b',') {
@@ -183,7 +183,7 @@ fn own(line: &[u8]) -> Result<bool, Refusal> {
     }
 }
 
-/// "A state with signature is written `avail(0,3)2`, a missing answer `-`."
+/// The line of a method (S26).
 fn method_state(line: &[u8], sheet_types: usize) -> Result<MethodState, Refusal> {
     let text = after(line, "m=")?;
     if text == b"denied" {
@@ -199,7 +199,7 @@ fn method_state(line: &[u8], sheet_types: usize) -> Result<MethodState, Refusal>
     Ok(MethodState::Avail(signature(rest, sheet_types)?))
 }
 
-/// The form of the whole signature first, then the range of its numbers.
+/// A signature: its form first (S5, S11), then whether its types are there (S27).
 fn signature(text: &[u8], sheet_types: usize) -> Result<Signature, Refusal> {
     let inner = text.strip_prefix(b"(").ok_or(FORM)?;
     let close = inner.iter().position(|byte| *byte == b')').ok_or(FORM)?;
@@ -217,17 +217,14 @@ fn signature(text: &[u8], sheet_types: usize) -> Result<Signature, Refusal> {
         b"-" => None,
         text => Some(decimal(text)?),
     };
-    if arguments
-        .iter()
-        .chain(&answer)
-        .any(|number| *number >= sheet_types)
-    {
+    let signature = Signature { arguments, answer };
+    if signature.named().any(|number| number >= sheet_types) {
         return Err(RANGE);
     }
-    Ok(Signature { arguments, answer })
+    Ok(signature)
 }
 
-/// The text of a table's sheet. "Derived types aren't written."
+/// The text of a table, derived types left out (W5 to W7).
 pub fn text(table: &Table) -> Vec<u8> {
     let mut lines = vec![
         "guide=1".to_string(),
@@ -289,8 +286,7 @@ fn signature_text(signature: &Signature) -> String {
     format!("({}){answer}", arguments.join(","))
 }
 
-/// "Sheet write: 4 if the buffer is short, buffer unchanged; else the length,
-/// with the bytes behind it unchanged."
+/// Writes the text to the front of a buffer: its length, or 4 (W2 to W4).
 pub fn write(table: &Table, buffer: &mut [u8]) -> Result<usize, Refusal> {
     let text = text(table);
     if text.len() > buffer.len() {

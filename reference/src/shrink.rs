@@ -1,11 +1,11 @@
 //! Smaller failing inputs. Given an input for which a predicate holds (two
 //! programs differ, say), finds a smaller one for which it still holds.
 
-use crate::faults::Fault;
 use crate::hostile::Hostile;
 use crate::raw::RawState;
+use crate::refusal::Refusal;
 use crate::requests::{Got, Request};
-use crate::script::{self, parse, run_with, split};
+use crate::script::{self, run_whole};
 use crate::sheet;
 use crate::state::State;
 use crate::table::{MethodState, Table, Type};
@@ -35,13 +35,11 @@ struct Parts {
 
 impl Parts {
     fn of(input: &[u8]) -> Option<Parts> {
-        let (text, rest) = split(input);
-        let table = sheet::read(text).ok()?;
-        let mut requests = Vec::new();
-        for line in rest.split_inclusive(|byte| *byte == b'\n') {
-            requests.push(parse(line.strip_suffix(b"\n")?)?);
-        }
-        Some(Parts { table, requests })
+        let script = script::read(input).ok()?;
+        (!script.malformed).then_some(Parts {
+            table: script.table,
+            requests: script.requests,
+        })
     }
 
     fn text(&self) -> Vec<u8> {
@@ -133,12 +131,12 @@ fn renumbered(parts: &Parts, at: usize, length: usize) -> Parts {
 }
 
 fn without_one(parts: &Parts, index: usize) -> Parts {
-    let run = run_with(&parts.text(), Fault::None);
+    let run = run_whole(&parts.text());
     let mut parts = parts.clone();
     let Some(model) = run.model else {
         return cut(&parts, index, 1);
     };
-    let made = made(&run.requests, &model.state, index);
+    let made = made(&run.requests, &run.results, &model.state, index);
     parts.requests.remove(index);
     for request in &mut parts.requests[index..] {
         lower(request, &made, &model.state);
@@ -154,7 +152,12 @@ struct Made {
     calls: usize,
 }
 
-fn made(requests: &[(Request, Result<Got, u32>)], state: &State, index: usize) -> Made {
+fn made(
+    requests: &[Request],
+    results: &[Result<Got, Refusal>],
+    state: &State,
+    index: usize,
+) -> Made {
     let (mut cells, mut calls) = (0, 0);
     let mut made = Made {
         first_cell: 0,
@@ -162,7 +165,8 @@ fn made(requests: &[(Request, Result<Got, u32>)], state: &State, index: usize) -
         first_call: 0,
         calls: 0,
     };
-    for (at, (request, result)) in requests.iter().enumerate().take(index + 1) {
+    let served = requests.iter().zip(results);
+    for (at, (request, result)) in served.enumerate().take(index + 1) {
         let (first_cell, first_call) = (cells, calls);
         match result {
             Ok(Got::Cell { .. }) => cells += 1,
@@ -534,21 +538,7 @@ fn clear_bytes(
 #[cfg(test)]
 mod tests {
     use super::*;
-    use crate::gen::{generate, Profile};
-
-    #[test]
-    fn finds_a_small_list_for_a_fault() {
-        let mut fails = |input: &[u8]| {
-            run_with(input, Fault::NeverWraps).output != run_with(input, Fault::None).output
-        };
-        let input = (0..)
-            .map(|seed| generate(seed, Profile::Medium))
-            .find(|input| fails(input))
-            .unwrap();
-        let small = shrink(&input, &mut fails);
-        assert!(fails(&small));
-        assert!(small.len() < 260, "{}", String::from_utf8_lossy(&small));
-    }
+    use crate::entry;
 
     #[test]
     fn shrinks_what_is_not_a_sheet() {
@@ -570,7 +560,7 @@ mod tests {
             hostile
                 .requests
                 .iter()
-                .any(|request| crate::raw::request(&mut state, request) == Err(19))
+                .any(|request| entry::request(&mut state, request) == Err(19))
         };
         let hostile = (0..)
             .map(crate::hostile::generate)

@@ -1,22 +1,22 @@
-//! The table: subjects, methods, categories and types (01, "The table").
+//! The table (T): subjects, methods, categories, types, and the keys of those derived.
 
-/// "1 to 16 subjects".
+/// T1.
 pub const MAX_SUBJECTS: usize = 16;
-/// "1 to 16 methods".
+/// T2.
 pub const MAX_METHODS: usize = 16;
-/// "0 to 31 categories".
+/// T3.
 pub const MAX_CATEGORIES: usize = 31;
-/// "1 to 48 sheet types".
+/// T4.
 pub const MAX_SHEET_TYPES: usize = 48;
-/// "Derived types bring the table to at most 128."
+/// T5.
 pub const MAX_TYPES: usize = 128;
-/// "a signature, 0 to 2 argument types".
+/// T13.
 pub const MAX_ARGUMENTS: usize = 2;
 
 /// A type number, from 0.
 pub type TypeNo = usize;
 
-/// "A type has a representation: ref, w32 or w64".
+/// What a value of the type is: a reference, or a number of 32 or 64 bits (T8).
 #[derive(Clone, Copy, PartialEq, Eq, Debug, Hash)]
 pub enum Representation {
     Ref,
@@ -24,15 +24,21 @@ pub enum Representation {
     W64,
 }
 
-/// "a signature, 0 to 2 argument types and one answer type or none".
+/// The types that a method takes, and the one that it answers with, if any (T13).
 #[derive(Clone, PartialEq, Eq, Debug, Hash, Default)]
 pub struct Signature {
     pub arguments: Vec<TypeNo>,
     pub answer: Option<TypeNo>,
 }
 
-/// "for each method, a state: denied, optional, avail or unavail.
-/// Optional and avail carry a signature".
+impl Signature {
+    /// Every type it names, arguments first.
+    pub fn named(&self) -> impl Iterator<Item = TypeNo> + '_ {
+        self.arguments.iter().chain(&self.answer).copied()
+    }
+}
+
+/// What a ref type says of one method (T10).
 #[derive(Clone, PartialEq, Eq, Debug, Hash)]
 pub enum MethodState {
     Denied,
@@ -42,8 +48,7 @@ pub enum MethodState {
 }
 
 impl MethodState {
-    /// The signature of a state that permits its method: optional and avail
-    /// "permit the method, the other two don't".
+    /// The signature, which the two states that permit the method have (T12).
     pub fn signature(&self) -> Option<&Signature> {
         match self {
             MethodState::Optional(signature) | MethodState::Avail(signature) => Some(signature),
@@ -56,8 +61,7 @@ impl MethodState {
     }
 }
 
-/// One type. A number type has no own flag (here `false`) and no states (here
-/// an empty list).
+/// One type. A number type has no states, and `own` is false (T11).
 #[derive(Clone, PartialEq, Eq, Debug)]
 pub struct Type {
     pub representation: Representation,
@@ -67,6 +71,7 @@ pub struct Type {
 }
 
 impl Type {
+    /// A number type.
     pub fn number(representation: Representation, category: usize) -> Type {
         Type {
             representation,
@@ -80,24 +85,27 @@ impl Type {
         self.representation == Representation::Ref
     }
 
-    /// "A class is a ref type without own whose every state is avail or
-    /// unavail."
+    /// T16.
     pub fn is_class(&self) -> bool {
-        self.is_ref()
-            && !self.own
-            && self
-                .methods
-                .iter()
-                .all(|state| matches!(state, MethodState::Avail(_) | MethodState::Unavail))
+        let settled = |state: &MethodState| match state {
+            MethodState::Avail(_) | MethodState::Unavail => true,
+            MethodState::Denied | MethodState::Optional(_) => false,
+        };
+        self.is_ref() && !self.own && self.methods.iter().all(settled)
     }
 
-    /// The signature this type gives a method it permits.
+    /// The state of a method, denied where there is none (T19).
+    pub fn state(&self, method: usize) -> &MethodState {
+        self.methods.get(method).unwrap_or(&MethodState::Denied)
+    }
+
+    /// The signature of a method, if the type permits it.
     pub fn permits(&self, method: usize) -> Option<&Signature> {
-        self.methods.get(method).and_then(MethodState::signature)
+        self.state(method).signature()
     }
 }
 
-/// "A derived type is known by kind, left and right number."
+/// How a type was derived.
 #[derive(Clone, Copy, PartialEq, Eq, Debug, Hash)]
 pub enum Kind {
     Sub,
@@ -105,7 +113,7 @@ pub enum Kind {
     Closed,
 }
 
-/// Kind, left and right number of a derived type.
+/// What a derived type is known by (T17).
 #[derive(Clone, Copy, PartialEq, Eq, Debug, Hash)]
 pub struct Key {
     pub kind: Kind,
@@ -113,15 +121,14 @@ pub struct Key {
     pub right: TypeNo,
 }
 
-/// "Category k, from 1, names one or two broader categories below k, 0
-/// allowed." Whether one or two are named is kept for the writer.
+/// The broader categories that a category names, one or two (T6).
 #[derive(Clone, Copy, PartialEq, Eq, Debug)]
 pub struct Broader {
     pub first: usize,
     pub second: Option<usize>,
 }
 
-/// A table that keeps the rules of 01's first section.
+/// A table that keeps the rules T1 to T17.
 #[derive(Clone, PartialEq, Eq, Debug)]
 pub struct Table {
     pub subjects: usize,
@@ -129,9 +136,9 @@ pub struct Table {
     /// Entry k - 1 belongs to category k.
     pub broader: Vec<Broader>,
     pub sheet_types: usize,
-    /// The sheet types, then the derived ones.
+    /// The sheet types, then those derived (T5).
     pub types: Vec<Type>,
-    /// One key for each derived type, in order.
+    /// The keys of the derived types, in their order.
     pub keys: Vec<Key>,
 }
 
@@ -140,67 +147,55 @@ impl Table {
         self.broader.len()
     }
 
-    /// "a ≤ b if a is 0, a = b, or a is reached from b by broader links".
+    /// a ≤ b (T7).
     pub fn category_le(&self, a: usize, b: usize) -> bool {
         a == 0 || self.reached(b)[a]
     }
 
-    /// The categories reached from b by broader links, b among them. Links go
-    /// down, so one walk from b down meets them all.
+    /// b and the categories that its links lead to. Links lead down (T6), so
+    /// that one walk down from b meets them all.
     fn reached(&self, b: usize) -> [bool; MAX_CATEGORIES + 1] {
         let mut reached = [false; MAX_CATEGORIES + 1];
         reached[b] = true;
         for category in (1..=b).rev() {
             if reached[category] {
-                let broader = self.broader[category - 1];
-                reached[broader.first] = true;
-                if let Some(second) = broader.second {
-                    reached[second] = true;
-                }
+                let Broader { first, second } = self.broader[category - 1];
+                reached[first] = true;
+                reached[second.unwrap_or(first)] = true;
             }
         }
         reached
     }
 
-    /// A sheet type with representation ref.
+    /// Whether a number is that of a ref type of the sheet.
     pub fn is_sheet_ref(&self, number: TypeNo) -> bool {
         number < self.sheet_types && self.types[number].is_ref()
     }
 
-    /// A sheet type that is a class.
+    /// Whether a number is that of a class of the sheet.
     pub fn is_sheet_class(&self, number: TypeNo) -> bool {
         number < self.sheet_types && self.types[number].is_class()
     }
 
-    /// "The lowest known one is used again": the lowest derived type with
-    /// this key. Sheet types are never known by a key.
+    /// The lowest derived type with this key (D14).
     pub fn known(&self, key: Key) -> Option<TypeNo> {
-        self.keys
-            .iter()
-            .position(|known| *known == key)
-            .map(|index| self.sheet_types + index)
+        let index = self.keys.iter().position(|known| *known == key)?;
+        Some(self.sheet_types + index)
     }
 
-    /// Drops the derived types from `count` on, as a refusal does.
+    /// Leaves so many types.
     pub fn truncate(&mut self, count: usize) {
         self.types.truncate(count);
         self.keys.truncate(count - self.sheet_types);
     }
 
-    /// The first type number with own=yes that stands in a signature.
+    /// Whether a type with own stands in a signature (T14).
     pub fn own_in_signature(&self) -> bool {
-        self.types.iter().any(|one| {
-            one.methods
-                .iter()
-                .filter_map(MethodState::signature)
-                .any(|signature| {
-                    signature
-                        .arguments
-                        .iter()
-                        .chain(signature.answer.iter())
-                        .any(|named| self.types[*named].own)
-                })
-        })
+        let states = self.types.iter().flat_map(|one| &one.methods);
+        let mut named = states
+            .filter_map(MethodState::signature)
+            .flat_map(Signature::named);
+        named.any(|one| self.types[one].own)
     }
 }
 

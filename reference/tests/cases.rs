@@ -44,7 +44,7 @@ fn case_p() {
 fn case_p_types() {
     let after = |list: &str| {
         let input = format!("{SHEET_P}{list}");
-        script::run_with(input.as_bytes(), Default::default())
+        script::run_whole(input.as_bytes())
             .model
             .unwrap()
             .state
@@ -61,11 +61,9 @@ fn case_p_types() {
 #[test]
 fn case_p_demand_3() {
     let input = format!("{SHEET_P}{LIST_P}");
-    let run = script::run_with(input.as_bytes(), Default::default());
-    let mut book = Book::of_sheet(&sheet::read(SHEET_P.as_bytes()).unwrap());
-    for (request, result) in &run.requests {
-        book.feed(request, result.is_ok()).unwrap();
-    }
+    let run = script::run_whole(input.as_bytes());
+    let table = sheet::read(SHEET_P.as_bytes()).unwrap();
+    let book = Book::of_run(&table, &run.requests, &run.results).unwrap();
     book.check_exactly(&run.model.unwrap().state).unwrap();
     assert_eq!(book.pages[2].trail, [4, 2, 3]);
     assert_eq!(book.pages[2].closed, [7]);

@@ -1,9 +1,7 @@
 //! The commands, run as programs, against the library.
 
 use reference::external::{difference, run};
-use reference::faults::Fault;
-use reference::gen::{generate, Profile, PROFILES};
-use reference::script::run_with;
+use reference::gen::{generate, PROFILES};
 use reference::{dump, pairs, script};
 use std::path::Path;
 
@@ -60,18 +58,10 @@ fn sheets_and_pairs() {
 
 #[test]
 fn generated_inputs_and_states_print() {
-    let input = command(&["gen", "3", "medium"], b"");
-    assert_eq!(input, generate(3, Profile::Medium));
+    for profile in PROFILES {
+        let input = command(&["gen", "3", profile.name()], b"");
+        assert_eq!(input, generate(3, profile), "{}", profile.name());
+    }
     assert!(!command(&["hostile", "3"], b"").is_empty());
     assert!(command(&["gen", "3", "huge"], b"").is_empty());
-}
-
-#[test]
-fn a_difference_comes_with_a_small_input() {
-    let faulty = |input: &[u8]| run_with(input, Fault::WrapsFirstPassesLater).output;
-    let found = (0..400)
-        .find_map(|seed| difference(&generate(seed, Profile::Medium), &faulty, &script::run))
-        .unwrap();
-    assert_ne!(found.theirs, found.ours);
-    assert!(found.input.len() < 700, "{found:?}");
 }

@@ -1,109 +1,128 @@
-//! Deliberate faults in the model, the slips of 01 among them, are each found
-//! by the generated inputs.
+//! Deliberate faults, each an edit of the model's sources (faults/edits), are
+//! each found by the generated inputs.
 
-use reference::demand;
-use reference::dump;
-use reference::faults::{Fault, ALL};
+use faults::{named, Fault, ALL};
+use reference::book::Book;
+use reference::external::difference;
 use reference::gen::{generate, Profile};
-use reference::raw;
-use reference::script::run_with;
+use reference::script::{self, printed};
+use reference::serving;
 use reference::shrink::shrink;
-use reference::state::Model;
-use reference::{check, hostile};
+use reference::state::State;
+use reference::{check, dump, hostile};
 
 /// Seeds of each profile tried for each fault.
 const SEEDS: u64 = 400;
 
-/// The first generated input for which the faulty model prints something else.
-fn found(fault: Fault) -> Option<(Profile, u64)> {
-    let profiles = [Profile::Small, Profile::Medium, Profile::Full];
-    profiles.into_iter().find_map(|profile| {
-        (0..SEEDS)
-            .find(|seed| differs(&generate(*seed, profile), fault))
-            .map(|seed| (profile, seed))
-    })
+/// The program with a fault.
+fn faulty(fault: Fault, input: &[u8]) -> Vec<u8> {
+    match script::read(input) {
+        Ok(script) => {
+            let state = State::of_sheet(script.table);
+            let (results, _) = (fault.run)(state, &script.requests);
+            printed(&results, script.malformed)
+        }
+        Err(_) => script::run(input),
+    }
 }
 
 fn differs(input: &[u8], fault: Fault) -> bool {
-    run_with(input, fault).output != run_with(input, Fault::None).output
+    faulty(fault, input) != script::run(input)
 }
 
-/// A fault that loaded sheets cannot meet, looked for on handed-in states.
-fn found_handed_in(fault: Fault) -> Option<u64> {
-    (0..3000).find(|seed| {
-        let hostile = hostile::generate(*seed);
-        let Ok(state) = check::state(&hostile.state) else {
-            return false;
-        };
-        let mut faulty = Model::with_fault(state, fault);
-        let mut right = hostile.state.clone();
-        hostile
-            .requests
-            .iter()
-            .any(|request| faulty.request(request) != raw::request(&mut right, request))
+/// The first generated input for which the faulty model prints something else.
+fn found(fault: Fault) -> Option<Vec<u8>> {
+    let profiles = [Profile::Small, Profile::Medium, Profile::Full];
+    let mut inputs = profiles
+        .into_iter()
+        .flat_map(|profile| (0..SEEDS).map(move |seed| generate(seed, profile)));
+    inputs.find(|input| differs(input, fault))
+}
+
+/// Whether a fault that loaded sheets cannot meet is found on handed-in states.
+fn found_handed_in(fault: Fault) -> bool {
+    (0..3000).map(hostile::generate).any(|hostile| {
+        check::state(&hostile.state).is_ok_and(|state| {
+            let right = serving::run(state.clone(), &hostile.requests);
+            (fault.run)(state, &hostile.requests).0 != right.0
+        })
     })
 }
 
-/// A fault that shows in the numbers of derived types alone.
-fn found_in_state(fault: Fault) -> Option<u64> {
-    let state = |seed, fault| {
-        let run = run_with(&generate(seed, Profile::Medium), fault);
-        run.model.map(|model| model.state)
-    };
-    (0..SEEDS).find(|seed| state(*seed, fault) != state(*seed, Fault::None))
+/// Whether a fault that shows in the state alone is found there.
+fn found_in_state(fault: Fault) -> bool {
+    (0..SEEDS).any(|seed| {
+        let script = script::read(&generate(seed, Profile::Medium)).unwrap();
+        let state = State::of_sheet(script.table);
+        let right = serving::run(state.clone(), &script.requests);
+        (fault.run)(state, &script.requests).1 != right.1
+    })
 }
 
 #[test]
 fn every_fault_is_found() {
+    assert!(ALL.len() >= 21, "{}", ALL.len());
     for fault in ALL {
-        let found = match fault {
-            // 19 is met on handed-in states alone.
-            Fault::LaterCrossingKeepsNumber => found_handed_in(fault).is_some(),
-            Fault::NumberAfterSignatures => found_in_state(fault).is_some(),
-            _ => found(fault).is_some(),
+        let found = match fault.name {
+            // 19 is met on handed-in states alone
+            "later_crossing_keeps_number" => found_handed_in(*fault),
+            // numbers of types are not printed
+            "number_after_signatures" => found_in_state(*fault),
+            _ => found(*fault).is_some(),
         };
-        assert!(found, "{fault:?}");
+        assert!(found, "{}", fault.name);
     }
 }
 
-#[test]
-fn no_fault_is_no_difference() {
-    for seed in 0..200 {
-        assert!(!differs(&generate(seed, Profile::Small), Fault::None));
-    }
-}
-
-/// "likeliest first: one that passes the place and never wraps (demand 3), one
-/// that wraps at the first move and passes later (demand 3)".
+/// The book finds what demand 3 is for, with no right model beside it (L21).
 #[test]
 fn demand_3_finds_what_it_is_for() {
-    for fault in [
-        Fault::NeverWraps,
-        Fault::WrapsFirstPassesLater,
-        Fault::AnswerUnrestricted,
-        Fault::StaticTypeForgotten,
+    for name in [
+        "never_wraps",
+        "wraps_first_passes_later",
+        "answer_unrestricted",
+        "static_type_forgotten",
     ] {
         let profiles = [Profile::Small, Profile::Medium];
-        let broken = profiles.into_iter().any(|profile| {
-            (0..SEEDS).any(|seed| {
-                demand::run_faulty(&generate(seed, profile), fault)
-                    .1
-                    .is_err()
-            })
-        });
-        assert!(broken, "{fault:?}");
+        let broken = profiles
+            .into_iter()
+            .any(|profile| (0..SEEDS).any(|seed| is_broken(named(name), &generate(seed, profile))));
+        assert!(broken, "{name}");
     }
+}
+
+fn is_broken(fault: Fault, input: &[u8]) -> bool {
+    let script = script::read(input).unwrap();
+    let state = State::of_sheet(script.table.clone());
+    let (results, state) = (fault.run)(state, &script.requests);
+    Book::of_run(&script.table, &script.requests, &results)
+        .and_then(|book| book.check(&state))
+        .is_err()
 }
 
 /// A fault found is shown by a small input.
 #[test]
 fn faults_shrink() {
-    for fault in [Fault::UnwrapsToNext, Fault::ArgumentsInAnswerDirection] {
-        let (profile, seed) = found(fault).unwrap();
-        let input = generate(seed, profile);
-        let small = shrink(&input, &mut |input| differs(input, fault));
-        assert!(differs(&small, fault));
+    for (name, most) in [
+        ("never_wraps", 260),
+        ("unwraps_to_next", 600),
+        ("arguments_in_answer_direction", 600),
+    ] {
+        let input = found(named(name)).unwrap();
+        let small = shrink(&input, &mut |input| differs(input, named(name)));
+        assert!(differs(&small, named(name)));
         assert!(small.len() <= input.len());
-        assert!(small.len() < 600, "{}", dump::account(&small));
+        assert!(small.len() < most, "{}", dump::account(&small));
     }
+}
+
+/// Two programs that differ are shown with a small input and what they print.
+#[test]
+fn a_difference_comes_with_a_small_input() {
+    let theirs = |input: &[u8]| faulty(named("wraps_first_passes_later"), input);
+    let found = (0..SEEDS)
+        .find_map(|seed| difference(&generate(seed, Profile::Medium), &theirs, &script::run))
+        .unwrap();
+    assert_ne!(found.theirs, found.ours);
+    assert!(found.input.len() < 700, "{found:?}");
 }

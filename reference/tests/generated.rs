@@ -2,14 +2,14 @@
 
 use reference::chains::{first_difference, All};
 use reference::check::{self, REASONS};
-use reference::coverage;
 use reference::demand;
-use reference::faults::Fault;
-use reference::gen::{self, generate, Profile, PROFILES};
+use reference::entry;
+use reference::gen::{self, generate, Profile};
 use reference::hostile;
 use reference::random::Random;
-use reference::raw::{self, RawState, RawTable};
-use reference::relations::{Relation, Relations, RELATIONS};
+use reference::raw::{RawState, RawTable};
+use reference::relations::{Relation, Relations, ALL, RELATIONS};
+use reference::report::{self, line_kind};
 use reference::script;
 use reference::sheet;
 use reference::table::{Kind, Table};
@@ -60,7 +60,7 @@ fn demand_3_at_length() {
 /// reason of 2, each situation.
 #[test]
 fn coverage_is_whole() {
-    let report = coverage::collect(0..150);
+    let report = report::collect(0..150);
     assert_eq!(report.broken, []);
     assert_eq!(report.missing(), Vec::<String>::new(), "{}", report.text());
     assert_eq!(report.scripts.number(19), 0);
@@ -79,22 +79,12 @@ fn coverage_is_whole() {
 }
 
 #[test]
-fn generation_is_repeatable() {
-    for profile in PROFILES {
-        assert_eq!(generate(7, profile), generate(7, profile));
-        assert_ne!(generate(7, profile), generate(8, profile));
-        assert_eq!(Profile::of_name(profile.name()), Some(profile));
-    }
-    assert_eq!(hostile::generate(5).state, hostile::generate(5).state);
-}
-
-#[test]
 fn generated_inputs_keep_their_limits() {
     for profile in [Profile::Small, Profile::Medium, Profile::Big, Profile::Full] {
         for seed in 0..40 {
             let input = generate(seed, profile);
             assert!(input.len() <= script::MAX_INPUT);
-            let run = script::run_with(&input, Fault::None);
+            let run = script::run_whole(&input);
             assert!(run.model.is_some(), "{} {seed}", profile.name());
             let lines = run.output.iter().filter(|byte| **byte == b'\n').count();
             assert_eq!(lines, run.requests.len());
@@ -115,7 +105,7 @@ fn what_is_written_reads_back() {
         let text = sheet::text(&table);
         assert_eq!(sheet::read(&text), Ok(table.clone()));
         let raw = RawTable::of(&table);
-        assert_eq!(raw::read(&text), (raw.clone(), Ok(())));
+        assert_eq!(entry::read(&text), (raw.clone(), Ok(())));
         assert_eq!(check::table(&raw), Ok(table));
     }
 }
@@ -127,12 +117,12 @@ fn the_buffer_behind_and_a_short_one_stay() {
         let text = sheet::text(&table);
         for length in [0, 1, text.len() / 2, text.len() - 1] {
             let mut buffer = vec![170; length];
-            assert_eq!(raw::write(&raw, &mut buffer), Err(4));
+            assert_eq!(entry::write(&raw, &mut buffer), Err(4));
             assert!(buffer.iter().all(|byte| *byte == 170));
         }
         for length in [text.len(), text.len() + 1, text.len() + 999] {
             let mut buffer = vec![170; length];
-            assert_eq!(raw::write(&raw, &mut buffer), Ok(text.len()));
+            assert_eq!(entry::write(&raw, &mut buffer), Ok(text.len()));
             assert_eq!(buffer[..text.len()], text[..]);
             assert!(buffer[text.len()..].iter().all(|byte| *byte == 170));
         }
@@ -152,7 +142,7 @@ fn damaged_sheets() {
                 assert!((1..=3).contains(&number));
                 assert!(offset <= text.len());
                 assert!(offset == 0 || text[offset - 1] == b'\n');
-                assert_eq!(raw::read(text).0, RawTable::default());
+                assert_eq!(entry::read(text).0, RawTable::default());
             }
         }
     }
@@ -166,7 +156,7 @@ fn damaged_lines_cover_the_reader() {
         let input = generate(seed, Profile::Damaged);
         let (text, _) = script::split(&input);
         if let Err((number, offset)) = sheet::read(text) {
-            met.insert((number, coverage::line_kind(&text[offset..])));
+            met.insert((number, line_kind(&text[offset..])));
         }
     }
     let numbered = [
@@ -188,7 +178,7 @@ fn damaged_lines_cover_the_reader() {
 
 /// A run's table with derived types.
 fn grown(seed: u64) -> Table {
-    let run = script::run_with(&generate(seed, Profile::Medium), Fault::None);
+    let run = script::run_whole(&generate(seed, Profile::Medium));
     run.model.unwrap().state.table
 }
 
@@ -196,7 +186,7 @@ fn grown(seed: u64) -> Table {
 fn relations_follow_from_one_another() {
     for seed in 0..200 {
         let table = grown(seed);
-        let relations = Relations::of(&table, Fault::None);
+        let relations = Relations::of(&table);
         let count = table.types.len();
         for t in 0..count {
             assert!(relations.holds(Relation::Subtype, t, t));
@@ -218,11 +208,11 @@ fn relations_follow_from_one_another() {
 #[test]
 fn relations_grow_with_the_table() {
     for seed in 0..200 {
-        let run = script::run_with(&generate(seed, Profile::Medium), Fault::None);
+        let run = script::run_whole(&generate(seed, Profile::Medium));
         let model = run.model.unwrap();
-        let fresh = Relations::of(&model.state.table, Fault::None);
+        let fresh = Relations::of(&model.state.table);
         let count = model.state.table.types.len();
-        for relation in RELATIONS {
+        for relation in ALL {
             for t in 0..count {
                 for s in 0..count {
                     assert_eq!(
@@ -240,8 +230,8 @@ fn relations_grow_with_the_table() {
 #[test]
 fn relations_by_refutation() {
     for table in tables(24).chain((0..24).map(grown)) {
-        let relations = Relations::of(&table, Fault::None);
-        for relation in RELATIONS {
+        let relations = Relations::of(&table);
+        for relation in ALL {
             for t in 0..table.types.len() {
                 for s in 0..table.types.len() {
                     let holds = not_refuted(&table, relation, t, s);
@@ -268,6 +258,7 @@ fn not_refuted(table: &Table, relation: Relation, t: usize, s: usize) -> bool {
             Relation::Subtype => {
                 one.representation == other.representation && category && (!one.own || other.own)
             }
+            Relation::SubtypeOwnAside => one.representation == other.representation && category,
             Relation::Strict => one.is_ref() == other.is_ref() && category,
             _ => one.is_ref() == other.is_ref(),
         };
@@ -284,7 +275,9 @@ fn not_refuted(table: &Table, relation: Relation, t: usize, s: usize) -> bool {
             };
             let (a, b) = (code(&one.methods[method]), code(&other.methods[method]));
             let kept = match relation {
-                Relation::Subtype => a == 0 || a == b || (a == 1 && b != 0),
+                Relation::Subtype | Relation::SubtypeOwnAside => {
+                    a == 0 || a == b || (a == 1 && b != 0)
+                }
                 Relation::Strict => a != 2 || b == 2,
                 Relation::Loose => a != 2 || b == 1 || b == 2,
                 Relation::Free => true,
@@ -316,8 +309,8 @@ fn not_refuted(table: &Table, relation: Relation, t: usize, s: usize) -> bool {
     true
 }
 
-/// "Sub, Sup and Closed permit exactly the chains that both operands permit",
-/// and have the categories 01 gives them.
+/// A derived type permits the chains that both its operands permit and no
+/// other, and has the category of D1, D3 or D7.
 #[test]
 fn derived_types_permit_what_both_permit() {
     for seed in 0..400 {
@@ -349,15 +342,12 @@ fn derived_types_permit_what_both_permit() {
 #[test]
 fn a_place_type_is_a_subtype_of_the_cell_type() {
     for seed in 0..500 {
-        let run = script::run_with(&generate(seed, Profile::Medium), Fault::None);
+        let run = script::run_whole(&generate(seed, Profile::Medium));
         let model = run.model.unwrap();
         for cell in &model.state.cells {
             let place_type = model.state.place_type(cell.place);
-            assert!(model.relations.subtype_own_not_compared(
-                &model.state.table,
-                cell.cell_type,
-                place_type
-            ));
+            let relation = Relation::SubtypeOwnAside;
+            assert!(model.relations.holds(relation, cell.cell_type, place_type));
         }
     }
 }
@@ -373,9 +363,9 @@ fn handed_in_states() {
         let mut plain = plain.map(|state| RawState::of(&state));
         for request in &hostile.requests {
             let before = state.clone();
-            let result = raw::request(&mut state, request);
+            let result = entry::request(&mut state, request);
             if let Some(plain) = &mut plain {
-                assert_eq!(raw::request(plain, request), result, "{seed}");
+                assert_eq!(entry::request(plain, request), result, "{seed}");
                 assert_eq!(check::state(plain), check::state(&state), "{seed}");
             } else {
                 assert_eq!(result, Err(2));
@@ -412,7 +402,7 @@ fn each_reason_is_met_alone() {
         let met = (0..400).any(|seed| {
             let mut random = Random::new(seed);
             let input = generate(seed, Profile::Medium);
-            let model = script::run_with(&input, Fault::None).model.unwrap();
+            let model = script::run_whole(&input).model.unwrap();
             let mut raw = RawState::of(&model.state);
             assert_eq!(check::state(&raw), Ok(model.state));
             hostile::break_one(&mut random, &mut raw, reason);
@@ -425,7 +415,7 @@ fn each_reason_is_met_alone() {
 #[test]
 #[ignore = "a hundred thousand states"]
 fn handed_in_states_at_length() {
-    let report = coverage::collect(0..long() / 200);
+    let report = report::collect(0..long() / 200);
     assert_eq!(report.broken, []);
     assert_eq!(report.missing(), Vec::<String>::new());
     print!("{}", report.text());

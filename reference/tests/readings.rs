@@ -1,14 +1,16 @@
-//! One test for each reading of 01 (READINGS.md, S and C numbers).
+//! One test for each choice that 01 leaves open; names go by the older S and C
+//! numbers of these choices.
 
 use reference::check::{self, Reason};
-use reference::faults::Fault;
-use reference::raw::{self, RawState, RawTable};
+use reference::entry;
+use reference::model::Model;
+use reference::raw::{RawState, RawTable};
 use reference::relations::{Relation, Relations};
 use reference::requests::{Got, Request};
 use reference::restriction::{closed, sub, sup};
-use reference::script::{self, run_with};
+use reference::script::{self, run_whole};
 use reference::sheet;
-use reference::state::{Model, Place, State};
+use reference::state::{Place, State};
 use reference::table::*;
 
 const HEAD: &str = "guide=1\nsubjects=2\nmethods=1\ncats=0\n";
@@ -218,15 +220,15 @@ fn s14_early_and_unended_sheets_in_scripts() {
 fn s17_write_of_a_handed_in_table() {
     let mut table = table_of(1, &[&["no", "avail()0"], &["no", "optional()1"]]);
     let text = sheet::text(&table);
-    sub(&mut table, 1, 0, Fault::None).unwrap();
+    sub(&mut table, 1, 0).unwrap();
     assert_eq!(table.types.len(), 3);
     assert_eq!(sheet::text(&table), text);
     let mut raw = RawTable::of(&table);
     let mut buffer = vec![7; text.len()];
-    assert_eq!(raw::write(&raw, &mut buffer), Ok(text.len()));
+    assert_eq!(entry::write(&raw, &mut buffer), Ok(text.len()));
     raw.subjects = 17;
     let mut short = [7; 3];
-    assert_eq!(raw::write(&raw, &mut short), Err(2));
+    assert_eq!(entry::write(&raw, &mut short), Err(2));
     assert_eq!(short, [7; 3]);
 }
 
@@ -242,7 +244,7 @@ fn c1_types_of_an_accepted_crossing_stay() {
         ],
     );
     let input = format!("{sheet}do=new 0 0 2\ndo=move 0 0 0 1\n");
-    let done = run_with(input.as_bytes(), Fault::None);
+    let done = run_whole(input.as_bytes());
     assert_eq!(done.output, b"got=0 0\ngot=1 0\n");
     let state = done.model.unwrap().state;
     assert_eq!(state.table.types.len(), 4);
@@ -274,14 +276,14 @@ fn c3_c4_closed_and_an_inner_sub_are_two_types() {
             &["no", "avail()1", "unavail"],
         ],
     );
-    let adapter = closed(&mut table, 1, 0, Fault::None).unwrap();
+    let adapter = closed(&mut table, 1, 0).unwrap();
     assert_eq!(adapter, 2);
     // Its answer is Sub(1,0), a type of its own with the same methods.
     assert_eq!(table.types.len(), 4);
     assert_eq!(table.types[2].permits(0).unwrap().answer, Some(3));
     assert_eq!(table.types[3].permits(0).unwrap().answer, Some(3));
-    assert_eq!(sub(&mut table, 1, 0, Fault::None), Ok(3));
-    assert_eq!(closed(&mut table, 1, 0, Fault::None), Ok(2));
+    assert_eq!(sub(&mut table, 1, 0), Ok(3));
+    assert_eq!(closed(&mut table, 1, 0), Ok(2));
 }
 
 #[test]
@@ -293,7 +295,7 @@ fn c5_a_method_not_avail_in_v_derives_nothing() {
             &["no", "optional()1", "optional()1"],
         ],
     );
-    let adapter = closed(&mut table, 1, 0, Fault::None).unwrap();
+    let adapter = closed(&mut table, 1, 0).unwrap();
     assert_eq!(table.types[adapter].methods[0], MethodState::Unavail);
     assert!(table.types[adapter].methods[1].is_avail());
 }
@@ -305,9 +307,9 @@ fn c6_categories_of_derived_types() {
         .replacen("cat=0", "cat=1", 1);
     let mut table = sheet::read(text.as_bytes()).unwrap();
     table.types[1].category = 2;
-    let lower = sub(&mut table, 0, 1, Fault::None).unwrap();
-    let upper = sup(&mut table, 0, 1, Fault::None).unwrap();
-    let shut = closed(&mut table, 0, 1, Fault::None).unwrap();
+    let lower = sub(&mut table, 0, 1).unwrap();
+    let upper = sup(&mut table, 0, 1).unwrap();
+    let shut = closed(&mut table, 0, 1).unwrap();
     assert_eq!(table.types[lower].category, 1);
     assert_eq!(table.types[upper].category, 2);
     assert_eq!(table.types[shut].category, 1);
@@ -323,8 +325,8 @@ fn restriction_of_states() {
             &["no", "avail()-", "denied", "unavail", "optional()-"],
         ],
     );
-    let lower = sub(&mut table, 0, 1, Fault::None).unwrap();
-    let upper = sup(&mut table, 0, 1, Fault::None).unwrap();
+    let lower = sub(&mut table, 0, 1).unwrap();
+    let upper = sup(&mut table, 0, 1).unwrap();
     use MethodState::{Denied, Unavail};
     assert_eq!(
         table.types[lower].methods,
@@ -339,10 +341,10 @@ fn restriction_of_states() {
 #[test]
 fn restriction_of_itself_and_of_numbers() {
     let mut table = table_of(1, &[&["w32"], &["w64"], &["no", "avail(2)2"]]);
-    assert_eq!(sub(&mut table, 2, 2, Fault::None), Ok(2));
-    assert_eq!(sup(&mut table, 2, 2, Fault::None), Ok(2));
-    assert_eq!(sub(&mut table, 0, 1, Fault::None), Ok(0));
-    assert_eq!(sup(&mut table, 0, 1, Fault::None), Ok(1));
+    assert_eq!(sub(&mut table, 2, 2), Ok(2));
+    assert_eq!(sup(&mut table, 2, 2), Ok(2));
+    assert_eq!(sub(&mut table, 0, 1), Ok(0));
+    assert_eq!(sup(&mut table, 0, 1), Ok(1));
     assert_eq!(table.types.len(), 3);
 }
 
@@ -359,7 +361,7 @@ fn restriction_takes_numbers_in_order() {
             &["no", "avail(3)3"],
         ],
     );
-    assert_eq!(sub(&mut table, 1, 0, Fault::None), Ok(4));
+    assert_eq!(sub(&mut table, 1, 0), Ok(4));
     let key = |kind, left, right| Key { kind, left, right };
     assert_eq!(
         table.keys,
@@ -445,9 +447,9 @@ fn c11_c12_nothing_due() {
         call: 0,
         value,
     };
-    assert_eq!(raw::request(&mut raw, &answer(Some(0))), Err(15));
-    assert_eq!(raw::request(&mut raw, &answer(None)), Ok(Got::Nothing));
-    assert_eq!(raw::request(&mut raw, &answer(None)), Err(17));
+    assert_eq!(entry::request(&mut raw, &answer(Some(0))), Err(15));
+    assert_eq!(entry::request(&mut raw, &answer(None)), Ok(Got::Nothing));
+    assert_eq!(entry::request(&mut raw, &answer(None)), Err(17));
 }
 
 fn new(subject: i64, class: i64, cell_type: i64) -> Request {
@@ -504,11 +506,15 @@ fn unfit_layers_of_handed_in_states() {
     );
     // A number where the class has a reference: 19; an unfit adapter: 19.
     let mut raw = handed_in(table.clone(), 2, 2);
-    assert_eq!(raw::request(&mut raw, &call(0, &[5])), Err(19));
-    assert_eq!(raw::request(&mut raw, &call(0, &[1 << 40])), Err(16));
+    assert_eq!(entry::request(&mut raw, &call(0, &[5])), Err(19));
+    assert_eq!(entry::request(&mut raw, &call(0, &[1 << 40])), Err(16));
     for adapter in [2, 3, 4] {
         let mut raw = handed_in(table.clone(), adapter, 0);
-        assert_eq!(raw::request(&mut raw, &call(0, &[1])), Err(19), "{adapter}");
+        assert_eq!(
+            entry::request(&mut raw, &call(0, &[1])),
+            Err(19),
+            "{adapter}"
+        );
     }
     // Without arguments nothing crosses.
     let mut raw = handed_in(table.clone(), 4, 3);
@@ -516,7 +522,7 @@ fn unfit_layers_of_handed_in_states() {
         call: 0,
         adapters: 1,
     };
-    assert_eq!(raw::request(&mut raw, &call(0, &[])), Ok(got));
+    assert_eq!(entry::request(&mut raw, &call(0, &[])), Ok(got));
     // Answers: the class's answer type is the first crossing.
     let answer = |value| Request::Answer {
         subject: 0,
@@ -530,12 +536,12 @@ fn unfit_layers_of_handed_in_states() {
         raw
     };
     // Due a number, the class answers with a reference: 8.
-    assert_eq!(raw::request(&mut with_call(5, 5), &answer(3)), Err(8));
+    assert_eq!(entry::request(&mut with_call(5, 5), &answer(3)), Err(8));
     // Due a reference, an adapter without an answer or with a number: 19.
-    assert_eq!(raw::request(&mut with_call(3, 6), &answer(1)), Err(19));
-    assert_eq!(raw::request(&mut with_call(2, 6), &answer(1)), Err(19));
+    assert_eq!(entry::request(&mut with_call(3, 6), &answer(1)), Err(19));
+    assert_eq!(entry::request(&mut with_call(2, 6), &answer(1)), Err(19));
     // Due a reference that the subject does not hold: 15 before.
-    assert_eq!(raw::request(&mut with_call(2, 6), &answer(9)), Err(15));
+    assert_eq!(entry::request(&mut with_call(2, 6), &answer(9)), Err(15));
 }
 
 #[test]
@@ -551,7 +557,7 @@ fn c13_bytes_that_do_not_exist() {
     raw.entry_mut(2).fill(255);
     raw.broader.fill(255);
     assert_eq!(check::table(&raw), Ok(table));
-    assert_eq!(raw::compare(&raw, 1, 1), raw::compare(&right, 1, 1));
+    assert_eq!(entry::compare(&raw, 1, 1), entry::compare(&right, 1, 1));
 }
 
 #[test]
@@ -565,9 +571,9 @@ fn c14_derived_types_are_taken_at_their_word() {
     let mut raw = RawState::of(&State::of_sheet(table.clone()));
     // R is type 3, the lowest known Sub(1,0): the class passes as it is.
     let got = Got::Cell { cell: 0, place: 0 };
-    assert_eq!(raw::request(&mut raw, &new(0, 0, 1)), Ok(got));
+    assert_eq!(entry::request(&mut raw, &new(0, 0, 1)), Ok(got));
     assert_eq!(raw.table.types, 5);
-    assert_eq!(sub(&mut table, 1, 1, Fault::None), Ok(1));
+    assert_eq!(sub(&mut table, 1, 1), Ok(1));
     // Derived own is no reason for 2, but stands in no signature.
     table.types[3].own = true;
     assert!(check::table(&RawTable::of(&table)).is_ok());
@@ -591,7 +597,7 @@ fn c14_known_number_for_r_is_10() {
         right: 0,
     });
     let mut raw = RawState::of(&State::of_sheet(table));
-    assert_eq!(raw::request(&mut raw, &new(0, 0, 1)), Err(10));
+    assert_eq!(entry::request(&mut raw, &new(0, 0, 1)), Err(10));
 }
 
 #[test]
@@ -613,12 +619,12 @@ fn c16_operands_of_any_size() {
 fn compare_refuses() {
     let table = table_of(1, &[&["w32"], &["w64"]]);
     let mut raw = RawTable::of(&table);
-    assert_eq!(raw::compare(&raw, 0, 1), Ok([false, true, true, true]));
-    assert_eq!(raw::compare(&raw, 0, 0), Ok([true; 4]));
-    assert_eq!(raw::compare(&raw, 0, 2), Err(7));
-    assert_eq!(raw::compare(&raw, -1, 0), Err(7));
+    assert_eq!(entry::compare(&raw, 0, 1), Ok([false, true, true, true]));
+    assert_eq!(entry::compare(&raw, 0, 0), Ok([true; 4]));
+    assert_eq!(entry::compare(&raw, 0, 2), Err(7));
+    assert_eq!(entry::compare(&raw, -1, 0), Err(7));
     raw.types = 129;
-    assert_eq!(raw::compare(&raw, 0, 2), Err(2));
+    assert_eq!(entry::compare(&raw, 0, 2), Err(2));
 }
 
 #[test]
@@ -633,7 +639,7 @@ fn recursive_types_are_related_unless_refuted() {
             &["no", "avail()2", "denied"],
         ],
     );
-    let relations = Relations::of(&table, Fault::None);
+    let relations = Relations::of(&table);
     assert!(relations.holds(Relation::Subtype, 0, 1));
     assert!(relations.holds(Relation::Subtype, 1, 0));
     // 3 needs no method 1 of 2, but argument 0 of 2 comes back the other way.

@@ -1,0 +1,277 @@
+//! What a set of generated inputs and handed-in states met.
+
+use crate::check::{self, Reason, REASONS};
+use crate::coverage::{self, Seen, OF_REQUESTS};
+use crate::demand;
+use crate::entry;
+use crate::gen::{generate, Profile, PROFILES};
+use crate::hostile;
+use crate::random::Random;
+use crate::raw::RawTable;
+use crate::refusal::{Refusal, LATER_CROSSING, RANGE, SHORT_BUFFER, TYPE};
+use crate::script;
+use crate::sheet;
+use crate::situations::{OF_HANDED_IN, OF_SHEETS};
+use crate::state::State;
+use std::collections::BTreeMap;
+
+/// What a set of generated inputs met.
+#[derive(Clone, Debug, Default)]
+pub struct Report {
+    /// Inputs of the program by profile.
+    pub inputs: BTreeMap<&'static str, u64>,
+    /// Requests of scripts.
+    pub scripts: Seen,
+    /// Scripts that printed nothing but a refusal of their sheet, by number.
+    pub sheets: BTreeMap<Refusal, u64>,
+    /// Refused sheets by number and the kind of line that was refused.
+    pub lines: BTreeMap<(Refusal, String), u64>,
+    /// Scripts that were too long, and ones ended by a malformed `do=` line.
+    pub too_long: u64,
+    pub malformed: u64,
+    /// Runs whose book was held against the state, cells compared, and the
+    /// seeds of those where demand 3 did not hold.
+    pub books: u64,
+    pub cells: u64,
+    pub broken: Vec<(Profile, u64)>,
+    /// Handed-in states: how many, how many of them right, reasons of 2.
+    pub handed_in: u64,
+    pub right: u64,
+    pub reasons: BTreeMap<Reason, u64>,
+    /// Requests on handed-in states.
+    pub requests: Seen,
+    /// Sheet write: done, 4, 2. Compare: answered, 7, 2.
+    pub written: u64,
+    pub short: u64,
+    pub write_refused: u64,
+    pub compared: u64,
+    pub compare_unknown: u64,
+    pub compare_refused: u64,
+}
+
+/// Generates inputs and handed-in states and reports what they met.
+pub fn collect(seeds: std::ops::Range<u64>) -> Report {
+    let mut report = Report::default();
+    for profile in PROFILES {
+        for seed in seeds.clone() {
+            report.script(seed, profile);
+        }
+    }
+    for seed in seeds.start * 10..seeds.end * 10 {
+        report.hostile(seed);
+    }
+    report
+}
+
+impl Report {
+    fn script(&mut self, seed: u64, profile: Profile) {
+        let input = generate(seed, profile);
+        *self.inputs.entry(profile.name()).or_default() += 1;
+        let (run, found) = demand::run(&input);
+        if found.is_err() {
+            self.broken.push((profile, seed));
+        }
+        let Some(model) = run.model else {
+            self.refused_sheet(&input);
+            return;
+        };
+        self.books += 1;
+        self.cells += model.state.cells.len() as u64;
+        let Ok(script) = script::read(&input) else {
+            return;
+        };
+        self.malformed += u64::from(script.malformed);
+        let state = State::of_sheet(script.table);
+        self.scripts.add(&coverage::serve(state, &run.requests));
+    }
+
+    fn refused_sheet(&mut self, input: &[u8]) {
+        if input.len() > script::MAX_INPUT {
+            self.too_long += 1;
+            return;
+        }
+        let (text, _) = script::split(input);
+        if let Err((number, offset)) = sheet::read(text) {
+            *self.sheets.entry(number).or_default() += 1;
+            let kind = line_kind(&text[offset..]);
+            *self.lines.entry((number, kind)).or_default() += 1;
+        }
+    }
+
+    fn hostile(&mut self, seed: u64) {
+        let hostile = hostile::generate(seed);
+        let mut random = Random::new(seed);
+        self.handed_in += 1;
+        self.write(&mut random, &hostile.state.table);
+        self.compare(&mut random, &hostile.state.table);
+        match check::state(&hostile.state) {
+            Err(reason) => *self.reasons.entry(reason).or_default() += 1,
+            Ok(state) => {
+                self.right += 1;
+                self.requests
+                    .add(&coverage::serve(state, &hostile.requests));
+            }
+        }
+    }
+
+    fn write(&mut self, random: &mut Random, table: &RawTable) {
+        let length = check::table(table).map_or(500, |table| sheet::text(&table).len());
+        let lengths = [0, length - 1, length, length + 1, 2 * length];
+        let mut buffer = vec![170; *random.pick(&lengths)];
+        match entry::write(table, &mut buffer) {
+            Ok(_) => self.written += 1,
+            Err(SHORT_BUFFER) => self.short += 1,
+            Err(RANGE) => self.write_refused += 1,
+            Err(number) => panic!("sheet write refused with {number}"),
+        }
+    }
+
+    fn compare(&mut self, random: &mut Random, table: &RawTable) {
+        let types = table.types as usize % 400;
+        let t = random.below(types + 2) as i64 - 1;
+        let s = random.below(types + 2) as i64 - 1;
+        match entry::compare(table, t, s) {
+            Ok(_) => self.compared += 1,
+            Err(TYPE) => self.compare_unknown += 1,
+            Err(RANGE) => self.compare_refused += 1,
+            Err(number) => panic!("compare refused with {number}"),
+        }
+    }
+
+    /// How often a refusal number was met, by anything at all.
+    pub fn number(&self, number: Refusal) -> u64 {
+        let sheets = self.sheets.get(&number).copied().unwrap_or(0);
+        let rest = match number {
+            1 => self.malformed,
+            2 => self.too_long + self.reasons.values().sum::<u64>(),
+            4 => self.short,
+            _ => self.scripts.number(number) + self.requests.number(number),
+        };
+        sheets + rest
+    }
+
+    /// What ought to have been met and was not.
+    pub fn missing(&self) -> Vec<String> {
+        let met = self
+            .of_sheets()
+            .into_iter()
+            .chain(self.of_requests())
+            .chain(self.of_handed_in());
+        let missing = met.filter(|(met, _)| !met).map(|(_, what)| what);
+        missing.collect()
+    }
+
+    /// Whether each refusal of sheets and inputs was met, and its name.
+    fn of_sheets(&self) -> Vec<(bool, String)> {
+        let sheets = (1..=3).map(|number| {
+            let met = self.sheets.contains_key(&number);
+            (met, format!("sheet {number}"))
+        });
+        let inputs = [
+            (self.too_long > 0, "too long a script".to_string()),
+            (self.malformed > 0, "a malformed do= line".to_string()),
+        ];
+        sheets.chain(inputs).collect()
+    }
+
+    /// The same of what requests on loaded sheets can meet.
+    fn of_requests(&self) -> Vec<(bool, String)> {
+        let mut met = Vec::new();
+        for (name, numbers) in OF_REQUESTS {
+            let accepted = self.scripts.accepted.contains_key(name);
+            met.push((accepted, format!("{name} accepted")));
+            for number in *numbers {
+                let refused = self.scripts.refused.contains_key(&(name, *number));
+                met.push((refused, format!("{name} {number}")));
+            }
+        }
+        for situation in OF_SHEETS {
+            let count = self.scripts.met(situation);
+            met.push((count > 0, format!("{situation:?}")));
+        }
+        met
+    }
+
+    /// The same of what is handed in.
+    fn of_handed_in(&self) -> Vec<(bool, String)> {
+        let situations = OF_HANDED_IN
+            .map(|situation| (self.requests.met(situation) > 0, format!("{situation:?}")));
+        let later = ["call", "answer"].map(|name| {
+            let met = self.requests.refused.contains_key(&(name, LATER_CROSSING));
+            (met, format!("{name} 19 on a handed-in state"))
+        });
+        let reasons =
+            REASONS.map(|reason| (self.reasons.contains_key(&reason), format!("{reason:?}")));
+        let tables = [
+            (self.written, "sheet write"),
+            (self.short, "sheet write 4"),
+            (self.write_refused, "sheet write 2"),
+            (self.compared, "compare"),
+            (self.compare_unknown, "compare 7"),
+            (self.compare_refused, "compare 2"),
+        ]
+        .map(|(count, what)| (count > 0, what.to_string()));
+        let all = situations.into_iter().chain(later).chain(reasons);
+        all.chain(tables).collect()
+    }
+
+    /// The report as text.
+    pub fn text(&self) -> String {
+        let mut text = format!("inputs {:?}\n", self.inputs);
+        text.push_str(&format!(
+            "demand 3: {} books, {} cells over all chains, broken {:?}\n",
+            self.books, self.cells, self.broken
+        ));
+        text.push_str("refusal numbers met, 1 to 19:");
+        for number in 1..=19 {
+            text.push_str(&format!(" {number}:{}", self.number(number)));
+        }
+        text.push_str("\n\nscripts\n");
+        text.push_str(&format!(
+            "sheets refused {:?}, too long {}, malformed do= {}\n",
+            self.sheets, self.too_long, self.malformed
+        ));
+        for ((number, kind), count) in &self.lines {
+            text.push_str(&format!("  {number} at {kind}: {count}\n"));
+        }
+        text.push_str(&self.scripts.text());
+        text.push_str(&format!(
+            "\nhanded in: {} states, {} right\n",
+            self.handed_in, self.right
+        ));
+        text.push_str(&format!(
+            "sheet write: done {}, 4 {}, 2 {}; compare: answered {}, 7 {}, 2 {}\n",
+            self.written,
+            self.short,
+            self.write_refused,
+            self.compared,
+            self.compare_unknown,
+            self.compare_refused
+        ));
+        for (reason, count) in &self.reasons {
+            text.push_str(&format!("  2 by {reason:?}: {count}\n"));
+        }
+        text.push_str(&self.requests.text());
+        text.push_str(&format!("\nmissing: {:?}\n", self.missing()));
+        text
+    }
+}
+
+/// The word before `=` of the first line, or what else is there.
+pub fn line_kind(rest: &[u8]) -> String {
+    if rest.is_empty() {
+        return "the end".to_string();
+    }
+    let Some(end) = rest.iter().position(|byte| *byte == b'\n') else {
+        return "a line without LF".to_string();
+    };
+    let line = String::from_utf8_lossy(&rest[..end]).to_string();
+    let known = [
+        "guide", "subjects", "methods", "cats", "under", "types", "type", "rep", "cat", "own", "m",
+        "end",
+    ];
+    match line.split_once('=') {
+        Some((word, _)) if known.contains(&word) => word.to_string(),
+        _ => "another line".to_string(),
+    }
+}

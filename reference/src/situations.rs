@@ -1,0 +1,359 @@
+//! What a request met, read from outside: from the request, its result and the
+//! state that it left. What was there before is still there (Q14, Q15), so that
+//! the counts before tell what is new.
+
+use crate::model::Model;
+use crate::refusal::{Refusal, CROSSING, LATER_CROSSING, TYPES_FULL, WIDTH};
+use crate::relations::Relation;
+use crate::requests::{index, Got, Request};
+use crate::restriction::sub;
+use crate::state::{Counts, Place, State};
+use crate::table::{Representation, Signature, TypeNo, MAX_TYPES};
+
+/// Situations worth meeting.
+#[derive(Clone, Copy, PartialEq, Eq, Debug, Hash, PartialOrd, Ord)]
+pub enum Situation {
+    PassedBySubtype,
+    PassedByPlaceType,
+    AdapterOnObject,
+    AdapterBehindAdapter,
+    UnwrappedBare,
+    UnwrappedOne,
+    UnwrappedSeveral,
+    KeyReused,
+    DerivedFlat,
+    DerivedNested,
+    CallThroughAdapter,
+    ArgumentReference,
+    ArgumentReferenceThroughAdapter,
+    ArgumentReferenceWrapped,
+    AnswerReference,
+    AnswerReferenceThroughAdapter,
+    AnswerReferenceWrapped,
+    W32Lowest,
+    W32Highest,
+    W32BelowLowest,
+    W32AboveHighest,
+    /// 11 met while Sub(T,S) of a crossing is derived.
+    TypesFullAtSub,
+    /// 11 met while Closed(R,V) is derived.
+    TypesFullAtClosed,
+    /// 11 met after part of a derivation had taken its numbers.
+    TypesFullInside,
+    LayerWithoutValue,
+    LayerNumberForReference,
+    LayerReferenceForNumber,
+}
+
+/// Every situation a loaded sheet can meet.
+pub const OF_SHEETS: [Situation; 24] = [
+    Situation::PassedBySubtype,
+    Situation::PassedByPlaceType,
+    Situation::AdapterOnObject,
+    Situation::AdapterBehindAdapter,
+    Situation::UnwrappedBare,
+    Situation::UnwrappedOne,
+    Situation::UnwrappedSeveral,
+    Situation::KeyReused,
+    Situation::DerivedFlat,
+    Situation::DerivedNested,
+    Situation::CallThroughAdapter,
+    Situation::ArgumentReference,
+    Situation::ArgumentReferenceThroughAdapter,
+    Situation::ArgumentReferenceWrapped,
+    Situation::AnswerReference,
+    Situation::AnswerReferenceThroughAdapter,
+    Situation::AnswerReferenceWrapped,
+    Situation::W32Lowest,
+    Situation::W32Highest,
+    Situation::W32BelowLowest,
+    Situation::W32AboveHighest,
+    Situation::TypesFullAtSub,
+    Situation::TypesFullAtClosed,
+    Situation::TypesFullInside,
+];
+
+/// The situations of handed-in states alone.
+pub const OF_HANDED_IN: [Situation; 3] = [
+    Situation::LayerWithoutValue,
+    Situation::LayerNumberForReference,
+    Situation::LayerReferenceForNumber,
+];
+
+/// The situations that a request met.
+pub fn met(
+    model: &Model,
+    before: Counts,
+    request: &Request,
+    result: Result<Got, Refusal>,
+) -> Vec<Situation> {
+    let state = &model.state;
+    let mut met = Vec::new();
+    match result {
+        Ok(got) => {
+            met.extend(new_adapters(state, before));
+            met.extend(new_types(state, before));
+            met.extend(passages(model, before, request, got));
+            met.extend(references(state, before, request, got));
+            met.extend(ends_of_w32(state, request, &[W32_LOWEST, W32_HIGHEST]));
+        }
+        Err(TYPES_FULL) => met.extend(types_full(state, request)),
+        Err(WIDTH) => met.extend(beyond_w32(state, request)),
+        Err(number) => met.extend(unfit_layer(state, request, number)),
+    }
+    met
+}
+
+/// The new adapters, by what is behind them, and whether their types were known.
+fn new_adapters(state: &State, before: Counts) -> Vec<Situation> {
+    let mut met = Vec::new();
+    for place in &state.places[before.places..] {
+        if let Place::Adapter { behind, closed } = *place {
+            met.push(match state.places[behind] {
+                Place::Object { .. } => Situation::AdapterOnObject,
+                Place::Adapter { .. } => Situation::AdapterBehindAdapter,
+            });
+            if closed < before.types {
+                met.push(Situation::KeyReused);
+            }
+        }
+    }
+    met
+}
+
+/// The new types: those that neither name nor are named by another new one,
+/// and those that name one.
+fn new_types(state: &State, before: Counts) -> Vec<Situation> {
+    let types = &state.table.types;
+    let names = |one: usize, other: usize| {
+        let mut signatures = types[one].methods.iter().filter_map(|one| one.signature());
+        one != other && signatures.any(|signature| signature.named().any(|named| named == other))
+    };
+    let new = before.types..types.len();
+    let of_type = |one: usize| {
+        if new.clone().any(|other| names(one, other)) {
+            return Some(Situation::DerivedNested);
+        }
+        let named = new.clone().any(|other| names(other, one));
+        (!named).then_some(Situation::DerivedFlat)
+    };
+    new.clone().filter_map(of_type).collect()
+}
+
+/// Source and target of the crossing of a new or a move whose operands are right.
+fn crossed(state: &State, request: &Request) -> Option<(TypeNo, TypeNo)> {
+    let named = |number: i64| index(number, state.table.sheet_types);
+    match request {
+        Request::New {
+            class, cell_type, ..
+        } => Some((named(*class)?, named(*cell_type)?)),
+        Request::Move {
+            cell, cell_type, ..
+        } => {
+            let cell = index(*cell, state.cells.len())?;
+            Some((state.cells[cell].cell_type, named(*cell_type)?))
+        }
+        _ => None,
+    }
+}
+
+/// How the reference of an accepted new or move got where it leads to.
+fn passages(model: &Model, before: Counts, request: &Request, got: Got) -> Vec<Situation> {
+    let state = &model.state;
+    let (Some((s, t)), Got::Cell { place, .. }) = (crossed(state, request), got) else {
+        return Vec::new();
+    };
+    let mut from = match request {
+        Request::Move { cell, .. } => state.cells[*cell as usize].place,
+        _ => before.places,
+    };
+    let mut met = Vec::new();
+    let own = state.table.types[t].own;
+    if own {
+        let (adapters, base) = state.stack(from);
+        from = base;
+        met.push(match adapters.len() {
+            0 => Situation::UnwrappedBare,
+            1 => Situation::UnwrappedOne,
+            _ => Situation::UnwrappedSeveral,
+        });
+    }
+    if !own && model.relations.holds(Relation::Subtype, t, s) {
+        met.push(Situation::PassedBySubtype);
+    } else if place == from {
+        met.push(Situation::PassedByPlaceType);
+    }
+    met
+}
+
+/// References that an accepted call or answer carried.
+fn references(state: &State, before: Counts, request: &Request, got: Got) -> Vec<Situation> {
+    let mut met = Vec::new();
+    let carried = state.cells.len() > before.cells;
+    let wrapped = state.places.len() > before.places;
+    let [plain, through, with_adapter] = match (request, got) {
+        (Request::Call { .. }, Got::Call { adapters, .. }) => {
+            if adapters > 0 {
+                met.push(Situation::CallThroughAdapter);
+            }
+            [
+                (carried, Situation::ArgumentReference),
+                (adapters > 0, Situation::ArgumentReferenceThroughAdapter),
+                (wrapped, Situation::ArgumentReferenceWrapped),
+            ]
+        }
+        (Request::Answer { call, .. }, Got::Cell { .. }) => {
+            let call = state.calls[*call as usize];
+            let layers = state.layers(call.cell).len();
+            [
+                (carried, Situation::AnswerReference),
+                (layers > 2, Situation::AnswerReferenceThroughAdapter),
+                (wrapped, Situation::AnswerReferenceWrapped),
+            ]
+        }
+        _ => return met,
+    };
+    if carried {
+        let all = [plain, through, with_adapter].into_iter();
+        met.extend(all.filter(|(is, _)| *is).map(|(_, situation)| situation));
+    }
+    met
+}
+
+/// An operand of a call or an answer, and of each layer, in the order that they
+/// are passed, the type that it has for it.
+struct Carried {
+    operand: i64,
+    layers: Vec<Option<TypeNo>>,
+    /// Whether the cell's type has a ref type for it.
+    reference: bool,
+}
+
+impl Carried {
+    fn of(
+        state: &State,
+        layers: &[TypeNo],
+        method: usize,
+        operand: i64,
+        named: impl Fn(&Signature) -> Option<TypeNo>,
+    ) -> Carried {
+        let of_layer = |layer: &TypeNo| state.table.types[*layer].permits(method).and_then(&named);
+        let of_layers: Vec<Option<TypeNo>> = layers.iter().map(of_layer).collect();
+        Carried {
+            operand,
+            reference: of_layers[0].is_some_and(|one| state.table.types[one].is_ref()),
+            layers: of_layers,
+        }
+    }
+}
+
+/// What a call or an answer carries, where its operands are right.
+fn carried(state: &State, request: &Request) -> Option<Vec<Carried>> {
+    match request {
+        Request::Call {
+            cell,
+            method,
+            arguments,
+            ..
+        } => {
+            let layers = state.layers(index(*cell, state.cells.len())?);
+            let method = index(*method, state.table.methods)?;
+            let all = arguments.iter().enumerate().map(|(position, operand)| {
+                Carried::of(state, &layers, method, *operand, |signature| {
+                    signature.arguments.get(position).copied()
+                })
+            });
+            Some(all.collect())
+        }
+        Request::Answer {
+            call,
+            value: Some(value),
+            ..
+        } => {
+            let call = state.calls[index(*call, state.calls.len())?];
+            let layers = state.layers(call.cell);
+            let answer = |signature: &Signature| signature.answer;
+            let mut one = Carried::of(state, &layers, call.method, *value, answer);
+            one.layers.reverse();
+            Some(vec![one])
+        }
+        _ => None,
+    }
+}
+
+const W32_LOWEST: (i64, Situation) = (i32::MIN as i64, Situation::W32Lowest);
+const W32_HIGHEST: (i64, Situation) = (i32::MAX as i64, Situation::W32Highest);
+const W32_BELOW: (i64, Situation) = (i32::MIN as i64 - 1, Situation::W32BelowLowest);
+const W32_ABOVE: (i64, Situation) = (i32::MAX as i64 + 1, Situation::W32AboveHighest);
+
+/// The numbers of a call or an answer that meet w32 at a layer.
+fn at_w32(state: &State, request: &Request) -> Vec<i64> {
+    let is_w32 = |one: &TypeNo| state.table.types[*one].representation == Representation::W32;
+    let all = carried(state, request).unwrap_or_default().into_iter();
+    let meet = all.filter(|one| !one.reference && one.layers.iter().flatten().any(is_w32));
+    meet.map(|one| one.operand).collect()
+}
+
+fn ends_of_w32(state: &State, request: &Request, ends: &[(i64, Situation)]) -> Vec<Situation> {
+    let numbers = at_w32(state, request);
+    let met = ends.iter().filter(|(end, _)| numbers.contains(end));
+    met.map(|(_, situation)| *situation).collect()
+}
+
+/// A refusal with 16 is by the first number that does not fit.
+fn beyond_w32(state: &State, request: &Request) -> Option<Situation> {
+    let numbers = at_w32(state, request);
+    let first = numbers.iter().find(|one| i32::try_from(**one).is_err())?;
+    let ends = [W32_BELOW, W32_ABOVE];
+    let met = ends.iter().find(|(end, _)| end == first)?;
+    Some(met.1)
+}
+
+/// Where a new or a move met 11: its first derivation is asked for once more.
+fn types_full(state: &State, request: &Request) -> Vec<Situation> {
+    let Some((s, t)) = crossed(state, request) else {
+        return Vec::new();
+    };
+    let mut table = state.table.clone();
+    let mut free = MAX_TYPES - table.types.len();
+    let mut at = Situation::TypesFullAtSub;
+    if table.types[t].own || sub(&mut table, t, s).is_ok() {
+        free = MAX_TYPES - table.types.len();
+        at = Situation::TypesFullAtClosed;
+    }
+    let inside = (free > 0).then_some(Situation::TypesFullInside);
+    [at].into_iter().chain(inside).collect()
+}
+
+/// The unfit layer that a refusal of a call or an answer must be by: numbers
+/// are refused so by nothing else; a reference may be refused by a crossing
+/// before, unless the layer is the first that can give the number.
+fn unfit_layer(state: &State, request: &Request, number: Refusal) -> Option<Situation> {
+    let first = match number {
+        CROSSING => 0,
+        LATER_CROSSING => 1,
+        _ => return None,
+    };
+    for one in carried(state, request)? {
+        let unfit = |layer: &Option<TypeNo>| unfit(state, one.reference, *layer);
+        let at = one.layers.iter().position(|layer| unfit(layer).is_some());
+        match at {
+            Some(at) if !one.reference || at == first => return unfit(&one.layers[at]),
+            None if !one.reference => {}
+            _ => return None,
+        }
+    }
+    None
+}
+
+/// How a layer is unfit for a value (C15).
+fn unfit(state: &State, reference: bool, layer: Option<TypeNo>) -> Option<Situation> {
+    let Some(named) = layer else {
+        return Some(Situation::LayerWithoutValue);
+    };
+    match (reference, state.table.types[named].is_ref()) {
+        (true, false) => Some(Situation::LayerNumberForReference),
+        (false, true) => Some(Situation::LayerReferenceForNumber),
+        _ => None,
+    }
+}
