@@ -5,8 +5,10 @@ use crate::names::{Kind, Names};
 use crate::paint::{Paint, Tone};
 use pilgonca::{CellInfo, Method, MethodInfo, Place, PlaceInfo, PlaceKind, Refusal, TypeInfo};
 
-const HEAD: &str = "Who holds a reference that offers a method, and the types that it crossed since its object was made or its owner \
-                    last took it back.\n";
+const HEAD: &str = "\
+For each method of an object: who holds a reference that offers it, whether they can call it or only hand it on, and
+the types that the reference crossed since the object was made or its owner last took it back.
+";
 
 /// The answer for a whole run. Whether a cell offers a method is asked of the core.
 pub fn audit(run: &Run, names: &Names, paint: Paint) -> Result<String, Refusal> {
@@ -74,17 +76,22 @@ impl Auditor<'_> {
         Ok(format!("  {title}\n{}", lines.concat()))
     }
 
+    /// Who holds a cell that offers a method, the cell, what can be done, and how it came.
     fn holder(&self, cell: &CellInfo, method: usize) -> String {
-        let subject = self.names.words(Kind::Subject, cell.holder.0);
+        let subject = |number: i64| self.names.words(Kind::Subject, number);
+        let subjects = 0..self.run.visit.sheet().subjects();
+        let widths = subjects.map(|number| subject(number as i64).chars().count());
+        let width = widths.max().unwrap_or(0);
         let trail = self.run.trails.get(cell.number.0 as usize);
         let trail = trail.into_iter().flatten();
         let trail: Vec<String> = trail
             .map(|one| self.names.label(Kind::Type, one.0))
             .collect();
         format!(
-            "    {subject} {} by cell {}, which came through types {}\n",
-            self.use_of(cell, method),
+            "    {:width$}  cell {:<3}  {}  {}\n",
+            subject(cell.holder.0),
             cell.number,
+            self.use_of(cell, method),
             trail.join(" > ")
         )
     }
@@ -94,8 +101,8 @@ impl Auditor<'_> {
         let mut types = self.types.iter();
         let info = types.find(|info| info.number == cell.type_);
         match info.and_then(|info| info.methods.get(method)) {
-            Some(MethodInfo::Avail(_)) => "can call it",
-            _ => "can hand it on",
+            Some(MethodInfo::Avail(_)) => "can call   ",
+            _ => "can hand on",
         }
     }
 }

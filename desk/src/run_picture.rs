@@ -50,17 +50,14 @@ impl Columns {
 pub fn picture(title: &str, run: &Run, names: &Names) -> Result<String, Refusal> {
     let plan = plan(run, names)?;
     let columns = Columns::of(&plan);
-    let mut canvas = Canvas::default();
-    canvas.text("title", (MARGIN, MARGIN + 16), title);
-    canvas.text("note", (MARGIN, MARGIN + 38), NOTE);
+    let mut canvas = Canvas::titled(title, NOTE);
     if plan.leaves.is_empty() {
         canvas.text("", (MARGIN, plan.bottom), "No object was made.");
     }
     draw(&mut canvas, &plan, &columns);
-    let (legend_width, height) = legend(&mut canvas, plan.bottom + 16);
-    let words = text_width(title, 18, true).max(text_width(NOTE, 12, false));
-    let width = words.max(legend_width).max(columns.right - MARGIN);
-    Ok(canvas.finish(title, width + 2 * MARGIN, height + MARGIN))
+    let (legend_width, bottom) = legend(&mut canvas, plan.bottom + 16);
+    let right = columns.right.max(MARGIN + legend_width);
+    Ok(canvas.finish(right, bottom))
 }
 
 fn draw(canvas: &mut Canvas, plan: &Plan, columns: &Columns) {

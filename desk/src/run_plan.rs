@@ -3,15 +3,13 @@
 
 use crate::follow::Run;
 use crate::names::{Kind, Names};
-use crate::svg::{text_width, MARGIN};
+use crate::svg::{text_width, BELOW_TITLE};
 use pilgonca::{CellInfo, Method, MethodInfo, PlaceInfo, PlaceKind, Refusal, TypeInfo};
 
 /// From one row to the next.
 const ROW: usize = 52;
 /// Between two objects.
 const APART: usize = 20;
-/// Where the rows begin.
-const TOP: usize = MARGIN + 60;
 /// No list of methods is longer, in characters.
 const LISTED: usize = 60;
 
@@ -64,7 +62,7 @@ pub fn plan(run: &Run, names: &Names) -> Result<Plan, Refusal> {
     let mut plan = Plan {
         leaves,
         nodes: Vec::new(),
-        bottom: TOP,
+        bottom: BELOW_TITLE,
     };
     for place in run.visit.places() {
         let node = plan.node(&place, &types, names);

@@ -14,7 +14,7 @@ text { font-family: Helvetica, Arial, 'DejaVu Sans', sans-serif; font-size: 12px
 .middle { text-anchor: middle; }
 .right { text-anchor: end; }
 .grid { stroke: #d5dce4; stroke-width: 1; }
-.grid5 { stroke: #9fadbb; stroke-width: 1; }
+.edge { stroke: #9fadbb; stroke-width: 1; }
 .blank { fill: #ffffff; stroke: #d5dce4; stroke-width: 1; }
 .shade { fill: #eef2f6; }
 .subtype { fill: #1f3a5f; }
@@ -29,13 +29,30 @@ text { font-family: Helvetica, Arial, 'DejaVu Sans', sans-serif; font-size: 12px
 .tip { fill: #5a6775; }
 ";
 
+/// Where the title and the note under it end.
+pub const BELOW_TITLE: usize = MARGIN + 54;
+
 /// What is drawn so far.
-#[derive(Default)]
 pub struct Canvas {
+    title: String,
+    /// How wide the title and the note are.
+    words: usize,
     body: String,
 }
 
 impl Canvas {
+    /// A picture with a title, and a note under it.
+    pub fn titled(title: &str, note: &str) -> Canvas {
+        let mut canvas = Canvas {
+            title: title.to_string(),
+            words: text_width(title, 18, true).max(text_width(note, 12, false)),
+            body: String::new(),
+        };
+        canvas.text("title", (MARGIN, MARGIN + 16), title);
+        canvas.text("note", (MARGIN, MARGIN + 38), note);
+        canvas
+    }
+
     pub fn rect(&mut self, class: &str, (x, y): (usize, usize), (width, height): (usize, usize)) {
         self.add(format_args!("<rect class=\"{class}\" x=\"{x}\" y=\"{y}\" width=\"{width}\" height=\"{height}\" rx=\"3\"/>"));
     }
@@ -64,10 +81,10 @@ impl Canvas {
     }
 
     /// Text that goes upward from a point.
-    pub fn upward(&mut self, class: &str, (x, y): (usize, usize), text: &str) {
+    pub fn upward(&mut self, (x, y): (usize, usize), text: &str) {
         let text = escaped(text);
         self.add(format_args!(
-            "<text class=\"{class}\" transform=\"translate({x} {y}) rotate(-90)\">{text}</text>"
+            "<text transform=\"translate({x} {y}) rotate(-90)\">{text}</text>"
         ));
     }
 
@@ -75,13 +92,14 @@ impl Canvas {
         writeln!(self.body, "{element}").expect("a String takes everything");
     }
 
-    /// The whole file, on white.
-    pub fn finish(self, title: &str, width: usize, height: usize) -> String {
+    /// The whole file, on white, for what reaches so far right and down.
+    pub fn finish(self, right: usize, bottom: usize) -> String {
+        let Canvas { title, words, body } = self;
+        let (width, height) = (right.max(MARGIN + words) + MARGIN, bottom + MARGIN);
         format!(
             "<svg xmlns=\"http://www.w3.org/2000/svg\" width=\"{width}\" height=\"{height}\" viewBox=\"0 0 {width} {height}\">\n\
-             <title>{}</title>\n<style>\n{STYLE}</style>\n<rect width=\"{width}\" height=\"{height}\" fill=\"#ffffff\"/>\n{}</svg>\n",
-            escaped(title),
-            self.body
+             <title>{}</title>\n<style>\n{STYLE}</style>\n<rect width=\"{width}\" height=\"{height}\" fill=\"#ffffff\"/>\n{body}</svg>\n",
+            escaped(&title)
         )
     }
 }
