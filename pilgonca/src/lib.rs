@@ -35,7 +35,7 @@ pub use sheet::{Answers, Pairs, Sheet};
 pub use visit::{Answered, Called, Held, Visit};
 
 /// The first sheet of docs/GUIDE.md, for examples: two subjects, the methods read (0) and mark (1), and the class 1.
-pub const EXAMPLE: &[u8] = include_bytes!("../../examples/visit.sheet");
+pub const EXAMPLE: &[u8] = include_bytes!("../../examples/guide.sheet");
 
 /// What the program `script` prints for an input: a sheet with requests behind it (P).
 ///

@@ -1,8 +1,8 @@
 //! A table of types: of a sheet's text, or of a visit.
 
-use crate::numbers::{below, Type};
-use crate::raw::{self, PairTable, Table, LINK_RECORD, MAX_SHEET_TYPES, MAX_TEXT};
-use crate::records::{type_info, TypeInfo};
+use crate::numbers::{Type, below};
+use crate::raw::{self, LINK_RECORD, MAX_SHEET_TYPES, MAX_TEXT, PairTable, Table};
+use crate::records::{TypeInfo, type_info};
 use crate::refusal::{Refusal, SheetRefused};
 use std::fmt;
 
@@ -208,7 +208,7 @@ impl Sheet {
     /// assert_eq!(sheet.types().count(), 6);
     /// assert_eq!(sheet.types().next().unwrap().representation, Representation::W32);
     /// ```
-    pub fn types(&self) -> impl Iterator<Item = TypeInfo> + '_ {
+    pub fn types(&self) -> impl Iterator<Item = TypeInfo> {
         let [_, methods, _, sheet_types, types] = self.table.counts;
         (0..types).map(move |index| type_info(&self.table.types, methods, sheet_types, index))
     }

@@ -1,9 +1,9 @@
 //! A state, and the requests that are put to it.
 
-use crate::numbers::{below, Call, Cell, Method, Place, Subject, Type};
+use crate::numbers::{Call, Cell, Method, Place, Subject, Type, below};
 use crate::raw::{self, State, StateMut, Table, Values};
 use crate::records::{
-    call_info, cell_info, place_info, type_info, CallInfo, CellInfo, PlaceInfo, PlaceKind, TypeInfo,
+    CallInfo, CellInfo, PlaceInfo, PlaceKind, TypeInfo, call_info, cell_info, place_info, type_info,
 };
 use crate::refusal::{Refusal, SheetRefused};
 use crate::sheet::Sheet;
@@ -243,7 +243,7 @@ impl Visit {
     /// assert_eq!((cell.number, cell.place), (held.cell, held.place));
     /// assert_eq!((cell.holder, cell.type_), (Subject(1), Type(2)));
     /// ```
-    pub fn cells(&self) -> impl Iterator<Item = CellInfo> + '_ {
+    pub fn cells(&self) -> impl Iterator<Item = CellInfo> {
         (0..self.state.counts[5]).map(|index| cell_info(&self.state.cells, index))
     }
 
@@ -256,7 +256,7 @@ impl Visit {
     /// let kind = PlaceKind::Object { class: Type(1), owner: Subject(1) };
     /// assert_eq!(visit.places().next().unwrap().kind, kind);
     /// ```
-    pub fn places(&self) -> impl Iterator<Item = PlaceInfo> + '_ {
+    pub fn places(&self) -> impl Iterator<Item = PlaceInfo> {
         (0..self.state.counts[6]).map(|index| place_info(&self.state.places, index))
     }
 
@@ -271,7 +271,7 @@ impl Visit {
     /// assert_eq!((call.caller, call.cell, call.method), (Subject(1), held.cell, Method(0)));
     /// assert!(!call.answered);
     /// ```
-    pub fn calls(&self) -> impl Iterator<Item = CallInfo> + '_ {
+    pub fn calls(&self) -> impl Iterator<Item = CallInfo> {
         (0..self.state.counts[7]).map(|index| call_info(&self.state.calls, index))
     }
 
@@ -285,7 +285,7 @@ impl Visit {
     /// let derived: Vec<Kind> = visit.types().filter_map(|one| one.key).map(|key| key.kind).collect();
     /// assert_eq!(derived, [Kind::Sub, Kind::Closed]);
     /// ```
-    pub fn types(&self) -> impl Iterator<Item = TypeInfo> + '_ {
+    pub fn types(&self) -> impl Iterator<Item = TypeInfo> {
         let [_, methods, _, sheet_types, types, ..] = self.state.counts;
         (0..types).map(move |index| type_info(&self.state.types, methods, sheet_types, index))
     }

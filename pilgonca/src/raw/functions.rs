@@ -8,7 +8,7 @@ use super::{
     TableRef, Types, Values,
 };
 
-extern "C" {
+unsafe extern "C" {
     fn pilgonca_compare(
         types: &Types,
         links: &Links,
@@ -176,21 +176,54 @@ macro_rules! on_state {
 }
 
 /// Compare (R14): a refusal's number, or 16 plus the sum of 1 for subtype, 2 strict, 4 loose and 8 free.
+///
+/// ```
+/// use pilgonca::{raw, EXAMPLE};
+/// let (mut table, mut at) = (raw::Table::default(), 0);
+/// assert_eq!(raw::compare(table.lend(), 2, 1), 2);
+/// raw::read(EXAMPLE, table.lend_mut(), &mut at);
+/// assert_eq!(raw::compare(table.lend(), 2, 1), 16 + 15);
+/// ```
 pub fn compare(table: TableRef, t: i64, s: i64) -> usize {
     on_table!(pilgonca_compare(table, t, s))
 }
 
 /// The pair table (E9).
+///
+/// ```
+/// use pilgonca::{raw, EXAMPLE};
+/// let (mut table, mut at, mut out) = (raw::Table::default(), 0, [0; 2304]);
+/// raw::read(EXAMPLE, table.lend_mut(), &mut at);
+/// assert_eq!(raw::pairs(table.lend(), &mut out), 0);
+/// assert_eq!(out[48 * 2 + 1], 15);
+/// ```
 pub fn pairs(table: TableRef, out: &mut PairTable) -> usize {
     on_table!(pilgonca_pairs(table, out))
 }
 
 /// A derivation (E10): kind 0 is Sub, 1 Sup, 2 Closed; stores the type's number.
+///
+/// ```
+/// use pilgonca::{raw, EXAMPLE};
+/// let (mut table, mut at, mut number) = (raw::Table::default(), 0, 0);
+/// raw::read(EXAMPLE, table.lend_mut(), &mut at);
+/// assert_eq!(raw::derive(table.lend_mut(), 0, 3, 2, &mut number), 0);
+/// assert_eq!((number, table.counts[4]), (6, 7));
+/// ```
 pub fn derive(table: TableMut, kind: usize, t: i64, s: i64, number: &mut usize) -> usize {
     on_table!(pilgonca_derive(table, kind, t, s, number))
 }
 
 /// Sheet read (S): refused, the offset is in `at`, and the table is empty (S32).
+///
+/// ```
+/// use pilgonca::{raw, EXAMPLE};
+/// let (mut table, mut at) = (raw::Table::default(), 0);
+/// assert_eq!(raw::read(EXAMPLE, table.lend_mut(), &mut at), 0);
+/// assert_eq!(table.counts, [2, 2, 0, 6, 6]);
+/// assert_eq!(raw::read(b"guide=1\nsubjects=0\n", table.lend_mut(), &mut at), 2);
+/// assert_eq!((table.counts, at), ([0; 5], 8));
+/// ```
 pub fn read(text: &[u8], table: TableMut, at: &mut usize) -> usize {
     // SAFETY: as the head of this file says.
     unsafe {
@@ -206,6 +239,15 @@ pub fn read(text: &[u8], table: TableMut, at: &mut usize) -> usize {
 }
 
 /// Sheet write (W): the text in front of the buffer, and its length.
+///
+/// ```
+/// use pilgonca::{raw, EXAMPLE};
+/// let (mut table, mut at) = (raw::Table::default(), 0);
+/// raw::read(EXAMPLE, table.lend_mut(), &mut at);
+/// let (mut buffer, mut length) = ([0; raw::MAX_TEXT], 0);
+/// assert_eq!(raw::write(&mut buffer, table.lend(), &mut length), 0);
+/// assert_eq!(&buffer[..length], EXAMPLE);
+/// ```
 pub fn write(buffer: &mut [u8], table: TableRef, length: &mut usize) -> usize {
     // SAFETY: as the head of this file says.
     unsafe {
@@ -221,6 +263,14 @@ pub fn write(buffer: &mut [u8], table: TableRef, length: &mut usize) -> usize {
 }
 
 /// New (N): stores the new cell and its place.
+///
+/// ```
+/// use pilgonca::{raw, EXAMPLE};
+/// let (mut state, mut at, mut values) = (raw::State::default(), 0, [0; 3]);
+/// raw::load(EXAMPLE, state.lend_mut(), &mut at);
+/// assert_eq!(raw::new_object(state.lend_mut(), 0, 1, 4, &mut values), 0);
+/// assert_eq!(values, [2, 0, 0]);
+/// ```
 pub fn new_object(
     state: StateMut,
     subject: i64,
@@ -232,6 +282,16 @@ pub fn new_object(
 }
 
 /// Move (M): stores the new cell and its place.
+///
+/// ```
+/// use pilgonca::{raw, EXAMPLE};
+/// let (mut state, mut at, mut values) = (raw::State::default(), 0, [0; 3]);
+/// raw::load(EXAMPLE, state.lend_mut(), &mut at);
+/// raw::new_object(state.lend_mut(), 0, 1, 4, &mut values);
+/// assert_eq!(raw::move_reference(state.lend_mut(), 0, 0, 1, 2, &mut values), 0);
+/// assert_eq!(values, [2, 1, 0]);
+/// assert_eq!(raw::move_reference(state.lend_mut(), 0, 1, 1, 2, &mut values), 6);
+/// ```
 pub fn move_reference(
     state: StateMut,
     subject: i64,
@@ -244,6 +304,16 @@ pub fn move_reference(
 }
 
 /// Call (C): stores the call and how many adapters are behind the cell.
+///
+/// ```
+/// use pilgonca::{raw, EXAMPLE};
+/// let (mut state, mut at, mut values) = (raw::State::default(), 0, [0; 3]);
+/// raw::load(EXAMPLE, state.lend_mut(), &mut at);
+/// raw::new_object(state.lend_mut(), 0, 1, 1, &mut values);
+/// assert_eq!(raw::call(state.lend_mut(), 0, 0, 1, &[1 << 31], &mut values), 16);
+/// assert_eq!(raw::call(state.lend_mut(), 0, 0, 1, &[5], &mut values), 0);
+/// assert_eq!(values, [2, 0, 0]);
+/// ```
 pub fn call(
     state: StateMut,
     subject: i64,
@@ -259,6 +329,17 @@ pub fn call(
 }
 
 /// Answer (A): `given` 0 is for no value, and `value` is then not looked at; stores the caller's new cell and its place, or the number, or nothing.
+///
+/// ```
+/// use pilgonca::{raw, EXAMPLE};
+/// let (mut state, mut at, mut values) = (raw::State::default(), 0, [0; 3]);
+/// raw::load(EXAMPLE, state.lend_mut(), &mut at);
+/// raw::new_object(state.lend_mut(), 0, 1, 1, &mut values);
+/// raw::call(state.lend_mut(), 0, 0, 0, &[], &mut values);
+/// assert_eq!(raw::answer(state.lend_mut(), 0, 0, 0, 0, &mut values), 15);
+/// assert_eq!(raw::answer(state.lend_mut(), 0, 0, 1, 12, &mut values), 0);
+/// assert_eq!(values, [1, 12, 0]);
+/// ```
 pub fn answer(
     state: StateMut,
     subject: i64,
@@ -271,12 +352,29 @@ pub fn answer(
 }
 
 /// Offers (E11): stores 1 or 0.
+///
+/// ```
+/// use pilgonca::{raw, EXAMPLE};
+/// let (mut state, mut at, mut values) = (raw::State::default(), 0, [0; 3]);
+/// raw::load(EXAMPLE, state.lend_mut(), &mut at);
+/// raw::new_object(state.lend_mut(), 0, 1, 2, &mut values);
+/// let mut offered = 7;
+/// assert_eq!(raw::offers(state.lend(), 0, &[0], &mut offered), 0);
+/// assert_eq!(offered, 1);
+/// ```
 pub fn offers(state: StateRef, cell: i64, chain: &[i64], offered: &mut usize) -> usize {
     let (first, length) = (chain.as_ptr(), chain.len());
     on_state!(pilgonca_offers(state, cell, first, length, offered))
 }
 
 /// The state of a loaded sheet (Q10), and the offset as in [`read`].
+///
+/// ```
+/// use pilgonca::{raw, EXAMPLE};
+/// let (mut state, mut at) = (raw::State::default(), 0);
+/// assert_eq!(raw::load(EXAMPLE, state.lend_mut(), &mut at), 0);
+/// assert_eq!(state.counts, [2, 2, 0, 6, 6, 0, 0, 0]);
+/// ```
 pub fn load(text: &[u8], state: StateMut, at: &mut usize) -> usize {
     // SAFETY: as the head of this file says.
     unsafe {
@@ -295,6 +393,16 @@ pub fn load(text: &[u8], state: StateMut, at: &mut usize) -> usize {
 }
 
 /// A run (U): stores four numbers for each request served, and how many were.
+///
+/// ```
+/// use pilgonca::{raw, EXAMPLE};
+/// let (mut state, mut at) = (raw::State::default(), 0);
+/// raw::load(EXAMPLE, state.lend_mut(), &mut at);
+/// let requests = [0, 3, 0, 1, 4, 1, 4, 0, 0, 1, 7];
+/// let (mut answers, mut served) = ([0; 8], 0);
+/// assert_eq!(raw::run(state.lend_mut(), &requests, &mut answers, &mut served), 0);
+/// assert_eq!((answers, served), ([0, 2, 0, 0, 7, 0, 0, 0], 2));
+/// ```
 pub fn run(state: StateMut, words: &[i64], answers: &mut [i64], served: &mut usize) -> usize {
     let (first, length) = (words.as_ptr(), words.len());
     let (out, room) = (answers.as_mut_ptr(), answers.len());
@@ -302,6 +410,14 @@ pub fn run(state: StateMut, words: &[i64], answers: &mut [i64], served: &mut usi
 }
 
 /// What the program `script` prints (P19): the output in front of the buffer, and its length.
+///
+/// ```
+/// use pilgonca::raw;
+/// let (mut buffer, mut length) = ([0; 8], 0);
+/// assert_eq!(raw::script(b"guide=2\n", &mut buffer, &mut length), 0);
+/// assert_eq!(&buffer[..length], b"no=2\n");
+/// assert_eq!(raw::script(b"guide=2\n", &mut buffer[..4], &mut length), 4);
+/// ```
 pub fn script(input: &[u8], buffer: &mut [u8], length: &mut usize) -> usize {
     // SAFETY: as the head of this file says.
     unsafe {
