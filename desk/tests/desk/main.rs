@@ -1,0 +1,9 @@
+//! The program `desk` against the core, against damaged and generated files, and against what README and the guide show.
+
+mod damage;
+mod diagnosis;
+mod files;
+mod pictures;
+mod program;
+mod quoted;
+mod scripts;
