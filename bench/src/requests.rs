@@ -203,7 +203,7 @@ fn cross(
         (from.place, full(restriction::sub(&mut state.table, t, s))?)
     };
     let v = place_type(state, place);
-    if search::subtype_but_own(&state.table, r, v) {
+    if holds(state, Relation::SubtypeOwnAside, r, v) {
         return Ok(to(place));
     }
     if !holds(state, Relation::Strict, r, v) {

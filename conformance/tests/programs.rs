@@ -2,8 +2,8 @@
 
 use conformance::inputs::{damaged, largest, shares, table, with_48_types, worst};
 use conformance::process::{built, feed, limited, plain, printed, run};
+use reference::entry;
 use reference::pairs;
-use reference::raw;
 use reference::script::MAX_INPUT;
 use reference::sheet;
 use reference::shrink::shrink;
@@ -114,7 +114,7 @@ fn padded(length: usize) -> Vec<u8> {
     input
 }
 
-/// "32,768 bytes at most (longer: only `no=2`)". A sheet cannot be that long, but an input can: behind it 1, in a long number 2.
+/// P1. A sheet cannot be that long, but an input can: behind it 1, in a long number 2.
 #[test]
 fn longest_inputs() {
     let number = |length: usize| {
@@ -168,7 +168,7 @@ fn input_in_pieces() {
 #[test]
 fn the_worst_sheet() {
     let mut input = vec![0; MAX_INPUT];
-    let length = raw::write(&worst(48, 31), &mut input).expect("it fits");
+    let length = entry::write(&worst(48, 31), &mut input).expect("it fits");
     input.truncate(length);
     let mut seen = Seen::default();
     same(limited, &input, &mut seen, "worst sheet");

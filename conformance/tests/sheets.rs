@@ -1,12 +1,14 @@
 //! Sheet read and Sheet write in the proved core against the reference: number, offset, every byte of the table, every byte of
 //! the buffer.
 
-use conformance::inputs::{damaged, largest, lines, shares, table, BYTES, NUMBERS};
+use conformance::inputs::{damaged, largest, shares, table};
 use conformance::{counts, derive, layout, read, write, Asked, Counts, Loaded};
+use reference::damage::{lines, BYTES, NUMBERS};
+use reference::entry;
 use reference::gen::{BIG, SMALL};
 use reference::hostile;
 use reference::random::Random;
-use reference::raw::{self, RawTable, BROADER_LENGTH, TYPES_LENGTH};
+use reference::raw::{RawTable, BROADER_LENGTH, TYPES_LENGTH};
 use reference::refusal::Refusal;
 use reference::sheet;
 use reference::shrink::{shrink, shrink_hostile};
@@ -241,7 +243,7 @@ fn refusals_by_hand() {
     let text = String::from_utf8(case()).unwrap();
     let long = "9".repeat(100_000);
     let cases = [
-        // "each line by 1 (form), 2 (number outside its range)"
+        // S1 to S3, S29
         ("guide=1", "guide=2", 2, "guide=2"),
         ("guide=1", "guide=01", 1, "guide=01"),
         ("subjects=3", "subjects=17", 2, "subjects="),
@@ -261,7 +263,7 @@ fn refusals_by_hand() {
         ("cats=2", "cats=32", 2, "cats="),
         ("types=6", "types=49", 2, "types="),
         ("types=6", "types=0", 2, "types="),
-        // "A type number out of turn, or a broader category above the last, is 2"
+        // S30, and above the last category (S12)
         (
             "type=3",
             "type=4",
@@ -270,7 +272,7 @@ fn refusals_by_hand() {
         ),
         ("under=0\n", "under=3\n", 2, "under=3"),
         ("under=1,0", "under=0,3", 2, "under=0,3"),
-        // "3 (broader category not below)"
+        // not below (S12)
         ("under=0\n", "under=1\n", 3, "under=1\n"),
         ("under=0\n", "under=2\n", 3, "under=2"),
         ("under=1,0", "under=1,2", 3, "under=1,2"),
@@ -288,7 +290,7 @@ fn refusals_by_hand() {
         ("rep=w32", "rep=w16", 1, "rep=w16"),
         ("cat=0", "cat=3", 2, "cat=3"),
         ("own=no", "own=maybe", 1, "own=maybe"),
-        // "a missing or extra line, one without LF .. is 1", lines missing at the end at the input's length
+        // S7 to S10
         ("own=no\n", "", 1, "m=avail()0"),
         ("end=sheet\n", "end=sheet", 1, "end=sheet"),
         ("end=sheet\n", "", 1, ""),
@@ -301,7 +303,7 @@ fn refusals_by_hand() {
             1,
             "m=denied\ntype=2",
         ),
-        // "then, every line being right, 3 for own in a signature, at the last line"
+        // S13
         ("m=avail()0", "m=avail()4", 3, "end=sheet\n"),
         ("m=optional(0)-", "m=optional(0,4)-", 3, "end=sheet\n"),
     ];
@@ -371,7 +373,7 @@ fn written(raw: &RawTable, counts: Counts, size: usize) -> (usize, usize, Vec<u8
 /// The same of the reference.
 fn expected(raw: &RawTable, size: usize) -> (usize, usize, Vec<u8>) {
     let mut buffer = vec![MARK; size];
-    match raw::write(raw, &mut buffer) {
+    match entry::write(raw, &mut buffer) {
         Ok(length) => (0, length, buffer),
         Err(refusal) => (refusal as usize, NUMBER_MARK, vec![MARK; size]),
     }
@@ -380,7 +382,7 @@ fn expected(raw: &RawTable, size: usize) -> (usize, usize, Vec<u8>) {
 /// The first size of a buffer, around the length of the text, with which the two differ.
 fn differing_size(raw: &RawTable) -> Option<usize> {
     let mut large = vec![0; 20_000];
-    let length = raw::write(raw, &mut large).unwrap_or(100);
+    let length = entry::write(raw, &mut large).unwrap_or(100);
     [
         0,
         1,
