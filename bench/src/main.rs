@@ -13,10 +13,9 @@ mod search;
 mod served;
 mod sheets;
 
-use conformance::inputs::{damaged, with_48_types, worst};
+use conformance::inputs::{with_48_types, worst};
 use conformance::{chains, compare, counts, Asked, Loaded, PAIRS_LENGTH};
 use measure::ratio;
-use reference::hostile;
 use reference::raw::{RawTable, BROADER_LENGTH, TYPES_LENGTH};
 use reference::relations::RELATIONS;
 use reference::sheet;
@@ -121,23 +120,6 @@ fn same_reading(text: &[u8]) -> usize {
     code
 }
 
-/// The Rust side refuses what the proved one refuses, so that both do the same work.
-fn same_refusals() {
-    let mut read = [0; 4];
-    for seed in 0..3000 {
-        read[same_reading(&damaged(seed))] += 1;
-    }
-    assert!(read.iter().all(|count| *count > 50), "{read:?}");
-    let mut unfit = 0;
-    for seed in 0..1000 {
-        let table = hostile::generate(seed).state.table;
-        let refused = compare(&table, 0, 0) == Err(2);
-        assert_eq!(fits::table(&table), !refused, "hostile seed {seed}");
-        unfit += u32::from(refused);
-    }
-    assert!((100..900).contains(&unfit), "{unfit}");
-}
-
 fn reading(name: &str, text: &[u8]) {
     let code = same_reading(text);
     let (mut loaded, mut table) = (unread(), RawTable::default());
@@ -233,7 +215,6 @@ fn main() {
     if std::env::args().nth(1).as_deref() == Some("scripts") {
         return scripts::all();
     }
-    same_refusals();
     served::all();
     scripts::all();
     comparisons();
@@ -250,4 +231,29 @@ fn main() {
     }
     pair_table("48 generated types", &RawTable::of(&random));
     derivations();
+}
+
+#[cfg(test)]
+mod tests {
+    use super::*;
+    use conformance::inputs::damaged;
+    use reference::hostile;
+
+    /// What is measured against refuses what the proved core refuses, so that both do the same work.
+    #[test]
+    fn sheets_and_tables_are_refused_alike() {
+        let mut read = [0; 4];
+        for seed in 0..3000 {
+            read[same_reading(&damaged(seed))] += 1;
+        }
+        assert!(read.iter().all(|count| *count > 50), "{read:?}");
+        let mut unfit = 0;
+        for seed in 0..1000 {
+            let table = hostile::generate(seed).state.table;
+            let refused = compare(&table, 0, 0) == Err(2);
+            assert_eq!(fits::table(&table), !refused, "hostile seed {seed}");
+            unfit += u32::from(refused);
+        }
+        assert!((100..900).contains(&unfit), "{unfit}");
+    }
 }

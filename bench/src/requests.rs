@@ -203,7 +203,7 @@ fn cross(
         (from.place, full(restriction::sub(&mut state.table, t, s))?)
     };
     let v = place_type(state, place);
-    if search::subtype_but_own(&state.table, r, v) {
+    if holds(state, Relation::SubtypeOwnAside, r, v) {
         return Ok(to(place));
     }
     if !holds(state, Relation::Strict, r, v) {
@@ -296,6 +296,20 @@ fn pass_all(
     Ok(value)
 }
 
+/// The types of the layers for an argument. They were there before, and never change.
+fn argument_types(
+    state: &RawState,
+    layers: &[usize],
+    method: usize,
+    index: usize,
+) -> Vec<Option<usize>> {
+    let of_layer = |layer: &usize| {
+        let bytes = permitted(state, *layer, method)?;
+        (index < usize::from(bytes[1])).then(|| usize::from(bytes[2 + index]))
+    };
+    layers.iter().map(of_layer).collect()
+}
+
 fn call(
     state: &mut RawState,
     by: i64,
@@ -324,14 +338,7 @@ fn call(
     let layers = layers(state, cell);
     let receiver = owner(state, usize::from(state.cell(cell)[2]));
     for (index, value) in values.into_iter().enumerate() {
-        // layers are types that were there before, which never change
-        let types: Vec<Option<usize>> = layers
-            .iter()
-            .map(|layer| {
-                let bytes = permitted(state, *layer, method)?;
-                (index < usize::from(bytes[1])).then(|| usize::from(bytes[2 + index]))
-            })
-            .collect();
+        let types = argument_types(state, &layers, method, index);
         if let Value::Reference(given) = pass_all(state, value, types.into_iter(), receiver)? {
             add_cell(state, receiver, given)?;
         }

@@ -4,16 +4,18 @@
 use crate::heavy::crowded;
 use crate::measure::measured;
 use crate::{requests, sheets};
-use conformance::inputs::{lines, table, with_48_types};
+use conformance::inputs::{table, with_48_types};
 use conformance::states::of_table;
 use conformance::worst_scripts::layered;
 use pilgonca::script as printed;
+use reference::damage::lines;
 use reference::gen::{self, Plan, BIG, MEDIUM};
+use reference::model::Model;
 use reference::random::Random;
 use reference::raw::RawTable;
 use reference::script::{self, got_line, MAX_INPUT};
 use reference::sheet;
-use reference::state::{Model, State};
+use reference::state::State;
 use reference::table::Table;
 use std::hint::black_box;
 

@@ -35,7 +35,7 @@ const ANY_STATES: States = [[true; 4]; 4];
 
 fn states(relation: Relation) -> &'static States {
     match relation {
-        Relation::Subtype => &STATE_ORDER,
+        Relation::Subtype | Relation::SubtypeOwnAside => &STATE_ORDER,
         Relation::Strict => &AVAIL_WHERE_AVAIL,
         Relation::Loose => &AVAIL_WHERE_PERMITTED,
         Relation::Free => &ANY_STATES,
@@ -65,17 +65,17 @@ fn category_next(raw: &RawTable, done: &[bool; MAX_CATEGORIES + 1], a: usize, x:
     x > 0 && (below(links[1]) || links[0] == 2 && below(links[2]))
 }
 
-/// What a relation asks of representation, category and, where `owns`, own of two types.
-fn outer(raw: &RawTable, relation: Relation, x: &[u8], y: &[u8], owns: bool) -> bool {
+/// What a relation asks of representation, category and own of two types.
+fn outer(raw: &RawTable, relation: Relation, x: &[u8], y: &[u8]) -> bool {
     let rep = match relation {
-        Relation::Subtype => x[0] == y[0],
+        Relation::Subtype | Relation::SubtypeOwnAside => x[0] == y[0],
         _ => (x[0] == 0) == (y[0] == 0),
     };
     let category = || {
         matches!(relation, Relation::Loose | Relation::Free)
             || category_le(raw, usize::from(x[1]), usize::from(y[1]))
     };
-    let own = || !owns || relation != Relation::Subtype || x[0] != 0 || x[2] != 1 || y[2] == 1;
+    let own = || relation != Relation::Subtype || x[0] != 0 || x[2] != 1 || y[2] == 1;
     rep && category() && own()
 }
 
@@ -143,15 +143,6 @@ fn methods(found: &mut Found, states: &States, count: usize, x: &[u8], y: &[u8])
 
 /// How many pairs are found from a pair, itself among them, if all keep the rules of the relation: then the pair is related.
 pub fn reached(raw: &RawTable, relation: Relation, t: usize, s: usize) -> Option<usize> {
-    searched(raw, relation, t, s, true)
-}
-
-/// Subtype, own not compared.
-pub fn subtype_but_own(raw: &RawTable, t: usize, s: usize) -> bool {
-    searched(raw, Relation::Subtype, t, s, false).is_some()
-}
-
-fn searched(raw: &RawTable, relation: Relation, t: usize, s: usize, owns: bool) -> Option<usize> {
     let states = states(relation);
     let count = raw.methods as usize;
     let mut found = Found::none();
@@ -160,8 +151,8 @@ fn searched(raw: &RawTable, relation: Relation, t: usize, s: usize, owns: bool) 
     while head < found.count {
         let (a, b) = found.pair(head);
         let (x, y) = (raw.entry(a), raw.entry(b));
-        let kept = outer(raw, relation, x, y, owns)
-            && (x[0] != 0 || methods(&mut found, states, count, x, y));
+        let kept =
+            outer(raw, relation, x, y) && (x[0] != 0 || methods(&mut found, states, count, x, y));
         if !kept {
             return None;
         }

@@ -1,6 +1,6 @@
-//! The four requests measured, each on the state that it meets, with the goals that they have.
+//! The four requests measured, each on the state that it meets.
 
-use crate::measure::{measured, ratio};
+use crate::measure::ratio;
 use crate::scenes::{calling, populated, scenes, Scene};
 use crate::{heavy, requests};
 use conformance::inputs::table;
@@ -12,14 +12,6 @@ use reference::raw::{RawState, RawTable};
 use reference::requests::Request;
 use reference::sheet;
 use std::hint::black_box;
-use std::time::Duration;
-
-/// The most that a proved request may take, for each request that safe Rust does.
-const RATIO: f64 = 1.3;
-
-/// The most that a request on an ordinary sheet may take, and on any loaded sheet.
-const ORDINARY: Duration = Duration::from_micros(50);
-const LOADED: Duration = Duration::from_millis(50);
 
 /// A state that requests are put to again and again: what is past the counts may hold anything, so that counts and an answered
 /// flag are all that has to be put back.
@@ -50,55 +42,28 @@ impl Again {
     }
 }
 
-/// Goals met and missed.
-#[derive(Default)]
-struct Goals {
-    met: u32,
-    missed: Vec<String>,
-}
-
-impl Goals {
-    fn note(&mut self, met: bool, what: String) -> &'static str {
-        if met {
-            self.met += 1;
-            return "met";
-        }
-        self.missed.push(what);
-        "MISSED"
-    }
-
-    /// Measures a scene, both sides of which have to do the same; `most` is the time that it may take.
-    fn measure(&mut self, scene: &Scene, most: Option<Duration>) {
-        let (mut theirs, mut ours) = (Again::of(scene), Again::of(scene));
-        let request = &scene.request;
-        let answer = Proved.request(&mut theirs.state, request);
-        assert_eq!(answer, requests::request(&mut ours.state, request));
-        assert!(
-            theirs.state == ours.state,
-            "{}: the states differ",
-            scene.name
-        );
-        let ratio = measured(
-            || {
-                theirs.put_back();
-                let _ = black_box(Proved.request(&mut theirs.state, black_box(request)));
-            },
-            || {
-                ours.put_back();
-                let _ = black_box(requests::request(&mut ours.state, black_box(request)));
-            },
-        );
-        let met = self.note(ratio.median <= RATIO, format!("{}: {ratio}", scene.name));
-        print!("{}, {answer:?}: {ratio}; ratio {RATIO} {met}", scene.name);
-        if let Some(most) = most {
-            let met = self.note(
-                ratio.time <= most,
-                format!("{}: {:?}", scene.name, ratio.time),
-            );
-            print!("; {most:?} {met}");
-        }
-        println!();
-    }
+/// Measures a scene, both sides of which have to do the same.
+fn measure(scene: &Scene) {
+    let (mut theirs, mut ours) = (Again::of(scene), Again::of(scene));
+    let request = &scene.request;
+    let answer = Proved.request(&mut theirs.state, request);
+    assert_eq!(answer, requests::request(&mut ours.state, request));
+    assert!(
+        theirs.state == ours.state,
+        "{}: the states differ",
+        scene.name
+    );
+    ratio(
+        &format!("{}, {answer:?}", scene.name),
+        || {
+            theirs.put_back();
+            let _ = black_box(Proved.request(&mut theirs.state, black_box(request)));
+        },
+        || {
+            ours.put_back();
+            let _ = black_box(requests::request(&mut ours.state, black_box(request)));
+        },
+    );
 }
 
 /// Offers of chains of one method again and again: the same as safe Rust's, and the ratio.
@@ -140,38 +105,30 @@ fn generated() -> RawState {
     fit.next().expect("one seed of a few")
 }
 
-/// All scenes; goals for those of ordinary and of loaded sheets. (No adapters like those of the 48 types are made on a loaded sheet:
-/// there all are passed as they are. Through 40 such, a call is dearer than any known on a loaded one.)
+/// All scenes. (No adapters like those of the 48 types are made on a loaded sheet: there all are passed as they are. Through 40 such,
+/// a call is dearer than any known on a loaded one.)
 pub fn all() {
-    let mut goals = Goals::default();
     let example = sheet::read(include_bytes!("../../examples/case-p.sheet")).expect("a sheet");
     let case = populated(of_table(RawTable::of(&example)), 8);
+    let generated = generated();
     let of_class = |class: usize, _: usize| class;
-    for scene in scenes("Case P", &case, 1, of_class) {
-        goals.measure(&scene, Some(ORDINARY));
-    }
-    for scene in scenes("48 generated types", &generated(), 2, of_class) {
-        goals.measure(&scene, Some(ORDINARY));
-    }
+    let ordinary = [
+        scenes("Case P", &case, 1, of_class),
+        scenes("48 generated types", &generated, 2, of_class),
+    ];
+    ordinary.iter().flatten().for_each(measure);
     offers("Case P", &case);
-    offers("48 generated types", &generated());
+    offers("48 generated types", &generated);
     let (of_sheets, full) = heavy::scenes();
-    for scene in &of_sheets {
-        goals.measure(scene, Some(LOADED));
-    }
-    for scene in scenes(
+    let worst = scenes(
         "48 types, every pair reached",
         &worst_state(48, 0),
         2,
         |_, one| 47 - one,
-    ) {
-        goals.measure(&scene, Some(LOADED));
-    }
-    for scene in scenes("128 types handed in", &worst_state(128, 0), 2, |_, one| {
+    );
+    let handed_in = scenes("128 types handed in", &worst_state(128, 0), 2, |_, one| {
         127 - one
-    }) {
-        goals.measure(&scene, None);
-    }
-    goals.measure(&full, None);
-    println!("goals met: {}, missed: {:#?}", goals.met, goals.missed);
+    });
+    let heavy = of_sheets.iter().chain(&worst).chain(&handed_in);
+    heavy.chain([&full]).for_each(measure);
 }

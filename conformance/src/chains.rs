@@ -3,6 +3,7 @@
 //! 119 nested types are the most. Of n types there are 2n(n - 1) pairs for Sub and Sup, and the outermost may be Closed; 8 types
 //! give at most 113 new ones, and with 9 or more the 128 leave room for 119 or fewer.
 
+use reference::entry;
 use reference::random::Random;
 use reference::raw::{self, RawTable};
 
@@ -81,7 +82,7 @@ pub fn deepest() -> (RawTable, u64) {
         .map(|seed| (chain(MOST - 113, seed), seed))
         .find(|(table, _)| {
             let mut after = table.clone();
-            let number = raw::derive(&mut after, kind, t, s);
+            let number = entry::derive(&mut after, kind, t, s);
             number.is_ok_and(|number| nesting(&after, number) == MOST)
         })
         .expect("one seed of twenty or so gives it")

@@ -2,18 +2,17 @@
 //! and against the reference's book (demand 3).
 
 use crate::served::counts;
-use reference::book::{permitted, Book};
+use reference::book::Book;
 use reference::chains::All;
 use reference::coverage::Seen;
-use reference::faults::Fault;
+use reference::entry;
 use reference::gen::{generate, Profile};
 use reference::hostile::{self, Hostile};
 use reference::random::Random;
-use reference::raw::{self, RawState, CALL_BYTES, CELL_BYTES, PLACE_BYTES, TYPE_BYTES};
+use reference::raw::{RawState, CALL_BYTES, CELL_BYTES, PLACE_BYTES, TYPE_BYTES};
 use reference::refusal::Refusal;
 use reference::requests::{Got, Request};
 use reference::script;
-use reference::sheet;
 use reference::shrink::shrink_hostile;
 use reference::state::State;
 use reference::table::Table;
@@ -61,7 +60,7 @@ fn difference(core: &impl Core, hostile: &Hostile, seen: &mut Seen) -> Option<St
     for request in &hostile.requests {
         let before = theirs.clone();
         let answer = core.request(&mut theirs, request);
-        let wanted = raw::request(&mut ours, request);
+        let wanted = entry::request(&mut ours, request);
         seen.request(request, &wanted);
         if let Some(fault) = fault(&before, (&theirs, answer), (&ours, wanted)) {
             return Some(format!("{request:?} {fault}\non\n{before:?}"));
@@ -102,7 +101,7 @@ pub fn on_offers(core: &impl Core, seed: u64, offered: &mut [u32; 3]) -> Option<
         let chain: Vec<i64> = (0..length)
             .map(|_| any_number(&mut random, state.table.methods))
             .collect();
-        let wanted = raw::offers(&state, cell, &chain);
+        let wanted = entry::offers(&state, cell, &chain);
         let kind = wanted.map_or(2, usize::from);
         offered[kind] += 1;
         let answer = core.offers(&state, cell, &chain);
@@ -117,16 +116,13 @@ pub fn on_offers(core: &impl Core, seed: u64, offered: &mut [u32; 3]) -> Option<
 
 /// The state of a generated sheet, and the requests of its script; every other seed's state has noise in the bytes that mean nothing.
 pub fn loaded(seed: u64, profile: Profile) -> Option<(Table, Hostile)> {
-    let input = generate(seed, profile);
-    let run = script::run_with(&input, Fault::None);
-    let table = sheet::read(script::split(&input).0).ok()?;
-    let mut state = RawState::of(&State::of_sheet(table.clone()));
+    let script = script::read(&generate(seed, profile)).ok()?;
+    let mut state = RawState::of(&State::of_sheet(script.table.clone()));
     if seed % 2 == 1 {
         hostile::noise(&mut Random::new(seed), &mut state);
     }
-    let requests = run.requests.into_iter().map(|(request, _)| request);
-    let requests = requests.collect();
-    Some((table, Hostile { state, requests }))
+    let requests = script.requests;
+    Some((script.table, Hostile { state, requests }))
 }
 
 /// A difference on the state of a loaded sheet.
@@ -147,7 +143,7 @@ pub fn watch(core: &impl Core, seed: u64, profile: Profile) -> Option<String> {
     }
     let mut random = Random::new(seed);
     (0..book.pages.len()).find_map(|cell| {
-        let types = permitted(&book.pages[cell]);
+        let types = book.pages[cell].permitted();
         let page = All {
             table: &book.table,
             types: &types,

@@ -2,11 +2,11 @@
 //! words has to answer and leave.
 
 use reference::check;
-use reference::faults::Fault;
 use reference::raw::RawState;
 use reference::refusal::{Refusal, RANGE};
 use reference::requests::{Got, Request};
-use reference::state::Model;
+use reference::serving;
+use reference::state::State;
 
 /// How many words an answer has (U8).
 pub const ANSWER: usize = 4;
@@ -119,26 +119,29 @@ pub fn answer(result: Result<Got, Refusal>) -> [i64; ANSWER] {
 /// A run by the reference: the state is checked once (U1), each request that has room for its answer is served on what those before
 /// it left (U9). The refusal 2 and nothing changed, or how many were served.
 pub fn run(state: &mut RawState, words: &[i64], answers: &mut [i64]) -> Result<usize, Refusal> {
-    run_with(state, words, answers, Fault::None)
+    run_by(serving::run, state, words, answers)
 }
 
-/// The same with a deliberate fault.
-pub fn run_with(
+/// What serves requests one after the other: their results, and the state in the end.
+pub type Serve = fn(State, &[Request]) -> (Vec<Result<Got, Refusal>>, State);
+
+/// The same, the requests being served by something else.
+pub fn run_by(
+    serve: Serve,
     state: &mut RawState,
     words: &[i64],
     answers: &mut [i64],
-    fault: Fault,
 ) -> Result<usize, Refusal> {
     let before = check::state(state).map_err(|_| RANGE)?;
-    let mut model = Model::with_fault(before.clone(), fault);
-    let mut served = 0;
-    for (asked, room) in decoded(words).iter().zip(answers.chunks_exact_mut(ANSWER)) {
-        let result = asked
-            .as_ref()
-            .map_or(Err(NO_REQUEST), |asked| model.request(asked));
-        room.copy_from_slice(&answer(result));
-        served += 1;
+    let rooms = answers.chunks_exact_mut(ANSWER);
+    let asked: Vec<Option<Request>> = decoded(words).into_iter().take(rooms.len()).collect();
+    let requests: Vec<Request> = asked.iter().flatten().cloned().collect();
+    let (results, after) = serve(before.clone(), &requests);
+    let mut results = results.into_iter();
+    for (asked, room) in asked.iter().zip(rooms) {
+        let result = asked.as_ref().and_then(|_| results.next());
+        room.copy_from_slice(&answer(result.unwrap_or(Err(NO_REQUEST))));
     }
-    state.update(&before, &model.state);
-    Ok(served)
+    state.update(&before, &after);
+    Ok(asked.len())
 }

@@ -1,11 +1,10 @@
 //! Scripts: damage to them, what they meet, and the proved program beside the reference.
 
-use crate::inputs;
 use crate::process::{built, least_stack, limited_still, limited_to, run};
 use crate::worst_scripts::{largest_sheet, layered, nested};
 use reference::coverage::Seen;
+use reference::damage;
 use reference::external::difference;
-use reference::faults::Fault;
 use reference::gen::{generate, Profile};
 use reference::random::Random;
 use reference::refusal::Refusal;
@@ -77,7 +76,7 @@ pub struct Met {
 impl Met {
     /// Puts an input to a program and to the reference, whose run is returned; a difference is shown on the smallest input found.
     pub fn same(&mut self, program: &dyn Fn(&[u8]) -> Vec<u8>, input: &[u8], from: &str) -> Run {
-        let ours = script::run_with(input, Fault::None);
+        let ours = script::run_whole(input);
         if program(input) != ours.output {
             panic!("{from}: {:?}", difference(input, program, &script::run));
         }
@@ -89,7 +88,7 @@ impl Met {
         assert!(run.output.len() <= input.len() + LONGER);
         self.inputs += 1;
         self.requests += run.requests.len() as u64;
-        for (request, result) in &run.requests {
+        for (request, result) in run.requests.iter().zip(&run.results) {
             self.seen.request(request, result);
         }
         let lines = run.output.iter().filter(|byte| **byte == b'\n').count();
@@ -220,8 +219,8 @@ fn damage(random: &mut Random, text: &mut Vec<u8>) {
     let (sheet, rest) = script::split(text);
     let (mut sheet, mut rest) = (sheet.to_vec(), rest.to_vec());
     match random.weighted(&[10, 25, 35, 15, 15]) {
-        0 => inputs::damage(random, &mut sheet),
-        1 => inputs::damage(random, &mut rest),
+        0 => damage::damage(random, &mut sheet),
+        1 => damage::damage(random, &mut rest),
         2 => other_operand(random, &mut rest),
         3 => other_line(random, &mut rest),
         _ => other_end(random, &mut sheet),

@@ -2,8 +2,9 @@
 
 use crate::chains::{chain, nesting};
 use crate::inputs::worst;
+use reference::entry;
 use reference::raw::{
-    self, RawState, RawTable, CALLS_LENGTH, CALL_BYTES, CELLS_LENGTH, CELL_BYTES, PLACES_LENGTH,
+    RawState, RawTable, CALLS_LENGTH, CALL_BYTES, CELLS_LENGTH, CELL_BYTES, PLACES_LENGTH,
     PLACE_BYTES,
 };
 use reference::requests::Request;
@@ -103,7 +104,7 @@ pub fn crossed_chain(seed: u64) -> RawTable {
 pub fn deep_state() -> RawState {
     let nests = |table: &RawTable| {
         let mut after = table.clone();
-        let number = raw::derive(&mut after, 0, TOP as i64, 0);
+        let number = entry::derive(&mut after, 0, TOP as i64, 0);
         number.is_ok_and(|number| nesting(&after, number) == NESTED)
     };
     let table = (0..).map(crossed_chain).find(nests);

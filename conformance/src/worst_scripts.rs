@@ -4,7 +4,8 @@ use crate::chains::nesting;
 use crate::heavy::{climb, side, wrapping};
 use crate::inputs::largest;
 use crate::states::{answer, call, crossed_chain, moved, new, CLASS, NESTED, TOP};
-use reference::raw::{self, RawTable};
+use reference::entry;
+use reference::raw::RawTable;
 use reference::requests::Request;
 use reference::script::{line, MAX_INPUT};
 use reference::sheet;
@@ -13,7 +14,7 @@ use reference::table::MAX_METHODS;
 /// A sheet and requests, as many of them as fit into an input.
 pub fn script<'a>(table: &RawTable, requests: impl IntoIterator<Item = &'a Request>) -> Vec<u8> {
     let mut input = vec![0; MAX_INPUT];
-    let length = raw::write(table, &mut input).expect("a sheet that fits");
+    let length = entry::write(table, &mut input).expect("a sheet that fits");
     input.truncate(length);
     for request in requests {
         let line = line(request);
@@ -53,7 +54,7 @@ fn loaded_chain(seed: u64) -> RawTable {
 /// Whether a crossing from type 0 to the top nests as many new types as it can.
 fn nests(table: &RawTable) -> bool {
     let mut after = table.clone();
-    let number = raw::derive(&mut after, 0, TOP as i64, 0);
+    let number = entry::derive(&mut after, 0, TOP as i64, 0);
     number.is_ok_and(|number| nesting(&after, number) == NESTED)
 }
 

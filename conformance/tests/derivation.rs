@@ -5,7 +5,7 @@ use conformance::chains::{self, chain, nesting, MOST};
 use conformance::inputs::{shares, table};
 use conformance::{counts, derive, layout, Asked, Counts};
 use reference::check;
-use reference::faults::Fault;
+use reference::entry;
 use reference::gen::{MEDIUM, SMALL};
 use reference::hostile;
 use reference::random::Random;
@@ -125,7 +125,7 @@ fn fault(
 /// One derivation on a table, which becomes what the reference makes of it; gives the reference's answer.
 fn same(table: &mut RawTable, asked: Asked, seen: &mut Seen, from: &str) -> Result<usize, u32> {
     let before = table.clone();
-    let result = raw::derive(table, asked.kind, asked.t, asked.s);
+    let result = entry::derive(table, asked.kind, asked.t, asked.s);
     if let Some(fault) = fault(&before, asked, result, table) {
         panic!("{from}: {asked:?} {fault}\non\n{before:?}");
     }
@@ -163,7 +163,7 @@ fn sequence(table: &mut RawTable, steps: usize, random: &mut Random, seen: &mut 
 
 /// Pairs of different ref types of a sheet where loose holds: what a crossing asks for (D20).
 fn crossing_pairs(table: &Table) -> Vec<(usize, usize)> {
-    let relations = Relations::of(table, Fault::None);
+    let relations = Relations::of(table);
     let types = 0..table.sheet_types;
     types
         .clone()

@@ -3,7 +3,6 @@
 use conformance::inputs::{shares, table};
 use conformance::{counts, pairs, Counts, PAIRS_LENGTH};
 use reference::check::{self, Reason};
-use reference::faults::Fault;
 use reference::gen::SMALL;
 use reference::hostile;
 use reference::raw::RawTable;
@@ -23,7 +22,7 @@ fn expected(raw: &RawTable) -> (usize, Pairs) {
     let Ok(table) = check::table(raw) else {
         return (2, [MARK; PAIRS_LENGTH]);
     };
-    let relations = Relations::of(&table, Fault::None);
+    let relations = Relations::of(&table);
     let mut out = [0; PAIRS_LENGTH];
     for t in 0..table.sheet_types {
         for s in 0..table.sheet_types {

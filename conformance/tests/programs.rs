@@ -2,8 +2,8 @@
 
 use conformance::inputs::{damaged, largest, shares, table, with_48_types, worst};
 use conformance::process::{built, feed, limited, plain, printed, run};
+use reference::entry;
 use reference::pairs;
-use reference::raw;
 use reference::script::MAX_INPUT;
 use reference::sheet;
 use reference::shrink::shrink;
@@ -168,7 +168,7 @@ fn input_in_pieces() {
 #[test]
 fn the_worst_sheet() {
     let mut input = vec![0; MAX_INPUT];
-    let length = raw::write(&worst(48, 31), &mut input).expect("it fits");
+    let length = entry::write(&worst(48, 31), &mut input).expect("it fits");
     input.truncate(length);
     let mut seen = Seen::default();
     same(limited, &input, &mut seen, "worst sheet");

@@ -7,7 +7,8 @@ use conformance::runs::{self, ANSWER};
 use conformance::states::{deep_requests, deep_state, of_table, worst_requests, worst_state};
 use conformance::stream::{numbers, to_bytes};
 use reference::coverage::request_name;
-use reference::raw::{self, RawState, RawTable};
+use reference::entry;
+use reference::raw::{RawState, RawTable};
 use reference::refusal::Refusal;
 use reference::requests::{Got, Request};
 use reference::script;
@@ -53,7 +54,7 @@ fn stored(result: Result<Got, Refusal>) -> [i64; 4] {
 
 fn request(name: &str, state: &RawState, asked: &Request) -> Work {
     let mut after = state.clone();
-    let result = raw::request(&mut after, asked);
+    let result = entry::request(&mut after, asked);
     let line = script::line(asked);
     let input = [&to_bytes(&mut state.clone()), line.trim_end().as_bytes()].concat();
     Work {
@@ -86,7 +87,7 @@ fn run_of(name: &str, state: &RawState, requests: &[Request]) -> Work {
 fn offers() -> Work {
     let mut state = worst_state(48, 40);
     let chain = [3; 1000];
-    assert_eq!(raw::offers(&state, 0, &chain), Ok(true));
+    assert_eq!(entry::offers(&state, 0, &chain), Ok(true));
     let bytes = to_bytes(&mut state);
     Work {
         name: "offers, a chain of 1000".to_string(),

@@ -4,9 +4,9 @@
 use conformance::requests::{on_handed_in, on_loaded, on_offers, watch};
 use conformance::served::{counts, offers, request, Proved, StateCounts};
 use reference::coverage::{Seen, OF_REQUESTS};
+use reference::entry;
 use reference::gen::Profile;
 use reference::hostile;
-use reference::raw;
 use reference::refusal::Refusal;
 use reference::requests::Request;
 use std::ops::Range;
@@ -112,7 +112,7 @@ fn demand_3_on_loaded_sheets() {
 #[test]
 fn counts_of_any_size() {
     let found = (0..).map(hostile::generate);
-    let right = |one: &hostile::Hostile| raw::offers(&one.state, 0, &[]).is_ok();
+    let right = |one: &hostile::Hostile| entry::offers(&one.state, 0, &[]).is_ok();
     for one in found.filter(right).take(40) {
         let of_state = counts(&one.state);
         for (at, high) in (0..of_state.len()).flat_map(|at| [(at, 1), (at, 1 << 31)]) {

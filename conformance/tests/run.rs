@@ -4,7 +4,7 @@
 use conformance::run_lists::{difference, on_handed_in, on_loaded, List, Met, Run};
 use conformance::runs::{self, decoded, words};
 use conformance::served::{counts, run, Proved};
-use reference::faults::Fault;
+use faults::named;
 use reference::gen::Profile;
 use reference::hostile;
 use reference::raw::RawState;
@@ -146,7 +146,7 @@ const STAND_INS: [Run; 7] = [
         state.call_mut(255)[3] ^= u8::from(result.is_err());
         result
     },
-    |state, words, answers| runs::run_with(state, words, answers, Fault::NeverWraps),
+    |state, words, answers| runs::run_by(named("never_wraps").run, state, words, answers),
     checks_each,
 ];
 

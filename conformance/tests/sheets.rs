@@ -1,12 +1,14 @@
 //! Sheet read and Sheet write in the proved core against the reference: number, offset, every byte of the table, every byte of
 //! the buffer.
 
-use conformance::inputs::{damaged, largest, lines, shares, table, BYTES, NUMBERS};
+use conformance::inputs::{damaged, largest, shares, table};
 use conformance::{counts, derive, layout, read, write, Asked, Counts, Loaded};
+use reference::damage::{lines, BYTES, NUMBERS};
+use reference::entry;
 use reference::gen::{BIG, SMALL};
 use reference::hostile;
 use reference::random::Random;
-use reference::raw::{self, RawTable, BROADER_LENGTH, TYPES_LENGTH};
+use reference::raw::{RawTable, BROADER_LENGTH, TYPES_LENGTH};
 use reference::refusal::Refusal;
 use reference::sheet;
 use reference::shrink::{shrink, shrink_hostile};
@@ -371,7 +373,7 @@ fn written(raw: &RawTable, counts: Counts, size: usize) -> (usize, usize, Vec<u8
 /// The same of the reference.
 fn expected(raw: &RawTable, size: usize) -> (usize, usize, Vec<u8>) {
     let mut buffer = vec![MARK; size];
-    match raw::write(raw, &mut buffer) {
+    match entry::write(raw, &mut buffer) {
         Ok(length) => (0, length, buffer),
         Err(refusal) => (refusal as usize, NUMBER_MARK, vec![MARK; size]),
     }
@@ -380,7 +382,7 @@ fn expected(raw: &RawTable, size: usize) -> (usize, usize, Vec<u8>) {
 /// The first size of a buffer, around the length of the text, with which the two differ.
 fn differing_size(raw: &RawTable) -> Option<usize> {
     let mut large = vec![0; 20_000];
-    let length = raw::write(raw, &mut large).unwrap_or(100);
+    let length = entry::write(raw, &mut large).unwrap_or(100);
     [
         0,
         1,

@@ -5,8 +5,9 @@ use conformance::inputs::with_48_types;
 use conformance::process::{limited, plain, run};
 use conformance::stream::numbers;
 use conformance::{counts, PAIRS_LENGTH};
+use reference::entry;
 use reference::pairs;
-use reference::raw::{self, RawTable, TYPES_LENGTH};
+use reference::raw::{RawTable, TYPES_LENGTH};
 use reference::sheet;
 use std::path::Path;
 use std::process::{Command, Output};
@@ -68,7 +69,7 @@ fn the_deepest_derivation() {
     let (table, seed) = chains::deepest();
     let (kind, t, s) = chains::START;
     let mut ours = table.clone();
-    assert_eq!(raw::derive(&mut ours, kind, t, s), Ok(9));
+    assert_eq!(entry::derive(&mut ours, kind, t, s), Ok(9));
     assert_eq!((nesting(&ours, 9), ours.types), (MOST, 128));
     let (answer, after) = derived(&table);
     assert_eq!(answer, [0, 9, 128]);
@@ -76,7 +77,7 @@ fn the_deepest_derivation() {
     assert_eq!(nesting(&after, 9), MOST);
     // one type more on the way: as deep, and refused with 119 types begun
     let longer = chain(MOST - 112, seed);
-    assert_eq!(raw::derive(&mut longer.clone(), kind, t, s), Err(11));
+    assert_eq!(entry::derive(&mut longer.clone(), kind, t, s), Err(11));
     let (answer, after) = derived(&longer);
     assert_eq!(answer, [11, 0, 9]);
     assert!(after.type_bytes == longer.type_bytes);

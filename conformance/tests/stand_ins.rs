@@ -4,13 +4,13 @@
 
 use conformance::requests::{on_handed_in, on_loaded, on_offers, watch, Core};
 use conformance::scripts::damaged;
-use reference::book;
-use reference::chains::permits;
+use faults::{named, Fault, ALL};
+use reference::chains::{offered, permits};
 use reference::check;
 use reference::coverage::Seen;
-use reference::faults::{Fault, ALL};
+use reference::entry;
 use reference::gen::{generate, Profile};
-use reference::raw::{self, RawState};
+use reference::raw::RawState;
 use reference::refusal::{Refusal, RANGE};
 use reference::requests::{index, Got, Request};
 use reference::script::{self, MAX_INPUT};
@@ -20,11 +20,14 @@ struct StandIn(Fault);
 
 impl Core for StandIn {
     fn request(&self, state: &mut RawState, request: &Request) -> Result<Got, Refusal> {
-        raw::request_with(state, request, self.0)
+        let before = check::state(state).map_err(|_| RANGE)?;
+        let (results, after) = (self.0.run)(before.clone(), std::slice::from_ref(request));
+        state.update(&before, &after);
+        results[0]
     }
 
     fn offers(&self, state: &RawState, cell: i64, chain: &[i64]) -> Result<bool, Refusal> {
-        raw::offers(state, cell, chain)
+        entry::offers(state, cell, chain)
     }
 }
 
@@ -32,25 +35,26 @@ impl Core for StandIn {
 #[test]
 fn every_fault_is_found() {
     for fault in ALL {
-        let core = StandIn(fault);
+        let core = StandIn(*fault);
         let mut seen = Seen::default();
         let found = (0..2000).any(|seed| on_handed_in(&core, seed, &mut seen).is_some())
             || (0..200).any(|seed| on_loaded(&core, seed, Profile::Full, &mut seen).is_some());
-        assert!(found, "{fault:?}");
+        assert!(found, "{}", fault.name);
     }
 }
 
 /// Demand 3 alone finds what it is for, without the reference's answers beside it.
 #[test]
 fn demand_3_is_watched() {
-    for fault in [
-        Fault::NeverWraps,
-        Fault::WrapsFirstPassesLater,
-        Fault::AnswerUnrestricted,
-        Fault::StaticTypeForgotten,
+    for name in [
+        "never_wraps",
+        "wraps_first_passes_later",
+        "answer_unrestricted",
+        "static_type_forgotten",
     ] {
-        let found = (0..400).any(|seed| watch(&StandIn(fault), seed, Profile::Medium).is_some());
-        assert!(found, "{fault:?}");
+        let core = StandIn(named(name));
+        let found = (0..400).any(|seed| watch(&core, seed, Profile::Medium).is_some());
+        assert!(found, "{name}");
     }
 }
 
@@ -65,7 +69,7 @@ struct Spoils {
 
 impl Core for Spoils {
     fn request(&self, state: &mut RawState, request: &Request) -> Result<Got, Refusal> {
-        let result = raw::request(state, request);
+        let result = entry::request(state, request);
         if result.is_ok() == self.accepted {
             (self.spoil)(state);
         }
@@ -73,7 +77,7 @@ impl Core for Spoils {
     }
 
     fn offers(&self, state: &RawState, cell: i64, chain: &[i64]) -> Result<bool, Refusal> {
-        raw::offers(state, cell, chain)
+        entry::offers(state, cell, chain)
     }
 }
 
@@ -103,7 +107,7 @@ struct OneSided(usize);
 
 impl Core for OneSided {
     fn request(&self, state: &mut RawState, request: &Request) -> Result<Got, Refusal> {
-        raw::request(state, request)
+        entry::request(state, request)
     }
 
     fn offers(&self, state: &RawState, cell: i64, chain: &[i64]) -> Result<bool, Refusal> {
@@ -113,7 +117,7 @@ impl Core for OneSided {
         };
         let numbers = chain.iter().map(|one| index(*one, state.table.methods));
         let methods: Option<Vec<usize>> = numbers.collect();
-        let one = book::offered(&state, cell)[self.0];
+        let one = offered(&state, cell)[self.0];
         Ok(methods.is_some_and(|methods| permits(&state.table, one, &methods)))
     }
 }

@@ -2,15 +2,16 @@
 
 use conformance::compare;
 use conformance::inputs::worst;
+use reference::entry;
 use reference::gen::{generate, Profile};
 use reference::hostile::{self, Hostile};
-use reference::raw::{self, RawTable};
+use reference::raw::RawTable;
 use reference::sheet;
 use reference::shrink::{shrink, shrink_hostile};
 
 /// What the proved core answers and what the reference does.
 fn both(table: &RawTable, t: i64, s: i64) -> (Result<[bool; 4], usize>, Result<[bool; 4], usize>) {
-    let ours = raw::compare(table, t, s).map_err(|refusal| refusal as usize);
+    let ours = entry::compare(table, t, s).map_err(|refusal| refusal as usize);
     (compare(table, t, s), ours)
 }
 

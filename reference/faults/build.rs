@@ -62,8 +62,8 @@ impl Edit {
 
     /// Writes the copy; gives the lines that name it.
     fn write(&self, model: &Path, out: &Path) -> String {
-        let of_this = |module: &&str| self.file == format!("src/{module}.rs");
-        assert!(COPIED.iter().any(|one| of_this(&one)), "{}", self.name);
+        let of_this = |module: &str| self.file == format!("src/{module}.rs");
+        assert!(COPIED.into_iter().any(of_this), "{}", self.name);
         let folder = out.join(&self.name);
         fs::create_dir_all(&folder).expect("a folder");
         let mut lines = format!("#[allow(unused)]\npub mod {} {{\n", self.name);

@@ -21,6 +21,11 @@ impl Random {
         (self.number() % count as u64) as usize
     }
 
+    /// A number below `count`, if there is any.
+    pub fn index(&mut self, count: usize) -> Option<usize> {
+        (count > 0).then(|| self.below(count))
+    }
+
     /// A number from `range`, both ends included.
     pub fn within(&mut self, range: (usize, usize)) -> usize {
         range.0 + self.below(range.1 - range.0 + 1)

@@ -294,7 +294,8 @@ pub fn key(entry: &[u8]) -> Option<Key> {
     })
 }
 
-/// The signature in a method's bytes (B9, B10).
+/// The signature in a method's bytes (B9, B10); of any count, as many
+/// arguments as there are slots.
 pub fn signature(bytes: &[u8]) -> Signature {
     let arguments = usize::from(bytes[1]).min(ARGUMENT_SLOTS);
     Signature {

@@ -29,7 +29,7 @@ pub const TYPES_FULL: Refusal = 11;
 pub const PLACES_FULL: Refusal = 12;
 /// No cell is free (N7, M5, C17, A10).
 pub const CELLS_FULL: Refusal = 13;
-/// The method is unknown, or not avail in the cell's type (C3).
+/// No such method, or one that the type of the cell does not have as avail (C3).
 pub const METHOD: Refusal = 14;
 /// The wrong number of arguments, a cell not held, or a value where none is due or the reverse
 /// (C4, C5, A5, A6).

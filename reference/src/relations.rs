@@ -155,12 +155,11 @@ fn states_keep(relation: Relation, t: &Type, s: &Type) -> bool {
 /// a ≤ b (R1).
 pub fn state_le(a: &MethodState, b: &MethodState) -> bool {
     use MethodState::{Avail, Denied, Optional, Unavail};
-    match (a, b) {
-        (Denied, _) => true,
-        (Optional(_), Optional(_) | Avail(_) | Unavail) => true,
-        (Avail(_), Avail(_)) => true,
-        (Unavail, Unavail) => true,
-        _ => false,
+    match a {
+        Denied => true,
+        Optional(_) => matches!(b, Optional(_) | Avail(_) | Unavail),
+        Avail(_) => matches!(b, Avail(_)),
+        Unavail => matches!(b, Unavail),
     }
 }
 

@@ -95,7 +95,7 @@ pub fn met(
             met.extend(new_types(state, before));
             met.extend(passages(model, before, request, got));
             met.extend(references(state, before, request, got));
-            met.extend(ends_of_w32(state, request, &[W32_LOWEST, W32_HIGHEST]));
+            met.extend(ends_of_w32(state, request));
         }
         Err(TYPES_FULL) => met.extend(types_full(state, request)),
         Err(WIDTH) => met.extend(beyond_w32(state, request)),
@@ -186,38 +186,36 @@ fn passages(model: &Model, before: Counts, request: &Request, got: Got) -> Vec<S
     met
 }
 
-/// References that an accepted call or answer carried.
+/// Whether an accepted call went through adapters, and the references that a
+/// call or an answer carried.
 fn references(state: &State, before: Counts, request: &Request, got: Got) -> Vec<Situation> {
-    let mut met = Vec::new();
+    let (adapters, of_call, names) = match (request, got) {
+        (Request::Call { .. }, Got::Call { adapters, .. }) => (
+            adapters,
+            true,
+            [
+                Situation::ArgumentReference,
+                Situation::ArgumentReferenceThroughAdapter,
+                Situation::ArgumentReferenceWrapped,
+            ],
+        ),
+        (Request::Answer { call, .. }, Got::Cell { .. }) => (
+            state.layers(state.calls[*call as usize].cell).len() - 2,
+            false,
+            [
+                Situation::AnswerReference,
+                Situation::AnswerReferenceThroughAdapter,
+                Situation::AnswerReferenceWrapped,
+            ],
+        ),
+        _ => return Vec::new(),
+    };
     let carried = state.cells.len() > before.cells;
     let wrapped = state.places.len() > before.places;
-    let [plain, through, with_adapter] = match (request, got) {
-        (Request::Call { .. }, Got::Call { adapters, .. }) => {
-            if adapters > 0 {
-                met.push(Situation::CallThroughAdapter);
-            }
-            [
-                (carried, Situation::ArgumentReference),
-                (adapters > 0, Situation::ArgumentReferenceThroughAdapter),
-                (wrapped, Situation::ArgumentReferenceWrapped),
-            ]
-        }
-        (Request::Answer { call, .. }, Got::Cell { .. }) => {
-            let call = state.calls[*call as usize];
-            let layers = state.layers(call.cell).len();
-            [
-                (carried, Situation::AnswerReference),
-                (layers > 2, Situation::AnswerReferenceThroughAdapter),
-                (wrapped, Situation::AnswerReferenceWrapped),
-            ]
-        }
-        _ => return met,
-    };
-    if carried {
-        let all = [plain, through, with_adapter].into_iter();
-        met.extend(all.filter(|(is, _)| *is).map(|(_, situation)| situation));
-    }
-    met
+    let of_names = [carried, carried && adapters > 0, carried && wrapped];
+    let called = (Situation::CallThroughAdapter, of_call && adapters > 0);
+    let all = names.into_iter().zip(of_names).chain([called]);
+    all.filter_map(|(name, met)| met.then_some(name)).collect()
 }
 
 /// An operand of a call or an answer, and of each layer, in the order that they
@@ -281,10 +279,8 @@ fn carried(state: &State, request: &Request) -> Option<Vec<Carried>> {
     }
 }
 
-const W32_LOWEST: (i64, Situation) = (i32::MIN as i64, Situation::W32Lowest);
-const W32_HIGHEST: (i64, Situation) = (i32::MAX as i64, Situation::W32Highest);
-const W32_BELOW: (i64, Situation) = (i32::MIN as i64 - 1, Situation::W32BelowLowest);
-const W32_ABOVE: (i64, Situation) = (i32::MAX as i64 + 1, Situation::W32AboveHighest);
+const LOWEST: i64 = i32::MIN as i64;
+const HIGHEST: i64 = i32::MAX as i64;
 
 /// The numbers of a call or an answer that meet w32 at a layer.
 fn at_w32(state: &State, request: &Request) -> Vec<i64> {
@@ -294,19 +290,25 @@ fn at_w32(state: &State, request: &Request) -> Vec<i64> {
     meet.map(|one| one.operand).collect()
 }
 
-fn ends_of_w32(state: &State, request: &Request, ends: &[(i64, Situation)]) -> Vec<Situation> {
+/// The least and the greatest number that passed w32.
+fn ends_of_w32(state: &State, request: &Request) -> Vec<Situation> {
+    let of_number = |number: &i64| match *number {
+        LOWEST => Some(Situation::W32Lowest),
+        HIGHEST => Some(Situation::W32Highest),
+        _ => None,
+    };
     let numbers = at_w32(state, request);
-    let met = ends.iter().filter(|(end, _)| numbers.contains(end));
-    met.map(|(_, situation)| *situation).collect()
+    numbers.iter().filter_map(of_number).collect()
 }
 
 /// A refusal with 16 is by the first number that does not fit.
 fn beyond_w32(state: &State, request: &Request) -> Option<Situation> {
-    let numbers = at_w32(state, request);
-    let first = numbers.iter().find(|one| i32::try_from(**one).is_err())?;
-    let ends = [W32_BELOW, W32_ABOVE];
-    let met = ends.iter().find(|(end, _)| end == first)?;
-    Some(met.1)
+    let mut numbers = at_w32(state, request).into_iter();
+    match numbers.find(|one| i32::try_from(*one).is_err())? {
+        number if number == LOWEST - 1 => Some(Situation::W32BelowLowest),
+        number if number == HIGHEST + 1 => Some(Situation::W32AboveHighest),
+        _ => None,
+    }
 }
 
 /// Where a new or a move met 11: its first derivation is asked for once more.

@@ -113,7 +113,7 @@ pub enum Kind {
     Closed,
 }
 
-/// What a derived type is known by (T17).
+/// What a derived type is found again by (T17, D14).
 #[derive(Clone, Copy, PartialEq, Eq, Debug, Hash)]
 pub struct Key {
     pub kind: Kind,

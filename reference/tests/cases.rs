@@ -96,7 +96,7 @@ fn place_128_and_129() {
     let output = p(&list);
     assert_eq!(output.lines().nth(127), Some("got=127 127"));
     assert_eq!(output.lines().nth(128), Some("no=12"));
-    // The object takes the last place and then an adapter meets 12.
+    // With 127 objects an adapter is made, and no second one.
     let list = format!(
         "{}do=move 0 0 1 2\ndo=move 1 127 2 3\n",
         "do=new 0 1 4\n".repeat(127)

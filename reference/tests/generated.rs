@@ -12,7 +12,7 @@ use reference::relations::{Relation, Relations, ALL, RELATIONS};
 use reference::report::{self, line_kind};
 use reference::script;
 use reference::sheet;
-use reference::table::{Kind, Table};
+use reference::table::{Kind, MethodState, Table, Type};
 
 /// Demand 3, and book and state agreeing in every type and adapter.
 fn demand_3(profile: Profile, seeds: std::ops::Range<u64>) {
@@ -252,61 +252,62 @@ fn not_refuted(table: &Table, relation: Relation, t: usize, s: usize) -> bool {
     while at < assumed.len() {
         let (t, s) = assumed[at];
         at += 1;
-        let (one, other) = (&table.types[t], &table.types[s]);
-        let category = table.category_le(one.category, other.category);
-        let right = match relation {
-            Relation::Subtype => {
-                one.representation == other.representation && category && (!one.own || other.own)
-            }
-            Relation::SubtypeOwnAside => one.representation == other.representation && category,
-            Relation::Strict => one.is_ref() == other.is_ref() && category,
-            _ => one.is_ref() == other.is_ref(),
-        };
-        if !right {
+        let (t, s) = (&table.types[t], &table.types[s]);
+        if !heads_keep(table, relation, t, s) {
             return false;
         }
-        for method in 0..one.methods.len().min(other.methods.len()) {
-            // 0 denied, 1 optional, 2 avail, 3 unavail.
-            let code = |state: &reference::table::MethodState| match state {
-                reference::table::MethodState::Denied => 0,
-                reference::table::MethodState::Optional(_) => 1,
-                reference::table::MethodState::Avail(_) => 2,
-                reference::table::MethodState::Unavail => 3,
-            };
-            let (a, b) = (code(&one.methods[method]), code(&other.methods[method]));
-            let kept = match relation {
-                Relation::Subtype | Relation::SubtypeOwnAside => {
-                    a == 0 || a == b || (a == 1 && b != 0)
-                }
-                Relation::Strict => a != 2 || b == 2,
-                Relation::Loose => a != 2 || b == 1 || b == 2,
-                Relation::Free => true,
-            };
-            if !kept {
+        for (of_t, of_s) in t.methods.iter().zip(&s.methods) {
+            let Some(next) = led_to(relation, of_t, of_s) else {
                 return false;
-            }
-            if let (Some(of_t), Some(of_s)) = (one.permits(method), other.permits(method)) {
-                if of_t.arguments.len() != of_s.arguments.len()
-                    || of_t.answer.is_some() != of_s.answer.is_some()
-                {
-                    return false;
-                }
-                let mut next: Vec<(usize, usize)> = of_s
-                    .arguments
-                    .iter()
-                    .copied()
-                    .zip(of_t.arguments.iter().copied())
-                    .collect();
-                next.extend(of_t.answer.zip(of_s.answer));
-                for pair in next {
-                    if !assumed.contains(&pair) {
-                        assumed.push(pair);
-                    }
-                }
-            }
+            };
+            let new: Vec<_> = next.filter(|pair| !assumed.contains(pair)).collect();
+            assumed.extend(new);
         }
     }
     true
+}
+
+/// What a relation asks of two types but for their methods (R8 to R12).
+fn heads_keep(table: &Table, relation: Relation, t: &Type, s: &Type) -> bool {
+    let category = table.category_le(t.category, s.category);
+    let same = t.representation == s.representation;
+    match relation {
+        Relation::Subtype => same && category && (!t.own || s.own),
+        Relation::SubtypeOwnAside => same && category,
+        Relation::Strict => t.is_ref() == s.is_ref() && category,
+        Relation::Loose | Relation::Free => t.is_ref() == s.is_ref(),
+    }
+}
+
+/// The pairs that two states of a method lead to; none if they refute (R4 to R7).
+fn led_to<'a>(
+    relation: Relation,
+    t: &'a MethodState,
+    s: &'a MethodState,
+) -> Option<impl Iterator<Item = (usize, usize)> + 'a> {
+    // 0 denied, 1 optional, 2 avail, 3 unavail
+    let code = |state: &MethodState| match state {
+        MethodState::Denied => 0,
+        MethodState::Optional(_) => 1,
+        MethodState::Avail(_) => 2,
+        MethodState::Unavail => 3,
+    };
+    let (a, b) = (code(t), code(s));
+    let kept = match relation {
+        Relation::Subtype | Relation::SubtypeOwnAside => a == 0 || a == b || (a == 1 && b != 0),
+        Relation::Strict => a != 2 || b == 2,
+        Relation::Loose => a != 2 || b == 1 || b == 2,
+        Relation::Free => true,
+    };
+    let both = t.signature().zip(s.signature());
+    let alike = both.is_none_or(|(t, s)| {
+        t.arguments.len() == s.arguments.len() && t.answer.is_some() == s.answer.is_some()
+    });
+    let pairs = both.into_iter().flat_map(|(t, s)| {
+        let arguments = s.arguments.iter().zip(&t.arguments);
+        arguments.chain(t.answer.iter().zip(&s.answer))
+    });
+    (kept && alike).then(|| pairs.map(|(t, s)| (*t, *s)))
 }
 
 /// A derived type permits the chains that both its operands permit and no
@@ -337,8 +338,8 @@ fn derived_types_permit_what_both_permit() {
     }
 }
 
-/// The invariant behind demand 3: a place's type is a subtype, own not
-/// compared, of the cell's type.
+/// What demand 3 rests on: a cell's type has the type of its place below it,
+/// own aside (R12).
 #[test]
 fn a_place_type_is_a_subtype_of_the_cell_type() {
     for seed in 0..500 {

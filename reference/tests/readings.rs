@@ -212,7 +212,7 @@ fn s14_early_and_unended_sheets_in_scripts() {
     assert_eq!(run("guide=1\nend=sheet\n", "do=new 0 0 0\n"), "no=1\n");
     assert_eq!(run(HEAD, ""), "no=1\n");
     assert_eq!(run(PLAIN.strip_suffix('\n').unwrap(), ""), "no=1\n");
-    // The sheet runs to the first `end=sheet` line, right or not.
+    // P2: whatever stands before that line.
     assert_eq!(run("guide=2\nend=sheet\n", ""), "no=2\n");
 }
 

@@ -1,0 +1,260 @@
+//! States bent within what the check lets pass (H14, H16), or nearly.
+
+use crate::random::Random;
+use crate::state::{Call, Cell, Place, State, MAX_CALLS, MAX_CELLS, MAX_PLACES};
+use crate::table::*;
+
+/// Changes one thing that a loaded sheet would not lead to. Mostly the check
+/// is still passed.
+pub fn bend(random: &mut Random, state: &mut State) {
+    match random.below(14) {
+        0 => bend_cell(random, state),
+        1 | 2 => bend_adapter(random, state),
+        3 => bend_place(random, state),
+        4 => bend_call(random, state),
+        5..=7 => bend_derived(random, state),
+        8 => bend_key(random, state),
+        9 => add_derived(random, state),
+        10 => bend_sheet_type(random, state),
+        11 => add_adapters(random, state),
+        12 => {
+            let kind = random.below(3);
+            fill(random, state, kind);
+        }
+        _ => add_cell_and_call(random, state),
+    }
+}
+
+fn some_type(random: &mut Random, table: &Table, wanted: impl Fn(&Type) -> bool) -> Option<TypeNo> {
+    let list: Vec<TypeNo> = (0..table.types.len())
+        .filter(|number| wanted(&table.types[*number]))
+        .collect();
+    random.pick_some(&list).copied()
+}
+
+fn some_sheet_ref(random: &mut Random, table: &Table) -> Option<TypeNo> {
+    let list: Vec<TypeNo> = (0..table.sheet_types)
+        .filter(|number| table.types[*number].is_ref())
+        .collect();
+    random.pick_some(&list).copied()
+}
+
+fn some_class(random: &mut Random, table: &Table) -> Option<TypeNo> {
+    let list: Vec<TypeNo> = (0..table.sheet_types)
+        .filter(|number| table.types[*number].is_class())
+        .collect();
+    random.pick_some(&list).copied()
+}
+
+fn bend_cell(random: &mut Random, state: &mut State) {
+    let Some(cell) = random.index(state.cells.len()) else {
+        return;
+    };
+    if let Some(cell_type) = some_sheet_ref(random, &state.table) {
+        state.cells[cell].cell_type = cell_type;
+    }
+    state.cells[cell].place = random.below(state.places.len());
+}
+
+fn bend_adapter(random: &mut Random, state: &mut State) {
+    let adapters: Vec<usize> = (0..state.places.len())
+        .filter(|place| matches!(state.places[*place], Place::Adapter { .. }))
+        .collect();
+    let Some(place) = random.pick_some(&adapters).copied() else {
+        return bend_place(random, state);
+    };
+    if let Some(closed) = some_type(random, &state.table, Type::is_ref) {
+        let behind = random.below(place);
+        state.places[place] = Place::Adapter { behind, closed };
+    }
+}
+
+fn bend_place(random: &mut Random, state: &mut State) {
+    let Some(place) = random.index(state.places.len()) else {
+        return;
+    };
+    if place > 0 && random.chance(70) {
+        if let Some(closed) = some_type(random, &state.table, Type::is_ref) {
+            let behind = random.below(place);
+            state.places[place] = Place::Adapter { behind, closed };
+        }
+    } else if let Some(class) = some_class(random, &state.table) {
+        let owner = random.below(state.table.subjects);
+        state.places[place] = Place::Object { class, owner };
+    }
+}
+
+fn bend_call(random: &mut Random, state: &mut State) {
+    if let Some(call) = random.index(state.calls.len()) {
+        state.calls[call] = Call {
+            caller: random.below(state.table.subjects),
+            cell: random.below(state.cells.len()),
+            method: random.below(state.table.methods),
+            answered: random.chance(20),
+        };
+    }
+}
+
+/// A state of a method with any signature of types without own below a count.
+fn any_state(random: &mut Random, table: &Table, count: usize) -> MethodState {
+    let named: Vec<TypeNo> = (0..count).filter(|one| !table.types[*one].own).collect();
+    if named.is_empty() {
+        return MethodState::Unavail;
+    }
+    let signature = Signature {
+        arguments: (0..random.below(MAX_ARGUMENTS + 1))
+            .map(|_| *random.pick(&named))
+            .collect(),
+        answer: random.chance(70).then(|| *random.pick(&named)),
+    };
+    match random.below(5) {
+        0 => MethodState::Denied,
+        1 => MethodState::Optional(signature),
+        2 | 3 => MethodState::Avail(signature),
+        _ => MethodState::Unavail,
+    }
+}
+
+/// Changes a derived type: a method, its category, own, or into a number.
+fn bend_derived(random: &mut Random, state: &mut State) {
+    let table = &mut state.table;
+    let derived = table.types.len() - table.sheet_types;
+    let Some(index) = random.index(derived) else {
+        return add_derived(random, state);
+    };
+    let number = table.sheet_types + index;
+    let method = random.below(table.methods);
+    match random.below(10) {
+        0 => table.types[number].category = random.below(table.categories() + 1),
+        1 => table.types[number] = Type::number(Representation::W32, 0),
+        2 if table.types[number].is_ref() => table.types[number].own = true,
+        _ if table.types[number].is_ref() => {
+            let count = table.types.len();
+            table.types[number].methods[method] = any_state(random, table, count);
+        }
+        _ => {}
+    }
+}
+
+fn any_key(random: &mut Random, table: &Table) -> Key {
+    if !table.keys.is_empty() && random.chance(40) {
+        return *random.pick(&table.keys);
+    }
+    Key {
+        kind: *random.pick(&[Kind::Sub, Kind::Sup, Kind::Closed]),
+        left: random.below(table.types.len()),
+        right: random.below(table.types.len()),
+    }
+}
+
+fn bend_key(random: &mut Random, state: &mut State) {
+    let table = &mut state.table;
+    if let Some(index) = random.index(table.keys.len()) {
+        table.keys[index] = any_key(random, table);
+    }
+}
+
+/// Adds derived types: one, or as many as bring the table near 128.
+fn add_derived(random: &mut Random, state: &mut State) {
+    let table = &mut state.table;
+    let wanted = if random.chance(20) {
+        random.within((MAX_TYPES - 6, MAX_TYPES))
+    } else {
+        table.types.len() + 1
+    };
+    while table.types.len() < wanted.min(MAX_TYPES) {
+        let key = any_key(random, table);
+        let count = table.types.len();
+        let mut one = Type {
+            representation: Representation::Ref,
+            category: random.below(table.categories() + 1),
+            own: random.chance(3),
+            methods: (0..table.methods)
+                .map(|_| any_state(random, table, count))
+                .collect(),
+        };
+        if let Some(model) = some_type(random, table, Type::is_ref).filter(|_| random.chance(50)) {
+            one.methods = table.types[model].methods.clone();
+        }
+        table.types.push(one);
+        table.keys.push(key);
+    }
+}
+
+fn bend_sheet_type(random: &mut Random, state: &mut State) {
+    let table = &mut state.table;
+    if let Some(number) = some_sheet_ref(random, table) {
+        let method = random.below(table.methods);
+        table.types[number].methods[method] = any_state(random, table, table.sheet_types);
+    }
+}
+
+/// Adapters of any types on top of a cell's place, and a cell for the last.
+fn add_adapters(random: &mut Random, state: &mut State) {
+    let Some(cell) = random.index(state.cells.len()) else {
+        return;
+    };
+    let mut place = state.cells[cell].place;
+    for _ in 0..random.within((1, 3)) {
+        let Some(closed) = some_type(random, &state.table, Type::is_ref) else {
+            return;
+        };
+        if state.places.len() >= MAX_PLACES {
+            return;
+        }
+        state.places.push(Place::Adapter {
+            behind: place,
+            closed,
+        });
+        place = state.places.len() - 1;
+    }
+    state.cells[cell].place = place;
+}
+
+/// Brings places (0), cells (1) or calls (2) to their limits or just below.
+pub fn fill(random: &mut Random, state: &mut State, kind: usize) {
+    let short = random.below(3);
+    match kind {
+        0 if !state.places.is_empty() => {
+            while state.places.len() < MAX_PLACES - short {
+                let at = random.below(state.places.len());
+                state.places.push(state.places[at]);
+            }
+        }
+        1 if !state.cells.is_empty() => {
+            while state.cells.len() < MAX_CELLS - short {
+                let at = random.below(state.cells.len());
+                state.cells.push(state.cells[at]);
+            }
+        }
+        2 if !state.calls.is_empty() => {
+            while state.calls.len() < MAX_CALLS - short {
+                let at = random.below(state.calls.len());
+                state.calls.push(state.calls[at]);
+            }
+        }
+        _ => {}
+    }
+}
+
+fn add_cell_and_call(random: &mut Random, state: &mut State) {
+    let Some(place) = random.index(state.places.len()) else {
+        return;
+    };
+    let Some(cell_type) = some_sheet_ref(random, &state.table) else {
+        return;
+    };
+    if state.cells.len() < MAX_CELLS && state.calls.len() < MAX_CALLS {
+        state.cells.push(Cell {
+            holder: random.below(state.table.subjects),
+            cell_type,
+            place,
+        });
+        state.calls.push(Call {
+            caller: random.below(state.table.subjects),
+            cell: state.cells.len() - 1,
+            method: random.below(state.table.methods),
+            answered: false,
+        });
+    }
+}

@@ -1,0 +1,241 @@
+//! States broken so that they get 2 for a reason (H).
+
+use crate::check::Reason;
+use crate::random::Random;
+use crate::raw::{RawState, RawTable};
+use crate::state::{MAX_CALLS, MAX_CELLS, MAX_PLACES};
+use crate::table::{MAX_CATEGORIES, MAX_METHODS, MAX_TYPES};
+
+/// Breaks the rule behind a reason, where the state has what it needs for it.
+/// Another reason may be met first.
+pub fn break_one(random: &mut Random, raw: &mut RawState, reason: Reason) {
+    let far = *random.pick(&[0, 1, 50, 171, u32::MAX / 2]);
+    match reason {
+        Reason::BroaderNeitherOneNorTwo | Reason::BroaderNotBelow => {
+            break_broader(random, &mut raw.table, reason)
+        }
+        Reason::RepresentationCode
+        | Reason::OwnCode
+        | Reason::KindCode
+        | Reason::CategoryAboveLast
+        | Reason::LeftUnknown
+        | Reason::RightUnknown => break_entry(random, &mut raw.table, reason),
+        Reason::StateCode
+        | Reason::TooManyArguments
+        | Reason::OwnInSignature
+        | Reason::DerivedInSheetSignature
+        | Reason::ArgumentUnknown
+        | Reason::AnswerUnknown => break_signature(random, &mut raw.table, reason),
+        Reason::CellHolderUnknown
+        | Reason::CellPlaceUnknown
+        | Reason::CellTypeNotSheetRef
+        | Reason::CallCallerUnknown
+        | Reason::CallCellUnknown
+        | Reason::CallMethodUnknown
+        | Reason::AnsweredCode => break_cell_or_call(random, raw, reason),
+        Reason::ObjectOwnerUnknown
+        | Reason::ObjectClassNotSheetClass
+        | Reason::AdapterTypeUnknown
+        | Reason::AdapterTypeNotRef
+        | Reason::AdapterNotAboveBehind
+        | Reason::PlaceCode => break_place(random, raw, reason),
+        _ => break_count(random, raw, reason, far),
+    }
+}
+
+/// Brings a count past its limits, by so much or by little.
+fn break_count(random: &mut Random, raw: &mut RawState, reason: Reason, far: u32) {
+    let table = &mut raw.table;
+    match reason {
+        Reason::SubjectsCount => table.subjects = *random.pick(&[0, 17, 17 + far]),
+        Reason::MethodsCount => table.methods = *random.pick(&[0, 17, 17 + far]),
+        Reason::CategoriesCount => table.categories = 32 + far,
+        Reason::SheetTypesCount => table.sheet_types = *random.pick(&[0, 49, 49 + far]),
+        Reason::TypesCount => {
+            let fewer = table.sheet_types.saturating_sub(1);
+            table.types = *random.pick(&[fewer, 0, 129, 300, 129 + far]);
+        }
+        Reason::CellsCount => raw.cells = 257 + far,
+        Reason::PlacesCount => raw.places = 129 + far,
+        _ => raw.calls = 257 + far,
+    }
+}
+
+fn limited_index(random: &mut Random, count: u32, limit: usize) -> Option<usize> {
+    random.index((count as usize).min(limit))
+}
+
+/// A byte at or above a count.
+fn not_below(random: &mut Random, count: usize) -> u8 {
+    let least = count.min(255);
+    random
+        .pick(&[least, least + random_step(least), 255])
+        .to_owned()
+        .min(255) as u8
+}
+
+fn random_step(least: usize) -> usize {
+    (255 - least) / 2
+}
+
+fn break_broader(random: &mut Random, table: &mut RawTable, reason: Reason) {
+    let Some(index) = limited_index(random, table.categories, MAX_CATEGORIES) else {
+        return;
+    };
+    let category = index + 1;
+    let at = category * 3;
+    if reason == Reason::BroaderNeitherOneNorTwo {
+        table.broader[at] = *random.pick(&[0, 3, 255]);
+    } else {
+        let slot = if table.broader[at] == 2 {
+            1 + random.below(2)
+        } else {
+            1
+        };
+        table.broader[at + slot] = not_below(random, category);
+    }
+}
+
+fn break_entry(random: &mut Random, table: &mut RawTable, reason: Reason) {
+    let derived = matches!(
+        reason,
+        Reason::KindCode | Reason::LeftUnknown | Reason::RightUnknown
+    );
+    let first = if derived { table.sheet_types } else { 0 } as usize;
+    let types = (table.types as usize).min(MAX_TYPES);
+    if first >= types {
+        return;
+    }
+    let number = random.within((first, types - 1));
+    let categories = table.categories as usize;
+    let (at, value) = match reason {
+        Reason::RepresentationCode => (0, not_below(random, 3)),
+        Reason::CategoryAboveLast => (1, not_below(random, categories + 1)),
+        Reason::OwnCode => (2, not_below(random, 2)),
+        Reason::KindCode => (3, not_below(random, 3)),
+        Reason::LeftUnknown => (4, not_below(random, types)),
+        _ => (5, not_below(random, types)),
+    };
+    table.entry_mut(number)[at] = value;
+}
+
+fn break_signature(random: &mut Random, table: &mut RawTable, reason: Reason) {
+    let types = (table.types as usize).min(MAX_TYPES);
+    let methods = (table.methods as usize).min(MAX_METHODS);
+    let sheet_types = (table.sheet_types as usize).min(types);
+    let refs: Vec<usize> = (0..types)
+        .filter(|number| table.entry(*number)[0] == 0)
+        .filter(|number| reason != Reason::DerivedInSheetSignature || *number < sheet_types)
+        .collect();
+    let owns: Vec<usize> = (0..types)
+        .filter(|number| table.entry(*number)[0] == 0 && table.entry(*number)[2] == 1)
+        .collect();
+    let Some(number) = random.pick_some(&refs).copied() else {
+        return;
+    };
+    let Some(method) = random.index(methods) else {
+        return;
+    };
+    let own = random.pick_some(&owns).copied();
+    let derived = (sheet_types < types).then(|| random.within((sheet_types, types - 1)));
+    let bytes = table.method_mut(number, method);
+    if reason != Reason::StateCode && bytes[0] != 1 && bytes[0] != 2 {
+        bytes.copy_from_slice(&[2, 1, 0, 0, 0, 0, 1]);
+    }
+    match reason {
+        Reason::StateCode => bytes[0] = not_below(random, 4),
+        Reason::TooManyArguments => bytes[1] = not_below(random, 3),
+        Reason::ArgumentUnknown => {
+            bytes[1] = bytes[1].clamp(1, 2);
+            bytes[1 + usize::from(bytes[1])] = not_below(random, types);
+        }
+        Reason::AnswerUnknown => bytes[6] = not_below(random, types + 1),
+        Reason::OwnInSignature => name(random, bytes, own),
+        _ => name(random, bytes, derived),
+    }
+}
+
+/// Names a type in a signature, as an argument or as the answer.
+fn name(random: &mut Random, bytes: &mut [u8], number: Option<usize>) {
+    if let Some(number) = number {
+        if random.chance(50) {
+            bytes[6] = number as u8 + 1;
+        } else {
+            bytes[1] = bytes[1].clamp(1, 2);
+            bytes[2 + random.below(usize::from(bytes[1]))] = number as u8;
+        }
+    }
+}
+
+fn break_cell_or_call(random: &mut Random, raw: &mut RawState, reason: Reason) {
+    let subjects = raw.table.subjects as usize;
+    let sheet_types = raw.table.sheet_types as usize;
+    let numbers: Vec<u8> = (0..sheet_types.min(MAX_TYPES))
+        .filter(|number| raw.table.entry(*number)[0] != 0)
+        .map(|number| number as u8)
+        .collect();
+    let of_cell = matches!(
+        reason,
+        Reason::CellHolderUnknown | Reason::CellPlaceUnknown | Reason::CellTypeNotSheetRef
+    );
+    let (count, limit) = if of_cell {
+        (raw.cells, MAX_CELLS)
+    } else {
+        (raw.calls, MAX_CALLS)
+    };
+    let Some(number) = limited_index(random, count, limit) else {
+        return;
+    };
+    let not_sheet_ref = match random.pick_some(&numbers) {
+        Some(number) if random.chance(50) => *number,
+        _ => not_below(random, sheet_types),
+    };
+    let (cells, places) = (raw.cells as usize, raw.places as usize);
+    let methods = raw.table.methods as usize;
+    match reason {
+        Reason::CellHolderUnknown => raw.cell_mut(number)[0] = not_below(random, subjects),
+        Reason::CellTypeNotSheetRef => raw.cell_mut(number)[1] = not_sheet_ref,
+        Reason::CellPlaceUnknown => raw.cell_mut(number)[2] = not_below(random, places),
+        Reason::CallCallerUnknown => raw.call_mut(number)[0] = not_below(random, subjects),
+        Reason::CallCellUnknown => raw.call_mut(number)[1] = not_below(random, cells),
+        Reason::CallMethodUnknown => raw.call_mut(number)[2] = not_below(random, methods),
+        _ => raw.call_mut(number)[3] = not_below(random, 2),
+    }
+}
+
+fn break_place(random: &mut Random, raw: &mut RawState, reason: Reason) {
+    let Some(number) = limited_index(random, raw.places, MAX_PLACES) else {
+        return;
+    };
+    let types = (raw.table.types as usize).min(MAX_TYPES);
+    let not_class: Vec<u8> = (0..types)
+        .filter(|one| raw.table.entry(*one)[0] != 0 || raw.table.entry(*one)[2] == 1)
+        .map(|one| one as u8)
+        .chain([not_below(random, raw.table.sheet_types as usize)])
+        .collect();
+    let numbers: Vec<u8> = (0..types)
+        .filter(|one| raw.table.entry(*one)[0] != 0)
+        .map(|one| one as u8)
+        .collect();
+    let subjects = raw.table.subjects as usize;
+    let number_type = random.pick_some(&numbers).copied();
+    let place = raw.place_mut(number);
+    match reason {
+        Reason::ObjectOwnerUnknown if place[0] == 0 => place[2] = not_below(random, subjects),
+        Reason::ObjectClassNotSheetClass if place[0] == 0 => place[1] = *random.pick(&not_class),
+        Reason::AdapterTypeUnknown if number > 0 => {
+            place.copy_from_slice(&[1, 0, not_below(random, types)])
+        }
+        Reason::AdapterTypeNotRef if number > 0 => {
+            if let Some(one) = number_type {
+                place.copy_from_slice(&[1, 0, one]);
+            }
+        }
+        Reason::AdapterNotAboveBehind => {
+            place[0] = 1;
+            place[1] = not_below(random, number);
+        }
+        Reason::PlaceCode => place[0] = not_below(random, 2),
+        _ => {}
+    }
+}
