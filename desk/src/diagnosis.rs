@@ -1,12 +1,13 @@
 //! A refused sheet in words. Number and offset are the core's; the line there is looked at once more to say what is wrong with it.
 
 use crate::due::{Due, Walk};
-use crate::line::{fault, Flaw};
+use crate::line::{fault, Fault, Flaw, NO_LF};
 use crate::names::{Kind, Names};
 use crate::paint::{Paint, Tone};
 use crate::shown::marked;
 use crate::words::under;
 use pilgonca::SheetRefused;
+use std::ops::Range;
 
 /// A line at fault.
 #[derive(Debug)]
@@ -29,45 +30,38 @@ pub fn diagnose<'a>(
 ) -> Option<Diagnosis<'a>> {
     let (before, rest) = text.split_at_checked(offset)?;
     let (walk, lines) = walked(before);
-    let length = rest.iter().position(|byte| *byte == b'\n');
-    let line = &rest[..length.unwrap_or(rest.len())];
+    let end = rest.iter().position(|byte| *byte == b'\n');
+    let line = &rest[..end.unwrap_or(rest.len())];
     if number == 3 && walk.due == Due::End && line == b"end=sheet" {
         return own_in_signature(text, names);
     }
-    let whole = |wrong: String| Flaw {
-        mark: 0..line.len(),
-        wrong,
+    let fault = match (walk.due, end) {
+        (Due::Nothing, _) => form(0..line.len(), behind(line)),
+        (_, None) => form(line.len()..line.len(), cut_off(walk.due, line, names)),
+        (_, Some(_)) => fault(&walk, line, names)?,
     };
-    let at_end = |wrong: String| Flaw {
-        mark: line.len()..line.len(),
-        wrong,
-    };
-    let title = walk.due.title(names);
-    let (found, flaw) = match (walk.due, length) {
-        (Due::Nothing, _) => (1, whole(behind(line))),
-        (_, None) if rest.is_empty() => (
-            1,
-            at_end(format!("the file ends here, where the {title} is due")),
-        ),
-        (_, None) => (
-            1,
-            at_end(
-                "the file ends in this line: every line, the last too, ends with LF".to_string(),
-            ),
-        ),
-        (_, Some(_)) => {
-            let fault = fault(&walk, line, names)?;
-            (fault.number, fault.flaw)
-        }
-    };
-    let right = walk.due.right(&walk);
     let diagnosis = Diagnosis {
         line_number: lines + 1,
         line,
-        flaw,
-        right,
+        flaw: fault.flaw,
+        right: walk.due.right(&walk),
     };
-    (found == number).then_some(diagnosis)
+    (fault.number == number).then_some(diagnosis)
+}
+
+fn form(mark: Range<usize>, wrong: String) -> Fault {
+    Fault {
+        number: 1,
+        flaw: Flaw { mark, wrong },
+    }
+}
+
+/// No LF is left where a line is due.
+fn cut_off(due: Due, line: &[u8], names: &Names) -> String {
+    match line.is_empty() {
+        true => format!("the file ends here, where the {} is due", due.title(names)),
+        false => NO_LF.to_string(),
+    }
 }
 
 /// Where the reader stands behind lines that are right, and how many they are.
@@ -125,7 +119,7 @@ fn own_types(text: &[u8]) -> Vec<usize> {
 }
 
 /// The first number in a line that is one of those.
-fn named(line: &[u8], numbers: &[usize]) -> Option<(std::ops::Range<usize>, usize)> {
+fn named(line: &[u8], numbers: &[usize]) -> Option<(Range<usize>, usize)> {
     let mut at = 0;
     while at < line.len() {
         let length = line[at..]

@@ -1,6 +1,6 @@
 //! A script's requests put to the core one by one, and for each cell the types that its reference came through.
 
-use crate::line::Flaw;
+use crate::line::{Flaw, NO_LF};
 use crate::requests::{read, split, Request};
 use pilgonca::{
     Answered, Call, Called, Cell, CellInfo, Held, Method, MethodInfo, PlaceKind, Refusal,
@@ -78,7 +78,7 @@ fn request(whole: &[u8]) -> Result<Request, Flaw> {
     let Some(line) = whole.strip_suffix(b"\n") else {
         return Err(Flaw {
             mark: whole.len()..whole.len(),
-            wrong: "the file ends in this line: every line, the last too, ends with LF".to_string(),
+            wrong: NO_LF.to_string(),
         });
     };
     read(line)

@@ -18,6 +18,9 @@ pub struct Fault {
     pub flaw: Flaw,
 }
 
+/// Said of the last line of a sheet or of a script.
+pub const NO_LF: &str = "the file ends in this line: every line, the last too, ends with LF";
+
 /// A number in a line. One past 64 bits counts as the largest, which is outside every range (S2).
 pub struct Number {
     pub mark: Range<usize>,
@@ -70,21 +73,17 @@ impl<'a> Reader<'a> {
     /// The end of the line is due.
     pub fn end(&self, behind: &str) -> Result<(), Flaw> {
         let rest = self.rest();
-        match rest.first() {
-            None => Ok(()),
-            Some(b'\r') if rest.len() == 1 => Err(self.flaw(
-                1,
-                "a carriage return (CR) stands at the end: lines end with LF alone",
-            )),
-            Some(b' ') => Err(self.flaw(
-                rest.len(),
-                format!("a space and what follows it stand behind {behind}"),
-            )),
-            Some(_) => Err(self.flaw(
-                rest.len(),
-                format!("this stands behind {behind}, where the line is over"),
-            )),
-        }
+        let wrong = match rest {
+            [] => return Ok(()),
+            b"\r" => {
+                "a carriage return (CR) stands at the end: lines end with LF alone".to_string()
+            }
+            _ if rest.iter().all(|byte| *byte == b' ') => {
+                format!("no space stands at the end, behind {behind}")
+            }
+            _ => format!("this stands behind {behind}, where the line is over"),
+        };
+        Err(self.flaw(rest.len(), wrong))
     }
 
     /// A decimal without a sign and without leading zeros (S21).
@@ -154,24 +153,23 @@ fn form(due: Due, line: &[u8], names: &Names) -> Result<Vec<Number>, Flaw> {
 fn other_line(due: Due, line: &[u8], names: &Names) -> Flaw {
     let title = due.title(names);
     let reader = Reader::new(line);
-    let found = KEYS.iter().find(|key| line.starts_with(key.as_bytes()));
-    let (length, wrong) = match (found, line.first()) {
-        (Some(key), _) => (
+    let mut keys = KEYS.into_iter();
+    let (length, wrong) = match keys.find(|key| line.starts_with(key.as_bytes())) {
+        Some("m=") if matches!(due, Due::Type(_) | Due::End) => (
+            line.len(),
+            format!(
+                "the type above has an m= line for each method already, and the {title} is due"
+            ),
+        ),
+        Some(key) => (
             line.len(),
             format!("this is a line with {key}, where the {title} is due"),
         ),
-        (None, None) => (0, format!("the line is empty, where the {title} is due")),
-        (None, Some(b' ' | b'\t')) => (
-            1,
-            format!("a space stands in front, where the {title} is due"),
-        ),
-        (None, Some(_)) => {
-            let word = reader.count(|byte| byte != b'=');
-            let key = due.key();
-            (
-                word + 1,
-                format!("the {title} is due, which begins with {key}"),
-            )
+        None if line.is_empty() => (0, format!("the line is empty, where the {title} is due")),
+        None if line[0] == b' ' => (1, format!("a space stands in front of the {title}")),
+        None => {
+            let key = reader.count(|byte| byte != b'=') + 1;
+            (key, format!("this is not the {title}, which is due here"))
         }
     };
     reader.flaw(length, wrong)
@@ -216,7 +214,11 @@ fn method(reader: &mut Reader) -> Result<Vec<Number>, Flaw> {
     match word {
         b"denied" | b"unavail" => {
             reader.skip(length);
-            reader.end("the word; denied and unavail have no signature")?;
+            if reader.rest().starts_with(b"(") {
+                let length = reader.rest().len();
+                return Err(reader.flaw(length, "denied and unavail have no signature"));
+            }
+            reader.end("the word")?;
             Ok(Vec::new())
         }
         b"avail" | b"optional" => {

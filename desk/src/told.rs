@@ -51,8 +51,8 @@ impl Teller<'_> {
     fn request(&self, request: &Request) -> String {
         match request {
             Request::New { subject, class, to } => {
-                let (subject, class, to) =
-                    (self.subject(*subject), self.type_(*class), self.type_(*to));
+                let [class, to] = [class, to].map(|number| self.type_(*number));
+                let subject = self.subject(*subject);
                 format!("{subject} makes an object of {class}, to hold it as {to}")
             }
             Request::Move {
@@ -61,11 +61,8 @@ impl Teller<'_> {
                 receiver,
                 to,
             } => {
-                let (subject, receiver, to) = (
-                    self.subject(*subject),
-                    self.subject(*receiver),
-                    self.type_(*to),
-                );
+                let [subject, receiver] = [subject, receiver].map(|number| self.subject(*number));
+                let to = self.type_(*to);
                 format!("{subject} hands cell {cell} on to {receiver} as {to}")
             }
             Request::Call {
@@ -74,25 +71,18 @@ impl Teller<'_> {
                 method,
                 arguments,
             } => {
-                let (subject, method) = (
-                    self.subject(*subject),
-                    self.names.words(Kind::Method, *method),
-                );
-                format!(
-                    "{subject} calls {method} through cell {cell} {}",
-                    with(arguments)
-                )
+                let (subject, with) = (self.subject(*subject), with(arguments));
+                let method = self.names.words(Kind::Method, *method);
+                format!("{subject} calls {method} through cell {cell} {with}")
             }
             Request::Answer {
                 subject,
                 call,
                 value,
             } => {
+                let subject = self.subject(*subject);
                 let given = value.map_or("nothing".to_string(), |value| value.to_string());
-                format!(
-                    "{} answers call {call} with {given}",
-                    self.subject(*subject)
-                )
+                format!("{subject} answers call {call} with {given}")
             }
         }
     }
