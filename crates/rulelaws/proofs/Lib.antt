@@ -1,1 +1,2 @@
 pub mod Derivation
+pub mod Turns

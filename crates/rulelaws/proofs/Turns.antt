@@ -1,0 +1,143 @@
+-- How a new type comes about: its own number first, then the types of its signatures in turn (docs/SPEC.md, D10, D11, D15 to D17).
+use mathlib.Core.Path.{_≡_, refl, ap, sym, subst, _∙_}
+use mathlib.Core.Bool.{Bool, true, false, _&&_, So, cond}
+use mathlib.Core.List.{List, [], _∷_, _++_}
+use mathlib.Core.Option.{Option, none, some}
+use Prim.Native.Nat.{ℕ, zero, suc, _≤_, _<_}
+use native.Mathlib.Omega.{arith}
+use lib.Dec.{eqb, ltb}
+use lib.ListN.{set}
+use lib.Seq.{getD-set-same}
+use Rattle.model.specs.Basics.{then}
+use Rattle.model.specs.Table.{Kind, sub, sup, closed, Key, Method, Table, noType, maxTypes, size, typeAt, methodAt, permit, isRef, signed, bare}
+use Rattle.model.specs.Restriction.{restricted, argKind, answerKind, withoutNew, find, entry, pending, deriveArgs, deriveAnswer, deriveMethod, deriveMethods, make, derive}
+use Rattle.model.proofs.Growth.{Grown, grown-refl, grown-trans}
+use Rattle.modellaws.proofs.Deriving.{IfSome, some-then, some-pick, some-room, pushed, stored, pushed-size, derive-grown}
+use Rattle.modellaws.proofs.Fuel.{derive-self}
+use Rattle.rulelaws.proofs.Derivation.{keyOf}
+
+-- ---- what a new type asks for, in order: method by method, the arguments by position, then the answer
+abbrev pub argumentsAsked : Kind → List ℕ → List ℕ → List Key
+argumentsAsked d [] ys = []
+argumentsAsked d (x ∷ xs) [] = []
+argumentsAsked d (x ∷ xs) (y ∷ ys) = keyOf (argKind d) y x ∷ argumentsAsked d xs ys
+
+abbrev pub answerAsked : Kind → Option ℕ → Option ℕ → List Key
+answerAsked d none y = []
+answerAsked d (some x) none = []
+answerAsked d (some x) (some y) = keyOf (answerKind d) x y ∷ []
+
+abbrev pub methodAsked : Kind → Method → Method → List Key
+methodAsked d x y = cond (permit (restricted d (x .state) (y .state))) (argumentsAsked d (x .args) (y .args) ++ answerAsked d (x .answer) (y .answer)) []
+
+abbrev pub asked : Kind → List Method → List Method → List Key
+asked d [] ys = []
+asked d (x ∷ xs) [] = []
+asked d (x ∷ xs) (y ∷ ys) = methodAsked d x y ++ asked d xs ys
+
+-- the types that methods name, in the same order
+abbrev pub answerNamed : Option ℕ → List ℕ
+answerNamed none = []
+answerNamed (some x) = x ∷ []
+
+abbrev pub named : List Method → List ℕ
+named [] = []
+named (x ∷ xs) = (x .args ++ answerNamed (x .answer)) ++ named xs
+
+-- From table t the keys ks are derived one after the other, each from the table that the one before left; they get the numbers ns and leave table u.
+abbrev pub InTurn : Table → List Key → List ℕ → Table → Type 0
+InTurn t [] [] u = t ≡ u
+InTurn t [] (n ∷ ns) u = ⊥
+InTurn t (k ∷ ks) [] u = ⊥
+InTurn t (k ∷ ks) (n ∷ ns) u = (v : Table) × (derive maxTypes t (k .kind) (k .left) (k .right) ≡ some (v, n)) × InTurn v ks ns u
+
+turns-append : (ks ls : List Key) (ns os : List ℕ) (t v u : Table) → InTurn t ks ns v → InTurn v ls os u → InTurn t (ks ++ ls) (ns ++ os) u
+turns-append [] ls [] os t v u p q = subst (λ w. InTurn w ls os u) (sym p) q
+turns-append [] ls (n ∷ ns) os t v u p q = absurd p
+turns-append (k ∷ ks) ls [] os t v u p q = absurd p
+turns-append (k ∷ ks) ls (n ∷ ns) os t v u p q = (p .0, p .1, turns-append ks ls ns os (p .0) v u (p .2) q)
+
+-- numbers are only added on the way
+pub turns-grow : (ks : List Key) (ns : List ℕ) (t u : Table) → InTurn t ks ns u → Grown t u
+turns-grow [] [] t u p = subst (Grown t) p (grown-refl t)
+turns-grow [] (n ∷ ns) t u p = absurd p
+turns-grow (k ∷ ks) [] t u p = absurd p
+turns-grow (k ∷ ks) (n ∷ ns) t u p = grown-trans (subst (λ o. IfSome o (λ x. Grown t (x .0))) (p .1) (derive-grown maxTypes t (k .kind) (k .left) (k .right))) (turns-grow ks ns (p .0) u (p .2))
+
+-- an answer that is there, with the equation that says so
+whole : {A : Type 0} (o : Option A) → IfSome o (λ a. o ≡ some a)
+whole none = tt
+whole (some a) = refl
+
+module _ (d : Kind) where
+  arguments-turn : (xs ys : List ℕ) (t : Table) → IfSome (deriveArgs (derive maxTypes) d t xs ys) (λ p. InTurn t (argumentsAsked d xs ys) (p .1) (p .0))
+  unfolding deriveArgs
+  arguments-turn [] ys t = refl
+  arguments-turn (x ∷ xs) [] t = refl
+  arguments-turn (x ∷ xs) (y ∷ ys) t = some-then _ _ (derive maxTypes t (argKind d) y x) _ (whole (derive maxTypes t (argKind d) y x)) λ p e.
+      some-then _ _ (deriveArgs (derive maxTypes) d (p .0) xs ys) _ (arguments-turn xs ys (p .0)) λ q h. (p .0, e, h)
+
+  answer-turn : (x y : Option ℕ) (t : Table) → IfSome (deriveAnswer (derive maxTypes) d t x y) (λ p. InTurn t (answerAsked d x y) (answerNamed (p .1)) (p .0))
+  unfolding deriveAnswer
+  answer-turn none y t = refl
+  answer-turn (some x) none t = refl
+  answer-turn (some x) (some y) t = some-then _ _ (derive maxTypes t (answerKind d) x y) _ (whole (derive maxTypes t (answerKind d) x y)) λ p e. (p .0, e, refl)
+
+  method-turn : (x y : Method) (t : Table) → IfSome (deriveMethod (derive maxTypes) d t x y) (λ p. InTurn t (methodAsked d x y) (p .1 .args ++ answerNamed (p .1 .answer)) (p .0))
+  unfolding deriveMethod
+  method-turn x y t = go (permit (restricted d (x .state) (y .state)))
+    where
+      go : (b : Bool) → IfSome {A = Table × Method} (elim b [
+        | false ↦ some (t, bare (restricted d (x .state) (y .state)))
+        | true ↦ then (deriveArgs (derive maxTypes) d t (x .args) (y .args)) λ p. then (deriveAnswer (derive maxTypes) d (p .0) (x .answer) (y .answer)) λ q. some (q .0, signed (restricted d (x .state) (y .state)) (p .1) (q .1))
+      ]) (λ p. InTurn t (cond b (argumentsAsked d (x .args) (y .args) ++ answerAsked d (x .answer) (y .answer)) []) (p .1 .args ++ answerNamed (p .1 .answer)) (p .0))
+      go false = refl
+      go true = some-then _ _ (deriveArgs (derive maxTypes) d t (x .args) (y .args)) _ (arguments-turn (x .args) (y .args) t) λ p h.
+          some-then _ _ (deriveAnswer (derive maxTypes) d (p .0) (x .answer) (y .answer)) _ (answer-turn (x .answer) (y .answer) (p .0)) λ q k.
+          turns-append (argumentsAsked d (x .args) (y .args)) (answerAsked d (x .answer) (y .answer)) (p .1) (answerNamed (q .1)) t (p .0) (q .0) h k
+
+  methods-turn : (xs ys : List Method) (t : Table) → IfSome (deriveMethods (derive maxTypes) d t xs ys) (λ p. InTurn t (asked d xs ys) (named (p .1)) (p .0))
+  unfolding deriveMethods
+  methods-turn [] ys t = refl
+  methods-turn (x ∷ xs) [] t = refl
+  methods-turn (x ∷ xs) (y ∷ ys) t = some-then _ _ (deriveMethod (derive maxTypes) d t x y) _ (method-turn x y t) λ p h.
+      some-then _ _ (deriveMethods (derive maxTypes) d (p .0) xs ys) _ (methods-turn xs ys (p .0)) λ q k.
+      turns-append (methodAsked d x y) (asked d xs ys) (p .1 .args ++ answerNamed (p .1 .answer)) (named (q .1)) t (p .0) (q .0) h k
+
+-- D11, D16, D17. A type that is not known takes the next number, with its key and without own, before anything else; then what its signatures ask for is
+-- derived in turn; last its methods, which name the numbers got, are stored.
+pub record Anew (t : Table) (d : Kind) (l r : ℕ) (x : Table × ℕ) : Type 0 where
+  pub number : x .1 ≡ size t
+  pub key : typeAt (x .0) (size t) .key ≡ some (keyOf d l r)
+  pub own : typeAt (x .0) (size t) .own ≡ false
+  pub last : Table
+  pub turns : InTurn (pushed t (pending t d l r)) (asked d (typeAt t l .methods) (typeAt t r .methods)) (named (typeAt (x .0) (size t) .methods)) last
+  pub result : x .0 ≡ stored last (size t) (typeAt (x .0) (size t))
+
+new-anew : (t : Table) (d : Kind) (l r : ℕ) (p : Table × List Method) → InTurn (pushed t (pending t d l r)) (asked d (typeAt t l .methods) (typeAt t r .methods)) (named (p .1)) (p .0)
+    → Anew t d l r (stored (p .0) (size t) (entry t d l r (p .1)), size t)
+new-anew t d l r p h =
+    let g = turns-grow (asked d (typeAt t l .methods) (typeAt t r .methods)) (named (p .1)) (pushed t (pending t d l r)) (p .0) h in
+    let e = entry t d l r (p .1) in
+    let w : typeAt (stored (p .0) (size t) e) (size t) ≡ e = getD-set-same (p .0 .types) (size t) e noType (omega (arith, g .more, pushed-size t (pending t d l r))) in
+    record {
+      number = refl;
+      key = ap (λ y. y .key) w;
+      own = ap (λ y. y .own) w;
+      last = p .0;
+      turns = subst (λ ms. InTurn (pushed t (pending t d l r)) (asked d (typeAt t l .methods) (typeAt t r .methods)) (named ms) (p .0)) (sym (ap (λ y. y .methods) w)) h;
+      result = ap (stored (p .0) (size t)) (sym w);
+    }
+
+pub made-anew : (t : Table) (d : Kind) (l r : ℕ) → withoutNew t d l r ≡ none → IfSome (derive maxTypes t d l r) (Anew t d l r)
+unfolding make
+made-anew t d l r e = subst (λ o. IfSome o (Anew t d l r)) (sym (derive-self t d l r)) (go (withoutNew t d l r) e)
+  where
+    rest : Option (Table × ℕ)
+    rest = then (deriveMethods (derive maxTypes) d (pushed t (pending t d l r)) (typeAt t l .methods) (typeAt t r .methods)) λ p. some (stored (p .0) (size t) (entry t d l r (p .1)), size t)
+
+    go : (o : Option ℕ) → o ≡ none → IfSome {A = Table × ℕ} (elim o [ some i ↦ some (t, i) | none ↦ elim (ltb (size t) maxTypes) [ false ↦ none | true ↦ rest ] ]) (Anew t d l r)
+    go (some i) e = let z : _≡_ {A = ℕ} 0 1 = cc in absurd (omega arith)
+    go none e = some-room (Anew t d l r) (ltb (size t) maxTypes) rest λ h.
+        some-then _ (Anew t d l r) (deriveMethods (derive maxTypes) d (pushed t (pending t d l r)) (typeAt t l .methods) (typeAt t r .methods)) _
+        (methods-turn d (typeAt t l .methods) (typeAt t r .methods) (pushed t (pending t d l r))) λ p k. new-anew t d l r p k
