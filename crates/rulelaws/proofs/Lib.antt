@@ -1,2 +1,3 @@
 pub mod Derivation
 pub mod Turns
+pub mod Asked
