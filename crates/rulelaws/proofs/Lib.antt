@@ -1,3 +1,4 @@
 pub mod Derivation
 pub mod Turns
 pub mod Asked
+pub mod Again
