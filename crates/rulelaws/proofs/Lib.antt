@@ -2,3 +2,4 @@ pub mod Derivation
 pub mod Turns
 pub mod Asked
 pub mod Again
+pub mod Trails
