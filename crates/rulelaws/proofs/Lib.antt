@@ -3,3 +3,5 @@ pub mod Turns
 pub mod Asked
 pub mod Again
 pub mod Trails
+pub mod Numbering
+pub mod Made
