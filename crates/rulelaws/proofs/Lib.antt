@@ -5,3 +5,6 @@ pub mod Again
 pub mod Trails
 pub mod Numbering
 pub mod Made
+pub mod Arguments
+pub mod Refusals
+pub mod Readers
