@@ -8,3 +8,4 @@ pub mod Made
 pub mod Arguments
 pub mod Refusals
 pub mod Readers
+pub mod Sheets

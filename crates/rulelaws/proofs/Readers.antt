@@ -80,29 +80,29 @@ pub pure-local : {A : Type 0} (x : A) → Local (pure x)
 unfolding join
 pure-local x at rs = record { lines = []; passed = refl; offset = omega arith; always = λ qs. refl }
 
-pub follow-later : {A B : Type 0} (k : A → Reader B) → ((x : A) → Local (k x)) → (at : ℕ) (r : Reading A) → NotBefore at r → NotBefore at (follow r k)
+pub follow-later : {A B : Type 0} (k : A → Reader B) → ((x : A) (a : ℕ) (q : List Row) → NotBefore a (k x a q)) → (at : ℕ) (r : Reading A) → NotBefore at r → NotBefore at (follow r k)
 follow-later k g at (refused n a) h = h
-follow-later {A} {B} k g at (got x a q) h = go (k x a q) (never-before (k x) (g x) a q)
+follow-later {A} {B} k g at (got x a q) h = go (k x a q) (g x a q)
   where
     go : (r : Reading B) → NotBefore a r → NotBefore at r
     go (refused n b) j = omega arith
     go (got y b q) j = omega arith
 
 module _ {A B : Type 0} (p : Reader A) (k : A → Reader B) where
-  wrong-on : (at : ℕ) (ls : List (List ℕ)) (rest : List Row) (n c : ℕ) → Wrong p at ls rest n c → Wrong (bind p k) at ls rest n c
+  pub wrong-on : (at : ℕ) (ls : List (List ℕ)) (rest : List Row) (n c : ℕ) → Wrong p at ls rest n c → Wrong (bind p k) at ls rest n c
   wrong-on at ls rest n c (missing e f) = missing e f
   wrong-on at ls rest n c (unended l qs e f) = unended l qs e f
   wrong-on at ls rest n c (atFault l qs e f) = atFault l qs e (λ os. ap (λ z. follow z k) (f os))
 
   module _ (at : ℕ) (rs : List Row) (x : A) (a : ℕ) (q : List Row) (w : Took p at rs x a q) where
     -- behind what the first took the second goes on
-    second : (ls : List (List ℕ)) (qs : List Row) → bind p k at (rows (w .lines ++ ls) ++ qs) ≡ k x a (rows ls ++ qs)
+    pub second : (ls : List (List ℕ)) (qs : List Row) → bind p k at (rows (w .lines ++ ls) ++ qs) ≡ k x a (rows ls ++ qs)
     second ls qs = ap (λ z. bind p k at (z ++ qs)) (rows-append (w .lines) ls) ∙ ap (λ z. bind p k at z) (append-assoc (rows (w .lines)) (rows ls) qs) ∙ ap (λ z. follow z k) (w .always (rows ls ++ qs))
 
-    both-passed : (ls : List (List ℕ)) (rest : List Row) → q ≡ rows ls ++ rest → rs ≡ rows (w .lines ++ ls) ++ rest
+    pub both-passed : (ls : List (List ℕ)) (rest : List Row) → q ≡ rows ls ++ rest → rs ≡ rows (w .lines ++ ls) ++ rest
     both-passed ls rest e = w .passed ∙ ap (λ z. rows (w .lines) ++ z) e ∙ sym (append-assoc (rows (w .lines)) (rows ls) rest) ∙ ap (λ z. z ++ rest) (sym (rows-append (w .lines) ls))
 
-    both-offset : (ls : List (List ℕ)) (c : ℕ) → c ≡ a + length (join ls) → c ≡ at + length (join (w .lines ++ ls))
+    pub both-offset : (ls : List (List ℕ)) (c : ℕ) → c ≡ a + length (join ls) → c ≡ at + length (join (w .lines ++ ls))
     both-offset ls c e =
         let n : length (join (w .lines ++ ls)) ≡ length (join (w .lines)) + length (join ls) = ap length (join-append (w .lines) ls) ∙ length-append (join (w .lines)) (join ls) in
         let o : a ≡ at + length (join (w .lines)) = w .offset in omega arith
@@ -112,7 +112,7 @@ module _ {A B : Type 0} (p : Reader A) (k : A → Reader B) where
     wrong-behind ls rest n c (unended l qs e f) = unended l qs e f
     wrong-behind ls rest n c (atFault l qs e f) = atFault l qs e (λ os. second ls (row l ∷ os) ∙ f os)
 
-    goes-on : (r : Reading B) → Came (k x) a q r → Came (bind p k) at rs r
+    pub goes-on : (r : Reading B) → Came (k x) a q r → Came (bind p k) at rs r
     goes-on (refused n c) v = record {
       lines = w .lines ++ v .lines;
       rest = v .rest;
@@ -127,7 +127,7 @@ module _ {A B : Type 0} (p : Reader A) (k : A → Reader B) where
   bind-local h g at rs = go (p at rs) (h at rs)
     where
       go : (r : Reading A) → Came p at rs r → Came (bind p k) at rs (follow r k)
-      go (refused n c) w = record { lines = w .lines; rest = w .rest; passed = w .passed; offset = w .offset; right = λ qs. follow-later k g c (p at (rows (w .lines) ++ qs)) (w .right qs); wrong = wrong-on at (w .lines) (w .rest) n c (w .wrong) }
+      go (refused n c) w = record { lines = w .lines; rest = w .rest; passed = w .passed; offset = w .offset; right = λ qs. follow-later k (λ x. never-before (k x) (g x)) c (p at (rows (w .lines) ++ qs)) (w .right qs); wrong = wrong-on at (w .lines) (w .rest) n c (w .wrong) }
       go (got x a q) w = goes-on at rs x a q w (k x a q) (g x a q)
 
 pub times-local : {A : Type 0} (p : ℕ → Reader A) → ((i : ℕ) → Local (p i)) → (n i : ℕ) (acc : List A) → Local (times p n i acc)
