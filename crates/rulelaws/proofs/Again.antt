@@ -1,5 +1,5 @@
 -- A key under work is found again (docs/SPEC.md, D14, D16).
-use mathlib.Core.Path.{_≡_, refl, ap, sym, subst, _∙_}
+use mathlib.Core.Path.{_≡_, refl, ap, _∙_}
 use mathlib.Core.Bool.{Bool, true, false, _&&_, So}
 use mathlib.Core.List.{List, [], _∷_}
 use mathlib.Core.Option.{Option, none, some}
@@ -9,8 +9,8 @@ use native.Mathlib.Nat.{not-suc-le-zero, le-of-suc-le-suc}
 use lib.Dec.{eqb}
 use lib.ListN.{length, getD}
 use lib.Seq.{getD-append-seam}
-use Rattle.model.specs.Table.{Kind, sub, sup, closed, Ty, Table, noType, maxTypes, size, typeAt, isRef}
-use Rattle.model.specs.Restriction.{isKey, sameKind, find, withoutNew, pending, derive}
+use Rattle.model.specs.Table.{Kind, sub, sup, closed, Ty, Table, noType, size, typeAt, isRef}
+use Rattle.model.specs.Restriction.{isKey, find, withoutNew, pending, derive}
 use Rattle.model.proofs.Tests.{eqb-self}
 use Rattle.model.proofs.Rules.{both}
 use Rattle.model.proofs.Growth.{Grown, grown-trans}

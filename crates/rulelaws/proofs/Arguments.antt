@@ -1,18 +1,18 @@
 -- The cells that the arguments of a call become (docs/SPEC.md, C9, C12, C17).
 use mathlib.Core.Path.{_≡_, refl, ap, sym, subst, _∙_}
-use mathlib.Core.Bool.{Bool, true, false, not, _&&_, So}
+use mathlib.Core.Bool.{Bool, true, false, _&&_, So}
 use mathlib.Core.List.{List, [], _∷_, _++_, map, map-append, append-assoc, append-nil}
-use mathlib.Core.Option.{Option, none, some}
-use Prim.Native.Nat.{ℕ, zero, suc, _≤_, _<_}
+use mathlib.Core.Option.{Option, some}
+use Prim.Native.Nat.{ℕ, zero, suc, _<_}
 use native.Mathlib.Omega.{arith}
 use native.Mathlib.Nat.{not-suc-le-zero}
 use lib.Dec.{ltb}
 use lib.IntN.{ℤ}
 use lib.ListN.{length, getElem?}
-use Rattle.model.specs.Basics.{Res, refuse, ok, try, need, names, named, AllBelow}
+use Rattle.model.specs.Basics.{Res, ok, try, names, named, AllBelow}
 use Rattle.model.specs.Table.{Table, size, typeAt, methodAt, argumentAt, isRef, isAvail}
 use Rattle.model.specs.Crossing.{Place, object, adapter, noPlace, placeType, placeAt, base, baseOf, baseOwner}
-use Rattle.model.specs.Requests.{Cell, Call, System, maxCalls, Request, Result, pair, cellAt, held, adapterCount, layers, layersOf, wayOf, passLayers, send, argumentsHeld, sendArguments, withCall, callRequest}
+use Rattle.model.specs.Requests.{Cell, System, maxCalls, Result, pair, cellAt, held, adapterCount, layers, wayOf, passLayers, send, argumentsHeld, sendArguments, withCall, callRequest}
 use Rattle.model.specs.Check.{placeFits, systemFits}
 use Rattle.model.proofs.Tests.{ltb-so}
 use Rattle.model.proofs.Rules.{first, second}
@@ -22,7 +22,7 @@ use Rattle.modellaws.proofs.Good.{Sound, sheet-within}
 use Rattle.modellaws.proofs.Demand3.{held-in}
 use Rattle.modellaws.proofs.Fitting.{every-at}
 use Rattle.modellaws.proofs.Checked.{SystemFitting, system-fitting, fits-bounded}
-use Rattle.rulelaws.proofs.Numbering.{any-ok, NextCell, Sent, sent-last}
+use Rattle.rulelaws.proofs.Numbering.{any-ok, Sent, sent-last}
 
 -- A reference (true) is the first of the new cells: r's, of the type o. A number makes none.
 abbrev pub First : Bool → ℕ → Option ℕ → (List Cell → Type 0) → List Cell → Type 0

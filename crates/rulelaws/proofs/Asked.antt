@@ -1,27 +1,24 @@
 -- Which types a derivation makes: the one asked for, and what signatures ask for in turn (docs/SPEC.md, D9, D10, D16).
 use mathlib.Core.Path.{_≡_, refl, ap, sym, subst, _∙_}
 use mathlib.Core.Logic.{_⊎_, inl, inr}
-use mathlib.Core.Bool.{Bool, true, false, _&&_, So, cond}
+use mathlib.Core.Bool.{Bool, true, false, cond}
 use mathlib.Core.List.{List, [], _∷_, _++_}
 use mathlib.Core.Option.{Option, none, some, Option·some-injective}
 use Prim.Native.Nat.{ℕ, zero, suc, _+_, _≤_, _<_}
 use native.Mathlib.Omega.{arith}
 use native.Mathlib.Decide.{decLt, ℕ-discrete}
-use native.Mathlib.Nat.{not-suc-le-zero, le-of-suc-le-suc}
-use lib.Dec.{eqb, ltb}
-use lib.ListN.{length, getD}
-use lib.Seq.{getD-append-seam, getD-set-other}
+use lib.ListN.{getD}
+use lib.Seq.{getD-set-other}
 use Rattle.model.specs.Basics.{AllBelow}
-use Rattle.model.specs.Table.{Kind, sub, sup, closed, Key, Method, Ty, Table, noMethod, noType, maxTypes, size, typeAt, permit, isRef}
-use Rattle.model.specs.Restriction.{restricted, argKind, answerKind, isKey, sameKind, find, withoutNew, entry, pending, Derivation, make, derive}
-use Rattle.model.proofs.Tests.{eqb-self}
-use Rattle.model.proofs.Rules.{never, both}
+use Rattle.model.specs.Table.{Kind, sub, closed, Key, Method, Table, noMethod, noType, maxTypes, size, typeAt, permit}
+use Rattle.model.specs.Restriction.{restricted, sameKind, withoutNew, pending, Derivation, make, derive}
+use Rattle.model.proofs.Rules.{never}
 use Rattle.model.proofs.Derived.{AnswerBelow, SignaturesIn}
 use Rattle.model.proofs.Growth.{Grown, grown-refl, grown-trans}
-use Rattle.modellaws.proofs.Deriving.{IfSome, some-map, some-pick, pushed, stored, pushed-size, stored-size, pushed-grown, derive-grown}
+use Rattle.modellaws.proofs.Deriving.{IfSome, some-map, pushed, pushed-size, stored-size, pushed-grown, derive-grown}
 use Rattle.modellaws.proofs.Crossings.{known-again}
 use Rattle.rulelaws.proofs.Derivation.{keyOf}
-use Rattle.rulelaws.proofs.Turns.{argumentsAsked, answerAsked, methodAsked, asked, named, InTurn, turns-grow, Anew, make-anew, made-anew}
+use Rattle.rulelaws.proofs.Turns.{argumentsAsked, answerAsked, methodAsked, asked, named, InTurn, Anew, make-anew, made-anew}
 
 -- k stands in a list of keys
 abbrev pub In : Key → List Key → Type 0

@@ -1,19 +1,20 @@
--- What each accepted request makes (docs/SPEC.md, Q6, N8, M6, C17 to C19, A10, A11).
+-- What each accepted request makes (docs/SPEC.md, Q6, N5, N8, M6, C17 to C19, A10, A11).
 use mathlib.Core.Path.{_≡_, refl, ap, sym, subst, _∙_}
-use mathlib.Core.Bool.{Bool, true, false, not, _&&_, So}
+use mathlib.Core.Logic.{_⊎_, inl, inr}
+use mathlib.Core.Bool.{Bool, true, false, not, _&&_}
 use mathlib.Core.List.{List, [], _∷_, _++_, map, reverse, reverse-cons, append-assoc}
 use mathlib.Core.Option.{Option, none, some, Option·some-injective}
 use Prim.Native.Nat.{ℕ, suc}
 use lib.Dec.{eqb, ltb}
 use lib.IntN.{ℤ}
 use lib.ListN.{length, getD, set}
-use Rattle.model.specs.Basics.{Res, refuse, ok, try, need, names, named}
-use Rattle.model.specs.Table.{Table, typeAt, methodAt, argumentAt, answerAt, isRef, isAvail, isClass}
-use Rattle.model.specs.Crossing.{object, maxPlaces, baseOwner, Reference, cross}
-use Rattle.model.specs.Requests.{Call, System, maxCalls, Request, new, move, call, answer, Result, pair, number, noCall, cellAt, callAt, isSheetRef, held, leaving, addCell, newRequest, moveRequest, adapterCount, layersOf, wayOf, passLayers, send, argumentsHeld, sendArguments, callRequest, flagged, withAnswer, give, answerRequest, serve}
-use Rattle.model.proofs.Growth.{Grown, grown-refl}
+use lib.Seq.{getD-append-seam}
+use Rattle.model.specs.Basics.{ok, try, need, names, named}
+use Rattle.model.specs.Table.{typeAt, methodAt, argumentAt, answerAt, isRef, isAvail, isClass}
+use Rattle.model.specs.Crossing.{Place, object, noPlace, maxPlaces, placeAt, baseOwner, Reference, cross}
+use Rattle.model.specs.Requests.{Call, System, maxCells, maxCalls, Request, new, move, call, answer, Result, pair, number, noCall, cellAt, callAt, isSheetRef, held, leaving, addCell, newRequest, moveRequest, adapterCount, layersOf, wayOf, passLayers, send, argumentsHeld, sendArguments, callRequest, flagged, withAnswer, give, answerRequest, serve}
 use Rattle.modellaws.proofs.Steps.{IfOk, ok-try, ok-map, ok-need}
-use Rattle.rulelaws.proofs.Numbering.{any-ok, crossed, NextCell, Sent, cell-sent, sent-last, send-calls}
+use Rattle.rulelaws.proofs.Numbering.{any-ok, NextPlace, crossed, NextCell, Sent, cell-sent, sent-last, send-calls}
 
 -- where a reference is due a cell of the caller's, of the type due; else none
 abbrev pub AnswerCell : Bool → System → ℕ → ℕ → System × Result → Type 0
@@ -126,3 +127,24 @@ serve-makes s (answer subject j v) =
     ok-need _ (names j (length (s .calls)) && eqb (named subject) (baseOwner (s .places) (c .place))) 6 _ λ _.
     ok-need _ (not (callAt s (named j) .answered)) 17 _ λ _.
     give-makes s subject (named j) (dueOf s (named j)) v refl
+
+-- N5. The object of an accepted new, of the class and owned by the subject, stands at the count of places before.
+pub new-object : (s : System) (subject class to : ℤ) → IfOk (newRequest s subject class to) (λ x. placeAt (x .0 .places) (length (s .places)) ≡ object (named class) (named subject))
+unfolding newRequest addCell
+new-object s subject class to =
+    ok-need _ (names subject (s .table .subjects)) 5 _ λ _.
+    ok-need _ (names class (s .table .sheet) && isClass (typeAt (s .table) (named class))) 7 _ λ _.
+    ok-need _ (isSheetRef (s .table) to) 7 _ λ _.
+    ok-need _ (ltb (length (s .places)) maxPlaces) 12 _ λ _.
+    ok-try _ _ (cross f (named to) (named subject)) _ (crossed f (named to) (named subject)) λ g h.
+    ok-need _ (ltb (length (s .cells)) maxCells) 13 _ λ _. stands g (h .places)
+  where
+    x : Place
+    x = object (named class) (named subject)
+
+    f : Reference
+    f = record { table = s .table; places = s .places ++ (object (named class) (named subject) ∷ []); type = named class; place = length (s .places) }
+
+    stands : (g : Reference) → (g .places ≡ f .places) ⊎ NextPlace f g → placeAt (g .places) (length (s .places)) ≡ x
+    stands g (inl e) = ap (λ ps. placeAt ps (length (s .places))) e ∙ getD-append-seam (s .places) x [] noPlace
+    stands g (inr e) = ap (λ ps. placeAt ps (length (s .places))) (e .places ∙ append-assoc (s .places) (x ∷ []) (e .place ∷ [])) ∙ getD-append-seam (s .places) x (e .place ∷ []) noPlace

@@ -1,20 +1,19 @@
 -- What an accepted request makes: the place, the cell or the call that comes next, whose and of which type it is (docs/SPEC.md, Q6, N8, M6, C17 to C19, A10, A11).
 -- That the old ones stay under their numbers is serve-onward (modellaws, Onward).
-use mathlib.Core.Path.{_≡_, refl, ap, sym, subst, _∙_}
+use mathlib.Core.Path.{_≡_, refl, ap, sym}
 use mathlib.Core.Logic.{_⊎_, inl, inr}
-use mathlib.Core.Bool.{Bool, true, false, not, _&&_}
-use mathlib.Core.List.{List, [], _∷_, _++_, map, reverse, reverse-cons}
+use mathlib.Core.Bool.{Bool, true, false}
+use mathlib.Core.List.{List, [], _∷_, _++_}
 use mathlib.Core.Option.{Option, none, some}
-use Prim.Native.Nat.{ℕ, suc}
+use Prim.Native.Nat.{ℕ}
 use lib.Dec.{eqb, ltb}
-use lib.IntN.{ℤ}
-use lib.ListN.{length, set}
-use Rattle.model.specs.Basics.{Res, refuse, ok, try, need, names, named}
-use Rattle.model.specs.Table.{Kind, sub, closed, Table, maxTypes, typeAt, methodAt, argumentAt, answerAt, isRef, isAvail, isClass}
+use lib.ListN.{length}
+use Rattle.model.specs.Basics.{Res, refuse, ok, try, need}
+use Rattle.model.specs.Table.{Kind, sub, closed, Table, maxTypes, typeAt}
 use Rattle.model.specs.Relations.{subtype, conforms, strict, loose, free, related}
 use Rattle.model.specs.Restriction.{derived}
-use Rattle.model.specs.Crossing.{Place, object, adapter, maxPlaces, placeType, placeAt, baseOf, baseOwner, Reference, adapt, cross}
-use Rattle.model.specs.Requests.{Cell, Call, System, maxCells, maxCalls, Request, new, move, call, answer, Result, pair, number, cellAt, callAt, isSheetRef, held, leaving, addCell, newRequest, moveRequest, adapterCount, layersOf, wayOf, renumber, crossLayers, passLayers, send, argumentsHeld, sendArguments, callRequest, flagged, withAnswer, give, answerRequest, serve}
+use Rattle.model.specs.Crossing.{Place, adapter, maxPlaces, placeType, placeAt, baseOf, baseOwner, Reference, adapt, cross}
+use Rattle.model.specs.Requests.{System, maxCells, Result, pair, number, leaving, addCell, renumber, crossLayers, send}
 use Rattle.model.proofs.Growth.{Grown, grown-refl, grown-trans}
 use Rattle.modellaws.proofs.Deriving.{derive-grown}
 use Rattle.modellaws.proofs.Steps.{IfOk, ok-try, ok-map, ok-need}

@@ -5,7 +5,7 @@ use Prim.Native.Nat.{ℕ, zero, suc, _+_, _≤_}
 use native.Mathlib.Omega.{arith}
 use lib.ListN.{length, length-append}
 use Rattle.model.specs.Basics.{Res, refuse, ok}
-use Rattle.model.specs.Table.{Rep, ref, w32, w64, Table}
+use Rattle.model.specs.Table.{Rep, ref, w32, w64}
 use Rattle.sheet.specs.Lines.{Row, row, cut, join, Reading, refused, got, Reader, pure, lineAt, line, follow, bind, times}
 use Rattle.sheet.specs.Sheet.{underLine, ownLine, methodLine, members, oneType, body}
 use Rattle.sheet.proofs.Lines.{rows, rows-append}

@@ -1,5 +1,5 @@
 -- The refusals of each request in the order of their tests: what a request is refused with is the first of them that fails (docs/SPEC.md, Q11, X11, N, M, C, A).
-use mathlib.Core.Path.{_≡_, refl, ap, _∙_}
+use mathlib.Core.Path.{_≡_, refl, ap}
 use mathlib.Core.Bool.{Bool, true, false, not, _&&_, cond}
 use mathlib.Core.List.{List, [], _∷_, _++_, map, reverse}
 use mathlib.Core.Option.{Option, none, some}
@@ -128,12 +128,12 @@ entering s subject class = record { table = s .table; places = s .places ++ (obj
 
 -- N1 to N4, N6, N7
 pub new-refusal : (s : System) (subject class to : ℤ) → refusal (newRequest s subject class to) ≡ firstOf (
-  unless (names subject (s .table .subjects)) 5
-  ∷ unless (names class (s .table .sheet) && isClass (typeAt (s .table) (named class))) 7
-  ∷ unless (isSheetRef (s .table) to) 7
-  ∷ unless (ltb (length (s .places)) 128) 12
-  ∷ refusal (cross (entering s subject class) (named to) (named subject))
-  ∷ unless (ltb (length (s .cells)) 256) 13 ∷ [])
+    unless (names subject (s .table .subjects)) 5
+    ∷ unless (names class (s .table .sheet) && isClass (typeAt (s .table) (named class))) 7
+    ∷ unless (isSheetRef (s .table) to) 7
+    ∷ unless (ltb (length (s .places)) 128) 12
+    ∷ refusal (cross (entering s subject class) (named to) (named subject))
+    ∷ unless (ltb (length (s .cells)) 256) 13 ∷ [])
 unfolding newRequest
 new-refusal s subject class to =
     go (names subject (s .table .subjects)) (names class (s .table .sheet) && isClass (typeAt (s .table) (named class))) (isSheetRef (s .table) to) (ltb (length (s .places)) 128) (cross (entering s subject class) (named to) (named subject))
@@ -148,11 +148,11 @@ new-refusal s subject class to =
 
 -- M1 to M5
 pub move-refusal : (s : System) (subject k receiver to : ℤ) → refusal (moveRequest s subject k receiver to) ≡ firstOf (
-  unless (names subject (s .table .subjects) && names receiver (s .table .subjects)) 5
-  ∷ unless (held s subject k) 6
-  ∷ unless (isSheetRef (s .table) to) 7
-  ∷ refusal (cross (leaving s (named k)) (named to) (named receiver))
-  ∷ unless (ltb (length (s .cells)) 256) 13 ∷ [])
+    unless (names subject (s .table .subjects) && names receiver (s .table .subjects)) 5
+    ∷ unless (held s subject k) 6
+    ∷ unless (isSheetRef (s .table) to) 7
+    ∷ refusal (cross (leaving s (named k)) (named to) (named receiver))
+    ∷ unless (ltb (length (s .cells)) 256) 13 ∷ [])
 unfolding moveRequest
 move-refusal s subject k receiver to = go (names subject (s .table .subjects) && names receiver (s .table .subjects)) (held s subject k) (isSheetRef (s .table) to) (cross (leaving s (named k)) (named to) (named receiver))
   where
@@ -166,12 +166,12 @@ move-refusal s subject k receiver to = go (names subject (s .table .subjects) &&
 -- C1 to C7, then the arguments in turn
 pub call-refusal : (s : System) (subject k m : ℤ) (vs : List ℤ) → let c = cellAt s (named k) in let xs = methodAt (s .table) (c .type) (named m) .args in
     refusal (callRequest s subject k m vs) ≡ firstOf (
-      unless (names subject (s .table .subjects)) 5
-      ∷ unless (held s subject k) 6
-      ∷ unless (names m (s .table .methods) && isAvail (methodAt (s .table) (c .type) (named m) .state)) 14
-      ∷ unless (argumentsHeld s subject xs vs) 15
-      ∷ unless (ltb (length (s .calls)) 256) 18
-      ∷ refusal (sendArguments s (baseOwner (s .places) (c .place)) (wayOf s c) (named m) 0 xs vs) ∷ [])
+    unless (names subject (s .table .subjects)) 5
+    ∷ unless (held s subject k) 6
+    ∷ unless (names m (s .table .methods) && isAvail (methodAt (s .table) (c .type) (named m) .state)) 14
+    ∷ unless (argumentsHeld s subject xs vs) 15
+    ∷ unless (ltb (length (s .calls)) 256) 18
+    ∷ refusal (sendArguments s (baseOwner (s .places) (c .place)) (wayOf s c) (named m) 0 xs vs) ∷ [])
 unfolding callRequest
 call-refusal s subject k m vs = let c = cellAt s (named k) in let x = methodAt (s .table) (c .type) (named m) in
     go (names subject (s .table .subjects)) (held s subject k) (names m (s .table .methods) && isAvail (x .state)) (argumentsHeld s subject (x .args) vs) (ltb (length (s .calls)) 256)
@@ -227,10 +227,10 @@ give-refusal s subject j (some a) (some v) = go (isRef (typeAt (s .table) a .rep
 
 -- A1 to A6, A9, A10
 pub answer-refusal : (s : System) (subject j : ℤ) (v : Option ℤ) → refusal (answerRequest s subject j v) ≡ firstOf (
-  unless (names subject (s .table .subjects)) 5
-  ∷ unless (names j (length (s .calls)) && eqb (named subject) (baseOwner (s .places) (cellAt s (callAt s (named j) .cell) .place))) 6
-  ∷ unless (not (callAt s (named j) .answered)) 17
-  ∷ giveTests s subject (named j) (dueOf s (named j)) v)
+    unless (names subject (s .table .subjects)) 5
+    ∷ unless (names j (length (s .calls)) && eqb (named subject) (baseOwner (s .places) (cellAt s (callAt s (named j) .cell) .place))) 6
+    ∷ unless (not (callAt s (named j) .answered)) 17
+    ∷ giveTests s subject (named j) (dueOf s (named j)) v)
 unfolding answerRequest
 answer-refusal s subject j v = go (names subject (s .table .subjects)) (names j (length (s .calls)) && eqb (named subject) (baseOwner (s .places) (cellAt s (callAt s (named j) .cell) .place))) (not (callAt s (named j) .answered))
     (give s subject (named j) (dueOf s (named j)) v) (giveTests s subject (named j) (dueOf s (named j)) v) (give-refusal s subject (named j) (dueOf s (named j)) v)

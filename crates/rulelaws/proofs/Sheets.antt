@@ -9,7 +9,7 @@ use Rattle.model.specs.Basics.{Res, refuse, ok}
 use Rattle.model.specs.Table.{Table}
 use Rattle.sheet.specs.Lines.{Row, row, cut, split, join, Reading, refused, got, Reader, lineAt, line, follow, bind, endOfInput}
 use Rattle.sheet.specs.Text.{endText}
-use Rattle.sheet.specs.Sheet.{endLine, body, signaturesStand, ending, sheet, malformed, loaded, sheetAnswer, read}
+use Rattle.sheet.specs.Sheet.{endLine, body, signaturesStand, ending, sheet, malformed, sheetAnswer, read}
 use Rattle.sheet.proofs.Lines.{rows}
 use Rattle.sheet.proofs.LineKinds.{end-exact}
 use Rattle.rulelaws.proofs.Readers.{NotBefore, Took, Wrong, missing, unended, atFault, Stopped, Came, follow-later, wrong-on, goes-on, both-passed, both-offset, second, body-local}
@@ -88,7 +88,7 @@ module _ (rs : List Row) (t : Table) (a : ℕ) (q : List Row) (w : Took body 0 r
       let n : length (l ++ 10 ∷ []) ≡ length l + 1 = length-append l (10 ∷ []) in
       let z : k ≡ 0 + length (join (w .lines ++ (l ∷ []))) = both-offset body ending 0 rs t a q w (l ∷ []) k (omega arith) in
       let always : (r : Row) (qs : List Row) → sheet 0 (rows (w .lines ++ (l ∷ [])) ++ (r ∷ qs)) ≡ refused 1 k =
-        λ r qs. second body ending 0 rs t a q w (l ∷ []) (r ∷ qs) ∙ ap (λ z. follow (lineAt z a l (r ∷ qs)) (behindEnd t a)) e in
+      λ r qs. second body ending 0 rs t a q w (l ∷ []) (r ∷ qs) ∙ ap (λ z. follow (lineAt z a l (r ∷ qs)) (behindEnd t a)) e in
       record {
         lines = w .lines ++ (l ∷ []);
         rest = r ∷ qs;

@@ -7,18 +7,17 @@ use mathlib.Core.Option.{Option, none, some}
 use Prim.Native.Nat.{ℕ, suc, _≤_, _<_}
 use native.Mathlib.Omega.{arith}
 use lib.ListN.{length}
-use Rattle.model.specs.Basics.{Res, refuse, ok}
-use Rattle.model.specs.Table.{sub, closed, Table, maxTypes, typeAt, validSheet}
-use Rattle.model.specs.Relations.{subtype, conforms, related}
+use Rattle.model.specs.Table.{closed, Table, maxTypes, typeAt, validSheet}
+use Rattle.model.specs.Relations.{conforms, related}
 use Rattle.model.specs.Restriction.{derive}
 use Rattle.model.specs.Crossing.{Reference, cross}
 use Rattle.model.specs.Requests.{Request, leaving}
-use Rattle.model.specs.Book.{Page, Book, lastType, emptyPage, joins, addClosed, pageAdapt, pageCross, pageAt}
+use Rattle.model.specs.Book.{Page, Book, emptyPage, joins, addClosed, pageAdapt, pageCross, pageAt}
 use Rattle.model.specs.Claim.{reached}
 use Rattle.model.proofs.Rules.{never}
-use Rattle.modellaws.proofs.Good.{Good, sheet-within}
+use Rattle.modellaws.proofs.Good.{Good}
 use Rattle.modellaws.proofs.Steps.{IfOk, ok-map}
-use Rattle.modellaws.proofs.Trails.{Track, Trailed, Flown, cross-ok}
+use Rattle.modellaws.proofs.Trails.{Track, Trailed, cross-ok}
 use Rattle.modellaws.proofs.Demand3.{reached-together}
 use Rattle.modellaws.proofs.Sheets.{sheet-fitting, sheet-good}
 

@@ -1,18 +1,17 @@
 -- How a new type comes about: its own number first, then the types of its signatures in turn (docs/SPEC.md, D10, D11, D15 to D17).
-use mathlib.Core.Path.{_≡_, refl, ap, sym, subst, _∙_}
-use mathlib.Core.Bool.{Bool, true, false, _&&_, So, cond}
+use mathlib.Core.Path.{_≡_, refl, ap, sym, subst}
+use mathlib.Core.Bool.{Bool, true, false, cond}
 use mathlib.Core.List.{List, [], _∷_, _++_}
 use mathlib.Core.Option.{Option, none, some}
-use Prim.Native.Nat.{ℕ, zero, suc, _≤_, _<_}
+use Prim.Native.Nat.{ℕ}
 use native.Mathlib.Omega.{arith}
-use lib.Dec.{eqb, ltb}
-use lib.ListN.{set}
+use lib.Dec.{ltb}
 use lib.Seq.{getD-set-same}
 use Rattle.model.specs.Basics.{then}
-use Rattle.model.specs.Table.{Kind, sub, sup, closed, Key, Method, Table, noType, maxTypes, size, typeAt, methodAt, permit, isRef, signed, bare}
-use Rattle.model.specs.Restriction.{restricted, argKind, answerKind, withoutNew, find, entry, pending, Derivation, deriveArgs, deriveAnswer, deriveMethod, deriveMethods, make, derive}
+use Rattle.model.specs.Table.{Kind, Key, Method, Table, noType, maxTypes, size, typeAt, permit, signed, bare}
+use Rattle.model.specs.Restriction.{restricted, argKind, answerKind, withoutNew, entry, pending, Derivation, deriveArgs, deriveAnswer, deriveMethod, deriveMethods, make, derive}
 use Rattle.model.proofs.Growth.{Grown, grown-refl, grown-trans}
-use Rattle.modellaws.proofs.Deriving.{IfSome, some-then, some-pick, some-room, pushed, stored, pushed-size, derive-grown}
+use Rattle.modellaws.proofs.Deriving.{IfSome, some-then, some-room, pushed, stored, pushed-size, derive-grown}
 use Rattle.modellaws.proofs.Fuel.{derive-self}
 use Rattle.rulelaws.proofs.Derivation.{keyOf}
 
