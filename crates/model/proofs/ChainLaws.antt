@@ -1,4 +1,4 @@
--- Chains that a type permits.
+-- Chains that a type permits: those of a derived type are those of both its sides (`meet`), and what lies between two types permits what both do. By induction on the chain.
 use mathlib.Core.Path.{_≡_, refl, sym, _∙_}
 use mathlib.Core.Logic.{_↔_}
 use mathlib.Core.Bool.{_||_, So}

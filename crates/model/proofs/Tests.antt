@@ -1,4 +1,4 @@
--- The native tests, as paths.
+-- The native tests of numbers and truth values, as paths: what a test says of its operands, and what its operands make it say.
 use mathlib.Core.Path.{_≡_, refl, sym, subst, _∙_}
 use mathlib.Core.Logic.{_≢_}
 use mathlib.Core.Bool.{Bool, true, false, not, So, false≢true, Bool·beq}

@@ -25,7 +25,7 @@ use Rattle.modellaws.proofs.Steps.{IfOk, ok-try, ok-map, ok-need, whate
 use Rattle.modellaws.proofs.Trails.{Kept, ok-renumber}
 use Rattle.modellaws.proofs.Checked.{derived-of}
 
-derived-grown : (t : Table) (d : Kind) (l r : ℕ) → IfOk (derived t d l r) (λ x. Grown t (x .0))
+pub derived-grown : (t : Table) (d : Kind) (l r : ℕ) → IfOk (derived t d l r) (λ x. Grown t (x .0))
 derived-grown t d l r = derived-of _ t d l r (derive-grown maxTypes t d l r)
 
 -- ---- a reference on its way from the table t and the places ps

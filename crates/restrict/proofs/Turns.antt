@@ -86,11 +86,8 @@ sized-at : (n t s i m : ℕ) (g : Derived) → g ≡ At i m → Sized n t s g �
 sized-at n t s i m g e h = subst (Sized n t s) e h
 
 module _ {d : Kind} {c : Counts} {n : ℕ} {w : Work} {b₀ b : List ℕ} {end : ℕ} {ns : List ℕ} {m k : ℕ} (now : Loop d c n w b₀ b end ns m k) where
-  abbrev S : ℕ → Slot
-  S = slotIn d w
-
   pub loop-ends : end ≤ k → Comes d c n w b₀ (λ T f. some (tabled T c m b, ns))
-  loop-ends h T e f p = now .same T e f p ∙ run-none (derive f) d S end k (tabled T c m b) ns h
+  loop-ends h T e f p = now .same T e f p ∙ run-none (derive f) d (slotIn d w) end k (tabled T c m b) ns h
 
   -- what a derivation for a slot asks
   ready : (l r : ℕ) → l < 256 → r < 256 → Ready c m l r b
@@ -101,98 +98,111 @@ module _ {d : Kind} {c : Counts} {n : ℕ} {w : Work} {b₀ b : List ℕ} {end :
     long = now .long;
   }
 
-  module _ (test : k < end) {slot : Slot} (told : slot ≡ slotIn (kindIn w) w k) where
-    is : slot ≡ S k
-    is = told ∙ ap (λ (e : Kind). slotIn e w k) (now .kinds)
+-- the loop at slot k, which has been read
+pub record Turn (d : Kind) (c : Counts) (n : ℕ) (w : Work) (b₀ b : List ℕ) (end : ℕ) (ns : List ℕ) (m k : ℕ) (slot : Slot) : Type 0 where
+  pub now : Loop d c n w b₀ b end ns m k
+  pub test : k < end
+  pub told : slot ≡ slotIn (kindIn w) w k
+  pub low : Low slot
 
-    pub turn-empty : slot ≡ Empty → Loop d c n w b₀ b end ns m (k + 1)
-    turn-empty e = record {
-      edge = now .edge;
-      limits = now .limits;
-      kinds = now .kinds;
-      room = now .room;
-      long = now .long;
-      wide = now .wide;
-      more = now .more;
-      most = now .most;
-      kept = now .kept;
-      exact = now .exact;
-      coded = now .coded;
-      same = λ T et f h. now .same T et f h ∙ run-first (derive f) d S end k (tabled T c m b) ns Empty test (sym e ∙ is);
-    }
+module _ {d : Kind} {c : Counts} {n : ℕ} {w : Work} {b₀ b : List ℕ} {end : ℕ} {ns : List ℕ} {m k : ℕ} {slot : Slot} (turn : Turn d c n w b₀ b end ns m k slot) where
+  abbrev S : ℕ → Slot
+  S = slotIn d w
 
-    -- a slot whose type is derived by `e` and kept as `byte`
-    module _ (e : Kind) (byte : ℕ → ℕ) {l r : ℕ} (by : (rec : Derivation) (t : Table) → step rec d slot k t ns ≡ then (rec t e l r) λ p. some
-        (p .0, set ns k (byte (p .1)))) {g : Derived} {b₁ : List ℕ} (does : Gives e c m l r b b₁ g) where
-      abbrev after : ℕ → Table × ℕ → Option Row
-      after f p = runs (derive f) d S (end - (k + 1)) (k + 1) (p .0) (set ns k (byte (p .1)))
+  abbrev now : Loop d c n w b₀ b end ns m k
+  now = turn .now
 
-      stepped : Comes d c n w b₀ (λ T f. then (derivedIn T c g b₁) (after f))
-      stepped T et f h =
-          now .same T et f h ∙ run-first (derive f) d S end k (tabled T c m b) ns slot test is
-          ∙ ap (λ (o : Option Row). then o λ q. runs (derive f) d S (end - (k + 1)) (k + 1) (q .0) (q .1)) (by (derive f) (tabled T c m b))
-          ∙ flat (derive f (tabled T c m b) e l r) ∙ ap (λ (o : Option (Table × ℕ)). then o (after f)) (sym (does .is T et f (let p = now .more in omega arith)))
-        where
-          flat : (o : Option (Table × ℕ)) → then {A = Row} (then o λ p. some (p .0, set ns k (byte (p .1)))) (λ q. runs (derive f) d S (end - (k + 1)) (k + 1) (q .0) (q .1)) ≡ then o
-              (after f)
-          flat none = refl
-          flat (some p) = refl
+  is : slot ≡ S k
+  is = turn .told ∙ ap (λ (e : Kind). slotIn e w k) (now .kinds)
 
-      full-by : g ≡ Full → Comes d c n w b₀ (λ T f. none)
-      full-by eg T et f h = stepped T et f h ∙ ap (λ (o : Derived). then (derivedIn T c o b₁) (after f)) eg
+  pub turn-empty : slot ≡ Empty → Loop d c n w b₀ b end ns m (k + 1)
+  turn-empty e = record {
+    edge = now .edge;
+    limits = now .limits;
+    kinds = now .kinds;
+    room = now .room;
+    long = now .long;
+    wide = now .wide;
+    more = now .more;
+    most = now .most;
+    kept = now .kept;
+    exact = now .exact;
+    coded = now .coded;
+    same = λ T et f h. now .same T et f h ∙ run-first (derive f) d S end k (tabled T c m b) ns Empty (turn .test) (sym e ∙ is);
+  }
 
-      turn-by : {i m₁ v : ℕ} → g ≡ At i m₁ → v ≡ byte i → Loop d c n w b₀ b₁ end (set ns k v) m₁ (k + 1)
-      turn-by {i} {m₁} {v} eg ev = let z = sized-at m l r i m₁ g eg (does .keeps .sized) in
-          record {
-            edge = now .edge;
-            limits = now .limits;
-            kinds = now .kinds;
-            room = now .room;
-            long = does .keeps .long;
-            wide = length-set ns k v ∙ now .wide;
-            more = let p = now .more in omega arith;
-            most = z .1;
-            kept = λ j p. does .keeps .kept j (let q = now .more in omega arith) ∙ now .kept j p;
-            exact = λ j p q. ⊎-elim
-                (λ (l : j < m). exact-same c b b₁ j (let o = now .most in omega arith) (does .keeps .kept j l) (now .exact j p l))
-                (λ (l : m ≤ j). subst (ExactTo c m b₁) eg (does .exact) j l q)
-                (lt-or-ge j m);
-            coded = λ h. subst (CodedTo c b₁) eg (does .coded (now .coded h));
-            same = λ T et f h. stepped T et f h ∙ ap (λ (o : Derived). then (derivedIn T c o b₁) (after f)) eg ∙ ap
-                (λ (v : ℕ). runs (derive f) d S (end - (k + 1)) (k + 1) (tabled T c m₁ b₁) (set ns k v)) (sym ev);
-          }
+  -- a slot whose type is derived by `e` and kept as `byte`
+  module _ (e : Kind) (byte : ℕ → ℕ) {l r : ℕ} (by : (rec : Derivation) (t : Table) → step rec d slot k t ns ≡ then (rec t e l r) λ p. some
+      (p .0, set ns k (byte (p .1)))) {g : Derived} {b₁ : List ℕ} (does : Gives e c m l r b b₁ g) where
+    abbrev after : ℕ → Table × ℕ → Option Row
+    after f p = runs (derive f) d S (end - (k + 1)) (k + 1) (p .0) (set ns k (byte (p .1)))
 
-    module _ (low : Low slot) {l r : ℕ} where
-      module _ (e : slot ≡ Argument l r) where
-        pub argument-ready : Ready c m l r b
-        argument-ready = let p = subst Low e low in ready l r (p .0) (p .1)
+    stepped : Comes d c n w b₀ (λ T f. then (derivedIn T c g b₁) (after f))
+    stepped T et f h =
+        now .same T et f h ∙ run-first (derive f) d S end k (tabled T c m b) ns slot (turn .test) is
+        ∙ ap (λ (o : Option Row). then o λ q. runs (derive f) d S (end - (k + 1)) (k + 1) (q .0) (q .1)) (by (derive f) (tabled T c m b))
+        ∙ flat (derive f (tabled T c m b) e l r) ∙ ap (λ (o : Option (Table × ℕ)). then o (after f)) (sym (does .is T et f (let p = now .more in omega arith)))
+      where
+        flat : (o : Option (Table × ℕ)) → then {A = Row} (then o λ p. some (p .0, set ns k (byte (p .1)))) (λ q. runs (derive f) d S (end - (k + 1)) (k + 1) (q .0) (q .1)) ≡ then o
+            (after f)
+        flat none = refl
+        flat (some p) = refl
 
-        module _ {g : Derived} {b₁ : List ℕ} (does : Gives (argKind d) c m l r b b₁ g) where
-          by-argument : (rec : Derivation) (t : Table) → step rec d slot k t ns ≡ then (rec t (argKind d) l r) λ p. some (p .0, set ns k (p .1))
-          by-argument rec t = ap (λ (u : Slot). step rec d u k t ns) e
+    full-by : g ≡ Full → Comes d c n w b₀ (λ T f. none)
+    full-by eg T et f h = stepped T et f h ∙ ap (λ (o : Derived). then (derivedIn T c o b₁) (after f)) eg
 
-          pub argument-full : g ≡ Full → Comes d c n w b₀ (λ T f. none)
-          argument-full = full-by (argKind d) (λ i. i) by-argument does
+    turn-by : {i m₁ v : ℕ} → g ≡ At i m₁ → v ≡ byte i → Loop d c n w b₀ b₁ end (set ns k v) m₁ (k + 1)
+    turn-by {i} {m₁} {v} eg ev = let z = sized-at m l r i m₁ g eg (does .keeps .sized) in
+        record {
+          edge = now .edge;
+          limits = now .limits;
+          kinds = now .kinds;
+          room = now .room;
+          long = does .keeps .long;
+          wide = length-set ns k v ∙ now .wide;
+          more = let p = now .more in omega arith;
+          most = z .1;
+          kept = λ j p. does .keeps .kept j (let q = now .more in omega arith) ∙ now .kept j p;
+          exact = λ j p q. ⊎-elim
+              (λ (l : j < m). exact-same c b b₁ j (let o = now .most in omega arith) (does .keeps .kept j l) (now .exact j p l))
+              (λ (l : m ≤ j). subst (ExactTo c m b₁) eg (does .exact) j l q)
+              (lt-or-ge j m);
+          coded = λ h. subst (CodedTo c b₁) eg (does .coded (now .coded h));
+          same = λ T et f h. stepped T et f h ∙ ap (λ (o : Derived). then (derivedIn T c o b₁) (after f)) eg ∙ ap
+              (λ (v : ℕ). runs (derive f) d S (end - (k + 1)) (k + 1) (tabled T c m₁ b₁) (set ns k v)) (sym ev);
+        }
 
-          pub argument-low : {i m₁ : ℕ} → g ≡ At i m₁ → i < 256
-          argument-low {i} {m₁} eg = let z = sized-at m l r i m₁ g eg (does .keeps .sized) in let p = subst Low e low in z .2 256 (let q = z .1 in omega arith) (p .0) (p .1)
+  module _ {l r : ℕ} where
+    module _ (e : slot ≡ Argument l r) where
+      pub argument-ready : Ready c m l r b
+      argument-ready = let p = subst Low e (turn .low) in ready now l r (p .0) (p .1)
 
-          pub argument-turn : {i m₁ v : ℕ} → g ≡ At i m₁ → v ≡ i → Loop d c n w b₀ b₁ end (set ns k v) m₁ (k + 1)
-          argument-turn = turn-by (argKind d) (λ i. i) by-argument does
+      module _ {g : Derived} {b₁ : List ℕ} (does : Gives (argKind d) c m l r b b₁ g) where
+        by-argument : (rec : Derivation) (t : Table) → step rec d slot k t ns ≡ then (rec t (argKind d) l r) λ p. some (p .0, set ns k (p .1))
+        by-argument rec t = ap (λ (u : Slot). step rec d u k t ns) e
 
-      module _ (e : slot ≡ Answer l r) where
-        pub answer-ready : Ready c m l r b
-        answer-ready = let p = subst Low e low in ready l r (omega arith) (omega arith)
+        pub argument-full : g ≡ Full → Comes d c n w b₀ (λ T f. none)
+        argument-full = full-by (argKind d) (λ i. i) by-argument does
 
-        module _ {g : Derived} {b₁ : List ℕ} (does : Gives (answerKind d) c m l r b b₁ g) where
-          by-answer : (rec : Derivation) (t : Table) → step rec d slot k t ns ≡ then (rec t (answerKind d) l r) λ p. some (p .0, set ns k (suc (p .1)))
-          by-answer rec t = ap (λ (u : Slot). step rec d u k t ns) e
+        pub argument-low : {i m₁ : ℕ} → g ≡ At i m₁ → i < 256
+        argument-low {i} {m₁} eg = let z = sized-at m l r i m₁ g eg (does .keeps .sized) in let p = subst Low e (turn .low) in z .2 256 (let q = z .1 in omega arith) (p .0) (p .1)
 
-          pub answer-full : g ≡ Full → Comes d c n w b₀ (λ T f. none)
-          answer-full = full-by (answerKind d) suc by-answer does
+        pub argument-turn : {i m₁ v : ℕ} → g ≡ At i m₁ → v ≡ i → Loop d c n w b₀ b₁ end (set ns k v) m₁ (k + 1)
+        argument-turn = turn-by (argKind d) (λ i. i) by-argument does
 
-          pub answer-low : {i m₁ : ℕ} → g ≡ At i m₁ → i < 255
-          answer-low {i} {m₁} eg = let z = sized-at m l r i m₁ g eg (does .keeps .sized) in let p = subst Low e low in z .2 255 (let q = z .1 in omega arith) (p .0) (p .1)
+    module _ (e : slot ≡ Answer l r) where
+      pub answer-ready : Ready c m l r b
+      answer-ready = let p = subst Low e (turn .low) in ready now l r (omega arith) (omega arith)
 
-          pub answer-turn : {i m₁ v : ℕ} → g ≡ At i m₁ → v ≡ i + 1 → Loop d c n w b₀ b₁ end (set ns k v) m₁ (k + 1)
-          answer-turn {i} eg ev = turn-by (answerKind d) suc by-answer does eg (ev ∙ add-one i)
+      module _ {g : Derived} {b₁ : List ℕ} (does : Gives (answerKind d) c m l r b b₁ g) where
+        by-answer : (rec : Derivation) (t : Table) → step rec d slot k t ns ≡ then (rec t (answerKind d) l r) λ p. some (p .0, set ns k (suc (p .1)))
+        by-answer rec t = ap (λ (u : Slot). step rec d u k t ns) e
+
+        pub answer-full : g ≡ Full → Comes d c n w b₀ (λ T f. none)
+        answer-full = full-by (answerKind d) suc by-answer does
+
+        pub answer-low : {i m₁ : ℕ} → g ≡ At i m₁ → i < 255
+        answer-low {i} {m₁} eg = let z = sized-at m l r i m₁ g eg (does .keeps .sized) in let p = subst Low e (turn .low) in z .2 255 (let q = z .1 in omega arith) (p .0) (p .1)
+
+        pub answer-turn : {i m₁ v : ℕ} → g ≡ At i m₁ → v ≡ i + 1 → Loop d c n w b₀ b₁ end (set ns k v) m₁ (k + 1)
+        answer-turn {i} eg ev = turn-by (answerKind d) suc by-answer does eg (ev ∙ add-one i)

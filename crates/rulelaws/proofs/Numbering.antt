@@ -9,16 +9,15 @@ use Prim.Native.Nat.{ℕ}
 use lib.Dec.{eqb, ltb}
 use lib.ListN.{length}
 use Rattle.model.specs.Basics.{ok, try, need}
-use Rattle.model.specs.Table.{Kind, sub, closed, Table, maxTypes, typeAt}
+use Rattle.model.specs.Table.{sub, closed, Table, typeAt}
 use Rattle.model.specs.Relations.{subtype, conforms, strict, loose, free, related}
 use Rattle.model.specs.Restriction.{derived}
 use Rattle.model.specs.Crossing.{Place, adapter, maxPlaces, placeType, placeAt, baseOf, baseOwner, Reference, adapt, cross}
 use Rattle.model.specs.Requests.{System, maxCells, Result, pair, number, leaving, addCell, renumber, crossLayers, send}
 use Rattle.model.proofs.Growth.{Grown, grown-refl, grown-trans}
-use Rattle.modellaws.proofs.Deriving.{derive-grown}
 use Rattle.modellaws.proofs.Steps.{IfOk, ok-try, ok-map, ok-need, whatever}
 use Rattle.modellaws.proofs.Trails.{ok-renumber}
-use Rattle.modellaws.proofs.Checked.{derived-of}
+use Rattle.modellaws.proofs.Onward.{derived-grown}
 
 -- ---- one crossing
 -- It adds a place and leads to that, whose number is the count before,
@@ -32,9 +31,6 @@ pub record Passed (f : Reference) (to : ℕ) (g : Reference) : Type 0 where
   pub type : g .type ≡ to
   pub table : Grown (f .table) (g .table)
   pub places : (g .places ≡ f .places) ⊎ NextPlace f g
-
-derived-grown : (t : Table) (d : Kind) (l r : ℕ) → IfOk (derived t d l r) (λ x. Grown t (x .0))
-derived-grown t d l r = derived-of _ t d l r (derive-grown maxTypes t d l r)
 
 adapt-passes : (f : Reference) (t : Table) → Grown (f .table) t → (to r p : ℕ) → IfOk (adapt t (f .places) to r p) (Passed f to)
 unfolding adapt

@@ -1,4 +1,4 @@
--- Each kind of line is exact.
+-- Each kind of line is exact: it accepts exactly the texts of its values, and gives the value back. By cases on what the line begins with.
 use mathlib.Core.Path.{_≡_, refl, sym, ap, _∙_, subst}
 use mathlib.Core.Bool.{Bool, true, false, _&&_, So, cond}
 use mathlib.Core.List.{List, [], _∷_, _++_, append-assoc, append-nil}

@@ -1,4 +1,4 @@
--- What codes mean, by their numbers.
+-- What the codes of records mean, number by number; a code that names nothing is read as the last one that does.
 use mathlib.Core.Path.{_≡_, refl, ap}
 use mathlib.Core.Bool.{true, false, not}
 use mathlib.Core.Option.{some}

@@ -1,4 +1,4 @@
--- Rests on the laws of signed numbers as indices; a signed local is kept as 64 bits, from which `toZ-ofZ` reads it back.
+-- A signed operand becomes the index that it names, or n: a negative one and one from n on name nothing. It is kept as 64 bits and read back (`toZ-ofZ`).
 use mir.Facts.{toZ-ofZ}
 use Rattle.operand.proofs.Laws.{index-negative, index-cast, index-within, index-above}
 use Rattle.operand.proofs.index_of.Statement.{statement}

@@ -1,17 +1,16 @@
 -- Sub and Sup call each other; the measure is the free type numbers, 128 - n. The invariant is `Loop`: what is left of the slots comes to the whole.
 -- Rests on Turns (a turn of the loop) and Ends (from the type at work to the finished one); Sub and Sup differ in the kind.
-use mathlib.Core.Path.{_≡_, refl}
-use Prim.Native.Nat.{ℕ, _-_, _<_}
+use mathlib.Core.Path.{refl}
+use Prim.Native.Nat.{ℕ, _-_, _*_, _<_}
 use native.Mathlib.Omega.{arith}
 use borrow.Author.Needs.{needs}
 use borrow.Fn.Kinds.{In}
 use borrow.Fn.PlainCycle.{Measures, is, falls, and}
 use Rattle.model.specs.Table.{sub, sup}
 use Rattle.numbers.proofs.narrow.Reads as narrow-reads
-use Rattle.slots.specs.Slots.{kindIn}
 use Rattle.slots.proofs.slot_at.Reads as slot-at-reads
 use Rattle.restrict.proofs.Ends.{Started, started, settled, new-ready, start-loop, slot-ready, slot-read, finish-ready, new-full, new-at}
-use Rattle.restrict.proofs.Turns.{slotIn, Loop, turn-empty, argument-ready, argument-full, argument-low, argument-turn, answer-ready, answer-full, answer-low, answer-turn}
+use Rattle.restrict.proofs.Turns.{Loop, Turn, turn-empty, argument-ready, argument-full, argument-low, argument-turn, answer-ready, answer-full, answer-low, answer-turn}
 use Rattle.restrict.proofs.sub.Reads as sub-reads
 use Rattle.restrict.proofs.sub.Kinds as sub-kinds
 use Rattle.restrict.proofs.+sub+sup.Lts-sub as sub-lts
@@ -73,9 +72,15 @@ sub-started t c = started (c .before .before .before .before .before .before .pr
     (c .before .before .before .before .begin .ensures) (c .start .ensures)
 
 -- the slot as it is read from the bytes
-sub-slot : (t : ℕ) (c : sub-lts.After-slot-at (sub-calls t) (sub-at t) sub-reads.Post sub-Inv-loop sub-μ-loop)
-    → let w = c .before .before .before .before .before .start .result in c .slot-at .result ≡ slotIn (kindIn w) w (c .before .before .before .loop .k)
-sub-slot t c = slot-read (sub-started t (c .before .before .before .before .before)) (c .before .before .before .loop .inv) (c .slot-at .ensures .0)
+sub-turn : (t : ℕ) (c : sub-lts.After-slot-at (sub-calls t) (sub-at t) sub-reads.Post sub-Inv-loop sub-μ-loop)
+    → let a = c .before .before .before .before .before .before .before .before .before .before .before .args in let st = c .before .before .before .before .before .start in
+    let l = c .before .before .before .loop in Turn sub (a .c) (a .n) (st .result) (st .last .0) (l .b) (a .c .methods * 5) (l .bytes) (l .m) (l .k) (c .slot-at .result)
+sub-turn t c = record {
+  now = c .before .before .before .loop .inv;
+  test = c .before .before .loop-test .taken;
+  told = slot-read (sub-started t (c .before .before .before .before .before)) (c .before .before .before .loop .inv) (c .slot-at .ensures .0);
+  low = c .slot-at .ensures .1;
+}
 
 sub-begin-requires : (t : ℕ) → sub-lts.Need-begin-requires (sub-calls t) (sub-at t) sub-reads.Post sub-Inv-loop sub-μ-loop
 sub-begin-requires t c κs = (omega arith, c .before .pre .1 .limits)
@@ -114,7 +119,7 @@ sub-loop-less : (t : ℕ) → sub-lts.Need-loop-less (sub-calls t) (sub-at t) su
 sub-loop-less t c = search needs
 
 sub-loop-again : (t : ℕ) → sub-lts.Need-loop-again (sub-calls t) (sub-at t) sub-reads.Post sub-Inv-loop sub-μ-loop
-sub-loop-again t c = turn-empty (c .before .before .before .before .before .loop .inv) (c .before .before .before .before .loop-test .taken) (sub-slot t (c .before .before)) (c .enum-told2 .given .1)
+sub-loop-again t c = turn-empty (sub-turn t (c .before .before)) (c .enum-told2 .given .1)
 
 sub-enum-known-l1 : (t : ℕ) → sub-lts.Need-enum-known-l1 (sub-calls t) (sub-at t) sub-reads.Post sub-Inv-loop sub-μ-loop
 sub-enum-known-l1 t c = search needs
@@ -128,9 +133,7 @@ sub-sup-requires t c κs = (
     c .before .before .before .before .before .before .before .loop .inv .room,
     c .before .before .before .before .before .before .before .before .before .before .before .before .before .before .before .pre .0,
   ),
-  argument-ready
-      (c .before .before .before .before .before .before .before .loop .inv) (c .before .before .before .before .before .before .loop-test .taken) (sub-slot t (c .before .before .before .before))
-      (c .before .before .before .before .slot-at .ensures .1) (c .before .before .l1 .given .1),
+  argument-ready (sub-turn t (c .before .before .before .before)) (c .before .before .l1 .given .1),
 )
 
 sub-enum-known-i1 : (t : ℕ) → sub-lts.Need-enum-known-i1 (sub-calls t) (sub-at t) sub-reads.Post sub-Inv-loop sub-μ-loop
@@ -142,15 +145,11 @@ sub-enum-told-3 t c = search needs
 sub-returns-2 : (t : ℕ) → sub-lts.Need-returns-2 (sub-calls t) (sub-at t) sub-reads.Post sub-Inv-loop sub-μ-loop
 sub-returns-2 t c = new-full (sub-started t (c .before .before .before .before .before .before .before .before .before .before .before .before))
     (c .before .before .before .before .before .before .before .before .before .before .loop .inv) (c .before .before .sup .ensures .keeps)
-    (argument-full (c .before .before .before .before .before .before .before .before .before .before .loop .inv)
-    (c .before .before .before .before .before .before .before .before .before .loop-test .taken) (sub-slot t (c .before .before .before .before .before .before .before))
-    (c .before .before .before .before .before .before .before .slot-at .ensures .1) (c .before .before .before .before .before .l1 .given .1) (c .before .before .sup .ensures)
+    (argument-full (sub-turn t (c .before .before .before .before .before .before .before)) (c .before .before .before .before .before .l1 .given .1) (c .before .before .sup .ensures)
     (c .enum-told3 .given .1))
 
 sub-narrow-requires : (t : ℕ) → sub-lts.Need-narrow-requires (sub-calls t) (sub-at t) sub-reads.Post sub-Inv-loop sub-μ-loop
-sub-narrow-requires t c κs = argument-low (c .before .before .before .before .before .before .before .before .before .before .before .loop .inv)
-    (c .before .before .before .before .before .before .before .before .before .before .loop-test .taken) (sub-slot t (c .before .before .before .before .before .before .before .before))
-    (c .before .before .before .before .before .before .before .before .slot-at .ensures .1) (c .before .before .before .before .before .before .l1 .given .1)
+sub-narrow-requires t c κs = argument-low (sub-turn t (c .before .before .before .before .before .before .before .before)) (c .before .before .before .before .before .before .l1 .given .1)
     (c .before .before .before .sup .ensures) (c .before .i1 .given .1)
 
 sub-array-write-bytes : (t : ℕ) → sub-lts.Need-array-write-bytes (sub-calls t) (sub-at t) sub-reads.Post sub-Inv-loop sub-μ-loop
@@ -169,10 +168,7 @@ sub-loop-less-2 : (t : ℕ) → sub-lts.Need-loop-less-2 (sub-calls t) (sub-at t
 sub-loop-less-2 t c = search needs
 
 sub-loop-again-2 : (t : ℕ) → sub-lts.Need-loop-again-2 (sub-calls t) (sub-at t) sub-reads.Post sub-Inv-loop sub-μ-loop
-sub-loop-again-2 t c = argument-turn (c .before .before .before .before .before .before .before .before .before .before .before .before .loop .inv)
-    (c .before .before .before .before .before .before .before .before .before .before .before .loop-test .taken)
-    (sub-slot t (c .before .before .before .before .before .before .before .before .before))
-    (c .before .before .before .before .before .before .before .before .before .slot-at .ensures .1) (c .before .before .before .before .before .before .before .l1 .given .1)
+sub-loop-again-2 t c = argument-turn (sub-turn t (c .before .before .before .before .before .before .before .before .before)) (c .before .before .before .before .before .before .before .l1 .given .1)
     (c .before .before .before .before .sup .ensures) (c .before .before .i1 .given .1) (c .narrow .ensures)
 
 sub-enum-known-l2 : (t : ℕ) → sub-lts.Need-enum-known-l2 (sub-calls t) (sub-at t) sub-reads.Post sub-Inv-loop sub-μ-loop
@@ -187,9 +183,7 @@ sub-sub-requires t c κs = (
     c .before .before .before .before .before .before .before .loop .inv .room,
     c .before .before .before .before .before .before .before .before .before .before .before .before .before .before .before .pre .0,
   ),
-  answer-ready
-      (c .before .before .before .before .before .before .before .loop .inv) (c .before .before .before .before .before .before .loop-test .taken) (sub-slot t (c .before .before .before .before))
-      (c .before .before .before .before .slot-at .ensures .1) (c .before .before .l2 .given .1),
+  answer-ready (sub-turn t (c .before .before .before .before)) (c .before .before .l2 .given .1),
 )
 
 sub-enum-known-i2 : (t : ℕ) → sub-lts.Need-enum-known-i2 (sub-calls t) (sub-at t) sub-reads.Post sub-Inv-loop sub-μ-loop
@@ -201,21 +195,15 @@ sub-enum-told-4 t c = search needs
 sub-returns-3 : (t : ℕ) → sub-lts.Need-returns-3 (sub-calls t) (sub-at t) sub-reads.Post sub-Inv-loop sub-μ-loop
 sub-returns-3 t c = new-full (sub-started t (c .before .before .before .before .before .before .before .before .before .before .before .before))
     (c .before .before .before .before .before .before .before .before .before .before .loop .inv) (c .before .before .sub .ensures .keeps)
-    (answer-full (c .before .before .before .before .before .before .before .before .before .before .loop .inv)
-    (c .before .before .before .before .before .before .before .before .before .loop-test .taken)
-    (sub-slot t (c .before .before .before .before .before .before .before)) (c .before .before .before .before .before .before .before .slot-at .ensures .1)
+    (answer-full (sub-turn t (c .before .before .before .before .before .before .before))
     (c .before .before .before .before .before .l2 .given .1) (c .before .before .sub .ensures) (c .enum-told4 .given .1))
 
 sub-add-narrow : (t : ℕ) → sub-lts.Need-add-narrow (sub-calls t) (sub-at t) sub-reads.Post sub-Inv-loop sub-μ-loop
-sub-add-narrow t c = let h = answer-low (c .before .before .before .before .before .before .before .before .before .before .before .loop .inv)
-    (c .before .before .before .before .before .before .before .before .before .before .loop-test .taken) (sub-slot t (c .before .before .before .before .before .before .before .before))
-    (c .before .before .before .before .before .before .before .before .slot-at .ensures .1) (c .before .before .before .before .before .before .l2 .given .1)
+sub-add-narrow t c = let h = answer-low (sub-turn t (c .before .before .before .before .before .before .before .before)) (c .before .before .before .before .before .before .l2 .given .1)
     (c .before .before .before .sub .ensures) (c .before .i2 .given .1) in omega arith
 
 sub-narrow-requires-2 : (t : ℕ) → sub-lts.Need-narrow-requires-2 (sub-calls t) (sub-at t) sub-reads.Post sub-Inv-loop sub-μ-loop
-sub-narrow-requires-2 t c κs = let h = answer-low (c .before .before .before .before .before .before .before .before .before .before .before .loop .inv)
-    (c .before .before .before .before .before .before .before .before .before .before .loop-test .taken) (sub-slot t (c .before .before .before .before .before .before .before .before))
-    (c .before .before .before .before .before .before .before .before .slot-at .ensures .1) (c .before .before .before .before .before .before .l2 .given .1)
+sub-narrow-requires-2 t c κs = let h = answer-low (sub-turn t (c .before .before .before .before .before .before .before .before)) (c .before .before .before .before .before .before .l2 .given .1)
     (c .before .before .before .sub .ensures) (c .before .i2 .given .1) in omega arith
 
 sub-array-write-bytes-2 : (t : ℕ) → sub-lts.Need-array-write-bytes-2 (sub-calls t) (sub-at t) sub-reads.Post sub-Inv-loop sub-μ-loop
@@ -234,10 +222,7 @@ sub-loop-less-3 : (t : ℕ) → sub-lts.Need-loop-less-3 (sub-calls t) (sub-at t
 sub-loop-less-3 t c = search needs
 
 sub-loop-again-3 : (t : ℕ) → sub-lts.Need-loop-again-3 (sub-calls t) (sub-at t) sub-reads.Post sub-Inv-loop sub-μ-loop
-sub-loop-again-3 t c = answer-turn (c .before .before .before .before .before .before .before .before .before .before .before .before .loop .inv)
-    (c .before .before .before .before .before .before .before .before .before .before .before .loop-test .taken)
-    (sub-slot t (c .before .before .before .before .before .before .before .before .before))
-    (c .before .before .before .before .before .before .before .before .before .slot-at .ensures .1) (c .before .before .before .before .before .before .before .l2 .given .1)
+sub-loop-again-3 t c = answer-turn (sub-turn t (c .before .before .before .before .before .before .before .before .before)) (c .before .before .before .before .before .before .before .l2 .given .1)
     (c .before .before .before .before .sub .ensures) (c .before .before .i2 .given .1) (c .narrow2 .ensures)
 
 sub-finish-requires : (t : ℕ) → sub-lts.Need-finish-requires (sub-calls t) (sub-at t) sub-reads.Post sub-Inv-loop sub-μ-loop
@@ -278,9 +263,15 @@ sup-started t c = started (c .before .before .before .before .before .before .pr
     (c .before .before .before .before .begin .ensures) (c .start .ensures)
 
 -- the slot as it is read from the bytes
-sup-slot : (t : ℕ) (c : sup-lts.After-slot-at (sup-calls t) (sup-at t) sup-reads.Post sup-Inv-loop sup-μ-loop)
-    → let w = c .before .before .before .before .before .start .result in c .slot-at .result ≡ slotIn (kindIn w) w (c .before .before .before .loop .k)
-sup-slot t c = slot-read (sup-started t (c .before .before .before .before .before)) (c .before .before .before .loop .inv) (c .slot-at .ensures .0)
+sup-turn : (t : ℕ) (c : sup-lts.After-slot-at (sup-calls t) (sup-at t) sup-reads.Post sup-Inv-loop sup-μ-loop)
+    → let a = c .before .before .before .before .before .before .before .before .before .before .before .args in let st = c .before .before .before .before .before .start in
+    let l = c .before .before .before .loop in Turn sup (a .c) (a .n) (st .result) (st .last .0) (l .b) (a .c .methods * 5) (l .bytes) (l .m) (l .k) (c .slot-at .result)
+sup-turn t c = record {
+  now = c .before .before .before .loop .inv;
+  test = c .before .before .loop-test .taken;
+  told = slot-read (sup-started t (c .before .before .before .before .before)) (c .before .before .before .loop .inv) (c .slot-at .ensures .0);
+  low = c .slot-at .ensures .1;
+}
 
 sup-begin-requires : (t : ℕ) → sup-lts.Need-begin-requires (sup-calls t) (sup-at t) sup-reads.Post sup-Inv-loop sup-μ-loop
 sup-begin-requires t c κs = (omega arith, c .before .pre .1 .limits)
@@ -319,7 +310,7 @@ sup-loop-less : (t : ℕ) → sup-lts.Need-loop-less (sup-calls t) (sup-at t) su
 sup-loop-less t c = search needs
 
 sup-loop-again : (t : ℕ) → sup-lts.Need-loop-again (sup-calls t) (sup-at t) sup-reads.Post sup-Inv-loop sup-μ-loop
-sup-loop-again t c = turn-empty (c .before .before .before .before .before .loop .inv) (c .before .before .before .before .loop-test .taken) (sup-slot t (c .before .before)) (c .enum-told2 .given .1)
+sup-loop-again t c = turn-empty (sup-turn t (c .before .before)) (c .enum-told2 .given .1)
 
 sup-enum-known-l1 : (t : ℕ) → sup-lts.Need-enum-known-l1 (sup-calls t) (sup-at t) sup-reads.Post sup-Inv-loop sup-μ-loop
 sup-enum-known-l1 t c = search needs
@@ -333,9 +324,7 @@ sup-sub-requires t c κs = (
     c .before .before .before .before .before .before .before .loop .inv .room,
     c .before .before .before .before .before .before .before .before .before .before .before .before .before .before .before .pre .0,
   ),
-  argument-ready
-      (c .before .before .before .before .before .before .before .loop .inv) (c .before .before .before .before .before .before .loop-test .taken) (sup-slot t (c .before .before .before .before))
-      (c .before .before .before .before .slot-at .ensures .1) (c .before .before .l1 .given .1),
+  argument-ready (sup-turn t (c .before .before .before .before)) (c .before .before .l1 .given .1),
 )
 
 sup-enum-known-i1 : (t : ℕ) → sup-lts.Need-enum-known-i1 (sup-calls t) (sup-at t) sup-reads.Post sup-Inv-loop sup-μ-loop
@@ -347,15 +336,11 @@ sup-enum-told-3 t c = search needs
 sup-returns-2 : (t : ℕ) → sup-lts.Need-returns-2 (sup-calls t) (sup-at t) sup-reads.Post sup-Inv-loop sup-μ-loop
 sup-returns-2 t c = new-full (sup-started t (c .before .before .before .before .before .before .before .before .before .before .before .before))
     (c .before .before .before .before .before .before .before .before .before .before .loop .inv) (c .before .before .sub .ensures .keeps)
-    (argument-full (c .before .before .before .before .before .before .before .before .before .before .loop .inv)
-    (c .before .before .before .before .before .before .before .before .before .loop-test .taken) (sup-slot t (c .before .before .before .before .before .before .before))
-    (c .before .before .before .before .before .before .before .slot-at .ensures .1) (c .before .before .before .before .before .l1 .given .1) (c .before .before .sub .ensures)
+    (argument-full (sup-turn t (c .before .before .before .before .before .before .before)) (c .before .before .before .before .before .l1 .given .1) (c .before .before .sub .ensures)
     (c .enum-told3 .given .1))
 
 sup-narrow-requires : (t : ℕ) → sup-lts.Need-narrow-requires (sup-calls t) (sup-at t) sup-reads.Post sup-Inv-loop sup-μ-loop
-sup-narrow-requires t c κs = argument-low (c .before .before .before .before .before .before .before .before .before .before .before .loop .inv)
-    (c .before .before .before .before .before .before .before .before .before .before .loop-test .taken) (sup-slot t (c .before .before .before .before .before .before .before .before))
-    (c .before .before .before .before .before .before .before .before .slot-at .ensures .1) (c .before .before .before .before .before .before .l1 .given .1)
+sup-narrow-requires t c κs = argument-low (sup-turn t (c .before .before .before .before .before .before .before .before)) (c .before .before .before .before .before .before .l1 .given .1)
     (c .before .before .before .sub .ensures) (c .before .i1 .given .1)
 
 sup-array-write-bytes : (t : ℕ) → sup-lts.Need-array-write-bytes (sup-calls t) (sup-at t) sup-reads.Post sup-Inv-loop sup-μ-loop
@@ -374,10 +359,7 @@ sup-loop-less-2 : (t : ℕ) → sup-lts.Need-loop-less-2 (sup-calls t) (sup-at t
 sup-loop-less-2 t c = search needs
 
 sup-loop-again-2 : (t : ℕ) → sup-lts.Need-loop-again-2 (sup-calls t) (sup-at t) sup-reads.Post sup-Inv-loop sup-μ-loop
-sup-loop-again-2 t c = argument-turn (c .before .before .before .before .before .before .before .before .before .before .before .before .loop .inv)
-    (c .before .before .before .before .before .before .before .before .before .before .before .loop-test .taken)
-    (sup-slot t (c .before .before .before .before .before .before .before .before .before))
-    (c .before .before .before .before .before .before .before .before .before .slot-at .ensures .1) (c .before .before .before .before .before .before .before .l1 .given .1)
+sup-loop-again-2 t c = argument-turn (sup-turn t (c .before .before .before .before .before .before .before .before .before)) (c .before .before .before .before .before .before .before .l1 .given .1)
     (c .before .before .before .before .sub .ensures) (c .before .before .i1 .given .1) (c .narrow .ensures)
 
 sup-enum-known-l2 : (t : ℕ) → sup-lts.Need-enum-known-l2 (sup-calls t) (sup-at t) sup-reads.Post sup-Inv-loop sup-μ-loop
@@ -392,9 +374,7 @@ sup-sup-requires t c κs = (
     c .before .before .before .before .before .before .before .loop .inv .room,
     c .before .before .before .before .before .before .before .before .before .before .before .before .before .before .before .pre .0,
   ),
-  answer-ready
-      (c .before .before .before .before .before .before .before .loop .inv) (c .before .before .before .before .before .before .loop-test .taken) (sup-slot t (c .before .before .before .before))
-      (c .before .before .before .before .slot-at .ensures .1) (c .before .before .l2 .given .1),
+  answer-ready (sup-turn t (c .before .before .before .before)) (c .before .before .l2 .given .1),
 )
 
 sup-enum-known-i2 : (t : ℕ) → sup-lts.Need-enum-known-i2 (sup-calls t) (sup-at t) sup-reads.Post sup-Inv-loop sup-μ-loop
@@ -406,21 +386,15 @@ sup-enum-told-4 t c = search needs
 sup-returns-3 : (t : ℕ) → sup-lts.Need-returns-3 (sup-calls t) (sup-at t) sup-reads.Post sup-Inv-loop sup-μ-loop
 sup-returns-3 t c = new-full (sup-started t (c .before .before .before .before .before .before .before .before .before .before .before .before))
     (c .before .before .before .before .before .before .before .before .before .before .loop .inv) (c .before .before .sup .ensures .keeps)
-    (answer-full (c .before .before .before .before .before .before .before .before .before .before .loop .inv)
-    (c .before .before .before .before .before .before .before .before .before .loop-test .taken)
-    (sup-slot t (c .before .before .before .before .before .before .before)) (c .before .before .before .before .before .before .before .slot-at .ensures .1)
+    (answer-full (sup-turn t (c .before .before .before .before .before .before .before))
     (c .before .before .before .before .before .l2 .given .1) (c .before .before .sup .ensures) (c .enum-told4 .given .1))
 
 sup-add-narrow : (t : ℕ) → sup-lts.Need-add-narrow (sup-calls t) (sup-at t) sup-reads.Post sup-Inv-loop sup-μ-loop
-sup-add-narrow t c = let h = answer-low (c .before .before .before .before .before .before .before .before .before .before .before .loop .inv)
-    (c .before .before .before .before .before .before .before .before .before .before .loop-test .taken) (sup-slot t (c .before .before .before .before .before .before .before .before))
-    (c .before .before .before .before .before .before .before .before .slot-at .ensures .1) (c .before .before .before .before .before .before .l2 .given .1)
+sup-add-narrow t c = let h = answer-low (sup-turn t (c .before .before .before .before .before .before .before .before)) (c .before .before .before .before .before .before .l2 .given .1)
     (c .before .before .before .sup .ensures) (c .before .i2 .given .1) in omega arith
 
 sup-narrow-requires-2 : (t : ℕ) → sup-lts.Need-narrow-requires-2 (sup-calls t) (sup-at t) sup-reads.Post sup-Inv-loop sup-μ-loop
-sup-narrow-requires-2 t c κs = let h = answer-low (c .before .before .before .before .before .before .before .before .before .before .before .loop .inv)
-    (c .before .before .before .before .before .before .before .before .before .before .loop-test .taken) (sup-slot t (c .before .before .before .before .before .before .before .before))
-    (c .before .before .before .before .before .before .before .before .slot-at .ensures .1) (c .before .before .before .before .before .before .l2 .given .1)
+sup-narrow-requires-2 t c κs = let h = answer-low (sup-turn t (c .before .before .before .before .before .before .before .before)) (c .before .before .before .before .before .before .l2 .given .1)
     (c .before .before .before .sup .ensures) (c .before .i2 .given .1) in omega arith
 
 sup-array-write-bytes-2 : (t : ℕ) → sup-lts.Need-array-write-bytes-2 (sup-calls t) (sup-at t) sup-reads.Post sup-Inv-loop sup-μ-loop
@@ -439,10 +413,7 @@ sup-loop-less-3 : (t : ℕ) → sup-lts.Need-loop-less-3 (sup-calls t) (sup-at t
 sup-loop-less-3 t c = search needs
 
 sup-loop-again-3 : (t : ℕ) → sup-lts.Need-loop-again-3 (sup-calls t) (sup-at t) sup-reads.Post sup-Inv-loop sup-μ-loop
-sup-loop-again-3 t c = answer-turn (c .before .before .before .before .before .before .before .before .before .before .before .before .loop .inv)
-    (c .before .before .before .before .before .before .before .before .before .before .before .loop-test .taken)
-    (sup-slot t (c .before .before .before .before .before .before .before .before .before))
-    (c .before .before .before .before .before .before .before .before .before .slot-at .ensures .1) (c .before .before .before .before .before .before .before .l2 .given .1)
+sup-loop-again-3 t c = answer-turn (sup-turn t (c .before .before .before .before .before .before .before .before .before)) (c .before .before .before .before .before .before .before .l2 .given .1)
     (c .before .before .before .before .sup .ensures) (c .before .before .i2 .given .1) (c .narrow2 .ensures)
 
 sup-finish-requires : (t : ℕ) → sup-lts.Need-finish-requires (sup-calls t) (sup-at t) sup-reads.Post sup-Inv-loop sup-μ-loop

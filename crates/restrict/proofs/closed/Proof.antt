@@ -1,15 +1,14 @@
 -- Closed derives its signatures as Sub does. The invariant is `Loop`, as for Sub and Sup; rests on Turns and Ends.
-use mathlib.Core.Path.{_≡_, refl}
-use Prim.Native.Nat.{_-_}
+use mathlib.Core.Path.{refl}
+use Prim.Native.Nat.{_-_, _*_}
 use native.Mathlib.Omega.{arith}
 use borrow.Author.Needs.{needs}
 use Rattle.model.specs.Table.{closed}
 use Rattle.numbers.proofs.narrow.Reads as narrow-reads
-use Rattle.slots.specs.Slots.{kindIn}
 use Rattle.slots.proofs.slot_at.Reads as slot-at-reads
 use Rattle.restrict.proofs.Begins.{closed-begins}
 use Rattle.restrict.proofs.Ends.{Started, started, settled, new-ready, start-loop, slot-ready, slot-read, finish-ready, new-full, new-at}
-use Rattle.restrict.proofs.Turns.{slotIn, Loop, turn-empty, argument-ready, argument-full, argument-low, argument-turn, answer-ready, answer-full, answer-low, answer-turn}
+use Rattle.restrict.proofs.Turns.{Loop, Turn, turn-empty, argument-ready, argument-full, argument-low, argument-turn, answer-ready, answer-full, answer-low, answer-turn}
 use Rattle.restrict.proofs.closed.Tie as tie
 use Rattle.restrict.proofs.closed.Reads as reads
 use Rattle.restrict.proofs.closed.Lts as lts
@@ -53,9 +52,15 @@ begun c = started (c .before .before .before .before .before .before .pre .0) re
     (c .before .before .before .before .before .before .args .b .now) (c .before .before .before .before .search .result) (c .before .before .before .before .search .ensures)) (c .start .ensures)
 
 -- the slot as it is read from the bytes
-slot : (c : lts.After-slot-at calls reads.Pre reads.Post Inv-loop μ-loop)
-    → let w = c .before .before .before .before .before .start .result in c .slot-at .result ≡ slotIn (kindIn w) w (c .before .before .before .loop .k)
-slot c = slot-read (begun (c .before .before .before .before .before)) (c .before .before .before .loop .inv) (c .slot-at .ensures .0)
+turn : (c : lts.After-slot-at calls reads.Pre reads.Post Inv-loop μ-loop)
+    → let a = c .before .before .before .before .before .before .before .before .before .before .before .args in let st = c .before .before .before .before .before .start in
+    let l = c .before .before .before .loop in Turn closed (a .c) (a .c .types) (st .result) (st .last .0) (l .b) (a .c .methods * 5) (l .bytes) (l .m) (l .k) (c .slot-at .result)
+turn c = record {
+  now = c .before .before .before .loop .inv;
+  test = c .before .before .loop-test .taken;
+  told = slot-read (begun (c .before .before .before .before .before)) (c .before .before .before .loop .inv) (c .slot-at .ensures .0);
+  low = c .slot-at .ensures .1;
+}
 
 search-requires : tie.Need-search-requires Inv-loop μ-loop
 search-requires c κs = (omega arith, c .before .pre .0 .limits, c .before .pre .1, c .before .pre .2)
@@ -100,14 +105,13 @@ loop-less : tie.Need-loop-less Inv-loop μ-loop
 loop-less c = search needs
 
 loop-again : tie.Need-loop-again Inv-loop μ-loop
-loop-again c = turn-empty (c .before .before .before .before .before .loop .inv) (c .before .before .before .before .loop-test .taken) (slot (c .before .before)) (c .enum-told2 .given .1)
+loop-again c = turn-empty (turn (c .before .before)) (c .enum-told2 .given .1)
 
 enum-known-l3 : tie.Need-enum-known-l3 Inv-loop μ-loop
 enum-known-l3 c = search needs
 
 sup-requires : tie.Need-sup-requires Inv-loop μ-loop
-sup-requires c κs = argument-ready (c .before .before .before .before .before .before .before .loop .inv) (c .before .before .before .before .before .before .loop-test .taken)
-    (slot (c .before .before .before .before)) (c .before .before .before .before .slot-at .ensures .1) (c .before .before .l3 .given .1)
+sup-requires c κs = argument-ready (turn (c .before .before .before .before)) (c .before .before .l3 .given .1)
 
 enum-known-i3 : tie.Need-enum-known-i3 Inv-loop μ-loop
 enum-known-i3 c = search needs
@@ -118,15 +122,11 @@ enum-told-3 c = search needs
 returns-2 : tie.Need-returns-2 Inv-loop μ-loop
 returns-2 c = new-full (begun (c .before .before .before .before .before .before .before .before .before .before .before .before))
     (c .before .before .before .before .before .before .before .before .before .before .loop .inv) (c .before .before .sup .ensures .keeps)
-    (argument-full (c .before .before .before .before .before .before .before .before .before .before .loop .inv)
-    (c .before .before .before .before .before .before .before .before .before .loop-test .taken) (slot (c .before .before .before .before .before .before .before))
-    (c .before .before .before .before .before .before .before .slot-at .ensures .1) (c .before .before .before .before .before .l3 .given .1) (c .before .before .sup .ensures)
+    (argument-full (turn (c .before .before .before .before .before .before .before)) (c .before .before .before .before .before .l3 .given .1) (c .before .before .sup .ensures)
     (c .enum-told3 .given .1))
 
 narrow-requires : tie.Need-narrow-requires Inv-loop μ-loop
-narrow-requires c κs = argument-low (c .before .before .before .before .before .before .before .before .before .before .before .loop .inv)
-    (c .before .before .before .before .before .before .before .before .before .before .loop-test .taken) (slot (c .before .before .before .before .before .before .before .before))
-    (c .before .before .before .before .before .before .before .before .slot-at .ensures .1) (c .before .before .before .before .before .before .l3 .given .1)
+narrow-requires c κs = argument-low (turn (c .before .before .before .before .before .before .before .before)) (c .before .before .before .before .before .before .l3 .given .1)
     (c .before .before .before .sup .ensures) (c .before .i3 .given .1)
 
 array-write-bytes : tie.Need-array-write-bytes Inv-loop μ-loop
@@ -145,18 +145,14 @@ loop-less-2 : tie.Need-loop-less-2 Inv-loop μ-loop
 loop-less-2 c = search needs
 
 loop-again-2 : tie.Need-loop-again-2 Inv-loop μ-loop
-loop-again-2 c = argument-turn (c .before .before .before .before .before .before .before .before .before .before .before .before .loop .inv)
-    (c .before .before .before .before .before .before .before .before .before .before .before .loop-test .taken)
-    (slot (c .before .before .before .before .before .before .before .before .before))
-    (c .before .before .before .before .before .before .before .before .before .slot-at .ensures .1) (c .before .before .before .before .before .before .before .l3 .given .1)
+loop-again-2 c = argument-turn (turn (c .before .before .before .before .before .before .before .before .before)) (c .before .before .before .before .before .before .before .l3 .given .1)
     (c .before .before .before .before .sup .ensures) (c .before .before .i3 .given .1) (c .narrow .ensures)
 
 enum-known-l4 : tie.Need-enum-known-l4 Inv-loop μ-loop
 enum-known-l4 c = search needs
 
 sub-requires : tie.Need-sub-requires Inv-loop μ-loop
-sub-requires c κs = answer-ready (c .before .before .before .before .before .before .before .loop .inv) (c .before .before .before .before .before .before .loop-test .taken)
-    (slot (c .before .before .before .before)) (c .before .before .before .before .slot-at .ensures .1) (c .before .before .l4 .given .1)
+sub-requires c κs = answer-ready (turn (c .before .before .before .before)) (c .before .before .l4 .given .1)
 
 enum-known-i4 : tie.Need-enum-known-i4 Inv-loop μ-loop
 enum-known-i4 c = search needs
@@ -167,21 +163,15 @@ enum-told-4 c = search needs
 returns-3 : tie.Need-returns-3 Inv-loop μ-loop
 returns-3 c = new-full (begun (c .before .before .before .before .before .before .before .before .before .before .before .before))
     (c .before .before .before .before .before .before .before .before .before .before .loop .inv) (c .before .before .sub .ensures .keeps)
-    (answer-full (c .before .before .before .before .before .before .before .before .before .before .loop .inv)
-    (c .before .before .before .before .before .before .before .before .before .loop-test .taken)
-    (slot (c .before .before .before .before .before .before .before)) (c .before .before .before .before .before .before .before .slot-at .ensures .1)
+    (answer-full (turn (c .before .before .before .before .before .before .before))
     (c .before .before .before .before .before .l4 .given .1) (c .before .before .sub .ensures) (c .enum-told4 .given .1))
 
 add-narrow : tie.Need-add-narrow Inv-loop μ-loop
-add-narrow c = let h = answer-low (c .before .before .before .before .before .before .before .before .before .before .before .loop .inv)
-    (c .before .before .before .before .before .before .before .before .before .before .loop-test .taken) (slot (c .before .before .before .before .before .before .before .before))
-    (c .before .before .before .before .before .before .before .before .slot-at .ensures .1) (c .before .before .before .before .before .before .l4 .given .1)
+add-narrow c = let h = answer-low (turn (c .before .before .before .before .before .before .before .before)) (c .before .before .before .before .before .before .l4 .given .1)
     (c .before .before .before .sub .ensures) (c .before .i4 .given .1) in omega arith
 
 narrow-requires-2 : tie.Need-narrow-requires-2 Inv-loop μ-loop
-narrow-requires-2 c κs = let h = answer-low (c .before .before .before .before .before .before .before .before .before .before .before .loop .inv)
-    (c .before .before .before .before .before .before .before .before .before .before .loop-test .taken) (slot (c .before .before .before .before .before .before .before .before))
-    (c .before .before .before .before .before .before .before .before .slot-at .ensures .1) (c .before .before .before .before .before .before .l4 .given .1)
+narrow-requires-2 c κs = let h = answer-low (turn (c .before .before .before .before .before .before .before .before)) (c .before .before .before .before .before .before .l4 .given .1)
     (c .before .before .before .sub .ensures) (c .before .i4 .given .1) in omega arith
 
 array-write-bytes-2 : tie.Need-array-write-bytes-2 Inv-loop μ-loop
@@ -200,10 +190,7 @@ loop-less-3 : tie.Need-loop-less-3 Inv-loop μ-loop
 loop-less-3 c = search needs
 
 loop-again-3 : tie.Need-loop-again-3 Inv-loop μ-loop
-loop-again-3 c = answer-turn (c .before .before .before .before .before .before .before .before .before .before .before .before .loop .inv)
-    (c .before .before .before .before .before .before .before .before .before .before .before .loop-test .taken)
-    (slot (c .before .before .before .before .before .before .before .before .before))
-    (c .before .before .before .before .before .before .before .before .before .slot-at .ensures .1) (c .before .before .before .before .before .before .before .l4 .given .1)
+loop-again-3 c = answer-turn (turn (c .before .before .before .before .before .before .before .before .before)) (c .before .before .before .before .before .before .before .l4 .given .1)
     (c .before .before .before .before .sub .ensures) (c .before .before .i4 .given .1) (c .narrow2 .ensures)
 
 finish-requires : tie.Need-finish-requires Inv-loop μ-loop

@@ -1,4 +1,4 @@
--- Rests on `asked` and `unasked`: a test that only some relations ask for.
+-- Categories are compared where the relation asks for it, and nothing is asked elsewhere (`asked`, `unasked`).
 use mathlib.Core.Path.{_∙_, ap}
 use Prim.Native.Nat.{ℕ}
 use borrow.Author.Needs.{needs}

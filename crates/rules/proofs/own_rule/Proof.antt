@@ -1,4 +1,4 @@
--- Rests on `asked` and `unasked`: a test that only some relations ask for.
+-- Own flags are compared where the relation asks for it, and nothing is asked elsewhere (`asked`, `unasked`).
 use mathlib.Core.Bool.{true}
 use borrow.Author.Needs.{needs}
 use Rattle.model.specs.Basics.{_⇒_}

@@ -1,4 +1,4 @@
--- Rests on `left` and `right`: which of two tests a relation asks for.
+-- The same representation or the same sort, by which of the two the relation asks for (`left`, `right`).
 use borrow.Author.Needs.{needs}
 use Rattle.model.specs.Check.{repOf}
 use Rattle.model.specs.Relations.{sameRep, sameSort}

@@ -1,4 +1,4 @@
--- Rests on what codes of representations mean.
+-- Codes are compared in place of representations: a code that names none means w64, on either side.
 use Rattle.rules.proofs.Outside.{rep-ref, rep-short, rep-long}
 use Rattle.rules.proofs.same_rep.Statement.{statement}
 use Rattle.rules.proofs.same_rep.Tie as tie

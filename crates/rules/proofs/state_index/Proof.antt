@@ -1,4 +1,4 @@
--- Rests on `state-high`: a code above the states is read as unavail.
+-- A state's code is its row; a code above the states is read as unavail (`state-high`).
 use native.Mathlib.Omega.{arith}
 use borrow.Author.Needs.{needs}
 use Rattle.table.proofs.Codes.{state-high}

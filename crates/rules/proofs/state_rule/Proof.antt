@@ -1,4 +1,4 @@
--- Rests on `says-at`: what a square says at two codes.
+-- The square at the rows of two codes is the state rule of the states that they mean (`says-at`).
 use mathlib.Core.Path.{_∙_}
 use borrow.Author.Needs.{needs}
 use Rattle.rules.proofs.Squares.{says-at}

@@ -1,4 +1,4 @@
--- Rests on the laws that each square says its rule.
+-- Each relation has its square, which says the relation's state rule at every two states (proofs/Squares).
 use borrow.Author.Needs.{needs}
 use Rattle.rules.proofs.Squares.{says-subtype, says-conforms, says-strict, says-loose, says-free}
 use Rattle.rules.proofs.state_square.Statement.{statement}

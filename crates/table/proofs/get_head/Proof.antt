@@ -1,4 +1,4 @@
--- Rests on `type-in`: where a type stands.
+-- The head of type i is read from its six bytes, which are where the view has them (`type-in`).
 use mathlib.Core.Path.{ap, sym}
 use borrow.Author.Needs.{needs}
 use Rattle.model.specs.Check.{noRawType}

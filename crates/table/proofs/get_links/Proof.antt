@@ -1,4 +1,4 @@
--- Rests on `links-in`: where the links of a category stand.
+-- The links of a category are read from its three bytes, which are where the view has them (`links-in`).
 use mathlib.Core.Path.{sym}
 use borrow.Author.Needs.{needs}
 use Rattle.model.specs.Check.{noRawLinks}

@@ -1,4 +1,4 @@
--- Rests on `method-in`: where a method of a type stands.
+-- Method j of type i is read from its seven bytes, which are where the view has them (`method-in`).
 use mathlib.Core.Path.{sym}
 use borrow.Author.Needs.{needs}
 use Rattle.table.proofs.Laws.{method-in}

@@ -1,4 +1,4 @@
--- Rests on `six`: six stores in a row.
+-- Six stores in a row are one store of the head's bytes (`six`).
 use borrow.Author.Needs.{needs}
 use Rattle.table.proofs.Lists.{six}
 use Rattle.table.proofs.put_head.Statement.{statement}

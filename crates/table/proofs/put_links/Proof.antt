@@ -1,4 +1,4 @@
--- Rests on `three`: three stores in a row.
+-- Three stores in a row are one store of the links' bytes (`three`), which changes one category and no other.
 use Prim.Native.Nat.{_*_}
 use borrow.Author.Needs.{needs}
 use Rattle.table.proofs.Lists.{three}

@@ -1,4 +1,4 @@
--- Rests on `seven`: seven stores in a row.
+-- Seven stores in a row are one store of the method's bytes (`seven`).
 use lib.ListN.{getD}
 use borrow.Author.Needs.{needs}
 use Rattle.table.proofs.Lists.{seven}

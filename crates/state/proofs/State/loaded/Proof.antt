@@ -1,4 +1,4 @@
--- The three parts are empty.
+-- The state of a loaded sheet has no cells, places or calls: its three parts are empty (Q10).
 use borrow.Author.Needs.{needs}
 use Rattle.state.proofs.State.loaded.Statement.{statement}
 use Rattle.state.proofs.State.loaded.Tie as tie

@@ -1,4 +1,4 @@
--- Rests on what `Method::empty` ensures.
+-- A record that holds nothing: sixteen methods as `Method::empty` makes them, and a head of zeros.
 use mathlib.Core.Path.{ap}
 use lib.ListN.{replicate}
 use borrow.Author.Needs.{needs}
