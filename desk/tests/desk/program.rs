@@ -89,44 +89,49 @@ fn any_bytes_get_an_answer() {
     }
 }
 
+/// Runs desk with a standard output that nobody reads.
+fn unread(words: &[&str]) -> (i32, String, String) {
+    let mut command = desk(words);
+    command.stdout(Stdio::piped()).stderr(Stdio::piped());
+    let mut child = command.spawn().expect("desk runs");
+    drop(child.stdout.take());
+    told(child.wait_with_output().expect("it ends"))
+}
+
 #[test]
 fn a_reader_may_go_away() {
-    let big = "examples/types-48.sheet";
     for words in [
-        ["pairs", big, "--plain"],
-        ["explain", "1", ""],
-        ["check", "examples/refused-no-end.sheet", ""],
+        &["pairs", "examples/types-48.sheet", "--plain"][..],
+        &["explain", "1"],
     ] {
-        let words: Vec<&str> = words.into_iter().filter(|word| !word.is_empty()).collect();
-        let mut child = desk(&words)
-            .stdout(Stdio::piped())
-            .stderr(Stdio::piped())
-            .spawn()
-            .expect("desk runs");
-        drop(child.stdout.take());
-        let (status, _, error) = told(child.wait_with_output().expect("it ends"));
-        assert!(
-            status < 2 && !error.contains("panicked"),
-            "{words:?}: {error}"
+        assert_eq!(
+            unread(words),
+            (0, String::new(), String::new()),
+            "{words:?}"
         );
     }
+    let (status, _, error) = unread(&["run", "examples/refused-01.script"]);
+    assert_eq!(status, 1);
+    assert!(
+        error.contains("0 has no sign") && !error.contains("cannot print"),
+        "{error}"
+    );
     let mut child = desk(&["check", "no/such/file"])
         .stderr(Stdio::piped())
         .spawn()
         .expect("desk runs");
     drop(child.stderr.take());
     assert_eq!(child.wait().expect("it ends").code(), Some(1));
+}
+
+#[test]
+fn what_cannot_be_printed_is_told() {
     let full = File::options()
         .write(true)
         .open("/dev/full")
         .expect("a device");
-    let (status, _, error) = told(
-        desk(&["help"])
-            .stdout(full)
-            .stderr(Stdio::piped())
-            .output()
-            .expect("desk runs"),
-    );
+    let output = desk(&["help"]).stdout(full).output().expect("desk runs");
+    let (status, _, error) = told(output);
     assert_eq!(status, 1);
     assert!(error.contains("cannot print"), "{error}");
 }

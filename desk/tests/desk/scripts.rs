@@ -43,7 +43,7 @@ fn same(input: &[u8]) -> Option<Run<'_>> {
 fn every_small_damage_is_read_as_the_core_reads_it() {
     let mut malformed = 0;
     let requests =
-        b"do=new 0 1 4\ndo=move 0 0 1 -9223372036854775808\ndo=call 1 0 0 5 -6\ndo=answer 0 0 -\n";
+        b"do=new 0 1 4\ndo=move 0 0 1 -9223372036854775808\ndo=call 1 0 0 15 -6 7 8\ndo=answer 0 0 -\n";
     let case_p = read("examples/case-p.script");
     let sheet = split(&case_p).0;
     for requests in damaged(requests) {
