@@ -14,7 +14,7 @@ mod matrix;
 pub mod names;
 pub mod paint;
 mod pairs_picture;
-mod relation;
+pub mod relation;
 pub mod requests;
 mod run_picture;
 mod run_plan;

@@ -120,7 +120,7 @@ fn the_words_are_those_for_the_fault() {
         let changed = format!("{line}\n");
         lines[number - 1] = changed.as_bytes();
         let text = lines.concat();
-        let refused = Sheet::read(&text).err().expect("it is refused");
+        let refused = Sheet::read(&text).expect_err("it is refused");
         let found = diagnose(&text, refused.number(), refused.offset, &Names::default());
         let found = found.expect("it has words");
         let mark = &found.line[found.flaw.mark.clone()];

@@ -204,6 +204,10 @@ fn the_matrix_and_a_comparison() {
         names.starts_with("T is type 3 (forwarder), S is type 2 (reader)"),
         "{names}"
     );
+    let own = accepted(&["compare", SHEET, "4", "2"]);
+    assert!(own.contains("for the owner of its object alone"), "{own}");
+    let mixed = accepted(&["compare", SHEET, "0", "2"]);
+    assert!(mixed.contains("never becomes"), "{mixed}");
     assert!(refused(&["compare", SHEET, "6", "0"]).contains("refused with 7"));
     assert!(refused(&["compare", SHEET, "-1", "0"]).contains("refused with 7"));
     assert!(refused(&["compare", SHEET, "log", "0"]).contains("no type is named \"log\""));

@@ -2,9 +2,10 @@
 
 use crate::damage::{bytes_damaged, damaged};
 use crate::files::read;
-use desk::follow::{follow, output, Run};
-use desk::requests::split;
-use pilgonca::{raw, Method, MethodInfo, PlaceKind, Type, TypeInfo};
+use desk::follow::{follow, output, Got, Run};
+use desk::relation::Strongest;
+use desk::requests::{split, Request};
+use pilgonca::{raw, CellInfo, Method, MethodInfo, PlaceKind, Refusal, Type, TypeInfo};
 use reference::gen::{generate, Profile, PROFILES};
 
 /// Runs a script here and by the core. None where it is too long or its sheet is refused.
@@ -118,4 +119,57 @@ fn trails_explain_what_is_offered() {
     }
     println!("{offered} methods offered, the longest trail has {longest} types");
     assert!(offered > 10_000 && longest > 5);
+}
+
+/// What is said of a pair of types comes true when a reference of the one is moved as the other (X1 to X7).
+fn comes_true(run: &Run) -> usize {
+    let sheet = run.visit.sheet();
+    let (pairs, cells): (_, Vec<CellInfo>) = (sheet.pairs(), run.visit.cells().collect());
+    let mut moves = 0;
+    for step in &run.steps {
+        let Request::Move { cell, to, .. } = step.request else {
+            continue;
+        };
+        if step.outcome.is_err_and(|refusal| refusal.number() < 8) {
+            continue;
+        }
+        let (cell, t) = (
+            &cells[cell as usize],
+            sheet.type_info(Type(to)).expect("a type"),
+        );
+        let strongest = Strongest::of(&pairs.at(t.number, cell.type_));
+        let place = match step.outcome {
+            Ok(Got::Held(held)) => Some(held.place),
+            _ => None,
+        };
+        let unrelated = strongest == Strongest::None || strongest == Strongest::Free && !t.own;
+        assert_eq!(
+            unrelated,
+            step.outcome == Err(Refusal::Unrelated),
+            "{step:?}"
+        );
+        match (t.own, strongest) {
+            (false, Strongest::Subtype) => {
+                let full = step.outcome == Err(Refusal::CellsFull);
+                assert!(place == Some(cell.place) || full, "{step:?}");
+            }
+            (false, Strongest::Strict) => {
+                assert_ne!(step.outcome, Err(Refusal::NotStrict), "{step:?}")
+            }
+            _ => {}
+        }
+        moves += 1;
+    }
+    moves
+}
+
+#[test]
+fn what_is_said_of_pairs_comes_true() {
+    let moves: usize = [Profile::Small, Profile::Medium, Profile::Big, Profile::Full]
+        .into_iter()
+        .flat_map(|profile| (0..40).map(move |seed| generate(seed, profile)))
+        .filter_map(|input| same(&input).map(|run| comes_true(&run)))
+        .sum();
+    println!("{moves} moves");
+    assert!(moves > 5_000);
 }
