@@ -83,14 +83,14 @@ fn explained(run: &Run) -> usize {
     let visit = &run.visit;
     let types: Vec<TypeInfo> = visit.types().collect();
     let places: Vec<PlaceKind> = visit.places().map(|info| info.kind).collect();
-    assert_eq!(run.trails.len(), visit.cells().count());
+    assert_eq!(run.trails.count(), visit.cells().count());
     let mut offered = 0;
     for cell in visit.cells() {
         let base = visit.base_of(cell.place).expect("a base");
         let PlaceKind::Object { class, .. } = places[base.0 as usize] else {
             panic!("a base is an object");
         };
-        let trail = &run.trails[cell.number.0 as usize];
+        let trail = run.trails.of(cell.number);
         assert_eq!(trail.last(), Some(&cell.type_));
         for method in 0..visit.sheet().methods() {
             let came = permits(&types, class, method)
@@ -114,7 +114,11 @@ fn trails_explain_what_is_offered() {
                 continue;
             };
             offered += explained(&run);
-            longest = longest.max(run.trails.iter().map(Vec::len).max().unwrap_or(0));
+            let lengths = run
+                .visit
+                .cells()
+                .map(|cell| run.trails.of(cell.number).len());
+            longest = longest.max(lengths.max().unwrap_or(0));
         }
     }
     println!("{offered} methods offered, the longest trail has {longest} types");
