@@ -2,7 +2,7 @@
 
 use crate::damage::{bytes_damaged, damaged};
 use crate::files::read;
-use desk::follow::{follow, output, Got, Run};
+use desk::follow::{follow, output, Got, Run, Step};
 use desk::relation::Strongest;
 use desk::requests::{split, Request};
 use pilgonca::{raw, CellInfo, Method, MethodInfo, PlaceKind, Refusal, Type, TypeInfo};
@@ -126,43 +126,41 @@ fn trails_explain_what_is_offered() {
 }
 
 /// What is said of a pair of types comes true when a reference of the one is moved as the other (X1 to X7).
-fn comes_true(run: &Run) -> usize {
+fn comes_true(step: &Step, cell: &CellInfo, t: &TypeInfo, strongest: Strongest) {
+    let place = match step.outcome {
+        Ok(Got::Held(held)) => Some(held.place),
+        _ => None,
+    };
+    let unrelated = strongest == Strongest::None || strongest == Strongest::Free && !t.own;
+    assert_eq!(
+        unrelated,
+        step.outcome == Err(Refusal::Unrelated),
+        "{step:?}"
+    );
+    match (t.own, strongest) {
+        (false, Strongest::Subtype) => {
+            let full = step.outcome == Err(Refusal::CellsFull);
+            assert!(place == Some(cell.place) || full, "{step:?}");
+        }
+        (false, Strongest::Strict) => assert_ne!(step.outcome, Err(Refusal::NotStrict), "{step:?}"),
+        _ => {}
+    }
+}
+
+/// Looks at every move of a run that came as far as a crossing; how many they are.
+fn moves_come_true(run: &Run) -> usize {
     let sheet = run.visit.sheet();
     let (pairs, cells): (_, Vec<CellInfo>) = (sheet.pairs(), run.visit.cells().collect());
     let mut moves = 0;
     for step in &run.steps {
-        let Request::Move { cell, to, .. } = step.request else {
-            continue;
-        };
-        if step.outcome.is_err_and(|refusal| refusal.number() < 8) {
-            continue;
+        let early = step.outcome.is_err_and(|refusal| refusal.number() < 8);
+        if let (Request::Move { cell, to, .. }, false) = (&step.request, early) {
+            let (cell, t) = (&cells[*cell as usize], sheet.type_info(Type(*to)));
+            let t = t.expect("a type");
+            let strongest = Strongest::of(&pairs.at(t.number, cell.type_));
+            comes_true(step, cell, &t, strongest);
+            moves += 1;
         }
-        let (cell, t) = (
-            &cells[cell as usize],
-            sheet.type_info(Type(to)).expect("a type"),
-        );
-        let strongest = Strongest::of(&pairs.at(t.number, cell.type_));
-        let place = match step.outcome {
-            Ok(Got::Held(held)) => Some(held.place),
-            _ => None,
-        };
-        let unrelated = strongest == Strongest::None || strongest == Strongest::Free && !t.own;
-        assert_eq!(
-            unrelated,
-            step.outcome == Err(Refusal::Unrelated),
-            "{step:?}"
-        );
-        match (t.own, strongest) {
-            (false, Strongest::Subtype) => {
-                let full = step.outcome == Err(Refusal::CellsFull);
-                assert!(place == Some(cell.place) || full, "{step:?}");
-            }
-            (false, Strongest::Strict) => {
-                assert_ne!(step.outcome, Err(Refusal::NotStrict), "{step:?}")
-            }
-            _ => {}
-        }
-        moves += 1;
     }
     moves
 }
@@ -172,7 +170,7 @@ fn what_is_said_of_pairs_comes_true() {
     let moves: usize = [Profile::Small, Profile::Medium, Profile::Big, Profile::Full]
         .into_iter()
         .flat_map(|profile| (0..40).map(move |seed| generate(seed, profile)))
-        .filter_map(|input| same(&input).map(|run| comes_true(&run)))
+        .filter_map(|input| same(&input).map(|run| moves_come_true(&run)))
         .sum();
     println!("{moves} moves");
     assert!(moves > 5_000);
