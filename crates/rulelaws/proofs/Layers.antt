@@ -1,0 +1,162 @@
+-- Which numbers a value can be refused with at the layers of a call or an answer (docs/SPEC.md, C13 to C15, A9).
+use mathlib.Core.Path.{_≡_, refl, ap, sym, _∙_}
+use mathlib.Core.Logic.{_⊎_, inl, inr, _≢_}
+use mathlib.Core.Bool.{Bool, true, false, _||_, cond}
+use mathlib.Core.List.{List, [], _∷_, _++_}
+use mathlib.Core.Option.{Option, none, some}
+use Prim.Native.Nat.{ℕ, _<_}
+use native.Mathlib.Omega.{arith}
+use lib.Dec.{eqb, ltb}
+use lib.IntN.{ℤ}
+use lib.ListN.{length}
+use Rattle.model.specs.Basics.{Res, refuse, ok, try, need}
+use Rattle.model.specs.Table.{Rep, ref, w32, w64, sub, closed, Table, maxTypes, size, typeAt}
+use Rattle.model.specs.Relations.{subtype, conforms, strict, loose, free, related}
+use Rattle.model.specs.Restriction.{derive, derived}
+use Rattle.model.specs.Crossing.{Place, adapter, maxPlaces, placeType, placeAt, baseOf, baseOwner, Reference, adapt, cross}
+use Rattle.model.specs.Requests.{atLayer, renumber, crossLayers, within, passLayers}
+use Rattle.model.proofs.Tests.{eqb-no}
+use Rattle.model.proofs.Rules.{never}
+use Rattle.model.proofs.Growth.{Grown, grown-trans}
+use Rattle.modellaws.proofs.Steps.{IfOk}
+use Rattle.modellaws.proofs.Trails.{ok-renumber}
+use Rattle.rulelaws.proofs.Numbering.{any-ok, Passed, crossed}
+
+-- P holds of the number of a refusal, if it is one
+abbrev pub IfRefused : {A : Type 0} → Res A → (ℕ → Type 0) → Type 0
+IfRefused (refuse e) P = P e
+IfRefused (ok a) P = Unit
+
+refused-need : {A : Type 0} (P : ℕ → Type 0) (b : Bool) (e : ℕ) (k : Unit {0} → Res A) → P e → IfRefused (k tt) P → IfRefused (need b e k) P
+refused-need P true e k h f = f
+refused-need P false e k h f = h
+
+refused-try : {A B : Type 0} (P : ℕ → Type 0) (Q : A → Type 0) (m : Res A) (k : A → Res B) → IfRefused m P → IfOk m Q → ((a : A) → Q a → IfRefused (k a) P) → IfRefused (try m k) P
+refused-try P Q (refuse e) k h q f = h
+refused-try P Q (ok a) k h q f = f a q
+
+-- ---- C13: 8 and 10 are the first layer's own
+abbrev pub Later : ℕ → Type 0
+Later e = (e ≢ 8) × (e ≢ 10)
+
+later-of : (e : ℕ) → Later (atLayer false e)
+later-of e = go (eqb e 8) (eqb e 10) refl refl
+  where
+    go : (a b : Bool) → eqb e 8 ≡ a → eqb e 10 ≡ b → Later (cond (a || b) 19 e)
+    go true b p q = ((λ z. omega arith), λ z. omega arith)
+    go false true p q = ((λ z. omega arith), λ z. omega arith)
+    go false false p q = (eqb-no p, eqb-no q)
+
+renumber-later : {A : Type 0} (m : Res A) → IfRefused (renumber false m) Later
+renumber-later (refuse e) = later-of e
+renumber-later (ok a) = tt
+
+-- A reference that has passed the first layer is never refused with 8 or 10.
+pub later-number : (ts : List (Option ℕ)) (f : Reference) (r : ℕ) → IfRefused (crossLayers false f r ts) Later
+unfolding crossLayers
+later-number [] f r = tt
+later-number (none ∷ ts) f r = later-of 8
+later-number (some to ∷ ts) f r = refused-try Later (λ _. Unit {0}) (renumber false (cross f to r)) _ (renumber-later (cross f to r)) (any-ok (renumber false (cross f to r))) λ g _. later-number ts g r
+
+-- What the first crossing is refused with, the reference is refused with.
+pub first-number : (f : Reference) (to r e : ℕ) (ts : List (Option ℕ)) → cross f to r ≡ refuse e → crossLayers true f r (some to ∷ ts) ≡ refuse e
+unfolding crossLayers
+first-number f to r e ts h = ap (λ m. try (renumber true m) λ g. crossLayers false g r ts) h
+
+-- ---- C13: 9 is never met
+abbrev NotNine : ℕ → Type 0
+NotNine e = e ≢ 9
+
+adapt-numbers : (t : Table) (ps : List Place) (to r p : ℕ) → IfRefused (adapt t ps to r p) NotNine
+unfolding adapt derived
+adapt-numbers t ps to r p = go (related conforms t r v) (derive maxTypes t closed r v)
+  where
+    v : ℕ
+    v = placeType (placeAt ps p)
+
+    go : (c : Bool) (o : Option (Table × ℕ)) → IfRefused {A = Reference} (elim c [
+      | true ↦ ok (record { table = t; places = ps; type = to; place = p })
+      | false ↦ need (related strict t r v) 10 λ _. try {A = Table × ℕ} (elim o [ none ↦ refuse 11 | some p ↦ ok p ]) λ x. need (ltb (length ps) maxPlaces) 12 λ _.
+          ok (record { table = x .0; places = ps ++ (adapter p (x .1) ∷ []); type = to; place = length ps })
+    ]) NotNine
+    go true o = tt
+    go false none = refused-need NotNine (related strict t r v) 10 _ (λ z. omega arith) (λ z. omega arith)
+    go false (some x) = refused-need NotNine (related strict t r v) 10 _ (λ z. omega arith) (refused-need NotNine (ltb (length ps) maxPlaces) 12 _ (λ z. omega arith) tt)
+
+cross-numbers : (f : Reference) (to r : ℕ) → typeAt (f .table) to .own ≡ false → IfRefused (cross f to r) NotNine
+unfolding cross derived
+cross-numbers f to r e = go (typeAt t to .own) e (related subtype t to (f .type)) (derive maxTypes t sub to (f .type))
+  where
+    t : Table
+    t = f .table
+
+    ps : List Place
+    ps = f .places
+
+    go : (own : Bool) → own ≡ false → (st : Bool) (o : Option (Table × ℕ)) → IfRefused {A = Reference} (elim own [
+      | true ↦ need (related free t to (f .type)) 8 λ _. need (eqb r (baseOwner ps (f .place))) 9 λ _. adapt t ps to to (baseOf ps (f .place))
+      | false ↦ need (related loose t to (f .type)) 8 λ _. elim st [
+        | true ↦ ok (record { table = t; places = ps; type = to; place = f .place })
+        | false ↦ try {A = Table × ℕ} (elim o [ none ↦ refuse 11 | some p ↦ ok p ]) λ x. adapt (x .0) ps to (x .1) (f .place)
+      ]
+    ]) NotNine
+    go true e st o = never (sym e)
+    go false e true o = refused-need NotNine (related loose t to (f .type)) 8 _ (λ z. omega arith) tt
+    go false e false none = refused-need NotNine (related loose t to (f .type)) 8 _ (λ z. omega arith) (λ z. omega arith)
+    go false e false (some x) = refused-need NotNine (related loose t to (f .type)) 8 _ (λ z. omega arith) (adapt-numbers (x .0) ps to (x .1) (f .place))
+
+-- types of the table without own, as signatures name them (T14)
+abbrev pub NoneOwn : Table → List (Option ℕ) → Type 0
+NoneOwn t [] = Unit
+NoneOwn t (none ∷ ts) = NoneOwn t ts
+NoneOwn t (some to ∷ ts) = (to < size t) × (typeAt t to .own ≡ false) × NoneOwn t ts
+
+renumber-nine : {A : Type 0} (b : Bool) (m : Res A) → IfRefused m NotNine → IfRefused (renumber b m) NotNine
+renumber-nine true (refuse e) h = h
+renumber-nine false (refuse e) h = go (eqb e 8 || eqb e 10)
+  where
+    go : (b : Bool) → NotNine (cond b 19 e)
+    go true = λ z. omega arith
+    go false = h
+renumber-nine b (ok a) h = tt
+
+unfit-nine : (b : Bool) → NotNine (atLayer b 8)
+unfit-nine true = λ z. omega arith
+unfit-nine false = λ z. omega arith
+
+-- A reference that passes layers of signatures is never refused with 9.
+pub never-nine : (t : Table) (ts : List (Option ℕ)) (b : Bool) (f : Reference) (r : ℕ) → Grown t (f .table) → NoneOwn t ts → IfRefused (crossLayers b f r ts) (λ e. e ≢ 9)
+unfolding crossLayers
+never-nine t [] b f r g h = tt
+never-nine t (none ∷ ts) b f r g h = unfit-nine b
+never-nine t (some to ∷ ts) b f r g h =
+    refused-try NotNine (Passed f to) (renumber b (cross f to r)) _ (renumber-nine b (cross f to r) (cross-numbers f to r (ap (λ y. y .own) (g .same to (h .0)) ∙ h .1))) (ok-renumber _ b (cross f to r) (crossed f to r))
+    λ u w. never-nine t ts false u r (grown-trans g (w .table)) (h .2)
+
+-- ---- C14, C15: a number meets 16, or a layer that is unfit for it: 8 at the first, 19 later
+abbrev pub NumberRefusal : Bool → ℕ → Type 0
+NumberRefusal first e = (e ≡ 16) ⊎ ((e ≡ atLayer first 8) ⊎ (e ≡ 19))
+
+late : (b : Bool) (e : ℕ) → NumberRefusal false e → NumberRefusal b e
+late b e (inl q) = inl q
+late b e (inr (inl q)) = inr (inr q)
+late b e (inr (inr q)) = inr (inr q)
+
+refused-map : {A : Type 0} (P Q : ℕ → Type 0) → ((e : ℕ) → P e → Q e) → (m : Res A) → IfRefused m P → IfRefused m Q
+refused-map P Q f (refuse e) h = f e h
+refused-map P Q f (ok a) h = tt
+
+pub number-refusals : (ts : List (Option ℕ)) (b : Bool) (t : Table) (v : ℤ) → IfRefused (passLayers b t v ts) (NumberRefusal b)
+unfolding passLayers
+number-refusals [] b t v = tt
+number-refusals (none ∷ ts) b t v = inr (inl refl)
+number-refusals (some a ∷ ts) b t v = go (typeAt t a .rep) (refused-map (NumberRefusal false) (NumberRefusal b) (late b) (passLayers false t v ts) (number-refusals ts false t v))
+  where
+    go : (r : Rep) → IfRefused (passLayers false t v ts) (NumberRefusal b) → IfRefused {A = Unit {0}} (elim r [
+      | ref ↦ refuse (atLayer b 8)
+      | w32 ↦ need (within 2147483648 v) 16 λ _. passLayers false t v ts
+      | w64 ↦ passLayers false t v ts
+    ]) (NumberRefusal b)
+    go ref h = inr (inl refl)
+    go w32 h = refused-need (NumberRefusal b) (within 2147483648 v) 16 _ (inl refl) h
+    go w64 h = h
