@@ -19,7 +19,10 @@ use Rattle.model.specs.Requests.{System, Result, pair, number, nothing, got, no
 use Rattle.model.specs.Requests.{Cell as Cellᵐ, Call as Callᵐ}
 use Rattle.model.specs.Check.{answerOf}
 use Rattle.model.proofs.Rules.{never}
+use Rattle.model.proofs.Codes.{answer-back}
+use Rattle.model.specs.Records.{answerCode}
 use Rattle.table.specs.Store.{tableIn}
+use Rattle.table.proofs.Codes.{answer-is}
 use Rattle.operand.specs.Index.{indexOf}
 use Rattle.operand.proofs.Laws.{index-unknown, index-known}
 use Rattle.state.specs.declared.Call.{Call}
@@ -29,8 +32,7 @@ use Rattle.state.specs.declared.State.{State}
 use Rattle.state.specs.View.{cellOf, callOf, cellsIn, placesIn, callsIn, callAnswered, systemIn}
 use Rattle.state.specs.Sound.{CallIn, Sound}
 use Rattle.state.proofs.Laws.{calls-length}
-use Rattle.carry.specs.Carried.{codeOf, passedOf}
-use Rattle.carry.proofs.Laws.{code-is, answer-is}
+use Rattle.carry.specs.Carried.{passedOf}
 use Rattle.steps.specs.declared.Answer.{Answer}
 use Rattle.steps.specs.declared.Answer.the-variants.{Refused, Pair, Number, Nothing}
 use Rattle.steps.specs.declared.Served.{Served}
@@ -66,9 +68,11 @@ module _ (s : State) (h : Sound s) (j : ℕ) (low : j < s .calls .count) (calls 
           (subst (CallIn s) (sym (getD-set-same (callsIn (s .calls)) j new noCall (omega (arith, low, counted)))) (record { cell = y .cell; method = y .method }))
       go (no q) = subst (CallIn s) (sym (getD-set-other (callsIn (s .calls)) j i new noCall q)) (h .calls i (omega (arith, l, same)))
 
-  pub answered-step : (a : Answer) → isAccepted a ≡ true → (x : Result) → outcomeOf a ≡ got x → Step s (ok (withAnswer (systemIn s) j, x)) (record { answer = a; state = callsLeft s calls })
+  pub answered-step : (a : Answer) → isAccepted a ≡ true → (x : Result) → outcomeOf a ≡ got x
+      → Step s (ok (withAnswer (systemIn s) j, x)) (record { answer = a; state = callsLeft s calls })
   answered-step a k x z = step-as
-      (ap (λ (xs : List Callᵐ). ok (withCalls (systemIn s) (set xs j (flagged (getD xs j noCall) true)), x)) (calls-are s) ∙ ap (λ (xs : List Callᵐ). ok (withCalls (systemIn s) xs, x)) (sym are))
+      (ap (λ (xs : List Callᵐ). ok (withCalls (systemIn s) (set xs j (flagged (getD xs j noCall) true)), x)) (calls-are s)
+      ∙ ap (λ (xs : List Callᵐ). ok (withCalls (systemIn s) xs, x)) (sym are))
       (calls-step s h calls (omega (arith, same, h .callCount)) each a x z k)
 
 -- ---- The call and its cell, as they are read.
@@ -109,9 +113,9 @@ module _ (s : State) (j : ℕ) (x : Call) (c : Cell) (k : Called s j x c) where
           ∙ ap (λ (ps : List Placeᵐ). cellAt (systemIn s) (callAt (systemIn s) j .cell) .type ∷ layersOf ps (cellAt (systemIn s) (callAt (systemIn s) j .cell) .place)) (sym (places-are s))
 
   -- what is due, as it is coded
-  pub due-is : (m t n : ℕ) → m ≡ x .method → t ≡ c .sort → ((l : List ℕ) → n ≡ codeOf (answerAt (tableIn (s .types) l (s .counts)) m t)) → dueFor (systemIn s) j ≡ answerOf n
+  pub due-is : (m t n : ℕ) → m ≡ x .method → t ≡ c .sort → ((l : List ℕ) → n ≡ answerCode (answerAt (tableIn (s .types) l (s .counts)) m t)) → dueFor (systemIn s) j ≡ answerOf n
   due-is m t n me te e = sym (
-      ap answerOf (e (s .links)) ∙ code-is (answerAt T m t) ∙ ap (λ (y : ℕ). answerAt T y t) (me ∙ ap (λ (y : Callᵐ). y .method) (k .call))
+      ap answerOf (e (s .links)) ∙ answer-back (answerAt T m t) ∙ ap (λ (y : ℕ). answerAt T y t) (me ∙ ap (λ (y : Callᵐ). y .method) (k .call))
       ∙ ap (answerAt T (callAt (systemIn s) j .method)) (te ∙ ap (λ (y : Cellᵐ). y .type) (k .cell))
       ∙ ap (λ (y : Table). answerAt y (callAt (systemIn s) j .method) (cellAt (systemIn s) (callAt (systemIn s) j .cell) .type)) (sym (table-is s)))
 
@@ -284,7 +288,8 @@ module _ (s : State) (h : Sound s) (subject call : ℤ) (o : Option ℤ) where
     pub step-6 : s .calls .count ≤ j → (y : Served) → y ≡ refusal s 6 → Replies y
     step-6 l y e = step-refuses h (answer-6 (systemIn s) subject call o known (ap (names call) calls-are-counted ∙ index-unknown call (s .calls .count) j j-is l)) e
 
-    pub step-goes : j < s .calls .count → (who : ℕ) → who ≡ indexOf subject (s .counts .subjects) → (y : Served) → ((z : ℤ) → named z ≡ who → Step s (answerCall (systemIn s) z j o) y) → Replies y
+    pub step-goes : j < s .calls .count → (who : ℕ) → who ≡ indexOf subject (s .counts .subjects) → (y : Served)
+        → ((z : ℤ) → named z ≡ who → Step s (answerCall (systemIn s) z j o) y) → Replies y
     step-goes l who w y g =
         let x = index-known call (s .calls .count) j j-is l in
         step-as (answer-goes (systemIn s) subject call o known (ap (names call) calls-are-counted ∙ x .0) ∙ ap (λ (n : ℕ). answerCall (systemIn s) subject n o) (x .1))

@@ -4,7 +4,7 @@ use mathlib.Core.Logic.{_⊎_, inl, inr}
 use mathlib.Core.Bool.{Bool, true, false, cond}
 use mathlib.Core.List.{List, [], _∷_, _++_}
 use mathlib.Core.Option.{none}
-use Prim.Native.Nat.{ℕ, zero, suc, _+_, _≤_, _<_}
+use Prim.Native.Nat.{ℕ, _+_, _≤_, _<_}
 use native.Mathlib.Omega.{arith}
 use lib.Dec.{ltb}
 use lib.IntN.{ℤ}
@@ -22,6 +22,7 @@ use Rattle.table.specs.declared.Counts.{Counts}
 use Rattle.table.specs.declared.Method.{Method}
 use Rattle.table.specs.Store.{tableIn, rawMethod}
 use Rattle.table.proofs.Lists.{lt-or-ge}
+use Rattle.table.proofs.Codes.{not-avail}
 use Rattle.operand.specs.Index.{indexOf}
 use Rattle.operand.proofs.Laws.{index-unknown, index-known}
 use Rattle.state.specs.declared.Call.{Call}
@@ -143,11 +144,6 @@ module _ (s : State) (h : Sound s) (who k m : ℕ) (xs : List ℕ) (vs : List �
       adapters-same = count ∙ ap (adapterCount (placesIn (s .places))) here ∙ ap (λ ps. adapterCount ps (cellAt (systemIn s) k .place)) (sym (places-are s))
 
 -- ---- The tests that are left once the subject, its cell and the method are known.
-avail-only : (n : ℕ) → (n ≡ 2 → ⊥) → isAvail (stateOf n) ≡ false
-avail-only zero h = refl
-avail-only (suc zero) h = refl
-avail-only (suc (suc zero)) h = absurd (h refl)
-avail-only (suc (suc (suc n))) h = refl
 
 module _ (s : State) (h : Sound s) (subject : ℤ) (k m : ℕ) (vs : List ℤ) (t : ℕ) (sort : t ≡ cellAt (systemIn s) k .type)
     (x : Method) (read : (l : List ℕ) → methodOf (rawMethod x) ≡ methodAt (tableIn (s .types) l (s .counts)) t m) where
@@ -164,7 +160,7 @@ module _ (s : State) (h : Sound s) (subject : ℤ) (k m : ℕ) (vs : List ℤ) (
   Asked r = Step s (callHeld (systemIn s) subject k m vs) r
 
   pub held-14 : (x .state ≡ 2 → ⊥) → (r : Served) → r ≡ refusal s 14 → Asked r
-  held-14 z r e = step-refuses h (held-is ∙ rw (avail-only (x .state) z)) e
+  held-14 z r e = step-refuses h (held-is ∙ rw (not-avail (x .state) z)) e
 
   module _ (avail : x .state ≡ 2) where
     abbrev Next : Bool → Bool → Res (System × Result)

@@ -14,15 +14,17 @@ use Rattle.model.specs.Table.{Table, Ty, noMethod, typeAt, methodAt, isRef}
 use Rattle.model.specs.Table.{Method as Methodᵐ}
 use Rattle.model.specs.Check.{RawType, repOf, methodOf, noRawType, noRawMethod}
 use Rattle.model.specs.Requests.{System, held, argumentsHeld}
+use Rattle.model.specs.Records.{answerCode}
 use Rattle.table.specs.declared.Counts.{Counts}
 use Rattle.table.specs.declared.Head.{Head}
 use Rattle.table.specs.declared.Method.{Method}
 use Rattle.table.specs.Store.{typesIn, tableIn, rawMethod, headOf, emptyMethod}
 use Rattle.table.proofs.Tables.{type-is}
+use Rattle.table.proofs.Codes.{rep-code}
 use Rattle.state.specs.declared.State.{State}
 use Rattle.state.specs.View.{systemIn}
-use Rattle.carry.specs.Carried.{codeOf, argumentOf}
-use Rattle.carry.proofs.Methods.{rep-code, ref-is, method-is}
+use Rattle.carry.specs.Carried.{argumentOf}
+use Rattle.carry.proofs.Methods.{ref-is, method-is}
 use Rattle.steps.proofs.Laws.{table-is}
 use Rattle.sending.specs.Sent.{argumentsOf}
 use Rattle.sending.proofs.Laws.{none-left, some-left}
@@ -86,9 +88,9 @@ module _ (s : System) (subject : ℤ) (xs : List ℕ) (vs : List ℤ) where
 
 -- all values are looked at: n codes the argument that would be next
 pub held-whole : (s : System) (subject : ℤ) (x : Method) (vs : List ℤ) (i : ℕ) → HeldRest s subject (argumentsOf x) vs i → i ≤ length vs → length vs ≤ i → (n : ℕ) →
-    n ≡ codeOf (argumentOf x (length vs)) → eqb n 0 ≡ argumentsHeld s subject (argumentsOf x) vs
-held-whole s subject x vs i w h k n e = let z : length vs ≡ i = omega arith in go (ℕ-discrete n 0) (e ∙ ap (λ (j : ℕ). codeOf (argumentOf x j)) z)
+    n ≡ answerCode (argumentOf x (length vs)) → eqb n 0 ≡ argumentsHeld s subject (argumentsOf x) vs
+held-whole s subject x vs i w h k n e = let z : length vs ≡ i = omega arith in go (ℕ-discrete n 0) (e ∙ ap (λ (j : ℕ). answerCode (argumentOf x j)) z)
   where
-    go : Dec (n ≡ 0) → n ≡ codeOf (argumentOf x i) → eqb n 0 ≡ argumentsHeld s subject (argumentsOf x) vs
+    go : Dec (n ≡ 0) → n ≡ answerCode (argumentOf x i) → eqb n 0 ≡ argumentsHeld s subject (argumentsOf x) vs
     go (yes q) y = eq-eqb n 0 q ∙ held-ends s subject (argumentsOf x) vs i w k (none-left x i n y q)
     go (no q) y = ne-eqb n 0 q ∙ held-lacks s subject (argumentsOf x) vs i w k _ _ (some-left x i n y q)

@@ -21,6 +21,7 @@ use Rattle.table.specs.declared.Counts.{Counts}
 use Rattle.table.specs.Store.{tableIn, withCount}
 use Rattle.table.proofs.Lists.{lt-or-ge}
 use Rattle.table.proofs.Tables.{size-is, type-out}
+use Rattle.table.proofs.Codes.{answer-is}
 use Rattle.state.specs.declared.Places.{Places}
 use Rattle.state.specs.View.{placesIn, blankPlace}
 use Rattle.cross.specs.declared.Crossed.{Crossed}
@@ -30,7 +31,7 @@ use Rattle.cross.specs.Crossed.{Ready, Stands, reference, crossedOf, Grew, Type
 use Rattle.cross.proofs.Laws.{grew-on, ready-on}
 use Rattle.carry.specs.declared.Carried.{Carried}
 use Rattle.carry.specs.Carried.{crossTo, referenceOf, carriedOf, Before, Came, Carries}
-use Rattle.carry.proofs.Laws.{answer-is, rest-next, nothing-left}
+use Rattle.carry.proofs.Laws.{rest-next, nothing-left}
 
 -- ---- One layer.
 abbrev stoppedBy : Carried → ℕ → Carried

@@ -1,7 +1,7 @@
 -- Ways and targets as lists, codes of targets, and what one layer asks of a value.
 use mathlib.Core.Path.{_≡_, refl, sym, ap, _∙_, subst}
 use mathlib.Core.Bool.{Bool, true, false, cond, _||_}
-use mathlib.Core.List.{List, [], _∷_, _++_, map, reverse, reverse-cons, reverse-append, append-nil}
+use mathlib.Core.List.{List, [], _∷_, _++_, map, reverse, reverse-cons, reverse-append, append-nil, map-append}
 use mathlib.Core.Option.{Option, none, some}
 use Prim.Native.Nat.{ℕ, zero, suc, _+_, _-_, _≤_, _<_}
 use native.Mathlib.Nat.{not-suc-le-zero, le-of-suc-le-suc}
@@ -18,26 +18,25 @@ use Rattle.model.specs.Table.{Table, Rep, ref, w32, w64, Ty, typeAt, methodAt, 
 use Rattle.model.specs.Table.{Method as Methodᵐ}
 use Rattle.model.specs.Requests.{atLayer, within, passLayers}
 use Rattle.model.specs.Check.{RawType, stateOf, repOf, answerOf, methodOf, noRawType, noRawMethod}
+use Rattle.model.proofs.Codes.{answer-back, code-back}
+use Rattle.model.specs.Records.{answerCode}
 use Rattle.table.specs.declared.Counts.{Counts}
 use Rattle.table.specs.declared.Head.{Head}
 use Rattle.table.specs.declared.Method.{Method}
 use Rattle.table.specs.Store.{typesIn, tableIn, rawMethod, headOf}
 use Rattle.table.proofs.Tables.{type-is, type-out}
+use Rattle.table.proofs.Codes.{rep-code, answer-is}
 use Rattle.carry.specs.declared.Slot.{Slot}
 use Rattle.carry.specs.declared.Slot.the-variants.{Argument, Answer}
-use Rattle.carry.specs.Carried.{codeOf, argumentOf, slotIn, slotAt, widthAt, passAs, passTo, passedOf}
-use Rattle.carry.proofs.Methods.{rep-code, ref-is, method-is, method-out}
+use Rattle.carry.specs.Carried.{argumentOf, slotIn, slotAt, widthAt, passAs, passTo, passedOf}
+use Rattle.carry.proofs.Methods.{ref-is, method-is, method-out}
 
 -- ---- Lists.
 module _ {A B : Type 0} (f : A → B) where
-  map-snoc : (xs : List A) (x : A) → map f (xs ++ (x ∷ [])) ≡ map f xs ++ (f x ∷ [])
-  map-snoc [] x = refl
-  map-snoc (y ∷ ys) x = ap (λ (zs : List B). f y ∷ zs) (map-snoc ys x)
-
   pub map-reverse : (xs : List A) → map f (reverse xs) ≡ reverse (map f xs)
   map-reverse [] = refl
   map-reverse (x ∷ xs) =
-      ap (map f) (reverse-cons x xs) ∙ map-snoc (reverse xs) x ∙ ap (λ (zs : List B). zs ++ (f x ∷ [])) (map-reverse xs) ∙ sym (reverse-cons (f x) (map f xs))
+      ap (map f) (reverse-cons x xs) ∙ map-append f (reverse xs) (x ∷ []) ∙ ap (λ (zs : List B). zs ++ (f x ∷ [])) (map-reverse xs) ∙ sym (reverse-cons (f x) (map f xs))
 
 stored : (list : List ℕ) (i v : ℕ) → i < length list → take (i + 1) (set list i v) ≡ take i list ++ (v ∷ [])
 stored list i v h = ap (λ (n : ℕ). take n (set list i v)) (add-one i) ∙ take-suc-set list i v h
@@ -56,28 +55,18 @@ pub way-ends : (list layers : List ℕ) (sort n i : ℕ) → i ≤ n → n ≤ i
 way-ends list layers sort n i h g w = let e : i ≡ n = omega arith in subst (λ (j : ℕ). take (j + 1) list ≡ sort ∷ take j layers) e w
 
 -- ---- Codes.
-pub code-is : (o : Option ℕ) → answerOf (codeOf o) ≡ o
-code-is none = refl
-code-is (some t) = refl
-
-pub code-back : (n : ℕ) → n ≡ codeOf (answerOf n)
-code-back zero = refl
-code-back (suc n) = refl
-
-pub answer-is : (x : ℕ) → (x ≡ 0 → ⊥) → answerOf x ≡ some (x - 1)
-answer-is zero h = absurd (h refl)
-answer-is (suc n) h = let e : n ≡ suc n - 1 = omega arith in ap (λ (k : ℕ). some k) e
 
 -- targets so far: what f gives for the first i types of the way
-pub targets-next : (f : ℕ → Option ℕ) (list way : List ℕ) (i v : ℕ) → length list ≡ 129 → length way ≡ 129 → i < 129 → v ≡ codeOf (f (getD way i 0)) →
+pub targets-next : (f : ℕ → Option ℕ) (list way : List ℕ) (i v : ℕ) → length list ≡ 129 → length way ≡ 129 → i < 129 → v ≡ answerCode (f (getD way i 0)) →
     map answerOf (take i list) ≡ map f (take i way) → map answerOf (take (i + 1) (set list i v)) ≡ map f (take (i + 1) way)
 targets-next f list way i v e k h z w =
-    ap (map answerOf) (stored list i v (omega arith)) ∙ map-snoc answerOf (take i list) v
+    ap (map answerOf) (stored list i v (omega arith)) ∙ map-append answerOf (take i list) (v ∷ [])
     ∙ ap (λ (xs : List (Option ℕ)). xs ++ (answerOf v ∷ [])) w
-    ∙ ap (λ (x : Option ℕ). map f (take i way) ++ (x ∷ [])) (ap answerOf z ∙ code-is (f (getD way i 0)))
-    ∙ sym (ap (map f) (read way i (omega arith)) ∙ map-snoc f (take i way) (getD way i 0))
+    ∙ ap (λ (x : Option ℕ). map f (take i way) ++ (x ∷ [])) (ap answerOf z ∙ answer-back (f (getD way i 0)))
+    ∙ sym (ap (map f) (read way i (omega arith)) ∙ map-append f (take i way) (getD way i 0 ∷ []))
 
-pub targets-end : (f : ℕ → Option ℕ) (list way : List ℕ) (n i : ℕ) → i ≤ n → n ≤ i → map answerOf (take i list) ≡ map f (take i way) → map answerOf (take n list) ≡ map f (take n way)
+pub targets-end : (f : ℕ → Option ℕ) (list way : List ℕ) (n i : ℕ) → i ≤ n → n ≤ i → map answerOf (take i list) ≡ map f (take i way)
+    → map answerOf (take n list) ≡ map f (take n way)
 targets-end f list way n i h g w = let e : i ≡ n = omega arith in subst (λ (j : ℕ). map answerOf (take j list) ≡ map f (take j way)) e w
 
 -- the last i of n targets, from the last one on; the k before them are still to come
@@ -120,29 +109,29 @@ elem-in (suc n) (x ∷ xs) zero h k = refl
 elem-in (suc n) (x ∷ xs) (suc i) h k = elem-in n xs i (le-of-suc-le-suc h) (le-of-suc-le-suc k)
 
 module _ (x : Method) (i n : ℕ) (e : n ≡ x .count) where
-  pub argument-uncounted : n ≤ i → 0 ≡ codeOf (argumentOf x i)
-  argument-uncounted h = ap codeOf (sym (elem-count (x .count) (x .args) i (omega arith)))
+  pub argument-uncounted : n ≤ i → 0 ≡ answerCode (argumentOf x i)
+  argument-uncounted h = ap answerCode (sym (elem-count (x .count) (x .args) i (omega arith)))
 
   module _ (four : length (x .args) ≡ 4) where
-    pub argument-out : 4 ≤ i → 0 ≡ codeOf (argumentOf x i)
-    argument-out h = ap codeOf (sym (elem-past (x .count) (x .args) i (omega arith)))
+    pub argument-out : 4 ≤ i → 0 ≡ answerCode (argumentOf x i)
+    argument-out h = ap answerCode (sym (elem-past (x .count) (x .args) i (omega arith)))
 
-    pub argument-is : i < n → i < 4 → (v j : ℕ) → j ≡ i → v ≡ getD (x .args) j 0 → v + 1 ≡ codeOf (argumentOf x i)
+    pub argument-is : i < n → i < 4 → (v j : ℕ) → j ≡ i → v ≡ getD (x .args) j 0 → v + 1 ≡ answerCode (argumentOf x i)
     argument-is h k v j s z =
-        add-one v ∙ ap suc (z ∙ ap (λ (m : ℕ). getD (x .args) m 0) s) ∙ ap codeOf (sym (elem-in (x .count) (x .args) i (omega arith) (omega arith)))
+        add-one v ∙ ap suc (z ∙ ap (λ (m : ℕ). getD (x .args) m 0) s) ∙ ap answerCode (sym (elem-in (x .count) (x .args) i (omega arith) (omega arith)))
 
 -- ---- Slots of a method.
 module _ (x : Method) where
-  pub slot-off : (s : Slot) → false ≡ permit (stateOf (x .state)) → 0 ≡ codeOf (slotIn (methodOf (rawMethod x)) s)
+  pub slot-off : (s : Slot) → false ≡ permit (stateOf (x .state)) → 0 ≡ answerCode (slotIn (methodOf (rawMethod x)) s)
   slot-off (Argument i) e = rw (← e)
   slot-off Answer e = rw (← e)
 
   module _ (e : true ≡ permit (stateOf (x .state))) where
-    pub slot-argument : (i : ℕ) (s : Slot) → s ≡ Argument i → (v : ℕ) → v ≡ codeOf (argumentOf x i) → v ≡ codeOf (slotIn (methodOf (rawMethod x)) s)
-    slot-argument i s z v w = w ∙ sym (ap (λ (y : Slot). codeOf (slotIn (methodOf (rawMethod x)) y)) z ∙ rw (← e))
+    pub slot-argument : (i : ℕ) (s : Slot) → s ≡ Argument i → (v : ℕ) → v ≡ answerCode (argumentOf x i) → v ≡ answerCode (slotIn (methodOf (rawMethod x)) s)
+    slot-argument i s z v w = w ∙ sym (ap (λ (y : Slot). answerCode (slotIn (methodOf (rawMethod x)) y)) z ∙ rw (← e))
 
-    pub slot-answer : (s : Slot) → s ≡ Answer → (v : ℕ) → v ≡ x .answer → v ≡ codeOf (slotIn (methodOf (rawMethod x)) s)
-    slot-answer s z v w = w ∙ code-back (x .answer) ∙ sym (ap (λ (y : Slot). codeOf (slotIn (methodOf (rawMethod x)) y)) z ∙ rw (← e))
+    pub slot-answer : (s : Slot) → s ≡ Answer → (v : ℕ) → v ≡ x .answer → v ≡ answerCode (slotIn (methodOf (rawMethod x)) s)
+    slot-answer s z v w = w ∙ sym (code-back (x .answer)) ∙ sym (ap (λ (y : Slot). answerCode (slotIn (methodOf (rawMethod x)) y)) z ∙ rw (← e))
 
 -- ---- Slots of a type's method.
 module _ (t : Table) (m : ℕ) (s : Slot) (l : ℕ) where
@@ -152,21 +141,21 @@ module _ (t : Table) (m : ℕ) (s : Slot) (l : ℕ) where
     go (Argument i) = refl
     go Answer = refl
 
-  slot-none : methodAt t l m ≡ noMethod → 0 ≡ codeOf (slotAt t m s l)
-  slot-none e = sym (ap codeOf (slot-of ∙ ap (λ (x : Methodᵐ). slotIn x s) e) ∙ go s) where
-    go : (s : Slot) → codeOf (slotIn noMethod s) ≡ 0
+  slot-none : methodAt t l m ≡ noMethod → 0 ≡ answerCode (slotAt t m s l)
+  slot-none e = sym (ap answerCode (slot-of ∙ ap (λ (x : Methodᵐ). slotIn x s) e) ∙ go s) where
+    go : (s : Slot) → answerCode (slotIn noMethod s) ≡ 0
     go (Argument i) = refl
     go Answer = refl
 
 module _ (b l : List ℕ) (c : Counts) (m : ℕ) (s : Slot) (t : ℕ) where
-  pub target-unknown : c .types ≤ t → 0 ≡ codeOf (slotAt (tableIn b l c) m s t)
+  pub target-unknown : c .types ≤ t → 0 ≡ answerCode (slotAt (tableIn b l c) m s t)
   target-unknown h = slot-none (tableIn b l c) m s t (ap (λ (y : Ty). getD (y .methods) m noMethod) (type-out b l c t h))
 
-  pub target-unmet : c .methods ≤ m → 0 ≡ codeOf (slotAt (tableIn b l c) m s t)
+  pub target-unmet : c .methods ≤ m → 0 ≡ answerCode (slotAt (tableIn b l c) m s t)
   target-unmet h = slot-none (tableIn b l c) m s t (method-out b l c t m h)
 
   module _ (low : t < c .types) (h : Head) (e : h ≡ headOf (getD (typesIn b) t noRawType)) where
-    pub target-number : (h .rep ≡ 0 → ⊥) → 0 ≡ codeOf (slotAt (tableIn b l c) m s t)
+    pub target-number : (h .rep ≡ 0 → ⊥) → 0 ≡ answerCode (slotAt (tableIn b l c) m s t)
     target-number z =
         let x : RawType = getD (typesIn b) t noRawType in
         let f : ℕ → Methodᵐ = λ k. methodOf (getD (x .methods) k noRawMethod) in
@@ -175,9 +164,9 @@ module _ (b l : List ℕ) (c : Counts) (m : ℕ) (s : Slot) (t : ℕ) where
         (ap (λ (y : Ty). getD (y .methods) m noMethod) (type-is b l c t low) ∙ ap (λ (y : Bool). getD (cond y (from (c .methods) 0 f) []) m noMethod) q)
 
     pub target-is : h .rep ≡ 0 → m < c .methods → (x : Method) → rawMethod x ≡ getD (getD (typesIn b) t noRawType .methods) m noRawMethod →
-        (v : ℕ) → v ≡ codeOf (slotIn (methodOf (rawMethod x)) s) → v ≡ codeOf (slotAt (tableIn b l c) m s t)
+        (v : ℕ) → v ≡ answerCode (slotIn (methodOf (rawMethod x)) s) → v ≡ answerCode (slotAt (tableIn b l c) m s t)
     target-is z k x w v q =
-        q ∙ ap (λ (y : Methodᵐ). codeOf (slotIn y s)) (ap methodOf w ∙ sym (method-is b l c t m (sym (ref-is b l c t h low e) ∙ eq-eqb (h .rep) 0 z) k)) ∙ ap codeOf
+        q ∙ ap (λ (y : Methodᵐ). answerCode (slotIn y s)) (ap methodOf w ∙ sym (method-is b l c t m (sym (ref-is b l c t h low e) ∙ eq-eqb (h .rep) 0 z) k)) ∙ ap answerCode
         (sym (slot-of (tableIn b l c) m s t))
 
 -- ---- Refusals at a layer.

@@ -3,10 +3,8 @@ use mathlib.Core.Path.{_≡_, refl, sym, ap, _∙_}
 use mathlib.Core.Logic.{⊎-elim}
 use mathlib.Core.Bool.{Bool, true, false, cond}
 use mathlib.Core.List.{List, []}
-use Prim.Native.Nat.{ℕ, zero, suc, _≤_, _<_}
-use native.Mathlib.Omega.{arith}
+use Prim.Native.Nat.{ℕ, _≤_, _<_}
 use lib.Dec.{eqb}
-use borrow.Author.Tests.{ne-eqb}
 use lib.ListN.{getD}
 use Rattle.model.specs.Basics.{from}
 use Rattle.model.specs.Table.{Method, Ty, noMethod, typeAt, methodAt, isRef}
@@ -18,11 +16,7 @@ use Rattle.table.specs.declared.Head.{Head}
 use Rattle.table.specs.Store.{headOf, typesIn, tableIn, methodIn}
 use Rattle.table.proofs.Lists.{lt-or-ge, from-first}
 use Rattle.table.proofs.Tables.{type-is, type-out}
-
-pub rep-code : (r : ℕ) → eqb r 0 ≡ isRef (repOf r)
-rep-code zero = refl
-rep-code (suc zero) = refl
-rep-code (suc (suc r)) = ne-eqb (suc (suc r)) 0 (λ e. let w : suc (suc r) ≡ 0 = e in omega arith)
+use Rattle.table.proofs.Codes.{rep-code}
 
 module _ (b l : List ℕ) (c : Counts) where
   -- whether a number names a reference type: not past the count, and by the code of its record

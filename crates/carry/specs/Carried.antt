@@ -3,7 +3,7 @@ use mathlib.Core.Path.{_≡_}
 use mathlib.Core.Bool.{Bool, true, false}
 use mathlib.Core.List.{List, map}
 use mathlib.Core.Option.{Option, none, some}
-use Prim.Native.Nat.{ℕ, suc, _≤_, _<_}
+use Prim.Native.Nat.{ℕ, _≤_, _<_}
 use lib.Dec.{eqb}
 use lib.IntN.{ℤ}
 use lib.ListN.{length, getD, getElem?, take}
@@ -33,11 +33,6 @@ wayIn w = take (w .count) (w .list)
 -- the targets, as the model has them
 abbrev pub targetsIn : Targets → List (Option ℕ)
 targetsIn x = map answerOf (take (x .count) (x .list))
-
--- the code of a target
-abbrev pub codeOf : Option ℕ → ℕ
-codeOf none = 0
-codeOf (some t) = suc t
 
 -- argument i of a signature as it is stored
 abbrev pub argumentOf : Method → ℕ → Option ℕ

@@ -9,12 +9,13 @@ ghost use lib.IntN.{pos, negsuc};
 ghost use lib.ListN.{length, getD, take};
 ghost use Rattle.model.specs.Requests.{atLayer, within, crossLayers, passLayers};
 ghost use Rattle.model.specs.Check.{methodOf, answerOf};
+ghost use Rattle.model.specs.Records.{answerCode};
 ghost use Rattle.table.specs.Store.{rawMethod, tableIn, withCount};
 ghost use Rattle.table.specs.Limits.{Limits};
 ghost use Rattle.state.specs.View.{placesIn};
 ghost use Rattle.state.specs.Sound.{layersIn};
 ghost use Rattle.cross.specs.Crossed.{Ready, Stands, reference};
-ghost use Rattle.carry.specs.Carried.{wayIn, targetsIn, codeOf, argumentOf, slotIn, slotAt, widthAt, passTo, passedOf, crossTo, referenceOf, carriedOf, Carries};
+ghost use Rattle.carry.specs.Carried.{wayIn, targetsIn, argumentOf, slotIn, slotAt, widthAt, passTo, passedOf, crossTo, referenceOf, carriedOf, Carries};
 use numbers::least;
 use numbers::wide;
 use state::Layers;
@@ -105,7 +106,7 @@ fn argument(x: Method, i: usize) -> usize
 
 // Argument i of a signature. A count above the four that a record has room for uses all of them.
 pub fn argument_in(x: Method, i: usize) -> usize
-    ensures { λ r. ⌜ r ≡ codeOf (argumentOf x i) ⌝ }
+    ensures { λ r. ⌜ r ≡ answerCode (argumentOf x i) ⌝ }
 {
     let n = wide(x.count);
     let a = argument(x, least(i, 3));
@@ -120,7 +121,7 @@ pub fn argument_in(x: Method, i: usize) -> usize
 
 // What a method has in a slot: nothing where it does not permit (C15, A4).
 fn slot_in(x: Method, s: Slot) -> usize
-    ensures { λ r. ⌜ r ≡ codeOf (slotIn (methodOf (rawMethod x)) s) ⌝ }
+    ensures { λ r. ⌜ r ≡ answerCode (slotIn (methodOf (rawMethod x)) s) ⌝ }
 {
     let p = table::permits(x.state);
     if !p {
@@ -135,7 +136,7 @@ fn slot_in(x: Method, s: Slot) -> usize
 // What method m of type t has in a slot. A number type has no methods.
 pub fn target_at(types: &[u8; TYPE_BYTES], c: Counts, m: usize, s: Slot, t: usize) -> usize
     requires { ⌜ Limits c ⌝ }
-    ensures { λ r. ⌜ ((l : List ℕ) → r ≡ codeOf (slotAt (tableIn (now (types .entry)) l c) m s t)) ⌝ }
+    ensures { λ r. ⌜ ((l : List ℕ) → r ≡ answerCode (slotAt (tableIn (now (types .entry)) l c) m s t)) ⌝ }
 {
     if c.types <= t {
         return 0;

@@ -1,6 +1,6 @@
 -- Closed(R,V) of two number types: known, full, or a new number type.
 use mathlib.Core.Path.{_≡_, refl, sym, ap, _∙_, subst}
-use mathlib.Core.Logic.{_⊎_, ⊎-elim}
+use mathlib.Core.Logic.{⊎-elim}
 use mathlib.Core.Bool.{Bool, So, true, false, _&&_, _||_, cond}
 use mathlib.Core.List.{List, [], _∷_, _++_, map}
 use mathlib.Core.Option.{Option, none, some}
@@ -137,7 +137,8 @@ module _ {c : Counts} {r v : ℕ} {b : List ℕ} (asked : Ready c (c .types) r v
       number-at k w = types-to-at ms sh (typesIn b) n k noType (w .below)
 
       no-methods : (k : ℕ) → NumberIn n b k → typeAt Tb k .methods ≡ []
-      no-methods k w = ap (λ (y : Ty). y .methods) (number-at k w) ∙ ap (λ (z : Bool). cond z (from ms 0 (λ j. methodOf (getD (getD (typesIn b) k noRawType .methods) j noRawMethod))) []) (w .number)
+      no-methods k w = ap (λ (y : Ty). y .methods) (number-at k w)
+          ∙ ap (λ (z : Bool). cond z (from ms 0 (λ j. methodOf (getD (getD (typesIn b) k noRawType .methods) j noRawMethod))) []) (w .number)
 
       entry-is : typeOf ms sh n x ≡ entry Tb closed r v []
       entry-is =

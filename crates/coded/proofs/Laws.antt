@@ -1,5 +1,5 @@
 -- Requests by their codes, and what a step leaves for those behind it.
-use mathlib.Core.Path.{_≡_, refl, sym, ap, subst, _∙_}
+use mathlib.Core.Path.{_≡_, refl, sym, ap, _∙_}
 use mathlib.Core.List.{List}
 use mathlib.Core.Option.{Option, none, some}
 use Prim.Native.Nat.{ℕ, zero, suc, _≤_, _<_}
@@ -20,8 +20,6 @@ use Rattle.steps.proofs.Laws.{step-refuses}
 use Rattle.coded.specs.Coded.{serveAsked}
 
 -- ---- One request.
-pub step-as : {s : State} {m n : Res (System × Result)} {r : Served} → m ≡ n → Step s m r → Step s n r
-step-as {s} {m} {n} {r} e h = subst (λ (x : Res (System × Result)). Step s x r) e h
 
 pub refuses : (s : State) (q : Option Request) (r : Served) → Sound s → q ≡ none → r ≡ refusal s 1 → Step s (serveAsked (systemIn s) q) r
 unfolding serveAsked

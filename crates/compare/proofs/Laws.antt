@@ -85,7 +85,8 @@ module _ (b l : List ℕ) (c : Counts) (t s : ℤ) where
 
 -- The pair table of a table handed in.
 module _ (b l : List ℕ) (c : Counts) (entries : List ℕ) where
-  pub pairs-fit : tableAccepted (rawTable b l c) ≡ true → entries ≡ pairTable (tableIn b l c) → _≡_ {A = Pairs} (record { fits = true; entries = entries }) (pairsGiven (pairsHanded (rawTable b l c)))
+  pub pairs-fit : tableAccepted (rawTable b l c) ≡ true → entries ≡ pairTable (tableIn b l c)
+      → _≡_ {A = Pairs} (record { fits = true; entries = entries }) (pairsGiven (pairsHanded (rawTable b l c)))
   unfolding pairsHanded tableIn
   pairs-fit e h = rw (e, h)
 

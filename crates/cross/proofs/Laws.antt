@@ -388,11 +388,13 @@ module _ (ps : Places) (fall : Falling ps) (x : Crossed) (lands : Lands ps x) wh
     pub land-room : ps .count < 128
     land-room = subst (Lands ps) z lands .0
 
-    pub land-adapts : (qs : Places) → qs ≡ placeAdded ps r → placesIn qs ≡ placesIn ps ++ (placeOf (r .place) ∷ []) → Landing ps x (record { refusal = 0; places = qs; place = ps .count; types = n })
+    pub land-adapts : (qs : Places) → qs ≡ placeAdded ps r → placesIn qs ≡ placesIn ps ++ (placeOf (r .place) ∷ [])
+        → Landing ps x (record { refusal = 0; places = qs; place = ps .count; types = n })
     land-adapts qs e are = let one : qs .count ≡ ps .count + 1 = ap (λ (y : Places). y .count) e in record {
       is = ap (λ (y : Places). record { refusal = 0; places = y; place = ps .count; types = n }) e ∙ sym (ap (landed ps) z);
       means = λ b l c to. ap (λ (y : List Place). ok (reference (tableIn b l (withCount c n)) y to (ps .count))) are
-          ∙ ap (λ (y : ℕ). ok (reference (tableIn b l (withCount c n)) (placesIn ps ++ (placeOf (r .place) ∷ [])) to y)) (sym (places-length ps)) ∙ sym (ap (crossedOf b l c (placesIn ps) to) z);
+          ∙ ap (λ (y : ℕ). ok (reference (tableIn b l (withCount c n)) (placesIn ps ++ (placeOf (r .place) ∷ [])) to y)) (sym (places-length ps))
+          ∙ sym (ap (crossedOf b l c (placesIn ps) to) z);
       falling = falling-added ps qs (placeOf (r .place)) one are fall land-room (λ _. subst (Lands ps) z lands .2);
       place = λ y. omega arith;
       typed = λ b c t w y. let g = subst (Types c b) z w in typed-added ps qs (placeOf (r .place)) one are c b n t (g .0) (g .1);

@@ -11,10 +11,10 @@ use lib.ListN.{length, getD, take, drop, length-drop, length-append, take-append
 use lib.Seq.{drop-cons, take-suc, getD-drop, drop-drop, take-all, length-take-le, take-append-seam}
 use borrow.Author.Tests.{ne-eqb}
 use Rattle.model.proofs.Rules.{both, first, second}
-use Rattle.sheet.specs.Lines.{Row, row, cut, push, split, firstLine}
-use Rattle.sheet.proofs.Steps.{clash, cond-cases}
-use Rattle.sheet.proofs.Lines.{all-append, unsplit, unsplit-split}
-use Rattle.cursor.specs.View.{unbroken, Clear, LineAt, past}
+use Rattle.sheet.specs.Lines.{Row, row, cut, push, split, firstLine, notLF, clean}
+use Rattle.sheet.proofs.Steps.{cond-cases}
+use Rattle.sheet.proofs.Lines.{all-append, unsplit, unsplit-split, notLF-eqb, split-line}
+use Rattle.cursor.specs.View.{Clear, LineAt, past}
 
 -- A list from one of its places on.
 pub from-here : (l : List ℕ) (i : ℕ) → i < length l → drop i l ≡ getD l i 0 ∷ drop (i + 1) l
@@ -22,15 +22,15 @@ from-here l i h = drop-cons l i 0 h ∙ ap (λ (n : ℕ). getD l i 0 ∷ drop n 
 
 -- Lines. No LF in it:
 pub clear-none : (s : List ℕ) (at : ℕ) → Clear s at at
-clear-none s at = let e : at - at ≡ 0 = omega arith in record { after = omega arith; clear = ap (λ z. unbroken (take z (drop at s))) e }
+clear-none s at = let e : at - at ≡ 0 = omega arith in record { after = omega arith; clear = ap (λ z. clean (take z (drop at s))) e }
 
-unbroken-more : (s : List ℕ) (at i : ℕ) → at ≤ i → i < length s → (getD s i 0 ≡ 10 → ⊥) → So (unbroken (take (i - at) (drop at s))) → So (unbroken (take (i + 1 - at) (drop at s)))
-unbroken-more s at i h k n c =
+clean-more : (s : List ℕ) (at i : ℕ) → at ≤ i → i < length s → (getD s i 0 ≡ 10 → ⊥) → So (clean (take (i - at) (drop at s))) → So (clean (take (i + 1 - at) (drop at s)))
+clean-more s at i h k n c =
     let e : i + 1 - at ≡ suc (i - at) = omega arith in
     let f : at + (i - at) ≡ i = omega arith in
     let g : getD (drop at s) (i - at) 0 ≡ getD s i 0 = getD-drop at s (i - at) 0 ∙ ap (λ z. getD s z 0) f in
     let d : length (drop at s) ≡ length s - at = length-drop at s in
-    ap (λ z. unbroken (take z (drop at s))) e ∙ ap unbroken (take-suc (drop at s) (i - at) 0 (omega arith))
+    ap (λ z. clean (take z (drop at s))) e ∙ ap clean (take-suc (drop at s) (i - at) 0 (omega arith))
     ∙ all-append (λ b. cond (eqb b 10) false true) (take (i - at) (drop at s)) (getD (drop at s) (i - at) 0 ∷ []) c
     (both (ap (λ z. cond (eqb z 10) false true) g ∙ ap (λ z. cond z false true) (ne-eqb (getD s i 0) 10 n)) refl)
 
@@ -38,7 +38,7 @@ unbroken-more s at i h k n c =
 pub clear-more : (s : List ℕ) (at i j : ℕ) → j ≡ i + 1 → i < length s → (getD s i 0 ≡ 10 → ⊥) → Clear s at i → Clear s at j
 clear-more s at i j e k n c =
     let h = c .after in
-    record { after = omega arith; clear = subst (λ z. So (unbroken (take (z - at) (drop at s)))) (sym e) (unbroken-more s at i h k n (c .clear)) }
+    record { after = omega arith; clear = subst (λ z. So (clean (take (z - at) (drop at s)))) (sym e) (clean-more s at i h k n (c .clear)) }
 
 -- below this place four bytes stand
 pub last-four : (n r : ℕ) → r ≡ min n 3 → n - r ≤ n - 3
@@ -47,25 +47,15 @@ last-four (suc zero) r e = let k : r ≡ 1 = e in omega arith
 last-four (suc (suc zero)) r e = let k : r ≡ 2 = e in omega arith
 last-four (suc (suc (suc n))) r e = let k : r ≡ 3 = e ∙ min-eq-right (omega arith) in omega arith
 
-unbroken-first : (b : ℕ) (l : List ℕ) → So (unbroken (b ∷ l)) → eqb b 10 ≡ false
-unbroken-first b l h = cond-cases (eqb b 10) (first (cond (eqb b 10) false true) (unbroken l) h) (λ e k. clash (sym k)) (λ e k. e)
-
-split-line : (l xs : List ℕ) → So (unbroken l) → split (l ++ 10 ∷ xs) ≡ row l ∷ split xs
-unfolding split
-split-line [] xs h = refl
-split-line (b ∷ l) xs h =
-    ap (λ z. cond z (row [] ∷ split (l ++ 10 ∷ xs)) (push b (split (l ++ 10 ∷ xs)))) (unbroken-first b l h)
-    ∙ ap (push b) (split-line l xs (second (cond (eqb b 10) false true) (unbroken l) h))
-
 -- what is left has no LF
-split-cut : (b : ℕ) (l : List ℕ) → So (unbroken (b ∷ l)) → split (b ∷ l) ≡ cut (b ∷ l) ∷ []
+split-cut : (b : ℕ) (l : List ℕ) → So (clean (b ∷ l)) → split (b ∷ l) ≡ cut (b ∷ l) ∷ []
 unfolding split
-split-cut b [] h = ap (λ z. cond z (row [] ∷ []) (cut (b ∷ []) ∷ [])) (unbroken-first b [] h)
+split-cut b [] h = ap (λ z. cond z (row [] ∷ []) (cut (b ∷ []) ∷ [])) (notLF-eqb b (first (notLF b) (clean []) h))
 split-cut b (d ∷ l) h =
-    ap (λ z. cond z (row [] ∷ split (d ∷ l)) (push b (split (d ∷ l)))) (unbroken-first b (d ∷ l) h)
-    ∙ ap (push b) (split-cut d l (second (cond (eqb b 10) false true) (unbroken (d ∷ l)) h))
+    ap (λ z. cond z (row [] ∷ split (d ∷ l)) (push b (split (d ∷ l)))) (notLF-eqb b (first (notLF b) (clean (d ∷ l)) h))
+    ∙ ap (push b) (split-cut d l (second (notLF b) (clean (d ∷ l)) h))
 
-past-cut : (at : ℕ) (l : List ℕ) → So (unbroken l) → past at (split l) ≡ at
+past-cut : (at : ℕ) (l : List ℕ) → So (clean l) → past at (split l) ≡ at
 unfolding split
 past-cut at [] h = refl
 past-cut at (b ∷ l) h = ap (past at) (split-cut b l h)
@@ -76,7 +66,7 @@ past-none s at e q c =
     let k = c .after in
     let d : length (drop at s) ≡ length s - at = length-drop at s in
     let w : take (e - at) (drop at s) ≡ drop at s = take-all (e - at) (drop at s) (omega arith) in
-    sym (past-cut at (drop at s) (ap unbroken (sym w) ∙ c .clear))
+    sym (past-cut at (drop at s) (ap clean (sym w) ∙ c .clear))
 
 -- An LF at e ends the line.
 pub past-found : (s : List ℕ) (at e : ℕ) → e < length s → Clear s at e → getD s e 0 ≡ 10 → e + 1 ≡ past at (split (drop at s))

@@ -1,21 +1,15 @@
 -- How a line lies in a text, in the words of crate `sheet`: the rows from a byte offset on (S20).
 use mathlib.Core.Path.{_≡_}
-use mathlib.Core.Bool.{Bool, true, false, So, cond}
+use mathlib.Core.Bool.{So}
 use mathlib.Core.List.{List, [], _∷_}
 use Prim.Native.Nat.{ℕ, _+_, _-_, _≤_, _<_}
-use lib.Dec.{eqb}
 use lib.ListN.{length, getD, take, drop}
-use Rattle.model.specs.Basics.{all}
-use Rattle.sheet.specs.Lines.{Row, row, cut, split, firstLine}
-
--- no LF stands in these bytes
-abbrev pub unbroken : List ℕ → Bool
-unbroken l = all (λ b. cond (eqb b 10) false true) l
+use Rattle.sheet.specs.Lines.{Row, row, cut, split, firstLine, clean}
 
 -- no LF stands in s from `at` to e
 pub record Clear (s : List ℕ) (at e : ℕ) : Type 0 where
   pub after : at ≤ e
-  pub clear : So (unbroken (take (e - at) (drop at s)))
+  pub clear : So (clean (take (e - at) (drop at s)))
 
 -- e is where the LF stands that ends the line of s at `at`, or past the end.
 pub record LineEnd (s : List ℕ) (at e : ℕ) : Type 0 where

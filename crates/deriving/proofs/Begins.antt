@@ -19,6 +19,7 @@ use Rattle.table.specs.declared.Counts.{Counts}
 use Rattle.table.specs.declared.Head.{Head}
 use Rattle.table.specs.Store.{typesIn, typesTo, headOf}
 use Rattle.table.proofs.Tables.{types-to-at}
+use Rattle.table.proofs.Codes.{rep-code}
 use Rattle.deriving.specs.declared.Derived.the-variants.{Full, At}
 use Rattle.deriving.specs.declared.Begun.{Begun}
 use Rattle.deriving.specs.declared.Begun.the-variants.{Settled, New}
@@ -85,11 +86,6 @@ module _ (d : Kind) (t s ms sh n : ℕ) (rs : List RawType) where
 -- Reference types.
 pub no-ref : (n t : ℕ) (b : List ℕ) → n ≤ t → false ≡ refIn n b t
 no-ref n t b h = rw (le-ltb t n h)
-
-rep-code : (k : ℕ) → eqb k 0 ≡ isRef (repOf k)
-rep-code zero = refl
-rep-code (suc zero) = refl
-rep-code (suc (suc k)) = ne-eqb (suc (suc k)) 0 (λ e. let w : suc (suc k) ≡ 0 = e in omega arith)
 
 pub ref-code : (n t : ℕ) (b : List ℕ) (h : Head) → t < n → h ≡ headOf (getD (typesIn b) t noRawType) → eqb (h .rep) 0 ≡ refIn n b t
 ref-code n t b h l e = ap (λ (x : Head). eqb (x .rep) 0) e ∙ rep-code (getD (typesIn b) t noRawType .rep) ∙ sym

@@ -25,4 +25,5 @@ module _ (f : Flat) (z : ℤ) (w : List ℤ) where
   pub offers-same : codesIn f ≡ true → offersHanded (rawState (stateFrom f)) z w ≡ offersHanded (rawFlat f) z w
   unfolding offersHanded
   offers-same h = let e = read-counted f h in
-      ap (λ (b : Bool). asked b (systemOf (rawState (stateFrom f)))) (accepted-same (rawState (stateFrom f)) (rawFlat f) e) ∙ ap (asked (systemAccepted (rawFlat f))) (means-same (rawState (stateFrom f)) (rawFlat f) e)
+      ap (λ (b : Bool). asked b (systemOf (rawState (stateFrom f)))) (accepted-same (rawState (stateFrom f)) (rawFlat f) e)
+      ∙ ap (asked (systemAccepted (rawFlat f))) (means-same (rawState (stateFrom f)) (rawFlat f) e)

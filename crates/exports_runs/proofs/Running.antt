@@ -35,7 +35,8 @@ module _ (f : Flat) (k : ℕ) (ws : List ℤ) where
   same : codesIn f ≡ true → runHanded (rawState (stateFrom f)) k ws ≡ runHanded (rawFlat f) k ws
   unfolding runHanded
   same h = let e = read-counted f h in
-      ap (λ (b : Bool). from b (systemOf (rawState (stateFrom f)))) (accepted-same (rawState (stateFrom f)) (rawFlat f) e) ∙ ap (from (systemAccepted (rawFlat f))) (means-same (rawState (stateFrom f)) (rawFlat f) e)
+      ap (λ (b : Bool). from b (systemOf (rawState (stateFrom f)))) (accepted-same (rawState (stateFrom f)) (rawFlat f) e)
+      ∙ ap (from (systemAccepted (rawFlat f))) (means-same (rawState (stateFrom f)) (rawFlat f) e)
 
   module _ (fits : codesIn f ≡ true) (old new : List ℤ) (r : Ran) (w : Runs (stateFrom f) old new (runHanded (rawState (stateFrom f)) k ws) r) (served : ℕ) where
     -- refused with 2: the answers are as they were
@@ -51,7 +52,8 @@ module _ (f : Flat) (k : ℕ) (ws : List ℤ) where
       taken-as : (os : List Outcome) (m : System) → RanAs (stateFrom f) old new os m r → RanOut os m 0 (lentRun f old served) (lentRun g new (r .served))
       unfolding systemIn
       taken-as os m v =
-          let e : rawFlat g ≡ rawState (r .state) = written-is (r .state) g (z .types) (links ∙ sym (v .stored .links)) (z .counts) (z .cellNumber, z .placeNumber, z .callNumber) (z .cells) (z .places) (z .calls) in
+          let e : rawFlat g ≡ rawState (r .state) =
+          written-is (r .state) g (z .types) (links ∙ sym (v .stored .links)) (z .counts) (z .cellNumber, z .placeNumber, z .callNumber) (z .cells) (z .places) (z .calls) in
           let n : countsIn (g .counts) .types ≡ r .state .counts .types = ap (λ (c : Counts). c .types) (z .counts) in
           record {
             number = refl;
@@ -62,13 +64,15 @@ module _ (f : Flat) (k : ℕ) (ws : List ℤ) where
             links = links;
             counts = z .counts ∙ v .stored .counts ∙ ap (withCount (countsIn (f .counts))) (sym n);
             kept = subst (λ (b : List ℕ). Kept (countsIn (f .counts) .types) (f .types) b) (sym (z .types)) (v .stored .kept);
-            grew = subst (λ (b : List ℕ). Grew (countsIn (f .counts)) (countsIn (g .counts) .types) b) (sym (z .types)) (subst (λ (k : ℕ). Grew (countsIn (f .counts)) k (r .state .types)) (sym n) (v .stored .grew));
+            grew = subst (λ (b : List ℕ). Grew (countsIn (f .counts)) (countsIn (g .counts) .types) b) (sym (z .types))
+                (subst (λ (k : ℕ). Grew (countsIn (f .counts)) k (r .state .types)) (sym n) (v .stored .grew));
           }
 
       pub run-taken : r .refusal ≡ 0 → RunsOut (runHanded (rawFlat f) k ws) 0 (lentRun f old served) (lentRun g new (r .served))
       unfolding runHanded
       run-taken h = subst (λ x. RunsOut x 0 (lentRun f old served) (lentRun g new (r .served))) (same fits) (go (systemAccepted (rawState (stateFrom f))) w)
         where
-          go : (b : Bool) → Runs (stateFrom f) old new (from b (systemOf (rawState (stateFrom f)))) r → RunsOut (from b (systemOf (rawState (stateFrom f)))) 0 (lentRun f old served) (lentRun g new (r .served))
+          go : (b : Bool) → Runs (stateFrom f) old new (from b (systemOf (rawState (stateFrom f)))) r
+              → RunsOut (from b (systemOf (rawState (stateFrom f)))) 0 (lentRun f old served) (lentRun g new (r .served))
           go true v = taken-as _ _ v
           go false v = let e : 2 ≡ r .refusal = sym (ap (λ (x : Ran). x .refusal) (v .0)) in absurd (omega (arith, e, h))

@@ -1,19 +1,19 @@
 -- What is read out of the bytes and written back, as records of numbers: the same state, but for what lies past a count.
 use mathlib.Core.Path.{_≡_, refl, ap, sym, _∙_, subst}
 use mathlib.Core.Bool.{Bool, true, false, _&&_, So}
-use mathlib.Core.List.{List, _∷_, map}
+use mathlib.Core.List.{List, map}
 use Prim.Native.Nat.{ℕ, zero, suc, _+_, _*_, _≤_, _<_}
 use native.Mathlib.Omega.{arith}
 use lib.Dec.{ltb}
 use lib.ListN.{length, getD, length-map, List·getD-map}
 use borrow.Author.Tests.{ltb-true}
-use Rattle.model.specs.Basics.{from, all}
+use Rattle.model.specs.Basics.{all}
 use Rattle.model.specs.Requests.{noCell}
 use Rattle.model.specs.Check.{RawPlace, RawCall, noRawPlace, noRawCall, firstOf, stateCodesFit, systemFits, systemOf, codesFit, systemAccepted}
 use Rattle.model.specs.Check.{placeOf as placeMeant, callOf as callMeant}
 use Rattle.model.specs.Handed.{placeRecord, callRecord, counted}
 use Rattle.model.proofs.Rules.{first, second}
-use Rattle.model.proofs.Lists.{is-from, from-same, from-first, length-from}
+use Rattle.model.proofs.Lists.{is-from, from-same, from-first, length-from, map-from}
 use Rattle.modellaws.proofs.Fitting.{all-at}
 use Rattle.state.specs.declared.Place.{Place}
 use Rattle.state.specs.declared.Place.the-variants.{Object, Adapter}
@@ -24,13 +24,10 @@ use Rattle.state.specs.declared.Places.{Places}
 use Rattle.state.specs.declared.Calls.{Calls}
 use Rattle.state.specs.declared.State.{State}
 use Rattle.state.specs.View.{cellOf, placeOf, callOf, blankCell, blankPlace, blankCall, rawState}
-use Rattle.flat.specs.Flat.{Flat, countsIn, cellCount, placeCount, callCount, rawCellAt, rawPlaceAt, rawCallAt, rawCells, rawPlaces, rawCalls, rawFlat, placeCodes, callCodes, cellFrom, placeBy, placeFrom, callFrom, cellsFrom, placesFrom, callsFrom, stateFrom, cellBytes, placeBytes, callBytes, cellRecords, placeRecords, callRecords}
+use Rattle.flat.specs.Flat.{Flat, countsIn, cellCount, placeCount, callCount, rawCellAt, rawPlaceAt, rawCallAt, rawCells, rawPlaces, rawCalls, rawFlat, placeCodes, callCodes}
+use Rattle.flat.specs.Flat.{cellFrom, placeBy, placeFrom, callFrom, cellsFrom, placesFrom, callsFrom, stateFrom, cellBytes, placeBytes, callBytes, cellRecords, placeRecords}
+use Rattle.flat.specs.Flat.{callRecords}
 use Rattle.flat.proofs.Rows.{Rows, row-first}
-
-map-from : {A B : Type 0} (h : A → B) (f : ℕ → A) (k i : ℕ) → map h (from k i f) ≡ from k i (λ j. h (f j))
-unfolding from
-map-from h f zero i = refl
-map-from h f (suc k) i = ap (λ xs. h (f i) ∷ xs) (map-from h f k (suc i))
 
 -- ---- Written: each record's row is its bytes.
 abbrev pub recOf : PlaceRec → RawPlace
@@ -122,12 +119,14 @@ place-same x h = go (x .code) (x .first) (x .second) (ltb-true (x .code) 2 h)
 call-same : (x : RawCall) → So (ltb (x .answered) 2) → callAgain x ≡ x
 call-same x h = go (x .answered) (ltb-true (x .answered) 2 h)
   where
-    go : (a : ℕ) → a < 2 → _≡_ {A = RawCall} (callAgain (record { caller = x .caller; cell = x .cell; method = x .method; answered = a })) (record { caller = x .caller; cell = x .cell; method = x .method; answered = a })
+    go : (a : ℕ) → a < 2 → _≡_ {A = RawCall} (callAgain (record { caller = x .caller; cell = x .cell; method = x .method; answered = a }))
+        (record { caller = x .caller; cell = x .cell; method = x .method; answered = a })
     go zero l = refl
     go (suc a) l = let e : a ≡ 0 = omega arith in rw e
 
 -- the counted records of a list that are read as themselves
-again : {A : Type 0} (d : A) (h : A → A) (p : A → Bool) → h d ≡ d → ((x : A) → So (p x) → h x ≡ x) → (xs : List A) (n : ℕ) → So (all p (firstOf n d xs)) → firstOf n d (map h xs) ≡ firstOf n d xs
+again : {A : Type 0} (d : A) (h : A → A) (p : A → Bool) → h d ≡ d → ((x : A) → So (p x) → h x ≡ x) → (xs : List A) (n : ℕ) → So (all p (firstOf n d xs))
+    → firstOf n d (map h xs) ≡ firstOf n d xs
 again d h p e same xs n fits = from-same (λ k. getD (map h xs) k d) (λ k. getD xs k d) n 0 (λ k l m.
     let q : k < n = omega arith in
     ap (λ (z : _). getD (map h xs) k z) (sym e) ∙ List·getD-map h xs k d ∙ same (getD xs k d)

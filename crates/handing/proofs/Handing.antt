@@ -106,7 +106,8 @@ module _ (f : Flat) (q : Request) (v : List ℤ) (fits : codesIn f ≡ true) (r 
 
   -- g is what the arrays hold afterwards, and u the values
   module _ (g : Flat) (n : ℕ) (u : List ℤ) (number : n ≡ outcomeNumber a) (values : u ≡ outcomeValues v a) where
-    handed : counted (rawFlat g) ≡ counted (rawState (r .state)) → ((e : ℕ) → a ≡ refused e → lentState g u ≡ lentState f v) → g .links ≡ f .links → countsIn (g .counts) ≡ r .state .counts → g .types ≡ r .state .types
+    handed : counted (rawFlat g) ≡ counted (rawState (r .state)) → ((e : ℕ) → a ≡ refused e → lentState g u ≡ lentState f v) → g .links ≡ f .links
+        → countsIn (g .counts) ≡ r .state .counts → g .types ≡ r .state .types
         → Handed q n (lentState f v) (lentState g u)
     handed same untouched links counts types = record {
       number = number ∙ ap outcomeNumber is;
@@ -120,7 +121,8 @@ module _ (f : Flat) (q : Request) (v : List ℤ) (fits : codesIn f ≡ true) (r 
           (subst (λ (x : System). Bytes x (countsIn (f .counts) .types) (f .types) (r .state .types)) left (w .types));
     }
 
-    accepted-handed : isAccepted (r .answer) ≡ true → g .links ≡ f .links → Stored (r .state) (g .types) (g .cells) (g .places) (g .calls) (g .counts) → Handed q n (lentState f v) (lentState g u)
+    accepted-handed : isAccepted (r .answer) ≡ true → g .links ≡ f .links → Stored (r .state) (g .types) (g .cells) (g .places) (g .calls) (g .counts)
+        → Handed q n (lentState f v) (lentState g u)
     accepted-handed h links z = handed
         (ap counted (written-is (r .state) g (z .types) (links ∙ sym (w .links)) (z .counts) (z .cellNumber, z .placeNumber, z .callNumber) (z .cells) (z .places) (z .calls)))
         (λ e p. absurd (no-refusal (r .answer) e h p)) links (z .counts) (z .types)
@@ -145,6 +147,7 @@ module _ (f : Flat) (q : Request) (v : List ℤ) (b : Bool) (tested : b ≡ code
   pub request-unfit : not b ≡ true → Handed q 2 (lentState f v) (lentState f v)
   request-unfit h = codes-handed f q v (unfit b _ tested h)
 
-  pub request-handed : not b ≡ false → (s : State) → s ≡ stateFrom f → (r : Served) → Serves s q r → (g : Flat) (n : ℕ) (u : List ℤ) → g .links ≡ f .links → Back r n (lentState f v) (lentState g u)
+  pub request-handed : not b ≡ false → (s : State) → s ≡ stateFrom f → (r : Served) → Serves s q r → (g : Flat) (n : ℕ) (u : List ℤ) → g .links ≡ f .links
+      → Back r n (lentState f v) (lentState g u)
       → Handed q n (lentState f v) (lentState g u)
   request-handed h s read r w = back-handed f q v (passed b _ tested h) r (subst (λ (x : State). Serves x q r) read w)

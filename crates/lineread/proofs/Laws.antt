@@ -9,16 +9,16 @@ use native.Mathlib.Numerals.{add-one}
 use lib.Dec.{eqb, ltb, leb}
 use lib.ListN.{length, getD, set, take, drop}
 use lib.Seq.{length-take-le, take-suc-set, take-suc, getD-take, getD-set-other}
-use borrow.Author.Tests.{leb-true, leb-false, lt-ltb, le-ltb, le-leb, eq-eqb, ne-eqb}
+use borrow.Author.Tests.{leb-true, leb-false, lt-ltb, le-ltb, eq-eqb, ne-eqb}
 use Rattle.model.specs.Basics.{Res, refuse, ok, try, need, all, unlessMissing}
-use Rattle.model.specs.Table.{State, denied, optional, avail, unavail, Rep, ref, w32, w64, Method, permit}
+use Rattle.model.specs.Table.{State, denied, optional, avail, unavail, Rep, ref, w32, w64, Method, permit, bare}
 use Rattle.model.specs.Check.{RawLinks, stateOf, answerOf, methodOf, linksOf}
 use Rattle.model.specs.Records.{linksRecord}
 use Rattle.model.proofs.Rules.{never}
 use Rattle.sheet.specs.Lines.{bytes, starts, same, keyed, choice}
 use Rattle.sheet.specs.Numbers.{Scan, fail, took, bindScan, whole, number, numbers}
 use Rattle.sheet.specs.Text.{repText, ownText, stateText, endText}
-use Rattle.sheet.specs.Sheet.{repLine, ownLine, endLine, underLine, closing, arguments, answer, below, signature, unsigned, methodLine}
+use Rattle.sheet.specs.Sheet.{repLine, ownLine, endLine, underLine, closing, arguments, answer, below, signature, methodLine}
 use Rattle.textread.specs.View.{result}
 use Rattle.textread.proofs.Laws.{from-here, at-end}
 use Rattle.lineread.specs.View.{LinksExact}
@@ -130,7 +130,8 @@ module _ (items : List ℕ) (count i n : ℕ) (four : length items ≡ 4) (few :
       sym (inv ∙ ap (all (below n)) (at-end (take count items) i (omega arith)))
 
 -- a number more is kept as a byte
-pub kept-next : (items bytes : List ℕ) (i x : ℕ) → i < length items → i < length bytes → x ≡ getD items i 0 → take i bytes ≡ take i items → take (i + 1) (set bytes i x) ≡ take (i + 1) items
+pub kept-next : (items bytes : List ℕ) (i x : ℕ) → i < length items → i < length bytes → x ≡ getD items i 0 → take i bytes ≡ take i items
+    → take (i + 1) (set bytes i x) ≡ take (i + 1) items
 kept-next items bytes i x h k e q =
     ap (λ z. take z (set bytes i x)) (add-one i) ∙ take-suc-set bytes i x k ∙ ap (λ z. z ++ x ∷ []) q ∙ ap (λ z. take i items ++ z ∷ []) e
     ∙ sym (take-suc items i 0 h) ∙ ap (λ z. take z items) (sym (add-one i))
@@ -370,7 +371,7 @@ signed-means s count answer a k args xs p e q f =
     ∙ ap (λ (z : List ℕ). let m : Method = record { state = stateOf s; args = z; answer = answerOf answer } in m) q
     ∙ ap (λ (z : ℕ). let m : Method = record { state = stateOf s; args = xs; answer = answerOf z } in m) f
 
-pub unsigned-means : (s count answer : ℕ) (args : List ℕ) → permit (stateOf s) ≡ false → methodOf (record { state = s; count = count; args = args; answer = answer }) ≡ unsigned (stateOf s)
+pub unsigned-means : (s count answer : ℕ) (args : List ℕ) → permit (stateOf s) ≡ false → methodOf (record { state = s; count = count; args = args; answer = answer }) ≡ bare (stateOf s)
 unfolding means
 unsigned-means s count answer args p = ap (λ z. means (stateOf s) z count args answer) p
 
@@ -384,10 +385,10 @@ permits-below (suc (suc (suc s))) p = never p
 -- An `m=` line.
 module _ (n : ℕ) (l : List ℕ) where
   fourth : Res Method
-  fourth = cond (same (stateText unavail) l) (ok (unsigned unavail)) (refuse 1)
+  fourth = cond (same (stateText unavail) l) (ok (bare unavail)) (refuse 1)
 
   third : Res Method
-  third = cond (same (stateText denied) l) (ok (unsigned denied)) fourth
+  third = cond (same (stateText denied) l) (ok (bare denied)) fourth
 
   second : Res Method
   second = cond (starts (stateText optional) l) (signature n optional (drop 11 l)) third
@@ -410,19 +411,19 @@ module _ (n : ℕ) (l : List ℕ) where
       unfolding second
       to-third′ = ap (λ z. cond z (signature n optional (drop 11 l)) third) (sym b) ∙ to-second′
 
-      pub method-denied : same (stateText denied) l ≡ true → ok (unsigned denied) ≡ methodLine n l
+      pub method-denied : same (stateText denied) l ≡ true → ok (bare denied) ≡ methodLine n l
       unfolding third
-      method-denied e = ap (λ z. cond z (ok (unsigned denied)) fourth) (sym e) ∙ to-third′
+      method-denied e = ap (λ z. cond z (ok (bare denied)) fourth) (sym e) ∙ to-third′
 
       module _ (d : same (stateText denied) l ≡ false) where
         to-fourth : fourth ≡ methodLine n l
         unfolding third
-        to-fourth = ap (λ z. cond z (ok (unsigned denied)) fourth) (sym d) ∙ to-third′
+        to-fourth = ap (λ z. cond z (ok (bare denied)) fourth) (sym d) ∙ to-third′
 
-        pub method-unavail : same (stateText unavail) l ≡ true → ok (unsigned unavail) ≡ methodLine n l
+        pub method-unavail : same (stateText unavail) l ≡ true → ok (bare unavail) ≡ methodLine n l
         unfolding fourth
-        method-unavail e = ap (λ z. cond z (ok (unsigned unavail)) (refuse 1)) (sym e) ∙ to-fourth
+        method-unavail e = ap (λ z. cond z (ok (bare unavail)) (refuse 1)) (sym e) ∙ to-fourth
 
         pub method-none : same (stateText unavail) l ≡ false → refuse 1 ≡ methodLine n l
         unfolding fourth
-        method-none e = ap (λ z. cond z (ok (unsigned unavail)) (refuse 1)) (sym e) ∙ to-fourth
+        method-none e = ap (λ z. cond z (ok (bare unavail)) (refuse 1)) (sym e) ∙ to-fourth

@@ -8,10 +8,8 @@ use lib.ListN.{drop}
 use Rattle.model.specs.Basics.{Res, refuse, ok}
 use Rattle.model.specs.Check.{RawLinks, linksOf}
 use Rattle.model.specs.Records.{linksRecord}
-use Rattle.table.specs.declared.Links.{Links}
 use Rattle.table.specs.Store.{rawLinks}
 use Rattle.sheet.specs.Lines.{Reading, refused, got, split}
-use Rattle.cursor.specs.declared.Cursor.{Cursor}
 use Rattle.lineread.specs.declared.Under.{Under}
 use Rattle.lineread.specs.declared.Under.the-variants.{Refused as Refusedᵘ, Are}
 use Rattle.lineread.specs.declared.UnderGot.{UnderGot}

@@ -6,12 +6,12 @@ ghost use mathlib.Core.Bool.{true, false};
 ghost use Prim.Native.Nat.{ℕ, _≤_, _<_};
 ghost use lib.ListN.{length, getD, take, drop};
 ghost use Rattle.model.specs.Basics.{refuse, ok, all};
-ghost use Rattle.model.specs.Table.{permit};
+ghost use Rattle.model.specs.Table.{bare, permit};
 ghost use Rattle.model.specs.Check.{stateOf, repOf, answerOf, methodOf};
 ghost use Rattle.table.specs.Store.{rawMethod};
 ghost use Rattle.table.specs.Records.{MethodExact};
 ghost use Rattle.sheet.specs.Lines.{split, line};
-ghost use Rattle.sheet.specs.Sheet.{repLine, ownLine, endLine, underLine, arguments, answer, below, signature, unsigned, methodLine};
+ghost use Rattle.sheet.specs.Sheet.{repLine, ownLine, endLine, underLine, arguments, answer, below, signature, methodLine};
 ghost use Rattle.textread.specs.View.{scanned, scanBy, valueBy, AtMost, readBy, GotAtMost, result, reading};
 ghost use Rattle.lineread.specs.View.{yesOf, underBy, underRead, UnderExact, UnderGotExact};
 use cursor::Cursor;
@@ -267,7 +267,7 @@ fn no_method(refusal: usize) -> MethodLine
 // A method without a signature.
 fn read_unsigned(state: u8) -> MethodLine
     requires { ⌜ (permit (stateOf state) ≡ false) × (state < 4) ⌝ }
-    ensures is { λ r. ⌜ result (r .refusal) (methodOf (rawMethod (r .m))) ≡ ok (unsigned (stateOf state)) ⌝ }
+    ensures is { λ r. ⌜ result (r .refusal) (methodOf (rawMethod (r .m))) ≡ ok (bare (stateOf state)) ⌝ }
     ensures exact { λ r. ⌜ MethodExact (rawMethod (r .m)) ⌝ }
 {
     let m = Method {

@@ -1,7 +1,7 @@
 -- Chains that a type permits.
 use mathlib.Core.Path.{_≡_, refl, sym, _∙_}
 use mathlib.Core.Logic.{_↔_}
-use mathlib.Core.Bool.{Bool, true, false, _||_, So, Bool·beq}
+use mathlib.Core.Bool.{_||_, So}
 use mathlib.Core.List.{List, [], _∷_}
 use mathlib.Core.Option.{Option, none, some}
 use Prim.Native.Nat.{ℕ}
@@ -14,6 +14,7 @@ use Rattle.model.proofs.Rules.{never, both, first, second, applied}
 use Rattle.model.proofs.Largest.{keeps-related}
 use Rattle.model.proofs.States.{each₂, each₃}
 use Rattle.model.proofs.Derived.{ofNumber, Known, itself, made, AnswerFrom, DerivedMethod, past, here, Complete}
+use Rattle.model.proofs.Tests.{beq-so}
 
 -- what comes after a method's answer
 abbrev pub Onward : Table → List ℕ → Option ℕ → Type 0
@@ -50,12 +51,6 @@ unfolding permits
 permits-ref t n [] h = h
 permits-ref t n (m ∷ w) h = step t n m w h .sort
 
-pub beq-so : (a b : Bool) → So (Bool·beq a b) → a ≡ b
-beq-so true true h = refl
-beq-so true false h = never h
-beq-so false true h = never h
-beq-so false false h = refl
-
 module _ (t : Table) where
   pub sort-eq : (a b : ℕ) → So (related free t a b) → isRef (typeAt t a .rep) ≡ isRef (typeAt t b .rep)
   unfolding outerRule
@@ -87,7 +82,12 @@ module _ (t : Table) where
   permits-between (m ∷ w) a b c h k p q =
       let u = step t a m w p in let v = step t c m w q in
       let f = keeps-related conforms t a b h .at m in let g = keeps-related conforms t b c k .at m in
-      let y : So (permit (methodAt t b m .state)) = applied (applied (applied (applied (each₃ (λ x y z. stateLe x y ⇒ stateLe y z ⇒ permit x ⇒ permit z ⇒ permit y) refl (methodAt t a m .state) (methodAt t b m .state) (methodAt t c m .state)) (f .state)) (g .state)) (u .here)) (v .here) in
+      let y : So (permit (methodAt t b m .state)) =
+      applied
+      (applied
+      (applied
+      (applied (each₃ (λ x y z. stateLe x y ⇒ stateLe y z ⇒ permit x ⇒ permit z ⇒ permit y) refl (methodAt t a m .state) (methodAt t b m .state) (methodAt t c m .state)) (f .state))
+      (g .state)) (u .here)) (v .here) in
       steps t b m w (record {
         sort = bare-ref a b h (u .sort);
         here = y;
@@ -116,7 +116,10 @@ module _ (t : Table) where
   joint-sub : (x y z : Method) → DerivedMethod t sub x y z → Joint x y z
   joint-sub x y z (past p q r) = rw (p, q, r) (record { down = λ h. never h; up = λ h k. never h; answer = λ h. never h })
   joint-sub x y z (here e s z′) = record {
-    down = λ h. (applied (each₂ (λ a b. permit (restricted sub a b) ⇒ permit a) refl (x .state) (y .state)) (rw e at h), applied (each₂ (λ a b. permit (restricted sub a b) ⇒ permit b) refl (x .state) (y .state)) (rw e at h));
+    down = λ h. (
+      applied (each₂ (λ a b. permit (restricted sub a b) ⇒ permit a) refl (x .state) (y .state)) (rw e at h),
+      applied (each₂ (λ a b. permit (restricted sub a b) ⇒ permit b) refl (x .state) (y .state)) (rw e at h),
+    );
     up = λ h k. rw e (applied (applied (each₂ (λ a b. permit a ⇒ permit b ⇒ permit (restricted sub a b)) refl (x .state) (y .state)) h) k);
     answer = λ h. s h .answer;
   }
@@ -124,7 +127,10 @@ module _ (t : Table) where
   joint-closed : (x y z : Method) → So (permit (y .state) ⇒ isAvail (y .state)) → DerivedMethod t closed x y z → Joint x y z
   joint-closed x y z a (past p q r) = rw (p, q, r) (record { down = λ h. never h; up = λ h k. never h; answer = λ h. never h })
   joint-closed x y z a (here e s z′) = record {
-    down = λ h. (applied (each₂ (λ a b. permit (restricted closed a b) ⇒ permit a) refl (x .state) (y .state)) (rw e at h), applied (each₂ (λ a b. permit (restricted closed a b) ⇒ permit b) refl (x .state) (y .state)) (rw e at h));
+    down = λ h. (
+      applied (each₂ (λ a b. permit (restricted closed a b) ⇒ permit a) refl (x .state) (y .state)) (rw e at h),
+      applied (each₂ (λ a b. permit (restricted closed a b) ⇒ permit b) refl (x .state) (y .state)) (rw e at h),
+    );
     up = λ h k. rw e (applied (applied (applied (each₂ (λ a b. permit a ⇒ permit b ⇒ (permit b ⇒ isAvail b) ⇒ permit (restricted closed a b)) refl (x .state) (y .state)) h) k) a);
     answer = λ h. s h .answer;
   }
@@ -156,7 +162,8 @@ module _ (t : Table) where
     meet (m ∷ w) l r i h k = known-meet (m ∷ w) l r i k λ e. let c = complete i _ e in meet-step m w (meet w) l r i h (c .rep) (joint-sub _ _ _ (c .at m))
 
     -- so does Closed, where the right side has no optional method on the outside
-    pub meet-closed : (w : List ℕ) (l r i : ℕ) → ((m : ℕ) → So (permit (methodAt t r m .state) ⇒ isAvail (methodAt t r m .state))) → So (related free t l r) → Known t closed l r i → Meets l r i w
+    pub meet-closed : (w : List ℕ) (l r i : ℕ) → ((m : ℕ) → So (permit (methodAt t r m .state) ⇒ isAvail (methodAt t r m .state))) → So (related free t l r) → Known t closed l r i
+        → Meets l r i w
     meet-closed w l r i a h (itself o e f) = never o
     meet-closed w l r i a h (ofNumber u o e f) = never o
     meet-closed [] l r i a h (made u e) = meet-none l r i h (complete i _ e .rep)

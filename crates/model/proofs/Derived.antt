@@ -60,7 +60,8 @@ pub record DerivedSignature (t : Table) (d : Kind) (x y z : Method) : Type 0 whe
 -- a method past the last, or one with its state and, where that permits it and only there, its signature
 pub data DerivedMethod (t : Table) (d : Kind) (x y z : Method) : Type 0 where
   past : x ≡ noMethod → y ≡ noMethod → z ≡ noMethod → DerivedMethod t d x y z
-  here : z .state ≡ restricted d (x .state) (y .state) → (So (permit (z .state)) → DerivedSignature t d x y z) → (permit (z .state) ≡ false → (z .args ≡ []) × (z .answer ≡ none)) → DerivedMethod t d x y z
+  here : z .state ≡ restricted d (x .state) (y .state) → (So (permit (z .state)) → DerivedSignature t d x y z) → (permit (z .state) ≡ false → (z .args ≡ []) × (z .answer ≡ none))
+      → DerivedMethod t d x y z
 
 -- type i is what its key k says
 pub record DerivedType (t : Table) (k : Key) (i : ℕ) : Type 0 where

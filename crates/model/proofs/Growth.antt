@@ -82,13 +82,15 @@ module _ (t u : Table) (x : Grown t u) where
       )
 
 -- pairs of old types are related in the grown table only if they were
-args-both : {R Q : ℕ → ℕ → Type 0} (n : ℕ) → ((a b : ℕ) → a < n → b < n → R a b → Q a b) → (xs ys : List ℕ) → AllBelow n xs → AllBelow n ys → ArgsBy R xs ys → ArgsBy Q xs ys
+args-both : {R Q : ℕ → ℕ → Type 0} (n : ℕ) → ((a b : ℕ) → a < n → b < n → R a b → Q a b) → (xs ys : List ℕ) → AllBelow n xs → AllBelow n ys → ArgsBy R xs ys
+    → ArgsBy Q xs ys
 args-both n f [] [] i j h = tt
 args-both n f [] (y ∷ ys) i j h = h
 args-both n f (x ∷ xs) [] i j h = h
 args-both n f (x ∷ xs) (y ∷ ys) i j h = (f y x (j .0) (i .0) (h .0), args-both n f xs ys (i .1) (j .1) (h .1))
 
-ans-both : {R Q : ℕ → ℕ → Type 0} (n : ℕ) → ((a b : ℕ) → a < n → b < n → R a b → Q a b) → (x y : Option ℕ) → AnswerBelow n x → AnswerBelow n y → AnswerBy R x y → AnswerBy Q x y
+ans-both : {R Q : ℕ → ℕ → Type 0} (n : ℕ) → ((a b : ℕ) → a < n → b < n → R a b → Q a b) → (x y : Option ℕ) → AnswerBelow n x → AnswerBelow n y → AnswerBy R x y
+    → AnswerBy Q x y
 ans-both n f none none i j h = tt
 ans-both n f none (some y) i j h = h
 ans-both n f (some x) none i j h = h

@@ -150,7 +150,8 @@ module _ (k : Relation) (t : Table) where
     above (suc c) g h = go (eqb (count (round k t g)) (count g)) (above c (round k t g) λ a b r. let q = keeps a b r in
         rw (look-square (size t) (λ a b. look g a b && rule k t (look g) a b) a b (q .low) (q .high)) (both (h a b r) (rule-test k t R (look g) h a b q)))
       where
-        go : (b : Bool) → ((a b : ℕ) → R a b → So (look (rounds c k t (round k t g)) a b)) → (a b′ : ℕ) → R a b′ → So (look (elim b [ true ↦ g | false ↦ rounds c k t (round k t g) ]) a b′)
+        go : (b : Bool) → ((a b : ℕ) → R a b → So (look (rounds c k t (round k t g)) a b)) → (a b′ : ℕ) → R a b′
+            → So (look (elim b [ true ↦ g | false ↦ rounds c k t (round k t g) ]) a b′)
         go true ih = h
         go false ih = ih
 

@@ -4,6 +4,7 @@ pub mod CasesStates
 pub mod CasesWorked
 pub mod CasesHanded
 pub mod Tests
+pub mod Codes
 pub mod Rules
 pub mod Largest
 pub mod Lists

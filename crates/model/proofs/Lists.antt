@@ -46,6 +46,11 @@ unfolding from
 from-shift f zero i = refl
 from-shift f (suc c) i = rw (from-shift f c (suc i))
 
+pub map-from : {A B : Type 0} (h : A → B) (f : ℕ → A) (c i : ℕ) → map h (from c i f) ≡ from c i (λ k. h (f k))
+unfolding from
+map-from h f zero i = refl
+map-from h f (suc c) i = ap (λ xs. h (f i) ∷ xs) (map-from h f c (suc i))
+
 -- within its length a mapped list has the values, whatever is read past the end
 pub getD-map-in : {A B : Type 0} (f : A → B) (l : List A) (n : ℕ) (d : A) (e : B) → n < length l → getD (map f l) n e ≡ f (getD l n d)
 getD-map-in f [] n d e h = absurd (not-suc-le-zero h)
@@ -56,6 +61,10 @@ pub from-same : {A : Type 0} (f g : ℕ → A) (c i : ℕ) → ((j : ℕ) → i 
 unfolding from
 from-same f g zero i h = refl
 from-same f g (suc c) i h = rw (h i (omega arith) (omega arith), from-same f g c (suc i) (λ j p q. h j (omega arith) (omega arith)))
+
+pub all-same : {A : Type 0} (f g : A → Bool) → ((x : A) → f x ≡ g x) → (xs : List A) → all f xs ≡ all g xs
+all-same f g h [] = refl
+all-same f g h (x ∷ xs) = rw (h x, all-same f g h xs)
 
 -- the first records of a list that has no more
 pub first-all : {A : Type 0} (d : A) (l : List A) (n : ℕ) → length l ≡ n → firstOf n d l ≡ l

@@ -22,7 +22,12 @@ rep-refl w64 = refl
 pub weaken : (k j : Relation) (t : Table) → ((a b : Ty) → So (outerRule k t a b) → So (outerRule j t a b)) → ((a b : State) → So (stateRule k a b) → So (stateRule j a b))
     → (a b : ℕ) → So (related k t a b) → So (related j t a b)
 weaken k j t hd st = largest j t (λ a b. So (related k t a b)) λ a b h. let q = keeps-related k t a b h in
-    record { low = q .low; high = q .high; outer = hd (typeAt t a) (typeAt t b) (q .outer); at = λ m. record { state = st (methodAt t a m .state) (methodAt t b m .state) (q .at m .state); signature = q .at m .signature } }
+    record {
+      low = q .low;
+      high = q .high;
+      outer = hd (typeAt t a) (typeAt t b) (q .outer);
+      at = λ m. record { state = st (methodAt t a m .state) (methodAt t b m .state) (q .at m .state); signature = q .at m .signature };
+    }
 
 pub same-sort : (a b : Rep) → So (sameRep a b) → So (Bool·beq (isRef a) (isRef b))
 same-sort ref ref h = refl
@@ -42,7 +47,8 @@ module _ (t : Table) where
 
   pub strict→loose : (a b : ℕ) → So (related strict t a b) → So (related loose t a b)
   unfolding outerRule
-  strict→loose = weaken strict loose t (λ a b h. first (Bool·beq (isRef (a .rep)) (isRef (b .rep))) _ h) (λ a b. applied (each₂ (λ a b. (isAvail a ⇒ isAvail b) ⇒ (isAvail a ⇒ permit b)) refl a b))
+  strict→loose =
+      weaken strict loose t (λ a b h. first (Bool·beq (isRef (a .rep)) (isRef (b .rep))) _ h) (λ a b. applied (each₂ (λ a b. (isAvail a ⇒ isAvail b) ⇒ (isAvail a ⇒ permit b)) refl a b))
 
   pub loose→free : (a b : ℕ) → So (related loose t a b) → So (related free t a b)
   unfolding outerRule
@@ -100,7 +106,8 @@ module _ (k : Relation) (t : Table) (states : (a b : State) → stateRule k a b 
             let f : So (stateLe x y) = rw (states x y) at (p .at m .state) in let g : So (stateLe y z) = rw (states y z) at (q .at m .state) in
             record {
               state = rw (states x z) (applied (applied (each₃ (λ x y z. stateLe x y ⇒ stateLe y z ⇒ stateLe x z) refl x y z) f) g);
-              signature = λ u w. let v : So (permit y) = applied (applied (applied (applied (each₃ (λ x y z. stateLe x y ⇒ stateLe y z ⇒ permit x ⇒ permit z ⇒ permit y) refl x y z) f) g) u) w in
+              signature = λ u w. let v : So (permit y) =
+                  applied (applied (applied (applied (each₃ (λ x y z. stateLe x y ⇒ stateLe y z ⇒ permit x ⇒ permit z ⇒ permit y) refl x y z) f) g) u) w in
                   let g = p .at m .signature u v in let h = q .at m .signature v w in
                   record {
                     args = args-join (λ e f g h k. (f, k, h)) (methodAt t a m .args) (methodAt t b m .args) (methodAt t c m .args) (h .args) (g .args);
@@ -249,7 +256,10 @@ module _ (t : Table) (cats : CategoryOrder t) (sigs : SignaturesIn t) (complete 
   sub-method x y z h (here e s z′) = record {
     state = rw e (applied (each₂ (λ a b. (isAvail a ⇒ permit b) ⇒ stateLe a (restricted sub a b)) refl (x .state) (y .state)) (h .state));
     signature = λ p q. let g = h .signature p (applied (each₂ (λ a b. permit (restricted sub a b) ⇒ permit b) refl (x .state) (y .state)) (rw e at q)) in let k = s q in
-        record { args = args-left (λ a b c. supOf b) (x .args) (y .args) (z .args) (g .args) (k .args); answer = answer-left (λ a b c. subOf b) (x .answer) (y .answer) (z .answer) (g .answer) (k .answer) };
+        record {
+          args = args-left (λ a b c. supOf b) (x .args) (y .args) (z .args) (g .args) (k .args);
+          answer = answer-left (λ a b c. subOf b) (x .answer) (y .answer) (z .answer) (g .answer) (k .answer);
+        };
   }
 
   sup-method : (x y z : Method) → MethodBy loose (λ a b. So (related loose t a b)) x y → DerivedMethod t sup x y z → MethodBy conforms (Le t) z y
@@ -257,7 +267,10 @@ module _ (t : Table) (cats : CategoryOrder t) (sigs : SignaturesIn t) (complete 
   sup-method x y z h (here e s z′) = record {
     state = rw e (each₂ (λ a b. stateLe (restricted sup a b) b) refl (x .state) (y .state));
     signature = λ p q. let g = h .signature (applied (each₂ (λ a b. permit (restricted sup a b) ⇒ permit a) refl (x .state) (y .state)) (rw e at p)) q in let k = s p in
-        record { args = args-right (λ a b c. subOf a) (x .args) (y .args) (z .args) (g .args) (k .args); answer = answer-right (λ a b c. supOf a) (x .answer) (y .answer) (z .answer) (g .answer) (k .answer) };
+        record {
+          args = args-right (λ a b c. subOf a) (x .args) (y .args) (z .args) (g .args) (k .args);
+          answer = answer-right (λ a b c. supOf a) (x .answer) (y .answer) (z .answer) (g .answer) (k .answer);
+        };
   }
 
   closed-method : (x y z : Method) → MethodBy strict (λ a b. So (related strict t a b)) x y → DerivedMethod t closed x y z → MethodBy conforms (Le t) x z
@@ -265,7 +278,10 @@ module _ (t : Table) (cats : CategoryOrder t) (sigs : SignaturesIn t) (complete 
   closed-method x y z h (here e s z′) = record {
     state = rw e (applied (each₂ (λ a b. (isAvail a ⇒ isAvail b) ⇒ stateLe a (restricted closed a b)) refl (x .state) (y .state)) (h .state));
     signature = λ p q. let g = h .signature p (applied (each₂ (λ a b. permit (restricted closed a b) ⇒ permit b) refl (x .state) (y .state)) (rw e at q)) in let k = s q in
-        record { args = args-left (λ a b c u. supOf b (strict→loose t _ _ u)) (x .args) (y .args) (z .args) (g .args) (k .args); answer = answer-left (λ a b c u. subOf b (strict→loose t _ _ u)) (x .answer) (y .answer) (z .answer) (g .answer) (k .answer) };
+        record {
+          args = args-left (λ a b c u. supOf b (strict→loose t _ _ u)) (x .args) (y .args) (z .args) (g .args) (k .args);
+          answer = answer-left (λ a b c u. subOf b (strict→loose t _ _ u)) (x .answer) (y .answer) (z .answer) (g .answer) (k .answer);
+        };
   }
 
   le-keeps : Keeps conforms t (Le t)

@@ -7,7 +7,8 @@ use Prim.Native.Nat.{ℕ, zero, suc, _<_}
 use lib.ListN.{getD}
 use Rattle.model.specs.Basics.{_⇒_}
 use Rattle.model.specs.Table.{Method, Table, noMethod, size, typeAt, methodAt, permit}
-use Rattle.model.specs.Relations.{Relation, subtype, conforms, strict, loose, free, outerRule, stateRule, argsRule, answerRule, methodRule, everyMethod, rule, ArgsBy, AnswerBy, SignatureBy, MethodBy, Rule}
+use Rattle.model.specs.Relations.{Relation, subtype, conforms, strict, loose, free, outerRule, stateRule, argsRule, answerRule, methodRule, everyMethod, rule, ArgsBy, AnswerBy}
+use Rattle.model.specs.Relations.{SignatureBy, MethodBy, Rule}
 
 pub never : {A : Type 0} → So false → A
 never h = absurd (false≢true h)
@@ -135,5 +136,6 @@ rule-says k t M a b l u h = record {
   low = l;
   high = u;
   outer = first (outerRule k t (typeAt t a) (typeAt t b)) _ h;
-  at = λ m. method-says M k (methodAt t a m) (methodAt t b m) (all-says (methodRule k M) (denied-fits k M) (typeAt t a .methods) (typeAt t b .methods) (second (outerRule k t (typeAt t a) (typeAt t b)) _ h) m);
+  at = λ m. method-says M k (methodAt t a m) (methodAt t b m)
+      (all-says (methodRule k M) (denied-fits k M) (typeAt t a .methods) (typeAt t b .methods) (second (outerRule k t (typeAt t a) (typeAt t b)) _ h) m);
 }

@@ -1,7 +1,7 @@
 -- The native tests, as paths.
 use mathlib.Core.Path.{_≡_, refl, sym, subst, _∙_}
 use mathlib.Core.Logic.{_≢_}
-use mathlib.Core.Bool.{Bool, true, false, not, So, false≢true}
+use mathlib.Core.Bool.{Bool, true, false, not, So, false≢true, Bool·beq}
 use Prim.Native.Nat.{ℕ, _≤_, _<_}
 use lib.Dec.{T, eqb, ltb, leb, leb→le, le→leb, eqb→eq, eqb-refl, ltb→lt, lt→ltb, nltb→le}
 
@@ -35,3 +35,9 @@ leb-so {m} {n} h = leb→le m n (to-T h)
 
 pub so-leb : {m n : ℕ} → m ≤ n → So (leb m n)
 so-leb {m} {n} h = of-T (leb m n) (le→leb m n h)
+
+pub beq-so : (a b : Bool) → So (Bool·beq a b) → a ≡ b
+beq-so true true h = refl
+beq-so true false h = absurd (false≢true h)
+beq-so false true h = absurd (false≢true h)
+beq-so false false h = refl

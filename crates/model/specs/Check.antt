@@ -8,7 +8,8 @@ use lib.Dec.{eqb, ltb, leb}
 use lib.IntN.{ℤ}
 use lib.ListN.{length, getD, take}
 use Rattle.model.specs.Basics.{Res, need, _⇒_, all, every, from}
-use Rattle.model.specs.Table.{State, denied, optional, avail, unavail, Rep, ref, w32, w64, Kind, sub, sup, closed, Method, Ty, Table, size, typeAt, isRef, permit, isClass, maxArguments, between, tableFits, signed}
+use Rattle.model.specs.Table.{State, denied, optional, avail, unavail, Rep, ref, w32, w64, Kind, sub, sup, closed, Method, Ty, Table, size, typeAt, isRef, permit, isClass}
+use Rattle.model.specs.Table.{maxArguments, between, tableFits, signed}
 use Rattle.model.specs.Relations.{Answers, compare}
 use Rattle.model.specs.Crossing.{Place, object, adapter, maxPlaces}
 use Rattle.model.specs.Requests.{Cell, Call, System, maxCells, maxCalls, noCell}

@@ -201,4 +201,6 @@ pub record Answers : Type 0 where
 unfoldable pub compare : Table → ℤ → ℤ → Res Answers
 unfolding related
 compare t a b = need (names a (size t) && names b (size t)) 7 λ _.
-    ok (record { subtype = related subtype t (named a) (named b); strict = related strict t (named a) (named b); loose = related loose t (named a) (named b); free = related free t (named a) (named b) })
+    ok
+    (record
+    { subtype = related subtype t (named a) (named b); strict = related strict t (named a) (named b); loose = related loose t (named a) (named b); free = related free t (named a) (named b) })

@@ -6,7 +6,8 @@ use Prim.Native.Nat.{ℕ, zero, suc}
 use lib.Dec.{eqb, ltb}
 use lib.ListN.{set}
 use Rattle.model.specs.Basics.{Res, refuse, ok, then, from}
-use Rattle.model.specs.Table.{State, denied, optional, avail, unavail, Kind, sub, sup, closed, Key, Method, Ty, Table, noMethod, maxTypes, size, typeAt, withTypes, isRef, permit, isAvail, signed, bare}
+use Rattle.model.specs.Table.{State, denied, optional, avail, unavail, Kind, sub, sup, closed, Key, Method, Ty, Table, noMethod, maxTypes, size, typeAt, withTypes, isRef, permit}
+use Rattle.model.specs.Table.{isAvail, signed, bare}
 
 -- what a state becomes on something that is settled: an adapter is, as a class is (D8)
 abbrev pub shut : State → State

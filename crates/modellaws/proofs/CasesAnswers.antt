@@ -50,7 +50,8 @@ pub compared : map asked (
     ∷ pair 10 0 ∷ pair 0 10 ∷ (negsuc 0, pos 0) ∷ []) ≡
     says true true true true ∷ says false false true true ∷ says false false true true ∷ says true true true true ∷ says false false true true
     ∷ says false true true true ∷ says false false true true ∷ says false false false false
-    ∷ says true true true true ∷ says false false true true ∷ says true true true true ∷ says false true true true ∷ says false false false true ∷ says true true true true ∷ says false true true true
+    ∷ says true true true true ∷ says false false true true ∷ says true true true true ∷ says false true true true ∷ says false false false true ∷ says true true true true
+    ∷ says false true true true
     ∷ says false true true true ∷ says true true true true
     ∷ refuse 7 ∷ refuse 7 ∷ refuse 7 ∷ []
 unfolding compare

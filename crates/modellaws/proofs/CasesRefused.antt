@@ -13,7 +13,7 @@ use Rattle.model.specs.Relations.{subtype, loose, related}
 use Rattle.model.specs.Restriction.{withoutNew, entry, pending, deriveMethods, make, derive, derived}
 use Rattle.model.specs.Crossing.{object, adapter, Reference, adapt, cross}
 use Rattle.model.specs.Requests.{System, got, refused, move, pair, number, noCall, loaded, run}
-use Rattle.model.proofs.CasesWords.{type, cell, stateFrom, new′, move′, call′, answer′}
+use Rattle.model.proofs.CasesWords.{cell, stateFrom, new′, move′, call′, answer′}
 use Rattle.model.proofs.Cases.{caseP, twice}
 use Rattle.model.proofs.CasesWorked.{Work, AllWork, passing}
 
@@ -68,7 +68,13 @@ refusals =
     }
     ∷ record { state = full 1 126 0; requests = new′ 0 0 1 ∷ []; gives = got (pair 1 127) ∷ []; cells = cell 0 1 127 ∷ []; places = object 0 0 ∷ adapter 126 6 ∷ [] }
     -- 13: cell 255 is the last (N7, M5)
-    ∷ record { state = full 255 1 0; requests = move′ 0 0 1 0 ∷ move′ 0 0 1 0 ∷ new′ 0 0 0 ∷ []; gives = got (pair 255 0) ∷ refused 13 ∷ refused 13 ∷ []; cells = cell 1 0 0 ∷ []; places = [] }
+    ∷ record {
+      state = full 255 1 0;
+      requests = move′ 0 0 1 0 ∷ move′ 0 0 1 0 ∷ new′ 0 0 0 ∷ [];
+      gives = got (pair 255 0) ∷ refused 13 ∷ refused 13 ∷ [];
+      cells = cell 1 0 0 ∷ [];
+      places = [];
+    }
     -- 18: call 255 is the last (C7)
     ∷ record { state = full 1 1 255; requests = call′ 0 0 0 [] ∷ call′ 0 0 0 [] ∷ []; gives = got (pair 255 0) ∷ refused 18 ∷ []; cells = []; places = [] }
     ∷ []

@@ -13,7 +13,8 @@ use lib.Seq.{getD-append-seam, getD-set-same, getD-set-other}
 use Rattle.model.specs.Basics.{_⇒_, then, AllBelow}
 use Rattle.model.specs.Table.{State, Kind, sub, sup, closed, Key, Method, Ty, Table, noMethod, noType, size, typeAt, methodAt, permit, isRef, signed, bare}
 use Rattle.model.specs.Relations.{free, related, ArgsBy, AnswerBy, MethodBy, Rule}
-use Rattle.model.specs.Restriction.{restricted, argKind, answerKind, mainSide, isKey, sameKind, find, withoutNew, entry, pending, Derivation, deriveArgs, deriveAnswer, deriveMethod, deriveMethods, derive}
+use Rattle.model.specs.Restriction.{restricted, argKind, answerKind, mainSide, isKey, sameKind, find, withoutNew, entry, pending, Derivation, deriveArgs, deriveAnswer, deriveMethod}
+use Rattle.model.specs.Restriction.{deriveMethods, derive}
 use Rattle.model.proofs.Tests.{eqb-so}
 use Rattle.model.proofs.Rules.{never, first, second, applied}
 use Rattle.model.proofs.Largest.{keeps-related}
@@ -70,7 +71,8 @@ module _ {t u : Table} (x : Keys t u) where
 
   pub method-keys : (d : Kind) (a b c : Method) → DerivedMethod t d a b c → DerivedMethod u d a b c
   method-keys d a b c (past p q r) = past p q r
-  method-keys d a b c (here e s z′) = here e (λ h. record { args = args-keys (argKind d) (a .args) (b .args) (c .args) (s h .args); answer = answer-keys (answerKind d) (a .answer) (b .answer) (c .answer) (s h .answer) }) z′
+  method-keys d a b c (here e s z′) =
+      here e (λ h. record { args = args-keys (argKind d) (a .args) (b .args) (c .args) (s h .args); answer = answer-keys (answerKind d) (a .answer) (b .answer) (c .answer) (s h .answer) }) z′
 
 module _ (t₀ : Table) where
   abbrev Free : ℕ → ℕ → Type 0
@@ -142,7 +144,12 @@ module _ (t₀ : Table) where
     args-ok (x ∷ xs) [] t v h = record { inv = v; grow = grown-refl t; is = tt; inside = tt }
     args-ok (x ∷ xs) (y ∷ ys) t v h = some-then _ (GotArgs t p d (x ∷ xs) (y ∷ ys)) (rec t (argKind d) y x) _ (good t p v (argKind d) y x (h .0)) λ a g.
         some-then _ (GotArgs t p d (x ∷ xs) (y ∷ ys)) (deriveArgs rec d (a .0) xs ys) _ (args-ok xs ys (a .0) (g .inv) (h .1)) λ b e.
-        record { inv = e .inv; grow = grown-trans (g .grow) (e .grow); is = (known-keys (grown-keys (e .grow)) (argKind d) y x (a .1) (g .is), e .is); inside = (omega (arith, e .grow .more, g .inside), e .inside) }
+        record {
+          inv = e .inv;
+          grow = grown-trans (g .grow) (e .grow);
+          is = (known-keys (grown-keys (e .grow)) (argKind d) y x (a .1) (g .is), e .is);
+          inside = (omega (arith, e .grow .more, g .inside), e .inside);
+        }
 
     answer-ok : (x y : Option ℕ) (t : Table) → Inv t p → AnswerBy Free x y → IfSome (deriveAnswer rec d t x y) (GotAnswer t p d x y)
     unfolding deriveAnswer
@@ -173,7 +180,8 @@ module _ (t₀ : Table) where
               inside = (all-below-more (k .grow .more) (a .1) (f .inside), k .inside);
             }
 
-    methods-ok : (xs ys : List Method) (t : Table) → Inv t p → length xs ≡ length ys → ((m : ℕ) → MethodBy free Free (getD xs m noMethod) (getD ys m noMethod)) → IfSome (deriveMethods rec d t xs ys) (GotMethods t p d xs ys)
+    methods-ok : (xs ys : List Method) (t : Table) → Inv t p → length xs ≡ length ys → ((m : ℕ) → MethodBy free Free (getD xs m noMethod) (getD ys m noMethod))
+        → IfSome (deriveMethods rec d t xs ys) (GotMethods t p d xs ys)
     unfolding deriveMethods
     methods-ok [] [] t v l h = record { inv = v; grow = grown-refl t; long = refl; is = λ m. past refl refl refl; inside = λ m. (tt, tt) }
     methods-ok [] (y ∷ ys) t v l h = absurd (omega arith)
@@ -247,10 +255,12 @@ module _ (t : Table) (l r : ℕ) (low : l < size t) (high : r < size t) where
   not-both true false e f = never (sym e)
   not-both false b e f = refl
 
-  short-ok : isRef (typeAt t l .rep) ≡ isRef (typeAt t r .rep) → (d : Kind) → So (isOpen d) → IfSome (elim (eqb l r) [ true ↦ some l | false ↦ elim (isRef (typeAt t l .rep) && isRef (typeAt t r .rep)) [ true ↦ find d l r 0 (t .types) | false ↦ some (mainSide d l r) ] ]) (Old t d l r)
+  short-ok : isRef (typeAt t l .rep) ≡ isRef (typeAt t r .rep) → (d : Kind) → So (isOpen d) → IfSome
+      (elim (eqb l r) [ true ↦ some l | false ↦ elim (isRef (typeAt t l .rep) && isRef (typeAt t r .rep)) [ true ↦ find d l r 0 (t .types) | false ↦ some (mainSide d l r) ] ]) (Old t d l r)
   short-ok s d o = go (eqb l r) refl (isRef (typeAt t l .rep) && isRef (typeAt t r .rep)) refl
     where
-      go : (a : Bool) → eqb l r ≡ a → (b : Bool) → (isRef (typeAt t l .rep) && isRef (typeAt t r .rep)) ≡ b → IfSome (elim a [ true ↦ some l | false ↦ elim b [ true ↦ find d l r 0 (t .types) | false ↦ some (mainSide d l r) ] ]) (Old t d l r)
+      go : (a : Bool) → eqb l r ≡ a → (b : Bool) → (isRef (typeAt t l .rep) && isRef (typeAt t r .rep)) ≡ b
+          → IfSome (elim a [ true ↦ some l | false ↦ elim b [ true ↦ find d l r 0 (t .types) | false ↦ some (mainSide d l r) ] ]) (Old t d l r)
       go true e b f = (itself o (eqb-so e) refl, low)
       go false e true f = found-old d (find d l r 0 (t .types)) (find-ok d l r 0 (t .types))
       go false e false f = (ofNumber low o (not-both (isRef (typeAt t l .rep)) (isRef (typeAt t r .rep)) s f) refl, main-in d)

@@ -24,7 +24,8 @@ use Rattle.modellaws.proofs.Steps.{IfOk}
 -- X2: an accepted crossing to an own type is received by the owner of the base.
 pub own-received : (f : Reference) (to r : ℕ) → typeAt (f .table) to .own ≡ true → IfOk (cross f to r) (λ g. r ≡ baseOwner (f .places) (f .place))
 unfolding cross
-own-received f to r e = go (typeAt (f .table) to .own) e (related free (f .table) to (f .type)) (eqb r (baseOwner (f .places) (f .place))) refl (adapt (f .table) (f .places) to to (baseOf (f .places) (f .place))) _
+own-received f to r e =
+    go (typeAt (f .table) to .own) e (related free (f .table) to (f .type)) (eqb r (baseOwner (f .places) (f .place))) refl (adapt (f .table) (f .places) to to (baseOf (f .places) (f .place))) _
   where
     last : (m : Res Reference) → r ≡ baseOwner (f .places) (f .place) → IfOk m (λ g. r ≡ baseOwner (f .places) (f .place))
     last (refuse n) q = tt
@@ -42,7 +43,8 @@ adapt-trail : (t : Table) (g : Page) (to r : ℕ) → (pageAdapt t g to r .1 .tr
 unfolding pageAdapt
 adapt-trail t g to r = go (related conforms t r (lastClosed g)) (derive maxTypes t closed r (lastClosed g))
   where
-    go : (c : Bool) (o : Option (Table × ℕ)) → let y : Table × Page = elim c [ true ↦ (t, joins to g) | false ↦ elim o [ none ↦ (t, g) | some x ↦ (x .0, joins to (addClosed (x .1) g)) ] ] in
+    go : (c : Bool) (o : Option (Table × ℕ)) → let y : Table × Page =
+        elim c [ true ↦ (t, joins to g) | false ↦ elim o [ none ↦ (t, g) | some x ↦ (x .0, joins to (addClosed (x .1) g)) ] ] in
         (y .1 .trail ≡ to ∷ g .trail) ⊎ (y .1 .trail ≡ g .trail)
     go true o = inl refl
     go false none = inr refl
@@ -54,7 +56,12 @@ unfolding pageCross
 trail-kept t g to e = go (typeAt t to .own) e (related subtype t to (lastType g)) (derive maxTypes t sub to (lastType g))
   where
     go : (own : Bool) → own ≡ false → (st : Bool) (o : Option (Table × ℕ)) →
-        let y : Table × Page = elim own [ true ↦ pageAdapt t (emptyPage (g .class)) to to | false ↦ elim st [ true ↦ (t, joins to g) | false ↦ elim o [ none ↦ (t, g) | some x ↦ pageAdapt (x .0) g to (x .1) ] ] ] in
+        let y : Table × Page =
+        elim own [
+          | true ↦ pageAdapt t
+              (emptyPage (g .class)) to to
+          | false ↦ elim st [ true ↦ (t, joins to g) | false ↦ elim o [ none ↦ (t, g) | some x ↦ pageAdapt (x .0) g to (x .1) ] ]
+        ] in
         (y .1 .trail ≡ to ∷ g .trail) ⊎ (y .1 .trail ≡ g .trail)
     go true e st o = never (sym e)
     go false e true o = inl refl
@@ -109,7 +116,8 @@ new-number zero t d l r e = go (withoutNew t d l r) e
     go : (o : Option ℕ) → o ≡ none → IfSome {A = Table × ℕ} (elim o [ some i ↦ some (t, i) | none ↦ none ]) (λ x. x .1 ≡ size t)
     go none e = tt
     go (some i) e = let z : _≡_ {A = ℕ} 0 1 = cc in absurd (omega arith)
-new-number (suc f) t d l r e = go (withoutNew t d l r) e (ltb (size t) maxTypes) (deriveMethods (derive f) d (withTypes t (t .types ++ (pending t d l r ∷ []))) (typeAt t l .methods) (typeAt t r .methods))
+new-number (suc f) t d l r e =
+    go (withoutNew t d l r) e (ltb (size t) maxTypes) (deriveMethods (derive f) d (withTypes t (t .types ++ (pending t d l r ∷ []))) (typeAt t l .methods) (typeAt t r .methods))
   where
     go : (o : Option ℕ) → o ≡ none → (b : Bool) (m : Option (Table × _)) → IfSome {A = Table × ℕ} (elim o [
       | some i ↦ some (t, i)

@@ -2,9 +2,9 @@
 -- Each request keeps state and book joined: the same table, the same calls, and for each cell the page that tracks its reference.
 use mathlib.Core.Path.{_≡_, refl, ap, sym, subst, _∙_}
 use mathlib.Core.Bool.{Bool, true, false, not, _&&_, _||_, So}
-use mathlib.Core.List.{List, [], _∷_, _++_, map, reverse}
+use mathlib.Core.List.{List, [], _∷_, _++_, map, reverse, map-append}
 use mathlib.Core.Option.{Option, none, some}
-use Prim.Native.Nat.{ℕ, zero, suc, _+_, _≤_, _<_}
+use Prim.Native.Nat.{ℕ, zero, suc, _≤_, _<_}
 use native.Mathlib.Omega.{arith}
 use native.Mathlib.Decide.{decLt}
 use lib.Dec.{eqb, ltb}
@@ -15,7 +15,9 @@ use Rattle.model.specs.Basics.{Res, refuse, ok, try, need, _⇒_, all, names, n
 use Rattle.model.specs.Table.{Method, Table, noMethod, size, typeAt, methodAt, argumentAt, answerAt, isRef, permit, isAvail, isSettled, isClass}
 use Rattle.model.specs.Relations.{conforms}
 use Rattle.model.specs.Crossing.{Place, object, noPlace, maxPlaces, baseOf, baseOwner, Reference, cross}
-use Rattle.model.specs.Requests.{Cell, Call, System, maxCells, maxCalls, loaded, Request, new, move, call, answer, Result, pair, number, noCell, noCall, cellAt, callAt, isSheetRef, held, leaving, withCell, addCell, newRequest, moveRequest, adapterCount, wayOf, crossLayers, passLayers, send, argumentsHeld, sendArguments, withCall, callRequest, flagged, withAnswer, give, answerRequest, serve, after}
+use Rattle.model.specs.Requests.{Cell, Call, System, maxCells, maxCalls, loaded, Request, new, move, call, answer, Result, pair, number, noCell, noCall, cellAt, callAt, isSheetRef, held}
+use Rattle.model.specs.Requests.{leaving, withCell, addCell, newRequest, moveRequest, adapterCount, wayOf, crossLayers, passLayers, send, argumentsHeld, sendArguments, withCall}
+use Rattle.model.specs.Requests.{callRequest, flagged, withAnswer, give, answerRequest, serve, after}
 use Rattle.model.specs.Chains.{permits, offered}
 use Rattle.model.specs.Book.{Page, Note, Book, lastType, emptyPage, pageCross, pageCrossAll, addPage, pageWay, copyPage, copyArguments, addNote, copyAnswer, enter}
 use Rattle.model.specs.Claim.{accepted, feed, follow, reached, noteOf, Claim}
@@ -27,7 +29,7 @@ use Rattle.model.proofs.Order.{related-refl}
 use Rattle.model.proofs.Growth.{Grown, grown-refl, grown-trans}
 use Rattle.modellaws.proofs.Completes.{all-below-more}
 use Rattle.modellaws.proofs.Good.{Good}
-use Rattle.modellaws.proofs.Steps.{IfOk, ok-try, ok-map, ok-need, Settled}
+use Rattle.modellaws.proofs.Steps.{IfOk, ok-try, ok-map, ok-need, Settled, whatever}
 use Rattle.modellaws.proofs.Trails.{Kept, unwinds-in, unwinds-type, layers-are, base-is, Track, Trailed, track-grow, Flown, cross-ok, crossLayers-ok}
 
 -- the book of a state whose cells have the pages gs
@@ -63,13 +65,17 @@ module _ (s : System) (gs : List Page) (j : Joined s gs) (r : ℕ) (f : Referenc
   cells-long : length (s .cells ++ (cell ∷ [])) ≡ suc (length (s .cells))
   cells-long = length-append (s .cells) (cell ∷ []) ∙ omega arith
 
-  at-cell : (P : Reference → Page → Type 0) → ((k : ℕ) → k < length (s .cells) → P (record { table = f .table; places = f .places; type = cellAt s k .type; place = cellAt s k .place }) (getD gs k noPage)) → P f (b .1)
-      → (k : ℕ) → k < length (s .cells ++ (cell ∷ [])) → P (record { table = f .table; places = f .places; type = getD (s .cells ++ (cell ∷ [])) k noCell .type; place = getD (s .cells ++ (cell ∷ [])) k noCell .place }) (getD (gs ++ (b .1 ∷ [])) k noPage)
+  at-cell : (P : Reference → Page → Type 0)
+      → ((k : ℕ) → k < length (s .cells) → P (record { table = f .table; places = f .places; type = cellAt s k .type; place = cellAt s k .place }) (getD gs k noPage)) → P f (b .1)
+      → (k : ℕ) → k < length (s .cells ++ (cell ∷ []))
+      → P (record { table = f .table; places = f .places; type = getD (s .cells ++ (cell ∷ [])) k noCell .type; place = getD (s .cells ++ (cell ∷ [])) k noCell .place })
+      (getD (gs ++ (b .1 ∷ [])) k noPage)
   unfolding cell
   at-cell P old this k l = go (decLt k (length (s .cells))) (omega (arith, cells-long))
     where
       go : Dec (k < length (s .cells)) → k < suc (length (s .cells))
-          → P (record { table = f .table; places = f .places; type = getD (s .cells ++ (cell ∷ [])) k noCell .type; place = getD (s .cells ++ (cell ∷ [])) k noCell .place }) (getD (gs ++ (b .1 ∷ [])) k noPage)
+          → P (record { table = f .table; places = f .places; type = getD (s .cells ++ (cell ∷ [])) k noCell .type; place = getD (s .cells ++ (cell ∷ [])) k noCell .place })
+          (getD (gs ++ (b .1 ∷ [])) k noPage)
       go (yes l) u = rw (List·getD-append (s .cells) (cell ∷ []) noCell k l, List·getD-append gs (b .1 ∷ []) noPage k (omega (arith, j .long))) (old k l)
       go (no l) u = let e : length (s .cells) ≡ k = omega arith in
           rw (getD-at (s .cells) cell [] noCell k e, getD-at gs (b .1) [] noPage k (omega (arith, j .long))) this
@@ -94,7 +100,8 @@ module _ (s : System) (gs : List Page) (j : Joined s gs) (r : ℕ) (f : Referenc
 
 module _ (s : System) (gs : List Page) (j : Joined s gs) where
   -- from a reference whose table is the state's, and whose places are at least the state's
-  addCell-ok : (r : ℕ) (b : Table × Page) (f₀ : Reference) → f₀ .table ≡ s .table → Kept (s .places) (f₀ .places) → (f : Reference) → Flown f₀ b f → IfOk (addCell s r f) (λ x. Sent s (addPage (bookOf s gs) b) (x .0))
+  addCell-ok : (r : ℕ) (b : Table × Page) (f₀ : Reference) → f₀ .table ≡ s .table → Kept (s .places) (f₀ .places) → (f : Reference) → Flown f₀ b f
+      → IfOk (addCell s r f) (λ x. Sent s (addPage (bookOf s gs) b) (x .0))
   unfolding addCell cell
   addCell-ok r b f₀ e k f h = ok-need _ (ltb (length (s .cells)) maxCells) 13 _ λ _.
       added s gs j r f b (h .good) (subst (λ t. Grown t (f .table)) e (h .grow)) (prefix-trans noPlace k (h .kept)) (h .book) (h .track) (h .trailed)
@@ -139,14 +146,11 @@ arguments-in s subject (a ∷ xs) (v ∷ vs) h = (
     go true q h f e = f h
     go false q h f e = never e
 
-pub held-more : (s s′ : System) → Grown (s .table) (s′ .table) → length (s .cells) ≤ length (s′ .cells) → (xs : List ℕ) (vs : List ℤ) → AllBelow (size (s .table)) xs → Held s xs vs → Held s′ xs vs
+pub held-more : (s s′ : System) → Grown (s .table) (s′ .table) → length (s .cells) ≤ length (s′ .cells) → (xs : List ℕ) (vs : List ℤ) → AllBelow (size (s .table)) xs
+    → Held s xs vs → Held s′ xs vs
 held-more s s′ e l [] vs i h = tt
 held-more s s′ e l (a ∷ xs) [] i h = tt
 held-more s s′ e l (a ∷ xs) (v ∷ vs) i h = ((λ x. omega (arith, h .0 (rw (e .same a (i .0)) at x))), held-more s s′ e l xs vs (i .1) (h .1))
-
-pub whatever : (c : Res (Unit {0})) → IfOk c (λ _. Unit {0})
-whatever (refuse e) = tt
-whatever (ok a) = tt
 
 module _ (r : ℕ) (way : List ℕ) (m : ℕ) where
   sendArguments-ok : (xs : List ℕ) (vs : List ℤ) (i : ℕ) (s : System) (gs : List Page) → Joined s gs → AllBelow (size (s .table)) xs → Held s xs vs
@@ -161,7 +165,9 @@ module _ (r : ℕ) (way : List ℕ) (m : ℕ) where
       ts = map (argumentAt (s .table) m i) way
 
       go : (b : Bool) → (So b → named v < length (s .cells))
-          → ((s′ : System) (gs′ : List Page) → Joined s′ gs′ → AllBelow (size (s′ .table)) xs → Held s′ xs vs → IfOk (sendArguments s′ r way m (suc i) xs vs) (Sent s′ (copyArguments (bookOf s′ gs′) way m (suc i) xs vs)))
+          →
+          ((s′ : System) (gs′ : List Page) → Joined s′ gs′ → AllBelow (size (s′ .table)) xs → Held s′ xs vs
+          → IfOk (sendArguments s′ r way m (suc i) xs vs) (Sent s′ (copyArguments (bookOf s′ gs′) way m (suc i) xs vs)))
           → IfOk (elim b [
             | true ↦ try (send s r (named v) ts) λ x. sendArguments (x .0) r way m (suc i) xs vs
             | false ↦ try (passLayers true (s .table) v ts) λ _. sendArguments s r way m (suc i) xs vs
@@ -173,7 +179,8 @@ module _ (r : ℕ) (way : List ℕ) (m : ℕ) where
           (λ y d. subst (λ b. Sent s (copyArguments b way m (suc i) xs vs) y) (sym (e .book))
           (record { pages = d .pages; book = d .book; joined = d .joined; more = omega (arith, e .more, d .more); calls = d .calls ∙ e .calls; grow = grown-trans (e .grow) (d .grow) }))
           (sendArguments (x .0) r way m (suc i) xs vs) (ih (x .0) (e .pages) (e .joined) (all-below-more (e .grow .more) xs (n .1)) (held-more s (x .0) (e .grow) (e .more) xs vs (n .1) (h .1)))
-      go false l ih = ok-try (λ _. Unit) (Sent s (copyArguments (bookOf s gs) way m (suc i) xs vs)) (passLayers true (s .table) v ts) (λ _. sendArguments s r way m (suc i) xs vs) (whatever (passLayers true (s .table) v ts))
+      go false l ih = ok-try (λ _. Unit) (Sent s (copyArguments (bookOf s gs) way m (suc i) xs vs)) (passLayers true (s .table) v ts) (λ _. sendArguments s r way m (suc i) xs vs)
+          (whatever (passLayers true (s .table) v ts))
           λ _ _. ih s gs j (n .1) (h .1)
 
 -- after a request: the book, and that it is joined to the state
@@ -206,7 +213,8 @@ module _ (s : System) (gs : List Page) (j : Joined s gs) where
       f : Reference
       f = record { table = s .table; places = s .places ++ (object (named class) (named subject) ∷ []); type = named class; place = length (s .places) }
 
-      go : So (names class (t .sheet) && isClass (typeAt t c)) → IfOk (try (cross f (named to) (named subject)) λ y. addCell s (named subject) y) (λ x. Entered (addPage (bookOf s gs) (pageCross t (emptyPage c) (named to))) (x .0))
+      go : So (names class (t .sheet) && isClass (typeAt t c))
+          → IfOk (try (cross f (named to) (named subject)) λ y. addCell s (named subject) y) (λ x. Entered (addPage (bookOf s gs) (pageCross t (emptyPage c) (named to))) (x .0))
       go h =
           let l : c < size t = let p : c < t .sheet = names-below class _ (first (names class (t .sheet)) _ h) in omega (arith, j .sheet) in
           let st : Settled t c = class-settled (typeAt t c .methods) (second (not (typeAt t c .own)) _ (second (isRef (typeAt t c .rep)) _ (second (names class (t .sheet)) _ h))) in
@@ -222,7 +230,8 @@ module _ (s : System) (gs : List Page) (j : Joined s gs) where
           } in
           ok-try (Flown f (pageCross t (emptyPage c) (named to))) _ (cross f (named to) (named subject)) _
           (cross-ok f (j .good) (emptyPage c) k (named to) (named subject)) λ g h.
-          ok-map (λ x. Sent s (addPage (bookOf s gs) (pageCross t (emptyPage c) (named to))) (x .0)) (λ x. Entered (addPage (bookOf s gs) (pageCross t (emptyPage c) (named to))) (x .0)) (λ x. entered) (addCell s (named subject) g)
+          ok-map (λ x. Sent s (addPage (bookOf s gs) (pageCross t (emptyPage c) (named to))) (x .0)) (λ x. Entered (addPage (bookOf s gs) (pageCross t (emptyPage c) (named to))) (x .0))
+          (λ x. entered) (addCell s (named subject) g)
           (addCell-ok s gs j (named subject) (pageCross t (emptyPage c) (named to)) f refl (prefix-add noPlace (s .places) x) g h)
 
   move-ok : (subject k receiver to : ℤ) → IfOk (moveRequest s subject k receiver to) (λ x. Entered (enter (bookOf s gs) (move subject k receiver to)) (x .0))
@@ -236,10 +245,6 @@ module _ (s : System) (gs : List Page) (j : Joined s gs) where
       (cross-ok (leaving s (named k)) (j .good) g (j .track (named k) l) (named to) (named receiver)) λ f h.
       ok-map (λ x. Sent s (addPage (bookOf s gs) y) (x .0)) (λ x. Entered (addPage (bookOf s gs) y) (x .0)) (λ x. entered) (addCell s (named receiver) f)
       (addCell-ok s gs j (named receiver) y (leaving s (named k)) refl (kept-self s gs j) f h)
-
-map-snoc : (xs : List Call) (x : Call) → map noteOf (xs ++ (x ∷ [])) ≡ map noteOf xs ++ (noteOf x ∷ [])
-map-snoc [] x = refl
-map-snoc (y ∷ ys) x = ap {B = List Note} (λ r. noteOf y ∷ r) (map-snoc ys x)
 
 module _ (x : System) (gs : List Page) (j : Joined x gs) (c : Call) (l : c .cell < length (x .cells)) where
   call-joined : Joined (withCall x c) gs
@@ -257,7 +262,7 @@ module _ (x : System) (gs : List Page) (j : Joined x gs) (c : Call) (l : c .cell
       go i (no u) w = rw (getD-at (x .calls) c [] noCall i (omega arith)) l
 
   call-book : addNote (bookOf x gs) (noteOf c) ≡ bookOf (withCall x c) gs
-  call-book = ap (λ cs. record { table = x .table; pages = gs; calls = cs }) (sym (map-snoc (x .calls) c))
+  call-book = ap (λ cs. record { table = x .table; pages = gs; calls = cs }) (sym (map-append noteOf (x .calls) (c ∷ [])))
 
 module _ (s : System) (gs : List Page) (j : Joined s gs) where
   -- a page's way is its cell's
@@ -299,7 +304,8 @@ module _ (s : System) (gs : List Page) (j : Joined s gs) where
       copied y w = copyArguments (bookOf s gs) w (named m) 0 (methodAt t y (named m) .args) vs
 
       go : n < length (s .cells) → So (argumentsHeld s subject (methodAt t ty (named m) .args) vs)
-          → IfOk {A = System × Result} (try (sendArguments s r way (named m) 0 (methodAt t ty (named m) .args) vs) λ x. ok (withCall x c, pair (length (s .calls)) (adapterCount (s .places) (cellAt s (named k) .place))))
+          → IfOk {A = System × Result}
+          (try (sendArguments s r way (named m) 0 (methodAt t ty (named m) .args) vs) λ x. ok (withCall x c, pair (length (s .calls)) (adapterCount (s .places) (cellAt s (named k) .place))))
           (λ x. Entered (addNote (copied (lastType g) (pageWay g)) (record { page = n; method = named m })) (x .0))
       go l a = ok-try (Sent s (copied ty way)) _ (sendArguments s r way (named m) 0 (methodAt t ty (named m) .args) vs) _
           (sendArguments-ok r way (named m) (methodAt t ty (named m) .args) vs 0 s gs j (j .good .sigs ty (named m) .0) (arguments-in s subject (methodAt t ty (named m) .args) vs a)) λ x d.
@@ -324,7 +330,8 @@ module _ (s : System) (gs : List Page) (j : Joined s gs) where
       long = jx .long;
       track = jx .track;
       trailed = jx .trailed;
-      callsIn = λ a u. subst (λ z. z .page < length (x .cells)) (sym (List·getD-map noteOf (x .calls) a noCall) ∙ ap (λ ks. getD ks a (noteOf noCall)) (sym notes-same) ∙ List·getD-map noteOf (withAnswer x i .calls) a noCall)
+      callsIn = λ a u. subst (λ z. z .page < length (x .cells))
+          (sym (List·getD-map noteOf (x .calls) a noCall) ∙ ap (λ ks. getD ks a (noteOf noCall)) (sym notes-same) ∙ List·getD-map noteOf (withAnswer x i .calls) a noCall)
           (jx .callsIn a (omega (arith, length-set (x .calls) i (flagged (callAt x i) true))));
     }
 
@@ -362,7 +369,8 @@ module _ (s : System) (gs : List Page) (j : Joined s gs) where
         | false ↦ try (passLayers true (s .table) v ts) λ _. ok (withAnswer s i, number v)
       ]) (λ x. Entered (elim b [ true ↦ copyPage (bookOf s gs) (named v) us | false ↦ bookOf s gs ]) (x .0))
       go true = ok-need _ (held s subject v) 15 _ λ h.
-          ok-try (λ x. Sent s (copyPage (bookOf s gs) (named v) ts) (x .0)) _ (send s (callAt s i .caller) (named v) ts) _ (send-ok s gs j (callAt s i .caller) (named v) ts (held-in s subject v h)) λ x d.
+          ok-try (λ x. Sent s (copyPage (bookOf s gs) (named v) ts) (x .0)) _ (send s (callAt s i .caller) (named v) ts) _
+          (send-ok s gs j (callAt s i .caller) (named v) ts (held-in s subject v h)) λ x d.
           subst (λ y. Entered (copyPage (bookOf s gs) (named v) y) (withAnswer (x .0) i)) (sym same) (answer-entered (x .0) i (entered d))
       go false = ok-try (λ _. Unit) _ (passLayers true (s .table) v ts) _ (whatever (passLayers true (s .table) v ts)) λ _ _. answer-entered s i (record { pages = gs; book = refl; joined = j })
 
@@ -383,7 +391,8 @@ module _ (s : System) (gs : List Page) (j : Joined s gs) where
       dueOf c = answerAt (s .table) (c .method) (lastType (getD gs (c .page) noPage))
 
       go : n < length (s .calls) → IfOk (give s subject n (due (cellAt s (callAt s n .cell) .type)) v)
-          (λ x. Entered (copyAnswer (bookOf s gs) (getD (map noteOf (s .calls)) n (record { page = 0; method = 0 })) (dueOf (getD (map noteOf (s .calls)) n (record { page = 0; method = 0 }))) v) (x .0))
+          (λ x.
+          Entered (copyAnswer (bookOf s gs) (getD (map noteOf (s .calls)) n (record { page = 0; method = 0 })) (dueOf (getD (map noteOf (s .calls)) n (record { page = 0; method = 0 }))) v) (x .0))
       go l = subst (λ c. IfOk (give s subject n (due (cellAt s (callAt s n .cell) .type)) v) (λ x. Entered (copyAnswer (bookOf s gs) c (dueOf c) v) (x .0)))
           (sym (List·getD-map noteOf (s .calls) n noCall))
           (subst (λ y. IfOk (give s subject n (due (cellAt s (callAt s n .cell) .type)) v) (λ x. Entered (copyAnswer (bookOf s gs) (noteOf (callAt s n)) (due y) v) (x .0)))
@@ -406,14 +415,16 @@ unfolding follow
 follow-ok [] s gs j = (gs, refl, j)
 follow-ok (q ∷ qs) s gs j = go (serve s q) (serve-ok s gs j q) (λ s′ gs′ j′. follow-ok qs s′ gs′ j′)
   where
-    go : (a : Res (System × Result)) → IfOk a (λ x. Entered (enter (bookOf s gs) q) (x .0)) → ((s′ : System) (gs′ : List Page) → Joined s′ gs′ → Together (follow s′ (bookOf s′ gs′) qs))
+    go : (a : Res (System × Result)) → IfOk a (λ x. Entered (enter (bookOf s gs) q) (x .0))
+        → ((s′ : System) (gs′ : List Page) → Joined s′ gs′ → Together (follow s′ (bookOf s′ gs′) qs))
         → Together (follow (after s a) (feed (bookOf s gs) q (accepted a)) qs)
     go (refuse e) h ih = ih s gs j
     go (ok x) h ih = subst (λ b. Together (follow (x .0) b qs)) (sym (h .book)) (ih (x .0) (h .pages) (h .joined))
 
 -- from a good table, with no cells, places or calls
 pub reached-together : (t : Table) → Good t → t .sheet ≤ size t → (qs : List Request) → Together (reached t qs)
-reached-together t g l qs = follow-ok qs (loaded t) [] (record { good = g; sheet = l; long = refl; track = λ k l. absurd (omega arith); trailed = λ k l. absurd (omega arith); callsIn = λ k l. absurd (omega arith) })
+reached-together t g l qs =
+    follow-ok qs (loaded t) [] (record { good = g; sheet = l; long = refl; track = λ k l. absurd (omega arith); trailed = λ k l. absurd (omega arith); callsIn = λ k l. absurd (omega arith) })
 
 claim-of : (s : System) (gs : List Page) → Joined s gs → Claim s (bookOf s gs)
 unfolding offered

@@ -3,7 +3,7 @@ use mathlib.Core.Path.{_≡_, refl, _∙_}
 use mathlib.Core.Bool.{Bool, true, false, So}
 use mathlib.Core.List.{List, [], _∷_, _++_}
 use mathlib.Core.Option.{Option, none, some}
-use Prim.Native.Nat.{ℕ, zero, suc, _+_, _≤_, _<_}
+use Prim.Native.Nat.{ℕ, zero, suc, _≤_, _<_}
 use native.Mathlib.Omega.{arith}
 use lib.Dec.{ltb}
 use lib.ListN.{set, length-append, length-set, List·getD-append}
@@ -28,7 +28,8 @@ some-map P Q f none h = tt
 some-map P Q f (some a) h = f a h
 
 -- the known type, or else the rest
-pub some-pick : (Q : Table × ℕ → Type 0) (t : Table) (o : Option ℕ) (rest : Option (Table × ℕ)) → IfSome o (λ i. Q (t, i)) → IfSome rest Q → IfSome (elim o [ some i ↦ some (t, i) | none ↦ rest ]) Q
+pub some-pick : (Q : Table × ℕ → Type 0) (t : Table) (o : Option ℕ) (rest : Option (Table × ℕ)) → IfSome o (λ i. Q (t, i)) → IfSome rest Q
+    → IfSome (elim o [ some i ↦ some (t, i) | none ↦ rest ]) Q
 some-pick Q t none rest h k = k
 some-pick Q t (some i) rest h k = h
 
@@ -66,7 +67,8 @@ module _ (P : Table → Table → Type 0) (at-once : (t : Table) → P t t) (onw
     unfolding deriveArgs
     args-kept [] ys t = at-once t
     args-kept (x ∷ xs) [] t = at-once t
-    args-kept (x ∷ xs) (y ∷ ys) t = some-then _ _ (rec t (argKind d) y x) _ (g t (argKind d) y x) λ a p. some-then _ _ (deriveArgs rec d (a .0) xs ys) _ (args-kept xs ys (a .0)) λ b q. onward t (a .0) (b .0) p q
+    args-kept (x ∷ xs) (y ∷ ys) t = some-then _ _ (rec t (argKind d) y x) _ (g t (argKind d) y x) λ a p. some-then _ _ (deriveArgs rec d (a .0) xs ys) _ (args-kept xs ys (a .0)) λ b q.
+        onward t (a .0) (b .0) p q
 
     answer-kept : (x y : Option ℕ) (t : Table) → IfSome (deriveAnswer rec d t x y) (λ x. P t (x .0))
     unfolding deriveAnswer
@@ -80,7 +82,8 @@ module _ (P : Table → Table → Type 0) (at-once : (t : Table) → P t t) (onw
       where
         go : (b : Bool) → IfSome {A = Table × Method} (elim b [
           | false ↦ some (t, bare (restricted d (x .state) (y .state)))
-          | true ↦ then (deriveArgs rec d t (x .args) (y .args)) λ p. then (deriveAnswer rec d (p .0) (x .answer) (y .answer)) λ q. some (q .0, signed (restricted d (x .state) (y .state)) (p .1) (q .1))
+          | true ↦ then (deriveArgs rec d t (x .args) (y .args)) λ p. then (deriveAnswer rec d (p .0) (x .answer) (y .answer)) λ q.
+              some (q .0, signed (restricted d (x .state) (y .state)) (p .1) (q .1))
         ]) (λ x. P t (x .0))
         go false = at-once t
         go true = some-then _ _ (deriveArgs rec d t (x .args) (y .args)) _ (args-kept (x .args) (y .args) t) λ a p.
@@ -90,7 +93,8 @@ module _ (P : Table → Table → Type 0) (at-once : (t : Table) → P t t) (onw
     unfolding deriveMethods
     methods-kept [] ys t = at-once t
     methods-kept (x ∷ xs) [] t = at-once t
-    methods-kept (x ∷ xs) (y ∷ ys) t = some-then _ _ (deriveMethod rec d t x y) _ (method-kept x y t) λ a p. some-then _ _ (deriveMethods rec d (a .0) xs ys) _ (methods-kept xs ys (a .0)) λ b q. onward t (a .0) (b .0) p q
+    methods-kept (x ∷ xs) (y ∷ ys) t = some-then _ _ (deriveMethod rec d t x y) _ (method-kept x y t) λ a p. some-then _ _ (deriveMethods rec d (a .0) xs ys) _ (methods-kept xs ys (a .0)) λ b q.
+        onward t (a .0) (b .0) p q
 
   known-kept : (t : Table) (o : Option ℕ) → IfSome o (λ i. P t t)
   known-kept t none = tt

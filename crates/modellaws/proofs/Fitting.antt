@@ -10,7 +10,8 @@ use native.Mathlib.Decide.{decLt}
 use lib.Dec.{eqb, ltb, leb}
 use lib.ListN.{length, getD, List·getD-eq-default}
 use Rattle.model.specs.Basics.{_⇒_, any, all, every, unlessMissing, AllBelow}
-use Rattle.model.specs.Table.{Key, Method, Ty, Table, noMethod, noType, size, typeAt, methodAt, isRef, permit, maxArguments, maxTypes, between, countsFit, linksFit, standsIn, isNone, isNil, signatureFits, methodCount, keyFits, signatureBound, typeFits, tableFits}
+use Rattle.model.specs.Table.{Key, Method, Ty, Table, noMethod, noType, size, typeAt, methodAt, isRef, permit, maxArguments, maxTypes, between, countsFit, linksFit, standsIn, isNone, isNil}
+use Rattle.model.specs.Table.{signatureFits, methodCount, keyFits, signatureBound, typeFits, tableFits}
 use Rattle.model.specs.Relations.{reaches, broader, catLe}
 use Rattle.model.proofs.Tests.{eqb-so, eqb-self, ltb-so, leb-so, so-ltb}
 use Rattle.model.proofs.Rules.{never, both, first, second}
@@ -21,7 +22,7 @@ use Rattle.modellaws.proofs.Good.{MethodCounts, ShortSignatures, Catego
 or-left : {a : Bool} (b : Bool) → So a → So (a || b)
 or-left b h = rw h
 
-or-right : (a : Bool) {b : Bool} → So b → So (a || b)
+pub or-right : (a : Bool) {b : Bool} → So b → So (a || b)
 or-right true h = refl
 or-right false h = h
 
@@ -117,7 +118,7 @@ at-every f d k [] h = refl
 at-every f d k (x ∷ xs) h = both (subst (λ n. So (f n x)) (omega arith) (h 0 (omega arith)))
     (at-every f d (suc k) xs (λ i l. subst (λ n. So (f n (getD xs i d))) (omega arith) (h (suc i) (omega arith))))
 
-all-below : (n : ℕ) (xs : List ℕ) → So (all (λ c. ltb c n) xs) → AllBelow n xs
+pub all-below : (n : ℕ) (xs : List ℕ) → So (all (λ c. ltb c n) xs) → AllBelow n xs
 all-below n [] h = tt
 all-below n (x ∷ xs) h = (ltb-so (first (ltb x n) _ h), all-below n xs (second (ltb x n) _ h))
 
@@ -125,6 +126,14 @@ all-below n (x ∷ xs) h = (ltb-so (first (ltb x n) _ h), all-below n xs (second
 not-so : (b : Bool) → So (not b) → b ≡ false
 not-so true h = never h
 not-so false h = refl
+
+pub nil-is : (xs : List ℕ) → So (isNil xs) → xs ≡ []
+nil-is [] h = refl
+nil-is (x ∷ xs) h = never h
+
+pub none-is : (o : Option ℕ) → So (isNone o) → o ≡ none
+none-is none h = refl
+none-is (some x) h = never h
 
 module _ (t : Table) (n : ℕ) where
   stands-below : (xs : List ℕ) → So (all (standsIn t n) xs) → AllBelow n xs
@@ -143,29 +152,27 @@ module _ (t : Table) (n : ℕ) where
   answer-stands-unowned none h = tt
   answer-stands-unowned (some x) h = not-so (typeAt t x .own) (second (ltb x n) _ h)
 
-  nil-is : (xs : List ℕ) → So (isNil xs) → xs ≡ []
-  nil-is [] h = refl
-  nil-is (x ∷ xs) h = never h
-
-  none-is : (o : Option ℕ) → So (isNone o) → o ≡ none
-  none-is none h = refl
-  none-is (some x) h = never h
-
   -- a signature that fits: its numbers are below n and have no own flag
   pub signature-below : (m : Method) → So (signatureFits t n m) → AllBelow n (m .args) × AnswerBelow n (m .answer)
   signature-below m h = go (permit (m .state)) h
     where
-      go : (b : Bool) → So (elim b [ true ↦ leb (length (m .args)) maxArguments && (all (standsIn t n) (m .args) && unlessMissing (m .answer) (standsIn t n)) | false ↦ isNil (m .args) && isNone (m .answer) ])
+      go : (b : Bool) → So
+          (elim b [ true ↦ leb (length (m .args)) maxArguments && (all (standsIn t n) (m .args) && unlessMissing (m .answer) (standsIn t n)) | false ↦ isNil (m .args) && isNone (m .answer) ])
           → AllBelow n (m .args) × AnswerBelow n (m .answer)
-      go true h = let k = second (leb (length (m .args)) maxArguments) _ h in (stands-below (m .args) (first (all (standsIn t n) (m .args)) _ k), answer-stands-below (m .answer) (second (all (standsIn t n) (m .args)) _ k))
+      go true h =
+          let k = second (leb (length (m .args)) maxArguments) _ h in
+          (stands-below (m .args) (first (all (standsIn t n) (m .args)) _ k), answer-stands-below (m .answer) (second (all (standsIn t n) (m .args)) _ k))
       go false h = rw (nil-is (m .args) (first (isNil (m .args)) _ h), none-is (m .answer) (second (isNil (m .args)) _ h)) (tt, tt)
 
   pub signature-unowned : (m : Method) → So (signatureFits t n m) → AllUnowned t (m .args) × AnswerUnowned t (m .answer)
   signature-unowned m h = go (permit (m .state)) h
     where
-      go : (b : Bool) → So (elim b [ true ↦ leb (length (m .args)) maxArguments && (all (standsIn t n) (m .args) && unlessMissing (m .answer) (standsIn t n)) | false ↦ isNil (m .args) && isNone (m .answer) ])
+      go : (b : Bool) → So
+          (elim b [ true ↦ leb (length (m .args)) maxArguments && (all (standsIn t n) (m .args) && unlessMissing (m .answer) (standsIn t n)) | false ↦ isNil (m .args) && isNone (m .answer) ])
           → AllUnowned t (m .args) × AnswerUnowned t (m .answer)
-      go true h = let k = second (leb (length (m .args)) maxArguments) _ h in (stands-unowned (m .args) (first (all (standsIn t n) (m .args)) _ k), answer-stands-unowned (m .answer) (second (all (standsIn t n) (m .args)) _ k))
+      go true h =
+          let k = second (leb (length (m .args)) maxArguments) _ h in
+          (stands-unowned (m .args) (first (all (standsIn t n) (m .args)) _ k), answer-stands-unowned (m .answer) (second (all (standsIn t n) (m .args)) _ k))
       go false h = rw (nil-is (m .args) (first (isNil (m .args)) _ h), none-is (m .answer) (second (isNil (m .args)) _ h)) (tt, tt)
 
 pub below-more : (n k : ℕ) → n ≤ k → (m : Method) → AllBelow n (m .args) × AnswerBelow n (m .answer) → AllBelow k (m .args) × AnswerBelow k (m .answer)
@@ -230,7 +237,8 @@ table-fitting t h =
       room = k .types;
       links = first (every linksFit 1 (t .cats)) _ r;
       cats = category-order t (falls-of (t .cats) (first (every linksFit 1 (t .cats)) _ r)) (omega (arith, k .cats));
-      types = λ i l. type-fitting t i (typeAt t i) (subst (λ n. So (typeFits t n (typeAt t i))) (omega arith) (every-at (typeFits t) noType 0 (t .types) (second (every linksFit 1 (t .cats)) _ r) i l));
+      types = λ i l.
+          type-fitting t i (typeAt t i) (subst (λ n. So (typeFits t n (typeAt t i))) (omega arith) (every-at (typeFits t) noType 0 (t .types) (second (every linksFit 1 (t .cats)) _ r) i l));
     }
 
 module _ (t : Table) (f : TableFitting t) where
@@ -257,10 +265,16 @@ module _ (t : Table) (f : TableFitting t) where
   short-signature : (i : ℕ) (m : Method) → So (signatureFits t (signatureBound t i) m) → length (m .args) ≤ maxArguments
   short-signature i m h = go (permit (m .state)) h
     where
-      go : (b : Bool) → So (elim b [ true ↦ leb (length (m .args)) maxArguments && (all (standsIn t (signatureBound t i)) (m .args) && unlessMissing (m .answer) (standsIn t (signatureBound t i))) | false ↦ isNil (m .args) && isNone (m .answer) ])
+      go : (b : Bool)
+          → So
+          (elim b [
+            | true ↦ leb (length (m .args)) maxArguments && (all (standsIn t (signatureBound t i)) (m .args) && unlessMissing (m .answer) (standsIn t (signatureBound t i)))
+            | false ↦ isNil
+                (m .args) && isNone (m .answer)
+          ])
           → length (m .args) ≤ maxArguments
       go true h = leb-so (first (leb (length (m .args)) maxArguments) _ h)
-      go false h = rw (nil-is t 0 (m .args) (first (isNil (m .args)) _ h)) (omega arith)
+      go false h = rw (nil-is (m .args) (first (isNil (m .args)) _ h)) (omega arith)
 
   pub fitting-short : ShortSignatures t
   fitting-short = each-method (λ m. length (m .args) ≤ maxArguments) (omega arith) short-signature

@@ -46,10 +46,12 @@ module _ (n : ℕ) (f g : Derivation) (grows : Keeping Larger larger-once larger
       w rec = then (deriveArgs rec d t (x .args) (y .args)) λ p. then (deriveAnswer rec d (p .0) (x .answer) (y .answer)) λ q. some (q .0, signed (restricted d (x .state) (y .state)) (p .1) (q .1))
 
       both : w f ≡ w g
-      both = then-same (λ z. size t ≤ size (z .0)) (deriveArgs f d t (x .args) (y .args)) (deriveArgs g d t (x .args) (y .args)) _ _ (args-agree (x .args) (y .args) t l) (args-kept Larger larger-once larger-onward larger-new f grows d (x .args) (y .args) t)
+      both = then-same (λ z. size t ≤ size (z .0)) (deriveArgs f d t (x .args) (y .args)) (deriveArgs g d t (x .args) (y .args)) _ _ (args-agree (x .args) (y .args) t l)
+          (args-kept Larger larger-once larger-onward larger-new f grows d (x .args) (y .args) t)
           λ a p. ap (λ m. then m λ q. some (q .0, signed (restricted d (x .state) (y .state)) (a .1) (q .1))) (answer-agree (x .answer) (y .answer) (a .0) (omega arith))
 
-      go : (b : Bool) → _≡_ {A = Option (Table × Method)} (elim b [ false ↦ some (t, bare (restricted d (x .state) (y .state))) | true ↦ w f ]) (elim b [ false ↦ some (t, bare (restricted d (x .state) (y .state))) | true ↦ w g ])
+      go : (b : Bool) → _≡_ {A = Option (Table × Method)} (elim b [ false ↦ some (t, bare (restricted d (x .state) (y .state))) | true ↦ w f ])
+          (elim b [ false ↦ some (t, bare (restricted d (x .state) (y .state))) | true ↦ w g ])
       go false = refl
       go true = both
 
@@ -57,20 +59,29 @@ module _ (n : ℕ) (f g : Derivation) (grows : Keeping Larger larger-once larger
   unfolding deriveMethods
   methods-agree [] ys t l = refl
   methods-agree (x ∷ xs) [] t l = refl
-  methods-agree (x ∷ xs) (y ∷ ys) t l = then-same (λ z. size t ≤ size (z .0)) (deriveMethod f d t x y) (deriveMethod g d t x y) _ _ (method-agree x y t l) (method-kept Larger larger-once larger-onward larger-new f grows d x y t)
+  methods-agree (x ∷ xs) (y ∷ ys) t l =
+      then-same (λ z. size t ≤ size (z .0)) (deriveMethod f d t x y) (deriveMethod g d t x y) _ _ (method-agree x y t l) (method-kept Larger larger-once larger-onward larger-new f grows d x y t)
       λ a p. ap (λ m. then m λ q. some (q .0, a .1 ∷ q .1)) (methods-agree xs ys (a .0) (omega arith))
 
 make-agree : (f g : Derivation) → Keeping Larger larger-once larger-onward larger-new f → (t : Table) → Agree (suc (size t)) f g → (d : Kind) (l r : ℕ) → make f t d l r ≡ make g t d l r
 unfolding make
 make-agree f g grows t same d l r =
-    ap (λ m. elim (withoutNew t d l r) as (λ _. Option (Table × ℕ)) [ some i ↦ some (t, i) | none ↦ elim (ltb (size t) 128) [ false ↦ none | true ↦ then m λ p. some (withTypes (p .0) (set (p .0 .types) (size t) (entry t d l r (p .1))), size t) ] ])
+    ap
+    (λ m.
+    elim (withoutNew t d l r) as
+    (λ _. Option (Table × ℕ)) [
+      | some i ↦ some (t, i)
+      | none ↦ elim
+          (ltb (size t) 128) [ false ↦ none | true ↦ then m λ p. some (withTypes (p .0) (set (p .0 .types) (size t) (entry t d l r (p .1))), size t) ]
+    ])
     (methods-agree (suc (size t)) f g grows same d (typeAt t l .methods) (typeAt t r .methods) _ (omega (arith, length-append (t .types) (pending t d l r ∷ []))))
 
 full : (f : Derivation) (t : Table) (d : Kind) (l r : ℕ) → 128 ≤ size t → derive zero t d l r ≡ make f t d l r
 unfolding derive make
 full f t d l r h = go (ltb (size t) 128) refl _
   where
-    go : (b : Bool) → ltb (size t) 128 ≡ b → (m : Option (Table × ℕ)) → _≡_ {A = Option (Table × ℕ)} (elim (withoutNew t d l r) [ some i ↦ some (t, i) | none ↦ none ]) (elim (withoutNew t d l r) [ some i ↦ some (t, i) | none ↦ elim b [ false ↦ none | true ↦ m ] ])
+    go : (b : Bool) → ltb (size t) 128 ≡ b → (m : Option (Table × ℕ)) → _≡_ {A = Option (Table × ℕ)} (elim (withoutNew t d l r) [ some i ↦ some (t, i) | none ↦ none ])
+        (elim (withoutNew t d l r) [ some i ↦ some (t, i) | none ↦ elim b [ false ↦ none | true ↦ m ] ])
     go true e m = let p : size t < 128 = ltb-so e in absurd (omega arith)
     go false e m = refl
 

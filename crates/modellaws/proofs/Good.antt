@@ -10,7 +10,8 @@ use native.Mathlib.Decide.{decLt}
 use lib.Dec.{leb}
 use lib.ListN.{length, List·getD-eq-default}
 use Rattle.model.specs.Basics.{AllBelow}
-use Rattle.model.specs.Table.{maxArguments, maxSubjects, maxMethods, maxCategories, maxSheetTypes, between, countsFit, maxTypes, Rep, ref, w32, w64, sub, sup, closed, permit, methodCount, Method, Key, Kind, Table, noType, size, typeAt, methodAt, isRef}
+use Rattle.model.specs.Table.{maxArguments, maxSubjects, maxMethods, maxCategories, maxSheetTypes, between, countsFit, maxTypes, Rep, ref, w32, w64, sub, sup, closed, permit, methodCount}
+use Rattle.model.specs.Table.{Method, Key, Kind, Table, noType, size, typeAt, methodAt, isRef}
 use Rattle.model.specs.Relations.{free, related}
 use Rattle.model.specs.Restriction.{mainSide, derive, argKind, answerKind}
 use Rattle.model.proofs.Tests.{leb-so, so-leb}
@@ -113,7 +114,9 @@ method-unowned t c d x y z (past e f g) p q = rw g (tt, tt)
 method-unowned t c d x y z (here e s n) p q = go (permit (z .state)) refl
   where
     go : (b : Bool) → permit (z .state) ≡ b → Unowned t z
-    go true h = let k = s h in (args-unowned t c (argKind d) (x .args) (y .args) (z .args) (k .args) (p .0) (q .0), answer-unowned t c (answerKind d) (x .answer) (y .answer) (z .answer) (k .answer) (p .1) (q .1))
+    go true h =
+        let k = s h in
+        (args-unowned t c (argKind d) (x .args) (y .args) (z .args) (k .args) (p .0) (q .0), answer-unowned t c (answerKind d) (x .answer) (y .answer) (z .answer) (k .answer) (p .1) (q .1))
     go false h = let k = n h in rw (k .0, k .1) (tt, tt)
 
 -- what counts within their limits say
@@ -125,7 +128,10 @@ pub record Counted (t : Table) : Type 0 where
 
 pub counted-of : (t : Table) → So (countsFit t) → Counted t
 counted-of t c =
-    let a₁ = between 1 maxSubjects (t .subjects) in let a₂ = between 1 maxMethods (t .methods) in let a₃ = leb (length (t .cats)) maxCategories in let a₄ = between 1 maxSheetTypes (t .sheet) in
+    let a₁ = between 1 maxSubjects (t .subjects) in
+    let a₂ = between 1 maxMethods (t .methods) in
+    let a₃ = leb (length (t .cats)) maxCategories in
+    let a₄ = between 1 maxSheetTypes (t .sheet) in
     let a₅ = leb (t .sheet) (size t) in let c₂ = second a₁ _ c in let c₃ = second a₂ _ c₂ in let c₅ = second a₄ _ (second a₃ _ c₃) in
     record { methods = leb-so (second (leb 1 (t .methods)) _ (first a₂ _ c₂)); cats = leb-so (first a₃ _ c₃); sheet = leb-so (first a₅ _ c₅); types = leb-so (second a₅ _ c₅) }
 
@@ -136,7 +142,10 @@ sheet-within t c = counted-of t c .sheet
 -- limits and the signatures of sheet types stay as the table grows
 pub grown-counts : (t u : Table) → Grown t u → So (countsFit t) → size u ≤ maxTypes → So (countsFit u)
 grown-counts t u x c r =
-    let a₁ = between 1 maxSubjects (t .subjects) in let a₂ = between 1 maxMethods (t .methods) in let a₃ = leb (length (t .cats)) maxCategories in let a₄ = between 1 maxSheetTypes (t .sheet) in
+    let a₁ = between 1 maxSubjects (t .subjects) in
+    let a₂ = between 1 maxMethods (t .methods) in
+    let a₃ = leb (length (t .cats)) maxCategories in
+    let a₄ = between 1 maxSheetTypes (t .sheet) in
     let c₂ = second a₁ _ c in let c₃ = second a₂ _ c₂ in let c₄ = second a₃ _ c₃ in
     let l : u .sheet ≤ size u = subst (λ n. n ≤ size u) (sym (x .sheet)) (let p = sheet-within t c in omega (arith, x .more)) in
     let b₁ : So (between 1 maxSubjects (u .subjects)) = rw (x .subjects) (first a₁ _ c) in
@@ -145,7 +154,8 @@ grown-counts t u x c r =
     let b₄ : So (between 1 maxSheetTypes (u .sheet)) = rw (x .sheet) (first a₄ _ c₄) in
     both b₁ (both b₂ (both b₃ (both b₄ (both (so-leb l) (so-leb r)))))
 
-pub grown-sheetSigs : (t u : Table) → Grown t u → t .sheet ≤ size t → ((a m : ℕ) → a < t .sheet → AllBelow (t .sheet) (methodAt t a m .args) × AnswerBelow (t .sheet) (methodAt t a m .answer))
+pub grown-sheetSigs : (t u : Table) → Grown t u → t .sheet ≤ size t
+    → ((a m : ℕ) → a < t .sheet → AllBelow (t .sheet) (methodAt t a m .args) × AnswerBelow (t .sheet) (methodAt t a m .answer))
     → (a m : ℕ) → a < u .sheet → AllBelow (u .sheet) (methodAt u a m .args) × AnswerBelow (u .sheet) (methodAt u a m .answer)
 grown-sheetSigs t u x l g a m b = let p : a < t .sheet = subst (λ n. a < n) (x .sheet) b in
     rw (x .sheet, method-same t u x a m (omega arith)) (g a m p)
@@ -201,7 +211,8 @@ module _ (t u : Table) (v : Inv t u (λ j. ⊥)) where
         rep = ap (λ y. y .rep) (v .ext .same i l) ∙ c .rep ∙ sym (ap (λ y. y .rep) w);
         cat = ap (λ y. y .cat) (v .ext .same i l) ∙ c .cat ∙ sym (ap (λ y. y .cat) w);
         own = ap (λ y. y .own) (v .ext .same i l) ∙ c .own;
-        at = λ m. rw (method-same t u (v .ext) i m l, method-same t u (v .ext) (k .left) m (c .low), method-same t u (v .ext) (k .right) m (c .high)) (method-keys (grown-keys (v .ext)) (k .kind) _ _ _ (c .at m));
+        at = λ m. rw (method-same t u (v .ext) i m l, method-same t u (v .ext) (k .left) m (c .low), method-same t u (v .ext) (k .right) m (c .high))
+            (method-keys (grown-keys (v .ext)) (k .kind) _ _ _ (c .at m));
       })
       (λ f. let c = f .key k e in let w = main-same (k .kind) (k .left) (k .right) (c .low) (c .high) in
       record {
@@ -309,10 +320,12 @@ pub derive-inv : (t : Table) → MethodCounts t → (f : ℕ) (d : Kind) (l r : 
 derive-inv t g f d l r h = derive-ok t (even-methods t g) f t (λ j. ⊥) (record { ext = grown-refl t; fresh = λ j a b. absurd (omega arith) }) d l r h
 
 -- from a table handed in, whatever its derived types hold
-pub derive-sound : (t : Table) → Sound t → (f : ℕ) (d : Kind) (l r : ℕ) → So (related free t l r) → size t ≤ maxTypes → IfSome (derive f t d l r) (λ x. Sound (x .0) × Grown t (x .0) × (x .1 < size (x .0)))
+pub derive-sound : (t : Table) → Sound t → (f : ℕ) (d : Kind) (l r : ℕ) → So (related free t l r) → size t ≤ maxTypes
+    → IfSome (derive f t d l r) (λ x. Sound (x .0) × Grown t (x .0) × (x .1 < size (x .0)))
 derive-sound t g f d l r h m = go (derive f t d l r) (derive-inv t (g .methods) f d l r h) (derive-roomy f t d l r)
   where
-    go : (o : Option (Table × ℕ)) → IfSome o (Got t t (λ j. ⊥) d l r) → IfSome o (λ x. size t ≤ maxTypes → size (x .0) ≤ maxTypes) → IfSome o (λ x. Sound (x .0) × Grown t (x .0) × (x .1 < size (x .0)))
+    go : (o : Option (Table × ℕ)) → IfSome o (Got t t (λ j. ⊥) d l r) → IfSome o (λ x. size t ≤ maxTypes → size (x .0) ≤ maxTypes)
+        → IfSome o (λ x. Sound (x .0) × Grown t (x .0) × (x .1 < size (x .0)))
     go none w q = tt
     go (some x) w q = (new-sound t (x .0) (w .inv) g (q m), w .grow, w .inside)
 

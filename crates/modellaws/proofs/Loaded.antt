@@ -9,7 +9,7 @@ use native.Mathlib.Decide.{decLt}
 use lib.Dec.{ltb, leb}
 use lib.ListN.{length, getD, List·getD-eq-default}
 use Rattle.model.specs.Basics.{from}
-use Rattle.model.specs.Table.{Key, Table, noMethod, noType, size, typeAt, methodAt, permit, between, linksFit, isNone, signatureFits, keyFits, signatureBound, tableFits}
+use Rattle.model.specs.Table.{Key, Table, noMethod, noType, size, typeAt, methodAt, permit, between, linksFit, isNone, signatureFits, keyFits, signatureBound}
 use Rattle.model.specs.Requests.{loaded}
 use Rattle.model.specs.Check.{RawTable, noRawLinks, noRawType, typeOf, linksOf, tableOf, systemOf, rawTypeFits, codesFit, tableAccepted, stateCodesFit, systemAccepted}
 use Rattle.model.specs.Records.{typeRecord, linksRecord}
@@ -78,10 +78,6 @@ module _ (t : Table) (f : TableFitting t) where
       go : (j : ℕ) → 1 ≤ j → j < 1 + length (t .cats) → So (between 1 2 (getD (rawTableOf t .links) j noRawLinks .count))
       go zero l u = absurd (omega arith)
       go (suc k) l u = let i : k < length (t .cats) = omega arith in rw (link-at k i) (link-fits k i)
-
-  pub table-accepted : So (tableFits t) → So (tableAccepted (rawTableOf t))
-  unfolding tableAccepted
-  table-accepted h = both table-codes (subst (λ x. So (tableFits x)) (sym table-back) h)
 
 -- The state of a loaded sheet: it means the model's, and passes the check if its table does.
 pub loaded-means : (r : RawTable) → systemOf (rawLoaded r) ≡ loaded (tableOf r)

@@ -9,7 +9,8 @@ use native.Mathlib.Decide.{decLt}
 use lib.Dec.{eqb, ltb, leb}
 use lib.ListN.{length}
 use Rattle.model.specs.Basics.{every, _⇒_, all, unlessMissing, AllBelow}
-use Rattle.model.specs.Table.{linksFit, Kind, sub, sup, closed, Key, Method, Table, noMethod, noType, maxTypes, maxArguments, size, typeAt, methodAt, isRef, permit, standsIn, isNil, isNone, signatureFits, keyFits, signatureBound, typeFits, tableFits, validSheet}
+use Rattle.model.specs.Table.{linksFit, Kind, sub, sup, closed, Key, Method, Table, noMethod, noType, maxTypes, maxArguments, size, typeAt, methodAt, isRef, permit, standsIn, isNil, isNone}
+use Rattle.model.specs.Table.{signatureFits, keyFits, signatureBound, typeFits, tableFits, validSheet}
 use Rattle.model.specs.Relations.{free, related}
 use Rattle.model.specs.Restriction.{mainSide, derive, derived}
 use Rattle.model.specs.Crossing.{Place, object, adapter, noPlace, placeAt}
@@ -26,7 +27,7 @@ use Rattle.modellaws.proofs.Unowned.{AllUnowned, AnswerUnowned}
 use Rattle.modellaws.proofs.Deriving.{IfSome}
 use Rattle.modellaws.proofs.Good.{Good, Derived, grown-counts, grown-sheetSigs, derive-good}
 use Rattle.modellaws.proofs.Steps.{IfOk}
-use Rattle.modellaws.proofs.Fitting.{TableFitting, all-at, at-all, at-every, signature-below, fitting-sound}
+use Rattle.modellaws.proofs.Fitting.{TableFitting, all-at, at-all, at-every, signature-below, fitting-sound, nil-is, none-is}
 use Rattle.modellaws.proofs.Sheets.{sheet-fitting, sheet-good}
 use Rattle.modellaws.proofs.Within.{PlaceIn, SystemIn, serve-in}
 use Rattle.modellaws.proofs.Checked.{derived-of, fitting-system}
@@ -45,12 +46,14 @@ module _ (t : Table) (n : ℕ) where
   answer-stands (some x) l u = both (so-ltb l) (not-false u)
 
   -- a signature fits if it is short, in range and without own, or missing where the method isn't permitted
-  signature-fits : (m : Method) → (So (permit (m .state)) → length (m .args) ≤ maxArguments) → AllBelow n (m .args) × AnswerBelow n (m .answer) → AllUnowned t (m .args) × AnswerUnowned t (m .answer)
+  signature-fits : (m : Method) → (So (permit (m .state)) → length (m .args) ≤ maxArguments) → AllBelow n (m .args) × AnswerBelow n (m .answer)
+      → AllUnowned t (m .args) × AnswerUnowned t (m .answer)
       → (permit (m .state) ≡ false → (m .args ≡ []) × (m .answer ≡ none)) → So (signatureFits t n m)
   signature-fits m s l u z = go (permit (m .state)) s z
     where
       go : (b : Bool) → (So b → length (m .args) ≤ maxArguments) → (b ≡ false → (m .args ≡ []) × (m .answer ≡ none))
-          → So (elim b [ true ↦ leb (length (m .args)) maxArguments && (all (standsIn t n) (m .args) && unlessMissing (m .answer) (standsIn t n)) | false ↦ isNil (m .args) && isNone (m .answer) ])
+          → So
+          (elim b [ true ↦ leb (length (m .args)) maxArguments && (all (standsIn t n) (m .args) && unlessMissing (m .answer) (standsIn t n)) | false ↦ isNil (m .args) && isNone (m .answer) ])
       go true s z = both (so-leb (s refl)) (both (args-stand (m .args) (l .0) (u .0)) (answer-stands (m .answer) (l .1) (u .1)))
       go false s z = let e = z refl in rw (e .0, e .1)
 
@@ -58,18 +61,11 @@ module _ (t : Table) (n : ℕ) where
 pub unsigned : (t : Table) (n : ℕ) (m : Method) → So (signatureFits t n m) → permit (m .state) ≡ false → (m .args ≡ []) × (m .answer ≡ none)
 unsigned t n m h e = go (permit (m .state)) e h
   where
-    nil : (xs : List ℕ) → So (isNil xs) → xs ≡ []
-    nil [] h = refl
-    nil (x ∷ xs) h = never h
-
-    nothing : (o : Option ℕ) → So (isNone o) → o ≡ none
-    nothing none h = refl
-    nothing (some x) h = never h
-
-    go : (b : Bool) → b ≡ false → So (elim b [ true ↦ leb (length (m .args)) maxArguments && (all (standsIn t n) (m .args) && unlessMissing (m .answer) (standsIn t n)) | false ↦ isNil (m .args) && isNone (m .answer) ])
+    go : (b : Bool) → b ≡ false
+        → So (elim b [ true ↦ leb (length (m .args)) maxArguments && (all (standsIn t n) (m .args) && unlessMissing (m .answer) (standsIn t n)) | false ↦ isNil (m .args) && isNone (m .answer) ])
         → (m .args ≡ []) × (m .answer ≡ none)
     go true e h = never (sym e)
-    go false e h = (nil (m .args) (first (isNil (m .args)) _ h), nothing (m .answer) (second (isNil (m .args)) _ h))
+    go false e h = (nil-is (m .args) (first (isNil (m .args)) _ h), none-is (m .answer) (second (isNil (m .args)) _ h))
 
 -- nor has one of a derived type
 pub derived-unsigned : (t : Table) (d : Kind) (a b c : Method) → DerivedMethod t d a b c → permit (c .state) ≡ false → (c .args ≡ []) × (c .answer ≡ none)
@@ -132,12 +128,15 @@ module _ (t₀ t : Table) (valid : So (validSheet t₀)) (good : Good t) (x : Gr
 
   type-fits : (i : ℕ) → i < size t → So (typeFits t i (typeAt t i))
   type-fits i u = let d = decLt i (t .sheet) in
-      both (so-leb (good .catIn i)) (both (own-ref i u d) (both (subst (λ n. So (eqb (length (typeAt t i .methods)) n)) (good .counts i u) (eqb-self (length (typeAt t i .methods)))) (both (signatures-fit i u d) (key-fits i u d))))
+      both (so-leb (good .catIn i))
+      (both (own-ref i u d)
+      (both (subst (λ n. So (eqb (length (typeAt t i .methods)) n)) (good .counts i u) (eqb-self (length (typeAt t i .methods)))) (both (signatures-fit i u d) (key-fits i u d))))
 
   pub grown-fits : So (tableFits t)
   unfolding tableFits
   grown-fits = let links : So (every linksFit 1 (t .cats)) = rw (x .cats) (f₀ .links) in
-      both (grown-counts t₀ t x (f₀ .counts) (good .room)) (both links (at-every (typeFits t) noType 0 (t .types) (λ i l. subst (λ n. So (typeFits t n (typeAt t i))) (omega arith) (type-fits i l))))
+      both (grown-counts t₀ t x (f₀ .counts) (good .room))
+      (both links (at-every (typeFits t) noType 0 (t .types) (λ i l. subst (λ n. So (typeFits t n (typeAt t i))) (omega arith) (type-fits i l))))
 
 -- ---- the states reached from the sheet t₀
 module _ (t₀ : Table) (valid : So (validSheet t₀)) where
@@ -168,12 +167,16 @@ module _ (t₀ : Table) (valid : So (validSheet t₀)) where
   known-ref t u g c sup l r i a b (made v e) h = rw (c i _ e .rep) (ref-grows t u r g b h)
   known-ref t u g c closed l r i a b (made v e) h = rw (c i _ e .rep) (ref-grows t u l g a h)
 
-  good-derives : (t : Table) → FromSheet t → (d : Kind) (l r : ℕ) → So (related free t l r) → IfOk (derived t d l r) (λ x. FromSheet (x .0) × Grown t (x .0) × (x .1 < size (x .0)) × (IsRef t (mainSide d l r) → IsRef (x .0) (x .1)))
+  good-derives : (t : Table) → FromSheet t → (d : Kind) (l r : ℕ) → So (related free t l r)
+      → IfOk (derived t d l r) (λ x. FromSheet (x .0) × Grown t (x .0) × (x .1 < size (x .0)) × (IsRef t (mainSide d l r) → IsRef (x .0) (x .1)))
   good-derives t k d l r h = derived-of _ t d l r (go (derive maxTypes t d l r) (derive-good t (k .0) maxTypes d l r h))
     where
-      go : (o : Option (Table × ℕ)) → IfSome o (Derived t d l r) → IfSome o (λ x. FromSheet (x .0) × Grown t (x .0) × (x .1 < size (x .0)) × (IsRef t (mainSide d l r) → IsRef (x .0) (x .1)))
+      go : (o : Option (Table × ℕ)) → IfSome o (Derived t d l r)
+          → IfSome o (λ x. FromSheet (x .0) × Grown t (x .0) × (x .1 < size (x .0)) × (IsRef t (mainSide d l r) → IsRef (x .0) (x .1)))
       go none w = tt
-      go (some x) w = let q = keeps-related free t l r h in ((w .good, grown-trans (k .1) (w .grow)), w .grow, w .inside, λ e. known-ref t (x .0) (w .grow) (w .good .complete) d l r (x .1) (q .low) (q .high) (w .is) e)
+      go (some x) w =
+          let q = keeps-related free t l r h in
+          ((w .good, grown-trans (k .1) (w .grow)), w .grow, w .inside, λ e. known-ref t (x .0) (w .grow) (w .good .complete) d l r (x .1) (q .low) (q .high) (w .is) e)
 
   abbrev Inside : System → Type 0
   Inside = SystemIn FromSheet IsRef (λ t i h. h) ref-grows sheet-size sheet-signatures (λ t k. k .0 .sigs) good-derives
@@ -186,7 +189,8 @@ module _ (t₀ : Table) (valid : So (validSheet t₀)) where
   inside-follow [] s b h = h
   inside-follow (q ∷ qs) s b h = inside-follow qs (after s (serve s q)) (feed b q (accepted (serve s q))) (inside-kept s h q)
 
-  place-fits : (s : System) (p : ℕ) (x : Place) → PlaceIn FromSheet IsRef (λ t i h. h) ref-grows sheet-size sheet-signatures (λ t k. k .0 .sigs) good-derives (s .table) p x → So (placeFits s p x)
+  place-fits : (s : System) (p : ℕ) (x : Place) → PlaceIn FromSheet IsRef (λ t i h. h) ref-grows sheet-size sheet-signatures (λ t k. k .0 .sigs) good-derives (s .table) p x
+      → So (placeFits s p x)
   place-fits s p (object c o) h = both (so-ltb (h .0)) (both (so-ltb (h .1)) (h .2))
   place-fits s p (adapter b c) h = both (so-ltb (h .0)) (both (so-ltb (h .1)) (h .2))
 
@@ -197,7 +201,8 @@ module _ (t₀ : Table) (valid : So (validSheet t₀)) where
     placeCount = h .places .count;
     callCount = h .callCount;
     cells = at-all (cellFits s) noCell (s .cells) (λ k l. let c = h .cells k l in both (so-ltb (c .holder)) (both (so-ltb (c .place)) (both (so-ltb (c .sheet)) (c .isref))));
-    places = at-every (placeFits s) noPlace 0 (s .places) (λ p l. subst (λ n. So (placeFits s n (placeAt (s .places) p))) (omega arith) (place-fits s p (placeAt (s .places) p) (h .places .each p l)));
+    places =
+        at-every (placeFits s) noPlace 0 (s .places) (λ p l. subst (λ n. So (placeFits s n (placeAt (s .places) p))) (omega arith) (place-fits s p (placeAt (s .places) p) (h .places .each p l)));
     calls = at-all (callFits s) noCall (s .calls) (λ j l. let c = h .calls j l in both (so-ltb (c .caller)) (both (so-ltb (c .cell)) (so-ltb (c .method))));
   })
 

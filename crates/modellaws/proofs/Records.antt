@@ -1,6 +1,6 @@
 -- The record that stands for a thing of the model (Handed): it means that thing, and its codes pass the check of 2.
 use mathlib.Core.Path.{_≡_, refl, ap, sym, _∙_}
-use mathlib.Core.Bool.{Bool, true, false, _&&_, _||_, So, cond}
+use mathlib.Core.Bool.{Bool, true, false, _&&_, So, cond}
 use mathlib.Core.List.{List, [], _∷_}
 use mathlib.Core.Option.{Option, none, some}
 use Prim.Native.Nat.{ℕ, suc, _≤_, _<_}
@@ -9,17 +9,20 @@ use native.Mathlib.Decide.{decLt}
 use lib.Dec.{eqb, ltb, leb}
 use lib.ListN.{length, getD}
 use Rattle.model.specs.Basics.{_⇒_, from}
-use Rattle.model.specs.Table.{State, denied, optional, avail, unavail, Rep, ref, w32, w64, Kind, sub, sup, closed, Key, Method, Ty, noMethod, maxArguments, maxMethods, isRef, permit, between, isNone, methodCount, signed}
+use Rattle.model.specs.Table.{State, denied, optional, avail, unavail, Rep, ref, w32, w64, Kind, sub, sup, closed, Key, Method, Ty, noMethod, maxArguments, maxMethods, isRef, permit}
+use Rattle.model.specs.Table.{between, isNone, methodCount, signed}
 use Rattle.model.specs.Relations.{bit}
 use Rattle.model.specs.Crossing.{Place, object, adapter}
 use Rattle.model.specs.Requests.{Call, flagged}
-use Rattle.model.specs.Check.{noRawMethod, stateOf, repOf, kindOf, answerOf, methodOf, typeOf, linksOf, placeOf, callOf, rawMethodFits, rawTypeFits}
-use Rattle.model.specs.Records.{stateCode, repCode, kindCode, answerCode, keyCodes, argumentSlots, methodRecord, typeRecord, linksRecord}
+use Rattle.model.specs.Check.{noRawMethod, stateOf, repOf, kindOf, methodOf, typeOf, linksOf, placeOf, callOf, rawMethodFits, rawTypeFits}
+use Rattle.model.specs.Records.{stateCode, repCode, kindCode, keyCodes, argumentSlots, methodRecord, typeRecord, linksRecord}
 use Rattle.model.specs.Handed.{placeRecord, callRecord}
 use Rattle.model.proofs.Tests.{leb-so, so-leb}
 use Rattle.model.proofs.Rules.{never, both, second, imply}
 use Rattle.model.proofs.Largest.{getD-from-out}
 use Rattle.model.proofs.Lists.{from-first, is-from, take-from, all-from}
+use Rattle.model.proofs.Codes.{answer-back}
+use Rattle.modellaws.proofs.Fitting.{or-right}
 
 -- ---- places and calls
 pub place-back : (p : Place) → placeOf (placeRecord p) ≡ p
@@ -58,10 +61,6 @@ pub record MethodShaped (m : Method) : Type 0 where
 
 args-back : (xs : List ℕ) → length xs ≤ argumentSlots → from (length xs) 0 (λ j. getD xs j 0) ≡ xs
 args-back xs l = is-from (λ j. getD xs j 0) (length xs) 0 xs refl (λ i p. refl)
-
-answer-back : (a : Option ℕ) → answerOf (answerCode a) ≡ a
-answer-back none = refl
-answer-back (some a) = refl
 
 abbrev MethodBack : State → List ℕ → Option ℕ → Type 0
 MethodBack s xs a = _≡_ {A = Method} (methodOf (methodRecord (signed s xs a))) (signed s xs a)
@@ -151,7 +150,8 @@ type-back methods sheet i x l h = build (rep-back (x .rep)) (x .cat)
 
 pub type-codes : (methods sheet i : ℕ) (x : Ty) → Shaped methods sheet i x → So (rawTypeFits methods sheet i (typeRecord x))
 type-codes methods sheet i x h = both (rep-code (x .rep)) (both
-    (imply (isRef (repOf (repCode (x .rep)))) _ λ _. both (flag-code (x .own)) (all-from (λ j. getD (typeRecord x .methods) j noRawMethod) rawMethodFits methods 0 λ j a b. go j (decLt j maxMethods)))
+    (imply (isRef (repOf (repCode (x .rep)))) _ λ _.
+    both (flag-code (x .own)) (all-from (λ j. getD (typeRecord x .methods) j noRawMethod) rawMethodFits methods 0 λ j a b. go j (decLt j maxMethods)))
     (or-right (ltb i sheet) (key-code (x .key))))
   where
     rep-code : (r : Rep) → So (ltb (repCode r) 3)
@@ -167,10 +167,6 @@ type-codes methods sheet i x h = both (rep-code (x .rep)) (both
     key-code : (o : Option Key) → So (ltb (keyCodes o .0) 3)
     key-code none = refl
     key-code (some k) = kind-code (k .kind)
-
-    or-right : (a : Bool) {b : Bool} → So b → So (a || b)
-    or-right true h = refl
-    or-right false h = h
 
     go : (j : ℕ) → Dec (j < maxMethods) → So (rawMethodFits (getD (typeRecord x .methods) j noRawMethod))
     go j (yes l) = rw (method-at x j l) (method-codes (getD (x .methods) j noMethod) (h .method j .short))

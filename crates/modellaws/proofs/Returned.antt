@@ -5,7 +5,7 @@ use mathlib.Core.Logic.{_⊎_, inl, inr}
 use mathlib.Core.Bool.{Bool, true, false, So, cond}
 use mathlib.Core.List.{List, [], _∷_, _++_, map}
 use mathlib.Core.Option.{Option, none, some}
-use Prim.Native.Nat.{ℕ, zero, suc, _+_, _≤_, _<_}
+use Prim.Native.Nat.{ℕ, zero, suc, _≤_, _<_}
 use native.Mathlib.Nat.{zero-add}
 use native.Mathlib.Omega.{arith}
 use native.Mathlib.Decide.{decLt}
@@ -17,7 +17,8 @@ use Rattle.model.specs.Relations.{free, related}
 use Rattle.model.specs.Restriction.{derive, derived}
 use Rattle.model.specs.Crossing.{Place, noPlace, placeAt}
 use Rattle.model.specs.Requests.{Cell, Call, System, Request, Result, refused, noCell, noCall, callAt, flagged, loaded, serve, after}
-use Rattle.model.specs.Check.{RawType, RawTable, RawPlace, RawCall, RawSystem, noRawType, noRawLinks, noRawPlace, noRawCall, typeOf, linksOf, placeOf, callOf, firstOf, typesOf, tableOf, systemOf, rawTypeFits, codesFit, stateCodesFit, systemFits, systemAccepted}
+use Rattle.model.specs.Check.{RawType, RawTable, RawPlace, RawCall, RawSystem, noRawType, noRawLinks, noRawPlace, noRawCall, typeOf, linksOf, placeOf, callOf, firstOf, typesOf, tableOf}
+use Rattle.model.specs.Check.{systemOf, rawTypeFits, codesFit, stateCodesFit, systemFits, systemAccepted}
 use Rattle.model.specs.Records.{typeRecord}
 use Rattle.model.specs.Handed.{placeRecord, callRecord, storedTable, storedFrom, counted, handBack, serveHanded, Returns}
 use Rattle.model.specs.Book.{Book, opened}
@@ -67,7 +68,8 @@ module _ (t₀ : Table) where
 
   pub added-derives : (t : Table) → Added t → (d : Kind) (l r : ℕ) → So (related free t l r)
       → IfOk (derived t d l r) (λ x. Added (x .0) × Grown t (x .0) × (x .1 < size (x .0)) × (Unit {0} → Unit {0}))
-  added-derives t a d l r h = derived-of _ t d l r (go (derive maxTypes t d l r) (derive-inv t (a .sound .methods) maxTypes d l r h) (derive-sound t (a .sound) maxTypes d l r h (counted-of t (a .sound .counts) .types)))
+  added-derives t a d l r h =
+      derived-of _ t d l r (go (derive maxTypes t d l r) (derive-inv t (a .sound .methods) maxTypes d l r h) (derive-sound t (a .sound) maxTypes d l r h (counted-of t (a .sound .counts) .types)))
     where
       go : (o : Option (Table × ℕ)) → IfSome o (Got t t (λ j. ⊥) d l r) → IfSome o (λ x. Sound (x .0) × Grown t (x .0) × (x .1 < size (x .0)))
           → IfSome o (λ x. Added (x .0) × Grown t (x .0) × (x .1 < size (x .0)) × (Unit {0} → Unit {0}))
@@ -138,9 +140,6 @@ module _ (r : RawTable) (fits : So (tableFits (tableOf r))) (t : Table) (a : Add
   -- the record of type i, and what it means
   abbrev recordAt : ℕ → RawType
   recordAt i = cond (ltb i (r .types)) (getD (r .records) i noRawType) (typeRecord (typeAt t i))
-
-  pub record-before : (i : ℕ) → i < r .types → recordAt i ≡ getD (r .records) i noRawType
-  record-before i l = ap (λ b. cond b (getD (r .records) i noRawType) (typeRecord (typeAt t i))) (so-ltb l)
 
   record-means : (i : ℕ) → i < size t → typeOf (r .methods) (r .sheet) i (recordAt i) ≡ typeAt t i
   record-means i l = go (ltb i (r .types)) refl
@@ -316,7 +315,7 @@ module _ (r : RawTable) (fits : So (tableFits (tableOf r))) (codes : So (codesFi
           (omega (arith, length-from (λ i. getD (r .records) i noRawType) (r .types) 0))))
       go i l false e = type-codes (r .methods) (r .sheet) i (typeAt t i) (new-shaped r fits t a i (ltb-no e) l)
 
-stored-state-codes : (r : RawSystem) (s : System) → So (stateCodesFit (storedFrom r s))
+pub stored-state-codes : (r : RawSystem) (s : System) → So (stateCodesFit (storedFrom r s))
 unfolding stateCodesFit storedFrom
 stored-state-codes r s = both
     (all-from _ (λ p. ltb (p .code) 2) (length (s .places)) 0 λ p l k. rw (List·getD-map placeRecord (s .places) p noPlace) (place-code (placeAt (s .places) p)))

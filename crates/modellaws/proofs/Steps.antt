@@ -33,6 +33,10 @@ pub ok-map : {A : Type 0} (P Q : A → Type 0) → ((a : A) → P a → Q a) →
 ok-map P Q f (refuse e) h = tt
 ok-map P Q f (ok a) h = f a h
 
+pub whatever : {A : Type 0} (m : Res A) → IfOk m (λ _. Unit {0})
+whatever (refuse e) = tt
+whatever (ok a) = tt
+
 pub ok-need : {B : Type 0} (Q : B → Type 0) (b : Bool) (e : ℕ) (k : Unit {0} → Res B) → (So b → IfOk (k tt) Q) → IfOk (need b e k) Q
 ok-need Q true e k h = h refl
 ok-need Q false e k h = tt
@@ -110,7 +114,8 @@ finish-ok t g r v l s = go (related conforms t r v) refl
         let f = loose→free t r v (strict→loose t r v h) in
         ok-try (Derived t closed r v) (Finished t r v) (derived t closed r v) (λ p. ok (p .0, some (p .1))) (derived-ok t g closed r v f) λ p d.
         let u = p .0 in let c = d .good in
-        let m : (w : List ℕ) → Permits u (p .1) w ↔ (Permits u r w × Permits u v w) = λ w. meet-closed u (c .complete) w r v (p .1) (settled-grow t u (d .grow) v l s) (related-grow t u (d .grow) free r v f) (d .is) in
+        let m : (w : List ℕ) → Permits u (p .1) w ↔ (Permits u r w × Permits u v w) = λ w.
+        meet-closed u (c .complete) w r v (p .1) (settled-grow t u (d .grow) v l s) (related-grow t u (d .grow) free r v f) (d .is) in
         record {
           good = c;
           grow = d .grow;
@@ -190,4 +195,5 @@ module _ (t : Table) (good : Good t) (s g v c : ℕ) (vIn : v < size t) (cIn : c
       go true d e = ok-need (Passed t s g v c) (related free t g s) 8 (λ _. need owns 9 λ _. try (finish t g c) λ p. ok (record { table = p .0; unwraps = true; adapter = p .1 })) λ h.
           ok-need (Passed t s g v c) owns 9 (λ _. try (finish t g c) λ p. ok (record { table = p .0; unwraps = true; adapter = p .1 })) λ k. own-ok
       go false true e = ok-need (Passed t s g v c) (related loose t g s) 8 (λ _. ok (record { table = t; unwraps = false; adapter = none })) λ h. pass-ok e
-      go false false e = ok-need (Passed t s g v c) (related loose t g s) 8 (λ _. try (derived t sub g s) λ p. try (finish (p .0) (p .1) v) λ q. ok (record { table = q .0; unwraps = false; adapter = q .1 })) λ h. sub-ok h
+      go false false e = ok-need (Passed t s g v c) (related loose t g s) 8
+          (λ _. try (derived t sub g s) λ p. try (finish (p .0) (p .1) v) λ q. ok (record { table = q .0; unwraps = false; adapter = q .1 })) λ h. sub-ok h

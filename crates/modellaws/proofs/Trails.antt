@@ -4,7 +4,7 @@ use mathlib.Core.Logic.{_↔_}
 use mathlib.Core.Bool.{Bool, true, false, So, cond}
 use mathlib.Core.List.{List, [], _∷_, _++_}
 use mathlib.Core.Option.{Option, none, some}
-use Prim.Native.Nat.{ℕ, zero, suc, _+_, _<_}
+use Prim.Native.Nat.{ℕ, zero, suc, _<_}
 use native.Mathlib.Nat.{not-suc-le-zero}
 use native.Mathlib.Omega.{arith}
 use lib.Dec.{eqb, ltb}
@@ -58,7 +58,8 @@ pub layers-are : (f : ℕ) (ps : List Place) (p c : ℕ) (ks : List ℕ) → p <
 unfolding layers
 layers-are zero ps p c ks l u = absurd (not-suc-le-zero l)
 layers-are (suc f) ps p c [] l u = ap (λ x. elim x [ object c o ↦ c ∷ [] | adapter b c ↦ c ∷ layers f ps b ]) (u .2)
-layers-are (suc f) ps p c (k ∷ ks) l u = ap (λ x. elim x [ object c o ↦ c ∷ [] | adapter b c ↦ c ∷ layers f ps b ]) (u .2) ∙ ap {B = List ℕ} (λ x. k ∷ x) (layers-are f ps (u .0) c ks (omega (arith, u .3)) (u .4))
+layers-are (suc f) ps p c (k ∷ ks) l u = ap (λ x. elim x [ object c o ↦ c ∷ [] | adapter b c ↦ c ∷ layers f ps b ]) (u .2)
+    ∙ ap {B = List ℕ} (λ x. k ∷ x) (layers-are f ps (u .0) c ks (omega (arith, u .3)) (u .4))
 
 -- Reference f has page g.
 pub record Track (f : Reference) (g : Page) : Type 0 where
@@ -128,7 +129,8 @@ adapt-is t ps to r p b w = go (related conforms t r v) (related strict t r v) (d
     go : (c s : Bool) (m : Res (Table × ℕ)) → _≡_ {A = Res Reference}
         (elim c [
           | true ↦ ok (record { table = t; places = ps; type = to; place = cond w b p })
-          | false ↦ need s 10 λ _. try m λ x. need (ltb (length ps) maxPlaces) 12 λ _. ok (record { table = x .0; places = ps ++ (adapter (cond w b p) (x .1) ∷ []); type = to; place = length ps })
+          | false ↦ need s 10 λ _. try m λ x. need (ltb (length ps) maxPlaces) 12 λ _.
+              ok (record { table = x .0; places = ps ++ (adapter (cond w b p) (x .1) ∷ []); type = to; place = length ps })
         ])
         (try (try (elim c as (λ _. Res (Table × Option ℕ)) [ true ↦ ok (t, none) | false ↦ need s 10 λ _. try m λ p. ok (p .0, some (p .1)) ]) (mark w)) (land ps to p b))
     go true s m = refl
@@ -138,7 +140,8 @@ adapt-is t ps to r p b w = go (related conforms t r v) (related strict t r v) (d
 
 -- the crossing is the crossing by types, then landed
 pub cross-is : (f : Reference) (to r : ℕ) → let b = baseOf (f .places) (f .place) in
-    cross f to r ≡ try (typed (f .table) (f .type) to (placeType (placeAt (f .places) (f .place))) (placeType (placeAt (f .places) b)) (eqb r (ownerOf (placeAt (f .places) b)))) (land (f .places) to (f .place) b)
+    cross f to r ≡ try (typed (f .table) (f .type) to (placeType (placeAt (f .places) (f .place))) (placeType (placeAt (f .places) b)) (eqb r (ownerOf (placeAt (f .places) b))))
+    (land (f .places) to (f .place) b)
 unfolding cross typed land
 cross-is f to r = go (typeAt t to .own) (related free t to s) (eqb r (ownerOf (placeAt ps b))) (related loose t to s) (related subtype t to s) (derived t sub to s)
   where
@@ -164,7 +167,8 @@ cross-is f to r = go (typeAt t to .own) (related free t to s) (eqb r (ownerOf (p
         ])
         (try (elim own as (λ _. Res Crossed) [
           | true ↦ need fr 8 λ _. need ow 9 λ _. try (finish t to (placeType (placeAt ps b))) (mark true)
-          | false ↦ need lo 8 λ _. elim st [ true ↦ ok (record { table = t; unwraps = false; adapter = none }) | false ↦ try m λ x. try (finish (x .0) (x .1) (placeType (placeAt ps p))) (mark false) ]
+          | false ↦ need lo 8 λ _.
+              elim st [ true ↦ ok (record { table = t; unwraps = false; adapter = none }) | false ↦ try m λ x. try (finish (x .0) (x .1) (placeType (placeAt ps p))) (mark false) ]
         ]) (land ps to p b))
     go true true true lo st m = adapt-is t ps to to p b true
     go true true false lo st m = refl
@@ -182,7 +186,8 @@ add (some c) xs = c ∷ xs
 abbrev pub crossedPage : Page → ℕ → Crossed → Page
 crossedPage g to x = record { class = g .class; closed = add (x .adapter) (cond (x .unwraps) [] (g .closed)); trail = to ∷ cond (x .unwraps) [] (g .trail) }
 
-page-adapts : (t : Table) (g : Page) (to r : ℕ) → IfOk (finish t r (lastClosed g)) (λ q. pageAdapt t g to r ≡ (q .0, record { class = g .class; closed = add (q .1) (g .closed); trail = to ∷ g .trail }))
+page-adapts : (t : Table) (g : Page) (to r : ℕ) → IfOk (finish t r (lastClosed g))
+    (λ q. pageAdapt t g to r ≡ (q .0, record { class = g .class; closed = add (q .1) (g .closed); trail = to ∷ g .trail }))
 unfolding finish pageAdapt derived
 page-adapts t g to r = go (related conforms t r (lastClosed g)) (related strict t r (lastClosed g)) (derive maxTypes t closed r (lastClosed g))
   where
@@ -310,7 +315,8 @@ module _ (f : Reference) (good : Good (f .table)) (g : Page) (k : Track f g) (to
   pub cross-ok : (r : ℕ) → IfOk (cross f to r) (Flown f (pageCross (f .table) g to))
   unfolding b
   cross-ok r = subst (λ m. IfOk m (Flown f (pageCross (f .table) g to))) (sym (cross-is f to r))
-      (go (placeType (placeAt (f .places) (f .place))) (unwinds-type (f .places) (f .place) (g .class) (g .closed) (k .unwinds)) (placeType (placeAt (f .places) b)) (unwinds-type (f .places) b (g .class) [] atBase)
+      (go (placeType (placeAt (f .places) (f .place))) (unwinds-type (f .places) (f .place) (g .class) (g .closed) (k .unwinds)) (placeType (placeAt (f .places) b))
+      (unwinds-type (f .places) b (g .class) [] atBase)
       (eqb r (ownerOf (placeAt (f .places) b))))
     where
       t : Table
@@ -323,7 +329,8 @@ module _ (f : Reference) (good : Good (f .table)) (g : Page) (k : Track f g) (to
       go v e c h o = subst (λ y. IfOk (try (typed t (f .type) to y c o) (land (f .places) to (f .place) b)) (Flown f (pageCross t g to))) (sym e)
           (subst (λ y. IfOk (try (typed t (f .type) to (lastClosed g) y o) (land (f .places) to (f .place) b)) (Flown f (pageCross t g to))) (sym h)
           (from-typed (typed t (f .type) to (lastClosed g) (g .class) o)
-          (typed-ok t good (f .type) to (lastClosed g) (g .class) (keeps-related conforms t (f .type) (lastClosed g) (k .below) .high) (k .classIn) (k .settled) (k .classSettled) (k .below) o) (held o)))
+          (typed-ok t good (f .type) to (lastClosed g) (g .class) (keeps-related conforms t (f .type) (lastClosed g) (k .below) .high) (k .classIn) (k .settled) (k .classSettled) (k .below) o)
+          (held o)))
 
 pub ok-renumber : {A : Type 0} (Q : A → Type 0) (b : Bool) (m : Res A) → IfOk m Q → IfOk (renumber b m) Q
 ok-renumber Q b (refuse e) h = tt
@@ -333,7 +340,8 @@ flown-on : {f g h : Reference} {b c : Table × Page} → Flown f b g → Flown g
 flown-on p q = record { good = q .good; grow = grown-trans (p .grow) (q .grow); kept = prefix-trans noPlace (p .kept) (q .kept); book = q .book; track = q .track; trailed = q .trailed }
 
 -- so do several in turn
-pub crossLayers-ok : (ts : List (Option ℕ)) (first : Bool) (f : Reference) → Good (f .table) → (r : ℕ) (g : Page) → Track f g → Trailed f g → IfOk (crossLayers first f r ts) (Flown f (pageCrossAll (f .table) g ts))
+pub crossLayers-ok : (ts : List (Option ℕ)) (first : Bool) (f : Reference) → Good (f .table) → (r : ℕ) (g : Page) → Track f g → Trailed f g
+    → IfOk (crossLayers first f r ts) (Flown f (pageCrossAll (f .table) g ts))
 unfolding crossLayers pageCrossAll
 crossLayers-ok [] c f good r g k z = record { good = good; grow = grown-refl (f .table); kept = prefix-refl noPlace (f .places); book = refl; track = k; trailed = z }
 crossLayers-ok (none ∷ ts) c f good r g k z = tt

@@ -53,7 +53,10 @@ module _ (t : Table) (plain : UnownedSignatures t) where
         at = λ m. record {
           state = r .at m .state;
           signature = λ c d. let s = r .at m .signature c d in
-              record { args = args-half (methodAt t a m .args) (methodAt t b m .args) (plain b m .0) (s .args); answer = ans-half (methodAt t a m .answer) (methodAt t b m .answer) (plain a m .1) (s .answer) };
+              record {
+                args = args-half (methodAt t a m .args) (methodAt t b m .args) (plain b m .0) (s .args);
+                answer = ans-half (methodAt t a m .answer) (methodAt t b m .answer) (plain a m .1) (s .answer);
+              };
         };
       }
 
@@ -63,7 +66,3 @@ module _ (t : Table) (plain : UnownedSignatures t) where
     (λ h. (subtype→conforms t a b h, second (catLe t (typeAt t a .cat) (typeAt t b .cat)) _ (second (sameRep (typeAt t a .rep) (typeAt t b .rep)) _ (keeps-related subtype t a b h .outer)))),
     λ h. largest subtype t Half half-keeps a b h,
   )
-
-  -- so what lies below a type without own is a subtype of it: Sub(T,S) of T, Closed(R,V) of R (Order: sub-le, closed-le), and S of Sup(T,S) (sup-le)
-  pub conforms-subtype : (a b : ℕ) → typeAt t a .own ≡ false → So (related conforms t a b) → So (related subtype t a b)
-  conforms-subtype a b e h = subtype-is a b .1 (h, rw e)

@@ -3,7 +3,7 @@ use mathlib.Core.Path.{_≡_, refl, ap, sym, subst, _∙_}
 use mathlib.Core.Bool.{Bool, true, false, not, _&&_, So}
 use mathlib.Core.List.{List, [], _∷_, _++_, map, reverse, reverseAux}
 use mathlib.Core.Option.{Option, none, some}
-use Prim.Native.Nat.{ℕ, zero, suc, _+_, _≤_, _<_}
+use Prim.Native.Nat.{ℕ, zero, suc, _≤_, _<_}
 use native.Mathlib.Nat.{not-suc-le-zero}
 use native.Mathlib.Omega.{arith}
 use native.Mathlib.Decide.{decLt, ℕ-discrete}
@@ -16,7 +16,9 @@ use Rattle.model.specs.Table.{Kind, sub, closed, Table, noMethod, size, typeAt,
 use Rattle.model.specs.Relations.{conforms, strict, loose, free, subtype, related}
 use Rattle.model.specs.Restriction.{mainSide, derived}
 use Rattle.model.specs.Crossing.{Place, object, adapter, noPlace, maxPlaces, placeType, ownerOf, placeAt, base, baseOf, baseOwner, Reference, adapt, cross}
-use Rattle.model.specs.Requests.{Cell, Call, System, maxCells, maxCalls, Request, new, move, call, answer, Result, pair, number, noCell, noCall, cellAt, callAt, isSheetRef, held, leaving, withCell, addCell, newRequest, moveRequest, layers, layersOf, adapterCount, wayOf, renumber, crossLayers, passLayers, send, argumentsHeld, sendArguments, withCall, callRequest, flagged, withAnswer, give, answerRequest, serve, after}
+use Rattle.model.specs.Requests.{Cell, Call, System, maxCells, maxCalls, Request, new, move, call, answer, Result, pair, number, noCell, noCall, cellAt, callAt, isSheetRef, held, leaving}
+use Rattle.model.specs.Requests.{withCell, addCell, newRequest, moveRequest, layers, layersOf, adapterCount, wayOf, renumber, crossLayers, passLayers, send, argumentsHeld, sendArguments}
+use Rattle.model.specs.Requests.{withCall, callRequest, flagged, withAnswer, give, answerRequest, serve, after}
 use Rattle.model.proofs.Tests.{ltb-so}
 use Rattle.model.proofs.Rules.{first, second}
 use Rattle.model.proofs.Derived.{AnswerBelow, SignaturesIn}
@@ -24,19 +26,14 @@ use Rattle.model.proofs.Order.{strict→loose, loose→free}
 use Rattle.model.proofs.ChainLaws.{sort-eq}
 use Rattle.model.proofs.Growth.{Grown, grown-refl, grown-trans}
 use Rattle.modellaws.proofs.Completes.{all-below-more}
-use Rattle.modellaws.proofs.Steps.{IfOk, ok-try, ok-map, ok-need}
+use Rattle.modellaws.proofs.Steps.{IfOk, ok-try, ok-map, ok-need, whatever}
 use Rattle.modellaws.proofs.Trails.{ok-renumber}
-use Rattle.modellaws.proofs.Demand3.{names-below, held-in, Held, arguments-in, held-more, whatever}
-
--- a type that may be missing is below n
-abbrev Below : ℕ → Option ℕ → Type 0
-Below n none = Unit
-Below n (some x) = x < n
+use Rattle.modellaws.proofs.Demand3.{names-below, held-in, Held, arguments-in, held-more}
 
 -- a list has a last entry, and it is below n
 abbrev LastBelow : ℕ → List (Option ℕ) → Type 0
 LastBelow n [] = ⊥
-LastBelow n (x ∷ []) = Below n x
+LastBelow n (x ∷ []) = AnswerBelow n x
 LastBelow n (x ∷ y ∷ ts) = LastBelow n (y ∷ ts)
 
 -- TP is what is known of the table, RF what is known of a type that is to stand in an adapter.
@@ -46,7 +43,8 @@ module _ (TP : Table → Type 0) (RF : Table → ℕ → Type 0)
     (sheet-in : (t : Table) → TP t → t .sheet ≤ size t)
     (sheet-sigs : (t : Table) → TP t → (a m : ℕ) → a < t .sheet → AllBelow (t .sheet) (methodAt t a m .args) × AnswerBelow (t .sheet) (methodAt t a m .answer))
     (sigs-in : (t : Table) → TP t → SignaturesIn t)
-    (deriving-ok : (t : Table) → TP t → (d : Kind) (l r : ℕ) → So (related free t l r) → IfOk (derived t d l r) (λ x. TP (x .0) × Grown t (x .0) × (x .1 < size (x .0)) × (RF t (mainSide d l r) → RF (x .0) (x .1)))) where
+    (deriving-ok : (t : Table) → TP t → (d : Kind) (l r : ℕ) → So (related free t l r)
+    → IfOk (derived t d l r) (λ x. TP (x .0) × Grown t (x .0) × (x .1 < size (x .0)) × (RF t (mainSide d l r) → RF (x .0) (x .1)))) where
   abbrev pub PlaceIn : Table → ℕ → Place → Type 0
   PlaceIn t p (object c o) = (o < t .subjects) × (c < t .sheet) × So (isClass (typeAt t c))
   PlaceIn t p (adapter b c) = (b < p) × (c < size t) × RF t c
@@ -91,7 +89,7 @@ module _ (TP : Table → Type 0) (RF : Table → ℕ → Type 0)
         go (object c o) e k ih = rw e (k .0)
         go (adapter b c) e k ih = ih b (omega (arith, k .0)) (omega (arith, k .0))
 
-    layers-last : (g : ℕ → Option ℕ) (n : ℕ) → ((c : ℕ) → c < t .sheet → Below n (g c)) → (f p : ℕ) → p < f → p < length ps → LastBelow n (map g (layers f ps p))
+    layers-last : (g : ℕ → Option ℕ) (n : ℕ) → ((c : ℕ) → c < t .sheet → AnswerBelow n (g c)) → (f p : ℕ) → p < f → p < length ps → LastBelow n (map g (layers f ps p))
     unfolding layers
     layers-last g n s zero p u l = absurd (not-suc-le-zero u)
     layers-last g n s (suc f) p u l = go (placeAt ps p) (h .each p l) (layers-last g n s f)
@@ -100,7 +98,8 @@ module _ (TP : Table → Type 0) (RF : Table → ℕ → Type 0)
         more c [] h = absurd h
         more c (x ∷ xs) h = h
 
-        go : (x : Place) → PlaceIn t p x → ((b : ℕ) → b < f → b < length ps → LastBelow n (map g (layers f ps b))) → LastBelow n (map g (elim x [ object c o ↦ c ∷ [] | adapter b c ↦ c ∷ layers f ps b ]))
+        go : (x : Place) → PlaceIn t p x → ((b : ℕ) → b < f → b < length ps → LastBelow n (map g (layers f ps b)))
+            → LastBelow n (map g (elim x [ object c o ↦ c ∷ [] | adapter b c ↦ c ∷ layers f ps b ]))
         go (object c o) k ih = s c (k .1)
         go (adapter b c) k ih = more c (layers f ps b) (ih b (omega (arith, k .0)) (omega (arith, k .0)))
 
@@ -109,7 +108,8 @@ module _ (TP : Table → Type 0) (RF : Table → ℕ → Type 0)
     layers-below zero p q l = tt
     layers-below (suc f) p q l = go (placeAt ps p) (h .each p l) (λ b. layers-below f b q)
       where
-        go : (x : Place) → PlaceIn t p x → ((b : ℕ) → b < length ps → AllBelow (size t) (layers f ps b)) → AllBelow (size t) (elim x [ object c o ↦ c ∷ [] | adapter b c ↦ c ∷ layers f ps b ])
+        go : (x : Place) → PlaceIn t p x → ((b : ℕ) → b < length ps → AllBelow (size t) (layers f ps b))
+            → AllBelow (size t) (elim x [ object c o ↦ c ∷ [] | adapter b c ↦ c ∷ layers f ps b ])
         go (object c o) k ih = (omega (arith, k .1), tt)
         go (adapter b c) k ih = (k .1, ih b (omega (arith, k .0)))
 
@@ -127,7 +127,8 @@ module _ (TP : Table → Type 0) (RF : Table → ℕ → Type 0)
     pub type : g .type ≡ to
 
   -- X6 to X10: the reference f has reached the table t
-  adapt-in : (f : Reference) → TP (f .table) → (t : Table) → Grown (f .table) t → TP t → PlacesIn t (f .places) → (to r p : ℕ) → So (isRef (typeAt t to .rep)) → to < size t → RF t r → p < length (f .places)
+  adapt-in : (f : Reference) → TP (f .table) → (t : Table) → Grown (f .table) t → TP t → PlacesIn t (f .places) → (to r p : ℕ) → So (isRef (typeAt t to .rep)) → to < size t
+      → RF t r → p < length (f .places)
       → IfOk (adapt t (f .places) to r p) (Arrived f to)
   unfolding adapt
   adapt-in f kf t gf k h to r p isr toIn rf l = go (related conforms t r v) (related strict t r v) refl
@@ -140,7 +141,8 @@ module _ (TP : Table → Type 0) (RF : Table → ℕ → Type 0)
 
       go : (c s : Bool) → related strict t r v ≡ s → IfOk (elim c [
         | true ↦ ok (record { table = t; places = ps; type = to; place = p })
-        | false ↦ need s 10 λ _. try (derived t closed r v) λ x. need (ltb (length ps) maxPlaces) 12 λ _. ok (record { table = x .0; places = ps ++ (adapter p (x .1) ∷ []); type = to; place = length ps })
+        | false ↦ need s 10 λ _. try (derived t closed r v) λ x. need (ltb (length ps) maxPlaces) 12 λ _.
+            ok (record { table = x .0; places = ps ++ (adapter p (x .1) ∷ []); type = to; place = length ps })
       ]) (Arrived f to)
       go true s e = record { within = record { table = k; places = h; place = l; isref = isr }; grow = gf; more = omega arith; type = refl }
       go false false e = tt
@@ -177,22 +179,26 @@ module _ (TP : Table → Type 0) (RF : Table → ℕ → Type 0)
 
       go : (own fr : Bool) → related free t to s ≡ fr → (lo : Bool) → related loose t to s ≡ lo → (st : Bool) → IfOk (elim own [
         | true ↦ need fr 8 λ _. need (eqb r (baseOwner ps (f .place))) 9 λ _. adapt t ps to to (baseOf ps (f .place))
-        | false ↦ need lo 8 λ _. elim st [ true ↦ ok (record { table = t; places = ps; type = to; place = f .place }) | false ↦ try (derived t sub to s) λ x. adapt (x .0) ps to (x .1) (f .place) ]
+        | false ↦ need lo 8 λ _.
+            elim st [ true ↦ ok (record { table = t; places = ps; type = to; place = f .place }) | false ↦ try (derived t sub to s) λ x. adapt (x .0) ps to (x .1) (f .place) ]
       ]) (Arrived f to)
       go true true e lo d st = ok-need (Arrived f to) (eqb r (baseOwner ps (f .place))) 9 _ λ _.
-          adapt-in f (k .table) t (grown-refl t) (k .table) (k .places) to to (baseOf ps (f .place)) (ref-to e) toIn (rf-ref t to (ref-to e)) (base-in t ps (k .places) (length ps) (f .place) (k .place))
+          adapt-in f (k .table) t (grown-refl t) (k .table) (k .places) to to (baseOf ps (f .place)) (ref-to e) toIn (rf-ref t to (ref-to e))
+          (base-in t ps (k .places) (length ps) (f .place) (k .place))
       go true false e lo d st = tt
-      go false fr e true d true = record { within = record { table = k .table; places = k .places; place = k .place; isref = ref-to (loose→free t to s d) }; grow = grown-refl t; more = omega arith; type = refl }
+      go false fr e true d true =
+          record { within = record { table = k .table; places = k .places; place = k .place; isref = ref-to (loose→free t to s d) }; grow = grown-refl t; more = omega arith; type = refl }
       go false fr e true d false = let h = loose→free t to s d in ok-try _ (Arrived f to) (derived t sub to s) _ (deriving-ok t (k .table) sub to s h) λ x w.
-          adapt-in f (k .table) (x .0) (w .1) (w .0) (places-grow t (x .0) (k .table) (w .1) ps (k .places)) to (x .1) (f .place) (rw (w .1 .same to toIn) (ref-to h)) (omega (arith, w .1 .more)) (w .3 (rf-ref t to (ref-to h))) (k .place)
+          adapt-in f (k .table) (x .0) (w .1) (w .0) (places-grow t (x .0) (k .table) (w .1) ps (k .places)) to (x .1) (f .place) (rw (w .1 .same to toIn) (ref-to h)) (omega (arith, w .1 .more))
+          (w .3 (rf-ref t to (ref-to h))) (k .place)
       go false fr e false d st = tt
 
   -- every type of a list, if there, lies in the table
   abbrev AllIn : ℕ → List (Option ℕ) → Type 0
   AllIn n [] = Unit
-  AllIn n (x ∷ ts) = Below n x × AllIn n ts
+  AllIn n (x ∷ ts) = AnswerBelow n x × AllIn n ts
 
-  below-more : (n k : ℕ) → n ≤ k → (x : Option ℕ) → Below n x → Below k x
+  below-more : (n k : ℕ) → n ≤ k → (x : Option ℕ) → AnswerBelow n x → AnswerBelow k x
   below-more n k l none h = tt
   below-more n k l (some x) h = omega arith
 
@@ -210,13 +216,16 @@ module _ (TP : Table → Type 0) (RF : Table → ℕ → Type 0)
   landed-one : (f : Reference) (to : ℕ) → to < f .table .sheet → (g : Reference) → Arrived f to g → Landed f g
   landed-one f to l g a = record { within = a .within; grow = a .grow; more = a .more; sheet = rw (a .type, a .grow .sheet) l }
 
-  crossLayers-in : (ts : List (Option ℕ)) (b : Bool) (f : Reference) → ReferenceIn f → (r : ℕ) → LastBelow (f .table .sheet) ts → AllIn (size (f .table)) ts → IfOk (crossLayers b f r ts) (Landed f)
+  crossLayers-in : (ts : List (Option ℕ)) (b : Bool) (f : Reference) → ReferenceIn f → (r : ℕ) → LastBelow (f .table .sheet) ts → AllIn (size (f .table)) ts
+      → IfOk (crossLayers b f r ts) (Landed f)
   unfolding crossLayers
   crossLayers-in [] b f k r h a = absurd h
   crossLayers-in (none ∷ ts) b f k r h a = tt
-  crossLayers-in (some x ∷ []) b f k r h a = ok-try (Arrived f x) (Landed f) (renumber b (cross f x r)) _ (ok-renumber (Arrived f x) b (cross f x r) (cross-in f k x r (a .0))) λ g w. landed-one f x h g w
+  crossLayers-in (some x ∷ []) b f k r h a = ok-try (Arrived f x) (Landed f) (renumber b (cross f x r)) _ (ok-renumber (Arrived f x) b (cross f x r) (cross-in f k x r (a .0))) λ g w.
+      landed-one f x h g w
   crossLayers-in (some x ∷ y ∷ ts) b f k r h a = ok-try (Arrived f x) (Landed f) (renumber b (cross f x r)) _ (ok-renumber (Arrived f x) b (cross f x r) (cross-in f k x r (a .0))) λ g w.
-      ok-map (Landed g) (Landed f) (λ e z. record { within = z .within; grow = grown-trans (w .grow) (z .grow); more = omega (arith, w .more, z .more); sheet = z .sheet }) (crossLayers false g r (y ∷ ts))
+      ok-map (Landed g) (Landed f) (λ e z. record { within = z .within; grow = grown-trans (w .grow) (z .grow); more = omega (arith, w .more, z .more); sheet = z .sheet })
+      (crossLayers false g r (y ∷ ts))
       (crossLayers-in (y ∷ ts) false g (w .within) r (subst (λ n. LastBelow n (y ∷ ts)) (sym (w .grow .sheet)) h) (all-more (size (f .table)) (size (g .table)) (w .grow .more) (y ∷ ts) (a .1)))
 
   -- ---- states
@@ -261,7 +270,8 @@ module _ (TP : Table → Type 0) (RF : Table → ℕ → Type 0)
     pub more : length (s .cells) ≤ length (s′ .cells)
     pub calls : s′ .calls ≡ s .calls
 
-  addCell-in : (s : System) → SystemIn s → (r : ℕ) → r < s .table .subjects → (f₀ : Reference) → f₀ .table ≡ s .table → length (s .places) ≤ length (f₀ .places) → (f : Reference) → Landed f₀ f
+  addCell-in : (s : System) → SystemIn s → (r : ℕ) → r < s .table .subjects → (f₀ : Reference) → f₀ .table ≡ s .table → length (s .places) ≤ length (f₀ .places)
+      → (f : Reference) → Landed f₀ f
       → IfOk (addCell s r f) (λ x. Left s (x .0))
   unfolding addCell
   addCell-in s h r rIn f₀ e m f w = ok-need _ (ltb (length (s .cells)) maxCells) 13 _ λ room.
@@ -295,22 +305,19 @@ module _ (TP : Table → Type 0) (RF : Table → ℕ → Type 0)
       go g k (no i) u = let q : length (s .cells) ≡ k = omega arith in rw (getD-at (s .cells) c [] noCell k q)
           (record { holder = rw (g .subjects) rIn; place = w .within .place; sheet = w .sheet; isref = w .within .isref })
 
-  send-in : (s : System) → SystemIn s → (r : ℕ) → r < s .table .subjects → (k : ℕ) → k < length (s .cells) → (ts : List (Option ℕ)) → LastBelow (s .table .sheet) ts → AllIn (size (s .table)) ts → IfOk (send s r k ts) (λ x. Left s (x .0))
+  send-in : (s : System) → SystemIn s → (r : ℕ) → r < s .table .subjects → (k : ℕ) → k < length (s .cells) → (ts : List (Option ℕ)) → LastBelow (s .table .sheet) ts
+      → AllIn (size (s .table)) ts → IfOk (send s r k ts) (λ x. Left s (x .0))
   unfolding send
   send-in s h r rIn k l ts last all = ok-try (Landed (leaving s k)) (λ x. Left s (x .0)) (crossLayers true (leaving s k) r ts) (λ f. addCell s r f)
       (crossLayers-in ts true (leaving s k) (system-reference s h k l) r last all) λ f w. addCell-in s h r rIn (leaving s k) refl (omega arith) f w
 
   -- ---- the types on a value's way lie in the table, the last of them in the sheet
-  at-below : (n : ℕ) (xs : List ℕ) (i : ℕ) → AllBelow n xs → Below n (getElem? xs i)
+  at-below : (n : ℕ) (xs : List ℕ) (i : ℕ) → AllBelow n xs → AnswerBelow n (getElem? xs i)
   at-below n [] i h = tt
   at-below n (x ∷ xs) zero h = h .0
   at-below n (x ∷ xs) (suc i) h = at-below n xs i (h .1)
 
-  answer-below : (n : ℕ) (o : Option ℕ) → AnswerBelow n o → Below n o
-  answer-below n none h = tt
-  answer-below n (some x) h = h
-
-  all-in-map : (n : ℕ) (g : ℕ → Option ℕ) → ((l : ℕ) → Below n (g l)) → (ls : List ℕ) → AllIn n (map g ls)
+  all-in-map : (n : ℕ) (g : ℕ → Option ℕ) → ((l : ℕ) → AnswerBelow n (g l)) → (ls : List ℕ) → AllIn n (map g ls)
   all-in-map n g h [] = tt
   all-in-map n g h (l ∷ ls) = (h l, all-in-map n g h ls)
 
@@ -327,23 +334,21 @@ module _ (TP : Table → Type 0) (RF : Table → ℕ → Type 0)
   module _ (s : System) (h : SystemIn s) (k : ℕ) (l : k < length (s .cells)) (m : ℕ) where
     argument-last : (i : ℕ) → LastBelow (s .table .sheet) (map (argumentAt (s .table) m i) (wayOf s (cellAt s k)))
     argument-last i = go (layersOf (s .places) (cellAt s k .place))
-        (layers-last (s .table) (s .places) (h .places) (argumentAt (s .table) m i) (s .table .sheet) (λ c q. at-below (s .table .sheet) (methodAt (s .table) c m .args) i (sheet-sigs (s .table) (h .table) c m q .0))
+        (layers-last (s .table) (s .places) (h .places) (argumentAt (s .table) m i) (s .table .sheet)
+        (λ c q. at-below (s .table .sheet) (methodAt (s .table) c m .args) i (sheet-sigs (s .table) (h .table) c m q .0))
         (length (s .places)) (cellAt s k .place) (h .cells k l .place) (h .cells k l .place))
       where
         go : (ls : List ℕ) → LastBelow (s .table .sheet) (map (argumentAt (s .table) m i) ls) → LastBelow (s .table .sheet) (map (argumentAt (s .table) m i) (cellAt s k .type ∷ ls))
         go [] q = absurd q
         go (x ∷ xs) q = q
 
-    argument-all : (i : ℕ) (way : List ℕ) → AllIn (size (s .table)) (map (argumentAt (s .table) m i) way)
-    argument-all i = all-in-map (size (s .table)) (argumentAt (s .table) m i) (λ c. at-below (size (s .table)) (methodAt (s .table) c m .args) i (sigs-in (s .table) (h .table) c m .0))
-
     answer-last : LastBelow (s .table .sheet) (reverse (map (answerAt (s .table) m) (wayOf s (cellAt s k))))
     answer-last = aux-last (s .table .sheet) (map (answerAt (s .table) m) (layersOf (s .places) (cellAt s k .place))) (answerAt (s .table) m (cellAt s k .type)) []
-        (answer-below (s .table .sheet) (answerAt (s .table) m (cellAt s k .type)) (sheet-sigs (s .table) (h .table) (cellAt s k .type) m (h .cells k l .sheet) .1))
+        (sheet-sigs (s .table) (h .table) (cellAt s k .type) m (h .cells k l .sheet) .1)
 
     answer-all : AllIn (size (s .table)) (reverse (map (answerAt (s .table) m) (wayOf s (cellAt s k))))
     answer-all = aux-all (size (s .table)) (map (answerAt (s .table) m) (wayOf s (cellAt s k))) []
-        (all-in-map (size (s .table)) (answerAt (s .table) m) (λ c. answer-below (size (s .table)) (answerAt (s .table) m c) (sigs-in (s .table) (h .table) c m .1)) (wayOf s (cellAt s k))) tt
+        (all-in-map (size (s .table)) (answerAt (s .table) m) (λ c. sigs-in (s .table) (h .table) c m .1) (wayOf s (cellAt s k))) tt
 
   -- the list of types along a way is the same in a table that has grown, if the way lies in the old one
   arguments-grow : (t u : Table) → Grown t u → (m i : ℕ) (way : List ℕ) → AllBelow (size t) way → map (argumentAt u m i) way ≡ map (argumentAt t m i) way
@@ -366,7 +371,8 @@ module _ (TP : Table → Type 0) (RF : Table → ℕ → Type 0)
   left-on p q = record { within = q .within; grow = grown-trans (p .grow) (q .grow); more = omega (arith, p .more, q .more); calls = q .calls ∙ p .calls }
 
   module _ (r : ℕ) (way : List ℕ) (m : ℕ) where
-    sendArguments-in : (xs : List ℕ) (vs : List ℤ) (i : ℕ) (s : System) → SystemIn s → r < s .table .subjects → Sending s way m → AllBelow (size (s .table)) xs → Held s xs vs → IfOk (sendArguments s r way m i xs vs) (Left s)
+    sendArguments-in : (xs : List ℕ) (vs : List ℤ) (i : ℕ) (s : System) → SystemIn s → r < s .table .subjects → Sending s way m → AllBelow (size (s .table)) xs → Held s xs vs
+        → IfOk (sendArguments s r way m i xs vs) (Left s)
     unfolding sendArguments
     sendArguments-in [] vs i s h q w n e = record { within = h; grow = grown-refl (s .table); more = omega arith; calls = refl }
     sendArguments-in (a ∷ xs) [] i s h q w n e = record { within = h; grow = grown-refl (s .table); more = omega arith; calls = refl }
@@ -376,16 +382,21 @@ module _ (TP : Table → Type 0) (RF : Table → ℕ → Type 0)
         ts = map (argumentAt (s .table) m i) way
 
         go : (b : Bool) → (So b → named v < length (s .cells))
-            → ((s′ : System) → SystemIn s′ → r < s′ .table .subjects → Sending s′ way m → AllBelow (size (s′ .table)) xs → Held s′ xs vs → IfOk (sendArguments s′ r way m (suc i) xs vs) (Left s′))
+            →
+            ((s′ : System) → SystemIn s′ → r < s′ .table .subjects → Sending s′ way m → AllBelow (size (s′ .table)) xs → Held s′ xs vs
+            → IfOk (sendArguments s′ r way m (suc i) xs vs) (Left s′))
             → IfOk (elim b [
               | true ↦ try (send s r (named v) ts) λ x. sendArguments (x .0) r way m (suc i) xs vs
               | false ↦ try (passLayers true (s .table) v ts) λ _. sendArguments s r way m (suc i) xs vs
             ]) (Left s)
         go true l ih = ok-try (λ x. Left s (x .0)) (Left s) (send s r (named v) ts) (λ x. sendArguments (x .0) r way m (suc i) xs vs)
-            (send-in s h r q (named v) (l refl) ts (w .last i) (all-in-map (size (s .table)) (argumentAt (s .table) m i) (λ c. at-below (size (s .table)) (methodAt (s .table) c m .args) i (sigs-in (s .table) (h .table) c m .0)) way)) λ x d.
+            (send-in s h r q (named v) (l refl) ts (w .last i)
+            (all-in-map (size (s .table)) (argumentAt (s .table) m i) (λ c. at-below (size (s .table)) (methodAt (s .table) c m .args) i (sigs-in (s .table) (h .table) c m .0)) way)) λ x d.
             ok-map (Left (x .0)) (Left s) (λ y z. left-on d z) (sendArguments (x .0) r way m (suc i) xs vs)
-            (ih (x .0) (d .within) (rw (d .grow .subjects) q) (sending-on s (x .0) way m (d .grow) w) (all-below-more (d .grow .more) xs (n .1)) (held-more s (x .0) (d .grow) (d .more) xs vs (n .1) (e .1)))
-        go false l ih = ok-try (λ _. Unit) (Left s) (passLayers true (s .table) v ts) (λ _. sendArguments s r way m (suc i) xs vs) (whatever (passLayers true (s .table) v ts)) λ _ _. ih s h q w (n .1) (e .1)
+            (ih (x .0) (d .within) (rw (d .grow .subjects) q) (sending-on s (x .0) way m (d .grow) w) (all-below-more (d .grow .more) xs (n .1))
+            (held-more s (x .0) (d .grow) (d .more) xs vs (n .1) (e .1)))
+        go false l ih = ok-try (λ _. Unit) (Left s) (passLayers true (s .table) v ts) (λ _. sendArguments s r way m (suc i) xs vs) (whatever (passLayers true (s .table) v ts)) λ _ _.
+            ih s h q w (n .1) (e .1)
 
   -- ---- the four requests
   after-in : {s : System} (x : System × Result) → Left s (x .0) → SystemIn (x .0)
@@ -398,7 +409,8 @@ module _ (TP : Table → Type 0) (RF : Table → ℕ → Type 0)
         ok-need _ (names subject (s .table .subjects)) 5 _ λ a.
         ok-need _ (names class (s .table .sheet) && isClass (typeAt (s .table) (named class))) 7 _ λ c.
         ok-need _ (isSheetRef (s .table) to) 7 _ λ d.
-        ok-need _ (ltb (length (s .places)) maxPlaces) 12 _ λ e. go (names-below subject _ a) (names-below class _ (first (names class (s .table .sheet)) _ c)) (second (names class (s .table .sheet)) _ c)
+        ok-need _ (ltb (length (s .places)) maxPlaces) 12 _ λ e.
+        go (names-below subject _ a) (names-below class _ (first (names class (s .table .sheet)) _ c)) (second (names class (s .table .sheet)) _ c)
         (names-below to _ (first (names to (s .table .sheet)) _ d)) (ltb-so e)
       where
         t : Table
@@ -414,7 +426,13 @@ module _ (TP : Table → Type 0) (RF : Table → ℕ → Type 0)
             → IfOk (try (cross f (named to) (named subject)) λ y. addCell s (named subject) y) (λ x. SystemIn (x .0))
         go a c i d e =
             let q = sheet-in t (h .table) in
-            let k : ReferenceIn f = record { table = h .table; places = places-add t (s .places) (h .places) e x (a, c, i); place = omega (arith, length-append (s .places) (x ∷ [])); isref = first (isRef (typeAt t (named class) .rep)) _ i } in
+            let k : ReferenceIn f =
+            record {
+              table = h .table;
+              places = places-add t (s .places) (h .places) e x (a, c, i);
+              place = omega (arith, length-append (s .places) (x ∷ []));
+              isref = first (isRef (typeAt t (named class) .rep)) _ i;
+            } in
             ok-try (Arrived f (named to)) _ (cross f (named to) (named subject)) _ (cross-in f k (named to) (named subject) (omega arith)) λ g w.
             ok-map (λ x. Left s (x .0)) (λ x. SystemIn (x .0)) after-in (addCell s (named subject) g)
             (addCell-in s h (named subject) a f refl (omega (arith, length-append (s .places) (x ∷ []))) g (landed-one f (named to) d g w))
@@ -437,10 +455,21 @@ module _ (TP : Table → Type 0) (RF : Table → ℕ → Type 0)
 
     way-in : (k m : ℕ) → k < length (s .cells) → Sending s (wayOf s (cellAt s k)) m
     way-in k m l = let q = sheet-in (s .table) (h .table) in
-        record { in-table = (omega (arith, h .cells k l .sheet), layers-below (s .table) (s .places) (h .places) (length (s .places)) (cellAt s k .place) q (h .cells k l .place)); last = argument-last s h k l m }
+        record {
+          in-table = (omega (arith, h .cells k l .sheet), layers-below (s .table) (s .places) (h .places) (length (s .places)) (cellAt s k .place) q (h .cells k l .place));
+          last = argument-last s h k l m;
+        }
 
   with-call-in : (x : System) → SystemIn x → length (x .calls) < maxCalls → (c : Call) → CallIn x c → SystemIn (withCall x c)
-  with-call-in x h room c k = record { table = h .table; places = h .places; cellCount = h .cellCount; callCount = omega (arith, long); cells = λ i l. same-cell (h .cells i l); calls = λ j l. go j (decLt j (length (x .calls))) (omega (arith, long)) }
+  with-call-in x h room c k =
+      record {
+        table = h .table;
+        places = h .places;
+        cellCount = h .cellCount;
+        callCount = omega (arith, long);
+        cells = λ i l. same-cell (h .cells i l);
+        calls = λ j l. go j (decLt j (length (x .calls))) (omega (arith, long));
+      }
     where
       long : length (x .calls ++ (c ∷ [])) ≡ suc (length (x .calls))
       long = length-append (x .calls) (c ∷ []) ∙ omega arith
@@ -501,10 +530,13 @@ module _ (TP : Table → Type 0) (RF : Table → ℕ → Type 0)
         c = record { caller = named subject; cell = named k; method = named m; answered = false }
 
         go : named subject < s .table .subjects → named k < length (s .cells) → named m < s .table .methods → So (argumentsHeld s subject xs vs) → length (s .calls) < maxCalls
-            → IfOk {A = System × Result} (try (sendArguments s r way (named m) 0 xs vs) λ x. ok (withCall x c, pair (length (s .calls)) (adapterCount (s .places) (cellAt s (named k) .place)))) (λ x. SystemIn (x .0))
+            → IfOk {A = System × Result} (try (sendArguments s r way (named m) 0 xs vs) λ x. ok (withCall x c, pair (length (s .calls)) (adapterCount (s .places) (cellAt s (named k) .place))))
+            (λ x. SystemIn (x .0))
         go a l d e room = ok-try (Left s) _ (sendArguments s r way (named m) 0 xs vs) _
-            (sendArguments-in r way (named m) xs vs 0 s h (owner-of s h (named k) l) (way-in s h (named k) (named m) l) (sigs-in (s .table) (h .table) ty (named m) .0) (arguments-in s subject xs vs e)) λ x w.
-            with-call-in x (w .within) (subst (λ cs. length cs < maxCalls) (sym (w .calls)) room) c (record { caller = rw (w .grow .subjects) a; cell = omega (arith, w .more); method = rw (w .grow .methods) d })
+            (sendArguments-in r way (named m) xs vs 0 s h (owner-of s h (named k) l) (way-in s h (named k) (named m) l) (sigs-in (s .table) (h .table) ty (named m) .0)
+            (arguments-in s subject xs vs e)) λ x w.
+            with-call-in x (w .within) (subst (λ cs. length cs < maxCalls) (sym (w .calls)) room) c
+            (record { caller = rw (w .grow .subjects) a; cell = omega (arith, w .more); method = rw (w .grow .methods) d })
 
     give-in : (subject : ℤ) (i : ℕ) (due : Option ℕ) (v : Option ℤ) → i < length (s .calls) → IfOk (give s subject i due v) (λ x. SystemIn (x .0))
     unfolding give
@@ -525,7 +557,8 @@ module _ (TP : Table → Type 0) (RF : Table → ℕ → Type 0)
         ]) (λ x. SystemIn (x .0))
         go true = ok-need _ (held s subject v) 15 _ λ e. let c = h .calls i l in
             ok-try (λ x. Left s (x .0)) _ (send s (callAt s i .caller) (named v) ts) _
-            (send-in s h (callAt s i .caller) (c .caller) (named v) (held-in s subject v e) ts (answer-last s h k (c .cell) (callAt s i .method)) (answer-all s h k (c .cell) (callAt s i .method))) λ x w.
+            (send-in s h (callAt s i .caller) (c .caller) (named v) (held-in s subject v e) ts (answer-last s h k (c .cell) (callAt s i .method))
+            (answer-all s h k (c .cell) (callAt s i .method))) λ x w.
             with-answer-in (x .0) (w .within) i (subst (λ cs. i < length cs) (sym (w .calls)) l)
         go false = ok-try (λ _. Unit) _ (passLayers true (s .table) v ts) _ (whatever (passLayers true (s .table) v ts)) λ _ _. with-answer-in s h i l
 

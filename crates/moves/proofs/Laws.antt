@@ -80,7 +80,8 @@ pub made : (ps : Places) (class owner a b : ℕ) (qs : Places) → Falling ps �
     qs ≡ placeAdded ps (record { place = Object a b })
     → placesIn qs ≡ placesIn ps ++ (object a b ∷ []) → Made ps class owner qs
 made ps class owner a b qs fall room p q e are =
-    let are′ : placesIn qs ≡ placesIn ps ++ (object class owner ∷ []) = are ∙ ap (λ (n : ℕ). placesIn ps ++ (object n b ∷ [])) p ∙ ap (λ (n : ℕ). placesIn ps ++ (object class n ∷ [])) q in
+    let are′ : placesIn qs ≡ placesIn ps ++ (object class owner ∷ []) = are ∙ ap (λ (n : ℕ). placesIn ps ++ (object n b ∷ [])) p
+    ∙ ap (λ (n : ℕ). placesIn ps ++ (object class n ∷ [])) q in
     let one : qs .count ≡ ps .count + 1 = ap (λ (z : Places). z .count) e in record {
       are = are′;
       count = one;

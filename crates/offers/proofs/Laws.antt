@@ -1,6 +1,6 @@
 -- One method of a chain by the stored type, the chain method by method, and the two types of a cell.
 use mathlib.Core.Path.{_≡_, refl, sym, ap, _∙_, subst}
-use mathlib.Core.Bool.{Bool, true, false, _&&_, _||_, cond}
+use mathlib.Core.Bool.{Bool, true, false, _&&_, _||_, cond, and-false}
 use mathlib.Core.List.{List, [], _∷_, map}
 use mathlib.Core.Option.{Option, none, some}
 use Prim.Native.Nat.{ℕ, zero, suc, _+_, _-_, _≤_, _<_}
@@ -15,11 +15,12 @@ use Rattle.model.specs.Records.{answerCode}
 use Rattle.model.specs.Crossing.{placeAt, placeType}
 use Rattle.model.specs.Requests.{System, Cell, noCell}
 use Rattle.model.specs.Chains.{permits, offered}
-use Rattle.model.specs.Check.{noRawType, noRawMethod, stateOf, answerOf, methodOf, systemAccepted, systemOf}
+use Rattle.model.specs.Check.{noRawType, noRawMethod, stateOf, methodOf, systemAccepted, systemOf}
 use Rattle.table.specs.declared.Counts.{Counts}
 use Rattle.table.specs.declared.Method.{Method}
 use Rattle.table.specs.Store.{typesIn, tableIn, rawMethod}
 use Rattle.model.specs.Check.{tableOf}
+use Rattle.model.proofs.Codes.{code-back}
 use Rattle.deriving.specs.Begins.{refIn}
 use Rattle.restrict.proofs.Ends.{ref-table}
 use Rattle.state.specs.declared.State.{State}
@@ -63,20 +64,13 @@ module _ (b l : List ℕ) (c : Counts) where
         step-off q = sym (step-is ∙ rw q)
 
         pub step-on : permit (stateOf (x .state)) ≡ true → (v : ℕ) → v ≡ x .answer → v + 1 ≡ stepCode (tableIn b l c) t z
-        step-on q v k = add-one v ∙ ap suc (k ∙ back (x .answer)) ∙ sym (step-is ∙ rw q) where
-          back : (n : ℕ) → n ≡ answerCode (answerOf n)
-          back zero = refl
-          back (suc n) = refl
+        step-on q v k = add-one v ∙ ap suc (k ∙ sym (code-back (x .answer))) ∙ sym (step-is ∙ rw q)
 
 -- ---- A chain: what is left of it behind a method whose code is known.
 abbrev onward : Table → ℕ → List ℤ → Bool
 onward t zero w = false
 onward t (suc zero) w = isNil w
 onward t (suc (suc k)) w = isNil w || permitsNamed t k w
-
-and-false : (a : Bool) → (a && false) ≡ false
-and-false true = refl
-and-false false = refl
 
 step-says : (t : Table) (n : ℕ) (z : ℤ) (w : List ℤ) → permitsNamed t n (z ∷ w) ≡ onward t (stepCode t n z) w
 unfolding permitsNamed permits
@@ -158,7 +152,8 @@ module _ (s : State) (z : ℤ) (w : List ℤ) (k : ℕ) (e : k ≡ indexOf z (s 
   module _ (low : k < s .cells .count) (x : Cell) (is : x ≡ getD (cellsIn (s .cells)) k noCell) where
     offers-both : offersNamed (systemIn s) z w ≡ types-permit x
     offers-both = let d = index-known z (s .cells .count) k e low in
-        offers-is ∙ ap (λ (q : Bool). q && types-permit (getD (cellsIn (s .cells)) (named z) noCell)) (d .0) ∙ ap (λ (n : ℕ). types-permit (getD (cellsIn (s .cells)) n noCell)) (d .1) ∙ ap types-permit (sym is)
+        offers-is ∙ ap (λ (q : Bool). q && types-permit (getD (cellsIn (s .cells)) (named z) noCell)) (d .0) ∙ ap (λ (n : ℕ). types-permit (getD (cellsIn (s .cells)) n noCell)) (d .1)
+        ∙ ap types-permit (sym is)
 
     pub offers-not : false ≡ permitsNamed T (x .type) w → false ≡ offersNamed (systemIn s) z w
     offers-not h = sym (offers-both ∙ rw (← h))

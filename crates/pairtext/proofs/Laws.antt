@@ -69,7 +69,8 @@ answers-length c =
 pub line-short : (t s c : ℕ) → t < 48 → s < 48 → length (codeLine t s c ++ 10 ∷ []) ≤ 14
 line-short t s c p q =
     let e : length ((decimal t ++ word s) ++ answersText c) ≡ length (codeLine t s c ++ 10 ∷ []) = ap length (line-is t s c) in
-    let f : length ((decimal t ++ word s) ++ answersText c) ≡ length (decimal t) + length (word s) + length (answersText c) = length-append (decimal t ++ word s) (answersText c) ∙ ap (λ z. z + length (answersText c)) (length-append (decimal t) (word s)) in
+    let f : length ((decimal t ++ word s) ++ answersText c) ≡ length (decimal t) + length (word s) + length (answersText c) = length-append (decimal t ++ word s) (answersText c)
+    ∙ ap (λ z. z + length (answersText c)) (length-append (decimal t) (word s)) in
     let a = short-length t p in
     let b = short-length s q in
     let d = word-length s in
@@ -84,7 +85,8 @@ pub row-next : (pairs : List ℕ) (t s v : ℕ) → v ≡ getD pairs (t * 48 + s
 unfolding rowLines
 row-next pairs t s v e =
     let f : ℕ → List ℕ = λ s. codeLine t s (getD pairs (t * 48 + s) 0) in
-    ap (λ z. rowLines pairs t s ++ (codeLine t s z ∷ [])) e ∙ ap (λ z. rowLines pairs t s ++ (f z ∷ [])) (sym (zero-add s)) ∙ sym (from-last f s 0) ∙ ap (rowLines pairs t) (sym (add-one s))
+    ap (λ z. rowLines pairs t s ++ (codeLine t s z ∷ [])) e ∙ ap (λ z. rowLines pairs t s ++ (f z ∷ [])) (sym (zero-add s)) ∙ sym (from-last f s 0)
+    ∙ ap (rowLines pairs t) (sym (add-one s))
 
 pub row-all : (pairs : List ℕ) (t s n : ℕ) → s ≤ n → n ≤ s → rowLines pairs t s ≡ rowLines pairs t n
 row-all pairs t s n p q = let e : s ≡ n = omega arith in ap (rowLines pairs t) e

@@ -161,14 +161,17 @@ pub broke-as : (n : ℕ) (W U : (ℕ → ℕ → Bool) → Bool) → ((M : ℕ �
 broke-as n W U f b = record { none = λ M i v. b .none M i (f M v) }
 
 module _ (n : ℕ) (W U : (ℕ → ℕ → Bool) → Bool) (s : List Bool) (l : List ℕ) (t : ℕ) where
-  pub grew-as : (s′ : List Bool) (l′ : List ℕ) (r : ℕ) → ((M : ℕ → ℕ → Bool) → So (W M) → So (U M)) → ((M : ℕ → ℕ → Bool) → So (U M) → So (W M)) → Grew n W s l t s′ l′ r → Grew n U s l t s′ l′ r
+  pub grew-as : (s′ : List Bool) (l′ : List ℕ) (r : ℕ) → ((M : ℕ → ℕ → Bool) → So (W M) → So (U M)) → ((M : ℕ → ℕ → Bool) → So (U M) → So (W M))
+      → Grew n W s l t s′ l′ r → Grew n U s l t s′ l′ r
   grew-as s′ l′ r f g w = record { listed = w .listed; more = w .more; kept = w .kept; longer = w .longer; has = f (found n s′) (w .has); only = λ M v. w .only M (g M v) }
 
-  pub met-as : (s′ : List Bool) (l′ : List ℕ) (r : Step) → ((M : ℕ → ℕ → Bool) → So (W M) → So (U M)) → ((M : ℕ → ℕ → Bool) → So (U M) → So (W M)) → Met n W s l t s′ l′ r → Met n U s l t s′ l′ r
+  pub met-as : (s′ : List Bool) (l′ : List ℕ) (r : Step) → ((M : ℕ → ℕ → Bool) → So (W M) → So (U M)) → ((M : ℕ → ℕ → Bool) → So (U M) → So (W M))
+      → Met n W s l t s′ l′ r → Met n U s l t s′ l′ r
   met-as s′ l′ Broken f g b = broke-as n W U g b
   met-as s′ l′ (Tail r) f g w = grew-as s′ l′ r f g w
 
-  pub grew-then : (s₁ : List Bool) (l₁ : List ℕ) (t₁ : ℕ) (s₂ : List Bool) (l₂ : List ℕ) (t₂ : ℕ) → Mono W → Grew n W s l t s₁ l₁ t₁ → Grew n U s₁ l₁ t₁ s₂ l₂ t₂ → Grew n
+  pub grew-then : (s₁ : List Bool) (l₁ : List ℕ) (t₁ : ℕ) (s₂ : List Bool) (l₂ : List ℕ) (t₂ : ℕ) → Mono W → Grew n W s l t s₁ l₁ t₁
+      → Grew n U s₁ l₁ t₁ s₂ l₂ t₂ → Grew n
       (λ M. W M && U M) s l t s₂ l₂ t₂
   unfolding Within Mono
   grew-then s₁ l₁ t₁ s₂ l₂ t₂ m a b = record {

@@ -3,7 +3,6 @@ use mathlib.Core.Path.{_≡_, refl, ap, sym, _∙_}
 use mathlib.Core.Logic.{⊎-elim}
 use mathlib.Core.Bool.{Bool, true, false, _&&_, and-true, and-assoc, So}
 use mathlib.Core.List.{List, [], _∷_}
-use mathlib.Core.Option.{some}
 use Prim.Native.Nat.{ℕ, zero, suc, _-_, _≤_, _<_, min}
 use native.Mathlib.Nat.{not-suc-le-zero, le-of-suc-le-suc, min-eq-left, min-eq-right}
 use native.Mathlib.Omega.{arith}
@@ -14,6 +13,7 @@ use Rattle.model.specs.Relations.{Relation, stateRule, argsRule, answerRule, me
 use Rattle.model.specs.Check.{RawMethod, stateOf, answerOf, methodOf}
 use Rattle.model.proofs.Rules.{never, both, first, second, args-mono, signature-mono, args-test, args-says, method-test, method-says}
 use Rattle.table.proofs.Lists.{lt-or-ge, same-or}
+use Rattle.table.proofs.Codes.{answer-is}
 use Rattle.relation.specs.Found.{Within, eachBelow}
 use Rattle.relation.proofs.Pairs.{Mono, clash}
 
@@ -53,11 +53,6 @@ args-next M (x ∷ xs) [] i p q = absurd (not-suc-le-zero q)
 args-next M (x ∷ xs) (y ∷ ys) zero p q = and-true (M y x)
 args-next M (x ∷ xs) (y ∷ ys) (suc i) p q = ap (λ (b : Bool). M y x && b) (args-next M xs ys i (le-of-suc-le-suc p) (le-of-suc-le-suc q)) ∙ sym (and-assoc (M y x) _ _)
 
--- Answers: 0 for none, else the number and 1.
-answer-is : (x : ℕ) → (x ≡ 0 → ⊥) → answerOf x ≡ some (x - 1)
-answer-is zero h = absurd (h refl)
-answer-is (suc n) h = let e : n ≡ suc n - 1 = omega arith in ap (λ (k : ℕ). some k) e
-
 module _ (M : ℕ → ℕ → Bool) (x y : ℕ) where
   pub answer-none : x ≡ 0 → y ≡ 0 → So (answerRule M (answerOf x) (answerOf y))
   answer-none p q = rw (p, q)
@@ -91,10 +86,6 @@ module _ (k : Relation) (x y : RawMethod) where
         rw (e, p, q)
 
 -- The rules are monotone in the relation.
-pub one-up : (x y : ℕ) → Mono (λ M. M x y)
-unfolding Mono Within
-one-up x y M N i w = i x y w
-
 pub args-up : (xs ys : List ℕ) → Mono (λ M. argsRule M xs ys)
 unfolding Mono Within
 args-up xs ys M N i w = args-test N xs ys (args-mono {R = λ x y. So (M x y)} {Q = λ x y. So (N x y)} i xs ys (args-says M xs ys w))

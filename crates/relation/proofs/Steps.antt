@@ -2,7 +2,7 @@
 use mathlib.Core.Path.{_≡_, refl, sym, subst, _∙_}
 use mathlib.Core.Bool.{Bool, true, false, _&&_}
 use mathlib.Core.List.{List}
-use Prim.Native.Nat.{ℕ, zero, suc, _+_, _-_, _≤_, _<_}
+use Prim.Native.Nat.{ℕ, suc, _+_, _-_, _≤_, _<_}
 use native.Mathlib.Numerals.{add-one}
 use native.Mathlib.Omega.{arith}
 use lib.ListN.{length, getD, take}
@@ -14,10 +14,12 @@ use Rattle.relation.specs.declared.Step.{Step}
 use Rattle.relation.specs.declared.Step.the-variants.{Tail}
 use Rattle.relation.specs.Found.{found, Listed, Grew, Broke, Met, eachBelow}
 use Rattle.relation.proofs.Pairs.{stay, broke-as, grew-as, met-as, grew-then, met-then}
-use Rattle.relation.proofs.Signatures.{args-differ, args-need, args-next, answer-none, answer-left, answer-right, answer-both, method-state, method-off, method-on, args-up, each-up, each-says}
+use Rattle.relation.proofs.Signatures.{args-differ, args-need, args-next, answer-none, answer-left, answer-right, answer-both, method-state, method-off, method-on, args-up, each-up}
+use Rattle.relation.proofs.Signatures.{each-says}
 
 -- the same test by another name
-met-same : (n : ℕ) (W U : (ℕ → ℕ → Bool) → Bool) → ((M : ℕ → ℕ → Bool) → U M ≡ W M) → (s : List Bool) (l : List ℕ) (t : ℕ) (s′ : List Bool) (l′ : List ℕ) (r : Step)
+met-same : (n : ℕ) (W U : (ℕ → ℕ → Bool) → Bool) → ((M : ℕ → ℕ → Bool) → U M ≡ W M)
+    → (s : List Bool) (l : List ℕ) (t : ℕ) (s′ : List Bool) (l′ : List ℕ) (r : Step)
     → Met n W s l t s′ l′ r → Met n U s l t s′ l′ r
 met-same n W U e s l t s′ l′ r m = met-as n W U s l t s′ l′ r (λ M h. e M ∙ h) (λ M h. sym (e M) ∙ h) m
 
@@ -36,7 +38,8 @@ module _ (n x y a b : ℕ) (p : a ≡ x) (q : b ≡ y) where
     pub answers-none : Listed n s l t → a ≡ 0 → b ≡ 0 → Grew n Answer s l t s l t
     answers-none h u v = stay n Answer s l t h (answer-none (found n s) x y (sym p ∙ u) (sym q ∙ v))
 
-    pub answers-both : (s′ : List Bool) (l′ : List ℕ) (r : Step) → (a ≡ 0 → ⊥) → (b ≡ 0 → ⊥) → Met n (λ M. M (a - 1) (b - 1)) s l t s′ l′ r → Met n Answer s l t s′ l′ r
+    pub answers-both : (s′ : List Bool) (l′ : List ℕ) (r : Step) → (a ≡ 0 → ⊥) → (b ≡ 0 → ⊥) → Met n (λ M. M (a - 1) (b - 1)) s l t s′ l′ r
+        → Met n Answer s l t s′ l′ r
     answers-both s′ l′ r u v m = met-same n (λ M. M (a - 1) (b - 1)) Answer (λ M. answer-both M x y (λ e. u (p ∙ e)) (λ e. v (q ∙ e)) ∙ rw (p, q)) s l t s′ l′ r m
 
 -- The arguments: xs and ys are the slots, i and j the counts, u and v how many slots these use.
@@ -64,7 +67,8 @@ module _ (n : ℕ) (xs ys : List ℕ) (lx : length xs ≡ 4) (ly : length ys ≡
           let d : m ≡ u = omega arith in
           met-same n (First u) Args args-used s l t s₁ l₁ (Tail t₁) (subst (λ (k : ℕ). Grew n (First k) s l t s₁ l₁ t₁) d g)
 
-      pub arguments-more : m < u → (x y : ℕ) → x ≡ getD xs m 0 → y ≡ getD ys m 0 → (s₂ : List Bool) (l₂ : List ℕ) (t₂ : ℕ) → Grew n (λ M. M y x) s₁ l₁ t₁ s₂ l₂ t₂
+      pub arguments-more : m < u → (x y : ℕ) → x ≡ getD xs m 0 → y ≡ getD ys m 0 → (s₂ : List Bool) (l₂ : List ℕ) (t₂ : ℕ)
+          → Grew n (λ M. M y x) s₁ l₁ t₁ s₂ l₂ t₂
           → Grew n (First (m + 1)) s l t s₂ l₂ t₂
       arguments-more h x y ex ey s₂ l₂ t₂ k =
           let d : (M : ℕ → ℕ → Bool) → First (suc m) M ≡ (First m M && M y x) = λ M. args-next M xs ys m (omega arith) (omega arith) ∙ rw (ex, ey) in
@@ -125,5 +129,6 @@ module _ (n : ℕ) (k : Relation) (X Y : ℕ → Method) where
         rw (add-one j) (grew-as n (λ M. All j M && methodRule k M x y) (All (suc j)) s l t s₂ l₂ t₂ (λ M w. rw (p, q) at w) (λ M w. rw (p, q) w)
         (grew-then n (All j) (λ M. methodRule k M x y) s l t s₁ l₁ t₁ s₂ l₂ t₂ (each-up j k X Y) g m))
 
-  pub methods-end : (j c : ℕ) (s : List Bool) (l : List ℕ) (t : ℕ) (s₁ : List Bool) (l₁ : List ℕ) (t₁ : ℕ) → Grew n (All j) s l t s₁ l₁ t₁ → c ≤ j → j ≤ c → Grew n (All c) s l t s₁ l₁ t₁
+  pub methods-end : (j c : ℕ) (s : List Bool) (l : List ℕ) (t : ℕ) (s₁ : List Bool) (l₁ : List ℕ) (t₁ : ℕ) → Grew n (All j) s l t s₁ l₁ t₁ → c ≤ j → j ≤ c
+      → Grew n (All c) s l t s₁ l₁ t₁
   methods-end j c s l t s₁ l₁ t₁ g p q = let e : j ≡ c = omega arith in subst (λ (m : ℕ). Grew n (All m) s l t s₁ l₁ t₁) e g

@@ -211,7 +211,8 @@ module _ (l : List ℕ) (at k : ℕ) (items : List ℤ) (count next : ℕ) (is :
   by-word : cond (same (leftover k ws) (drop next l)) (byCode k ws) none ≡ requestBy k (drop at l)
   by-word = ap (λ (z : Rest). cond (same (leftover k (z .0)) (z .1)) (byCode k (z .0)) none) is
 
-  pub reads : (right : Bool) → right ≡ (same (leftover k ws) (drop next l) && countFits k count) → Reads (requestBy k (drop at l)) (record { right = right; code = k; count = count; items = items })
+  pub reads : (right : Bool) → right ≡ (same (leftover k ws) (drop next l) && countFits k count)
+      → Reads (requestBy k (drop at l)) (record { right = right; code = k; count = count; items = items })
   reads right e = subst (λ z. Reads z (record { right = right; code = k; count = count; items = items })) by-word (go (same (leftover k ws) (drop next l)) e)
     where
       go : (b : Bool) → right ≡ (b && countFits k count) → Reads (cond b (byCode k ws) none) (record { right = right; code = k; count = count; items = items })

@@ -1,48 +1,32 @@
 -- The bytes of a table, record by record: what a store does to them, that they say what type is there, and what records stored exactly come to.
 use mathlib.Core.Path.{_≡_, refl, sym, ap, _∙_, subst}
-use mathlib.Core.List.{List, [], _∷_, _++_, map, flatten, append-assoc, append-nil}
+use mathlib.Core.List.{List, _++_, map, flatten, append-assoc, append-nil}
 use Prim.Native.Nat.{ℕ, zero, suc, _+_, _-_, _*_, _≤_, _<_}
 use native.Mathlib.Omega.{arith}
 use lib.ListN.{length, getD, take, drop, length-drop}
-use lib.Seq.{sets, ext-getD, getD-take, getD-drop, length-take-le, length-sets, take-add, getD-set-same}
+use lib.Seq.{sets, ext-getD, getD-take, getD-drop, length-take-le, take-add, getD-set-same}
 use Rattle.model.specs.Basics.{from}
 use Rattle.model.specs.Table.{Ty}
-use Rattle.model.specs.Check.{RawMethod, RawType, noRawType, typeOf}
+use Rattle.model.specs.Check.{RawType, noRawType, typeOf}
 use Rattle.table.specs.declared.Counts.{Counts}
 use Rattle.table.specs.Store.{rawMethodAt, rawMethodsAt, rawTypeAt, typesIn, typesTo, recordBytes, Put}
 use Rattle.table.specs.Records.{bytesOf, TypeExact}
-use Rattle.model.proofs.Lists.{from-same}
+use Rattle.model.proofs.Lists.{from-same, map-from}
 use Rattle.table.proofs.Lists.{getD-sets-below, getD-sets-above, getD-sets-in}
-use Rattle.table.proofs.Laws.{types-length, type-in, record-length, put-length, put-types}
+use Rattle.table.proofs.Laws.{types-length, type-in, record-length, put-length, put-types, mk, mk-eq, mkT, mkT-eq, at-zero}
 use Rattle.restrict.specs.Link.{recordAt, Kept, ExactAt, Exact}
 
 -- byte p of record i
 at : (b : List ℕ) (i p : ℕ) → p < 128 → getD (recordAt b i) p 0 ≡ getD b (i * 128 + p) 0
 at b i p h = getD-take 128 (drop (i * 128) b) p 0 h ∙ getD-drop (i * 128) b p 0
 
-zeroth : (b : List ℕ) (k : ℕ) → getD b (k + 0) 0 ≡ getD b k 0
-zeroth b k = let e : k + 0 ≡ k = omega arith in ap (λ (m : ℕ). getD b m 0) e
-
 record-long : (b : List ℕ) (i : ℕ) → length b ≡ 16384 → i < 128 → length (recordAt b i) ≡ 128
 record-long b i e h = length-take-le 128 (drop (i * 128) b) (let l = length-drop (i * 128) b in omega arith)
-
--- The bytes of a record say what it is.
-mk : ℕ → ℕ → ℕ → ℕ → ℕ → ℕ → ℕ → RawMethod
-mk s n a₀ a₁ a₂ a₃ r = record { state = s; count = n; args = a₀ ∷ a₁ ∷ a₂ ∷ a₃ ∷ []; answer = r }
-
-mk-eq : {s n a₀ a₁ a₂ a₃ r s′ n′ b₀ b₁ b₂ b₃ r′ : ℕ} → s ≡ s′ → n ≡ n′ → a₀ ≡ b₀ → a₁ ≡ b₁ → a₂ ≡ b₂ → a₃ ≡ b₃ → r ≡ r′ → mk s n a₀ a₁ a₂ a₃ r ≡ mk s′ n′ b₀ b₁ b₂ b₃ r′
-mk-eq p₀ p₁ p₂ p₃ p₄ p₅ p₆ = cc
-
-mkT : ℕ → ℕ → ℕ → ℕ → ℕ → ℕ → List RawMethod → RawType
-mkT a b c d e f ms = record { rep = a; cat = b; own = c; kind = d; left = e; right = f; methods = ms }
-
-mkT-eq : {a b c d e f a′ b′ c′ d′ e′ f′ : ℕ} {m m′ : List RawMethod} → a ≡ a′ → b ≡ b′ → c ≡ c′ → d ≡ d′ → e ≡ e′ → f ≡ f′ → m ≡ m′ → mkT a b c d e f m ≡ mkT a′ b′ c′ d′ e′ f′ m′
-mkT-eq p₀ p₁ p₂ p₃ p₄ p₅ p₆ = cc
 
 module _ (b : List ℕ) (i : ℕ) where
   method-there : (j : ℕ) → j < 16 → rawMethodAt b (i * 128 + 16 + j * 7) ≡ rawMethodAt (recordAt b i) (16 + j * 7)
   unfolding mk
-  method-there j h = mk-eq (sym (zeroth b (i * 128 + 16 + j * 7)) ∙ byte 0 (omega arith) ∙ zeroth (recordAt b i) (16 + j * 7)) (byte 1 (omega arith)) (byte 2 (omega arith))
+  method-there j h = mk-eq (sym (at-zero b (i * 128 + 16 + j * 7)) ∙ byte 0 (omega arith) ∙ at-zero (recordAt b i) (16 + j * 7)) (byte 1 (omega arith)) (byte 2 (omega arith))
       (byte 3 (omega arith)) (byte 4 (omega arith)) (byte 5 (omega arith)) (byte 6 (omega arith))
     where
       byte : (p : ℕ) → p < 7 → getD b (i * 128 + 16 + j * 7 + p) 0 ≡ getD (recordAt b i) (16 + j * 7 + p) 0
@@ -52,7 +36,7 @@ module _ (b : List ℕ) (i : ℕ) where
   unfolding mkT rawMethodsAt
   record-in h =
       type-in b i noRawType h
-      ∙ mkT-eq (sym (zeroth b (i * 128)) ∙ byte 0 (omega arith)) (byte 1 (omega arith)) (byte 2 (omega arith)) (byte 3 (omega arith)) (byte 4 (omega arith)) (byte 5 (omega arith))
+      ∙ mkT-eq (sym (at-zero b (i * 128)) ∙ byte 0 (omega arith)) (byte 1 (omega arith)) (byte 2 (omega arith)) (byte 3 (omega arith)) (byte 4 (omega arith)) (byte 5 (omega arith))
       (from-same (λ j. rawMethodAt b (i * 128 + 16 + j * 7)) (λ j. rawMethodAt (recordAt b i) (0 + 16 + j * 7)) 16 0 (λ j p l. method-there j (omega arith)))
     where
       byte : (p : ℕ) → p < 128 → getD b (i * 128 + p) 0 ≡ getD (recordAt b i) p 0
@@ -102,7 +86,8 @@ next b n = let e : suc n * 128 ≡ n * 128 + 128 = omega arith in ap (λ (k : �
 
 pub kept-take : (n : ℕ) (b b′ : List ℕ) → Kept n b b′ → take (n * 128) b′ ≡ take (n * 128) b
 kept-take zero b b′ h = refl
-kept-take (suc n) b b′ h = next b′ n ∙ ap (λ (x : List ℕ). x ++ recordAt b′ n) (kept-take n b b′ (λ i l. h i (omega arith))) ∙ ap (λ (x : List ℕ). take (n * 128) b ++ x) (h n (omega arith))
+kept-take (suc n) b b′ h = next b′ n ∙ ap (λ (x : List ℕ). x ++ recordAt b′ n) (kept-take n b b′ (λ i l. h i (omega arith)))
+    ∙ ap (λ (x : List ℕ). take (n * 128) b ++ x) (h n (omega arith))
     ∙ sym (next b n)
 
 rows : (b : List ℕ) (k n : ℕ) → take ((n + k) * 128) b ≡ take (n * 128) b ++ flatten (from k n (recordAt b))
@@ -120,11 +105,6 @@ drop-from f (suc n) k i =
     let e : suc n + k ≡ suc (n + k) = omega arith in
     let g : suc i + n ≡ i + suc n = omega arith in
     ap (λ (m : ℕ). drop (suc n) (from m i f)) e ∙ drop-from f n k (suc i) ∙ ap (λ (m : ℕ). from k m f) g
-
-map-from : {A B : Type 0} (h : A → B) (f : ℕ → A) (k i : ℕ) → map h (from k i f) ≡ from k i (λ j. h (f j))
-unfolding from
-map-from h f zero i = refl
-map-from h f (suc k) i = ap (λ l. h (f i) ∷ l) (map-from h f k (suc i))
 
 -- Old records kept and new ones exact: every counted byte.
 pub exact-take : (c : Counts) (n m : ℕ) (b b′ : List ℕ) → n ≤ m → Kept n b b′ → Exact c n m b′

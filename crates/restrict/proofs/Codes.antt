@@ -53,7 +53,8 @@ methods-coded ms sh i x r h j l =
     (second (ltb (x .own) 2) _ (applied (first (isRef (repOf (x .rep)) ⇒ _) _ (second (ltb (x .rep) 3) _ h)) r))) j (omega arith) (omega arith)
 
 -- a derived type
-pub new-coded : (ms sh n : ℕ) (w : Work) (zs : List RawMethod) → w .key .kind < 3 → ((j : ℕ) → j < ms → So (rawMethodFits (getD zs j noRawMethod))) → So (rawTypeFits ms sh n (newRecord w zs))
+pub new-coded : (ms sh n : ℕ) (w : Work) (zs : List RawMethod) → w .key .kind < 3 → ((j : ℕ) → j < ms → So (rawMethodFits (getD zs j noRawMethod)))
+    → So (rawTypeFits ms sh n (newRecord w zs))
 new-coded ms sh n w zs k h =
     both (subst So (sym (all-every rawMethodFits 0 (from ms 0 (λ j. getD zs j noRawMethod))))
     (from-every (λ _. rawMethodFits) (λ j. getD zs j noRawMethod) ms 0 (λ j p q. h j (omega arith)))) (go (ltb n sh))

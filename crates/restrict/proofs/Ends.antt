@@ -3,7 +3,7 @@ use mathlib.Core.Path.{_≡_, refl, sym, ap, _∙_, subst}
 use mathlib.Core.Bool.{Bool, So, true, false, cond}
 use mathlib.Core.List.{List, [], _∷_, _++_, map, flatten}
 use mathlib.Core.Option.{Option, none, some}
-use mathlib.Core.Logic.{_⊎_, ⊎-elim}
+use mathlib.Core.Logic.{⊎-elim}
 use Prim.Native.Nat.{ℕ, zero, suc, _+_, _*_, _≤_, _<_}
 use native.Mathlib.Omega.{arith}
 use native.Mathlib.Numerals.{add-one}
@@ -33,7 +33,7 @@ use Rattle.deriving.specs.declared.Begun.{Begun}
 use Rattle.deriving.specs.declared.Begun.the-variants.{Settled, New}
 use Rattle.slots.specs.declared.Work.{Work}
 use Rattle.slots.specs.declared.Slot.{Slot}
-use Rattle.slots.specs.Slots.{slotAt, shared, fillAt, leftIn, rightIn, methodIn, methodAt, kindIn, catIn, mainOf, newRecord, pendingRecord, Finished}
+use Rattle.slots.specs.Slots.{slotAt, shared, fillAt, leftIn, rightIn, methodIn, methodAt, kindIn, mainOf, newRecord, pendingRecord, Finished}
 use Rattle.deriving.specs.Begins.{Begins, Opened, Stored, refIn, tabled}
 use Rattle.restrict.specs.Link.{Ready, Writes, recordAt, Kept, ExactAt, Exact, ExactTo, Sized, Leaves, Coded, Derives, Gives, derivedIn, derivationIn}
 use Rattle.slots.proofs.Runs.{Row, methods-run}
@@ -251,12 +251,14 @@ module _ {d : Kind} {c : Counts} {n t s : ℕ} {w : Work} {b b₀ : List ℕ} (f
   start-loop = loop-starts d c n w b₀ (from-start .limits) (from-start .kinds) (from-start .room) (put-length (from-start .put) ∙ from-start .long)
 
   -- Both sides stand in the bytes as they were read, so that a slot is that of the type at work; and what reading it asks.
-  side-stays : {b₁ : List ℕ} {end : ℕ} {ns : List ℕ} {m k : ℕ} → Loop d c n w b₀ b₁ end ns m k → (i : ℕ) → i < n → getD (typesIn b₁) i noRawType ≡ getD (typesIn b) i noRawType
+  side-stays : {b₁ : List ℕ} {end : ℕ} {ns : List ℕ} {m k : ℕ} → Loop d c n w b₀ b₁ end ns m k → (i : ℕ) → i < n
+      → getD (typesIn b₁) i noRawType ≡ getD (typesIn b) i noRawType
   side-stays {b₁} now i l =
       let r = from-start .room in
       record-same b₀ b₁ i (omega arith) (now .kept i (omega arith)) ∙ record-same b b₀ i (omega arith) (start-kept i l)
 
-  pub slot-ready : {b₁ : List ℕ} {end : ℕ} {ns : List ℕ} {m k : ℕ} → Loop d c n w b₀ b₁ end ns m k → k < end → {kind : ℕ} → kind < 3 → (kind < 3) × (t < 128) × (s < 128) × (k < 80)
+  pub slot-ready : {b₁ : List ℕ} {end : ℕ} {ns : List ℕ} {m k : ℕ} → Loop d c n w b₀ b₁ end ns m k → k < end → {kind : ℕ} → kind < 3
+      → (kind < 3) × (t < 128) × (s < 128) × (k < 80)
   slot-ready now test known =
       let p = ref-below n t b (from-start .left) in let q = ref-below n s b (from-start .right) in let r = from-start .room in let e = now .edge in let u = now .limits .methods in
       (known, omega arith, omega arith, omega arith)
@@ -270,7 +272,8 @@ module _ {d : Kind} {c : Counts} {n t s : ℕ} {w : Work} {b b₀ : List ℕ} (f
       ∙ ap (λ (r : RawType). slotAt (kindIn w) (methodIn x) (side r) k) (side-stays now s (ref-below n s b (from-start .right)) ∙ sym (from-start .rightRecord))
 
   -- what `finish` asks
-  pub finish-ready : {b₁ : List ℕ} {end : ℕ} {ns : List ℕ} {m k : ℕ} → Ready c n t s b → Loop d c n w b₀ b₁ end ns m k → (n < 128) × (length b₁ ≡ 16384) × (w .key .kind < 3) ×
+  pub finish-ready : {b₁ : List ℕ} {end : ℕ} {ns : List ℕ} {m k : ℕ} → Ready c n t s b → Loop d c n w b₀ b₁ end ns m k
+      → (n < 128) × (length b₁ ≡ 16384) × (w .key .kind < 3) ×
       (w .key .left < 256) × (w .key .right < 256) × (ms ≤ 16)
   finish-ready asked now = (
     from-start .room,
@@ -345,7 +348,8 @@ module _ {d : Kind} {c : Counts} {n t s : ℕ} {w : Work} {b b₀ : List ℕ} (f
     derive-runs (suc f) h o all = (f, make-runs f ∙ ap After (all T et f (omega arith)))
 
   -- The table is full somewhere inside.
-  pub new-full : {b₁ b′ : List ℕ} {end : ℕ} {ns : List ℕ} {m k l r : ℕ} {g : Derived} → Loop d c n w b₀ b₁ end ns m k → Leaves m l r b₁ b′ g → Comes d c n w b₀ (λ T f. none)
+  pub new-full : {b₁ b′ : List ℕ} {end : ℕ} {ns : List ℕ} {m k l r : ℕ} {g : Derived} → Loop d c n w b₀ b₁ end ns m k → Leaves m l r b₁ b′ g
+      → Comes d c n w b₀ (λ T f. none)
       → Gives d c n t s b b′ Full
   new-full now keeps all = record {
     keeps = record { long = keeps .long; kept = λ i l. keeps .kept i (let p = now .more in omega arith) ∙ now .kept i (omega arith) ∙ start-kept i l; sized = tt };

@@ -54,7 +54,8 @@ pub record Loop (d : Kind) (c : Counts) (n : ℕ) (w : Work) (b₀ b : List ℕ)
   pub coded : Coded c (n + 1) b₀ → Coded c m b
   pub same : Comes d c n w b₀ (λ T f. runs (derive f) d (slotIn d w) (end - k) k (tabled T c m b) ns)
 
-pub loop-starts : (d : Kind) (c : Counts) (n : ℕ) (w : Work) (b : List ℕ) → Limits (withCount c n) → kindIn w ≡ d → n < 128 → length b ≡ 16384 → Loop d c n w b b (c .methods * 5) zeros (n + 1) 0
+pub loop-starts : (d : Kind) (c : Counts) (n : ℕ) (w : Work) (b : List ℕ) → Limits (withCount c n) → kindIn w ≡ d → n < 128 → length b ≡ 16384
+    → Loop d c n w b b (c .methods * 5) zeros (n + 1) 0
 loop-starts d c n w b limits kinds room long = record {
   edge = refl;
   limits = limits;
@@ -133,7 +134,8 @@ module _ {d : Kind} {c : Counts} {n : ℕ} {w : Work} {b₀ b : List ℕ} {end :
           ∙ ap (λ (o : Option Row). then o λ q. runs (derive f) d S (end - (k + 1)) (k + 1) (q .0) (q .1)) (by (derive f) (tabled T c m b))
           ∙ flat (derive f (tabled T c m b) e l r) ∙ ap (λ (o : Option (Table × ℕ)). then o (after f)) (sym (does .is T et f (let p = now .more in omega arith)))
         where
-          flat : (o : Option (Table × ℕ)) → then {A = Row} (then o λ p. some (p .0, set ns k (byte (p .1)))) (λ q. runs (derive f) d S (end - (k + 1)) (k + 1) (q .0) (q .1)) ≡ then o (after f)
+          flat : (o : Option (Table × ℕ)) → then {A = Row} (then o λ p. some (p .0, set ns k (byte (p .1)))) (λ q. runs (derive f) d S (end - (k + 1)) (k + 1) (q .0) (q .1)) ≡ then o
+              (after f)
           flat none = refl
           flat (some p) = refl
 

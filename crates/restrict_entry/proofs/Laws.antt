@@ -24,7 +24,7 @@ use Rattle.deriving.specs.Begins.{refIn}
 use Rattle.restrict.specs.Link.{Ready, Derives, derivationIn, CodesIn}
 use Rattle.restrict.proofs.Ends.{ref-table}
 use Rattle.restrict_entry.specs.Handed.{kindAsked, isRefType, deriveNamed, deriveHanded}
-use Rattle.restrict_entry.specs.Answer.{Derivation, derivationOf, refusedWith, Answered}
+use Rattle.restrict_entry.specs.Answer.{Derivation, refusedWith, Answered}
 
 -- The kinds by their codes.
 pub asked-both : (k : ℕ) (refs : Bool) → k < 2 → true ≡ kindAsked k refs

@@ -58,10 +58,13 @@ before-alike r x r′ b m e =
     let call : (j : ℕ) → j < r .calls → getD (r′ .callRecords) j noRawCall ≡ getD (x .callRecords) j noRawCall =
     λ j l. alike noRawCall (r′ .calls) (x .calls) (r′ .callRecords) (x .callRecords) (ap (λ z. z .calls) e) (ap (λ z. z .callRecords) e) j (omega (arith, l, m .calls)) in
     record {
-      links = λ k l. alike noRawLinks (suc (r′ .table .cats)) (suc (x .table .cats)) (r′ .table .links) (x .table .links) (ap (λ z. suc (z .table .cats)) e) (ap (λ z. z .table .links) e) k (omega (arith, l, m .cats)) ∙ b .links k l;
-      types = λ i l. alike noRawType (r′ .table .types) (x .table .types) (r′ .table .records) (x .table .records) (ap (λ z. z .table .types) e) (ap (λ z. z .table .records) e) i (omega (arith, l, m .types)) ∙ b .types i l;
+      links = λ k l. alike noRawLinks (suc (r′ .table .cats)) (suc (x .table .cats)) (r′ .table .links) (x .table .links) (ap (λ z. suc (z .table .cats)) e) (ap (λ z. z .table .links) e) k
+          (omega (arith, l, m .cats)) ∙ b .links k l;
+      types = λ i l. alike noRawType (r′ .table .types) (x .table .types) (r′ .table .records) (x .table .records) (ap (λ z. z .table .types) e) (ap (λ z. z .table .records) e) i
+          (omega (arith, l, m .types)) ∙ b .types i l;
       cells = λ k l. alike noCell (r′ .cells) (x .cells) (r′ .cellRecords) (x .cellRecords) (ap (λ z. z .cells) e) (ap (λ z. z .cellRecords) e) k (omega (arith, l, m .cells)) ∙ b .cells k l;
-      places = λ p l. alike noRawPlace (r′ .places) (x .places) (r′ .placeRecords) (x .placeRecords) (ap (λ z. z .places) e) (ap (λ z. z .placeRecords) e) p (omega (arith, l, m .places)) ∙ b .places p l;
+      places = λ p l. alike noRawPlace (r′ .places) (x .places) (r′ .placeRecords) (x .placeRecords) (ap (λ z. z .places) e) (ap (λ z. z .placeRecords) e) p (omega (arith, l, m .places))
+          ∙ b .places p l;
       calls = λ j l. call j l ∙ b .calls j l ∙ ap (λ (c : RawCall). rawFlagged (getD (r .callRecords) j noRawCall) (c .answered)) (sym (call j l));
     }
 

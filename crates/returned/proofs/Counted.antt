@@ -9,7 +9,8 @@ use lib.ListN.{getD}
 use Rattle.model.specs.Basics.{Res, refuse, ok, need, from}
 use Rattle.model.specs.Table.{Table, size, typeAt}
 use Rattle.model.specs.Requests.{System, Request, Result, noCell, serve}
-use Rattle.model.specs.Check.{RawTable, RawSystem, noRawType, noRawLinks, noRawPlace, noRawCall, typeOf, linksOf, placeOf, callOf, firstOf, tableOf, systemOf, codesFit, stateCodesFit, systemFits, systemAccepted}
+use Rattle.model.specs.Check.{RawTable, RawSystem, noRawType, noRawLinks, noRawPlace, noRawCall, typeOf, linksOf, placeOf, callOf, firstOf, tableOf, systemOf, codesFit, stateCodesFit}
+use Rattle.model.specs.Check.{systemFits, systemAccepted}
 use Rattle.model.specs.Records.{typeRecord}
 use Rattle.model.specs.Handed.{countedTable, counted, storedTable, storedFrom, handBack, serveHanded}
 use Rattle.model.proofs.Tests.{ltb-so}
@@ -37,7 +38,8 @@ module _ (r : RawTable) where
   stored-cut : (t : Table) → storedTable (countedTable r) t ≡ storedTable r t
   stored-cut t = rw (
     cut (λ k x. x) (suc (r .cats)) (suc (r .cats)) 0 noRawLinks (r .links) (omega arith),
-    from-same (λ i. cond (ltb i (r .types)) (getD (firstOf (r .types) noRawType (r .records)) i noRawType) (typeRecord (typeAt t i))) (λ i. cond (ltb i (r .types)) (getD (r .records) i noRawType) (typeRecord (typeAt t i)))
+    from-same (λ i. cond (ltb i (r .types)) (getD (firstOf (r .types) noRawType (r .records)) i noRawType) (typeRecord (typeAt t i)))
+        (λ i. cond (ltb i (r .types)) (getD (r .records) i noRawType) (typeRecord (typeAt t i)))
         (size t) 0 (λ i p q. same i (ltb i (r .types)) refl),
   )
     where

@@ -1,6 +1,6 @@
 -- The numbers of an answer are small: a refusal is one of the rules', and not 0; a cell is one of the state that is left, with its place; a call is one of 256, and of adapters
 -- there are no more than places.
-use mathlib.Core.Path.{_≡_, refl, sym, ap, subst, _∙_}
+use mathlib.Core.Path.{_≡_, refl, ap, subst}
 use mathlib.Core.Logic.{_⊎_, inl, inr}
 use mathlib.Core.Bool.{Bool, true, false, So, not, _&&_, _||_, cond}
 use mathlib.Core.List.{List, [], _∷_, _++_, map, reverse}
@@ -9,14 +9,16 @@ use Prim.Native.Nat.{ℕ, zero, suc, _≤_, _<_}
 use native.Mathlib.Omega.{arith}
 use lib.Dec.{eqb, ltb}
 use lib.IntN.{ℤ}
-use lib.ListN.{length, getD, length-append}
+use lib.ListN.{length, length-append}
 use lib.Seq.{getD-at}
 use Rattle.model.specs.Basics.{Res, refuse, ok, try, need, names, named}
 use Rattle.model.specs.Table.{Rep, ref, w32, w64, Table, Kind, typeAt, methodAt, argumentAt, answerAt, isRef, isAvail, isClass, sub, closed}
 use Rattle.model.specs.Relations.{related, conforms, strict, free, loose, subtype}
 use Rattle.model.specs.Restriction.{derive, derived}
 use Rattle.model.specs.Crossing.{Place, object, adapter, placeAt, placeType, baseOf, baseOwner, maxPlaces, Reference, adapt, cross}
-use Rattle.model.specs.Requests.{Cell, System, Request, new, move, call, answer, Result, pair, number, nothing, Outcome, got, refused, noCell, held, isSheetRef, addCell, newRequest, moveRequest, layers, atLayer, renumber, crossLayers, within, passLayers, send, argumentsHeld, sendArguments, callRequest, withAnswer, give, answerRequest, serve, leaving, cellAt, callAt, wayOf, maxCells, maxCalls}
+use Rattle.model.specs.Requests.{Cell, System, Request, new, move, call, answer, Result, pair, number, nothing, Outcome, got, refused, noCell, held, isSheetRef, addCell, newRequest}
+use Rattle.model.specs.Requests.{moveRequest, layers, atLayer, renumber, crossLayers, within, passLayers, send, argumentsHeld, sendArguments, callRequest, withAnswer, give, answerRequest}
+use Rattle.model.specs.Requests.{serve, leaving, cellAt, callAt, wayOf, maxCells, maxCalls}
 use Rattle.model.specs.Check.{RawSystem, systemOf, systemAccepted}
 use Rattle.model.specs.Handed.{handBack, serveHanded}
 use Rattle.model.proofs.Tests.{ltb-so}

@@ -40,13 +40,15 @@ module _ (d : Kind) (l r : ℕ) where
       go false q e (suc n) h rest = rest e n (le-of-suc-le-suc h)
 
   -- the first type with the key is found
-  find-first : (i : ℕ) (xs : List Ty) (n : ℕ) → n < length xs → So (isKey d l r (getD xs n noType .key)) → ((m : ℕ) → m < n → isKey d l r (getD xs m noType .key) ≡ false) → find d l r i xs ≡ some (i + n)
+  find-first : (i : ℕ) (xs : List Ty) (n : ℕ) → n < length xs → So (isKey d l r (getD xs n noType .key)) → ((m : ℕ) → m < n → isKey d l r (getD xs m noType .key) ≡ false)
+      → find d l r i xs ≡ some (i + n)
   unfolding find
   find-first i [] n h k f = absurd (not-suc-le-zero h)
   find-first i (x ∷ xs) zero h k f = let z : i ≡ i + 0 = omega arith in ap (λ b. elim b as (λ _. Option ℕ) [ true ↦ some i | false ↦ find d l r (suc i) xs ]) k ∙ ap some z
   find-first i (x ∷ xs) (suc n) h k f =
       let z : suc i + n ≡ i + suc n = omega arith in
-      ap (λ b. elim b as (λ _. Option ℕ) [ true ↦ some i | false ↦ find d l r (suc i) xs ]) (f 0 (omega arith)) ∙ find-first (suc i) xs n (le-of-suc-le-suc h) k (λ m q. f (suc m) (omega arith)) ∙ ap some z
+      ap (λ b. elim b as (λ _. Option ℕ) [ true ↦ some i | false ↦ find d l r (suc i) xs ]) (f 0 (omega arith))
+      ∙ find-first (suc i) xs n (le-of-suc-le-suc h) k (λ m q. f (suc m) (omega arith)) ∙ ap some z
 
   module _ (t v : Table) (g : Grown (pushed t (pending t d l r)) v) where
     -- a search that failed before the number was taken finds it from then on
@@ -59,7 +61,8 @@ module _ (d : Kind) (l r : ℕ) where
         find-first 0 (v .types) (size t) (omega (arith, g .more)) (rw w (own-key d l r)) (λ m q. ap (λ y. isKey d l r (y .key)) (o .same m q) ∙ find-none 0 (t .types) e m q) ∙ ap some z
 
 -- where the short ways do not answer, the search does
-searched : (a b c : Bool) → c ≡ b → (x y n : ℕ) (o p : Option ℕ) → (o ≡ none → p ≡ some n) → _≡_ {A = Option ℕ} (elim a [ true ↦ some x | false ↦ elim b [ true ↦ o | false ↦ some y ] ]) none
+searched : (a b c : Bool) → c ≡ b → (x y n : ℕ) (o p : Option ℕ) → (o ≡ none → p ≡ some n)
+    → _≡_ {A = Option ℕ} (elim a [ true ↦ some x | false ↦ elim b [ true ↦ o | false ↦ some y ] ]) none
     → _≡_ {A = Option ℕ} (elim a [ true ↦ some x | false ↦ elim c [ true ↦ p | false ↦ some y ] ]) (some n)
 searched true b c q x y n o p h e = absent e
 searched false true c q x y n o p h e = ap (λ z. elim z [ true ↦ p | false ↦ some y ]) q ∙ h e
@@ -71,7 +74,8 @@ bothRefs t l r = isRef (typeAt t l .rep) && isRef (typeAt t r .rep)
 same-refs : (t v : Table) → Grown t v → (l r : ℕ) → l < size t → r < size t → bothRefs v l r ≡ bothRefs t l r
 same-refs t v g l r i j = rw (g .same l i, g .same r j) refl
 
-pending-known : (t : Table) (d : Kind) (l r : ℕ) → l < size t → r < size t → withoutNew t d l r ≡ none → (v : Table) → Grown (pushed t (pending t d l r)) v → withoutNew v d l r ≡ some (size t)
+pending-known : (t : Table) (d : Kind) (l r : ℕ) → l < size t → r < size t → withoutNew t d l r ≡ none → (v : Table) → Grown (pushed t (pending t d l r)) v
+    → withoutNew v d l r ≡ some (size t)
 unfolding withoutNew
 pending-known t sub l r i j e v g = searched (eqb l r) (bothRefs t l r) (bothRefs v l r) (same-refs t v (grown-trans (pushed-grown t (pending t sub l r)) g) l r i j) l l (size t)
     (find sub l r 0 (t .types)) (find sub l r 0 (v .types)) (find-pending sub l r t v g) e
@@ -80,5 +84,6 @@ pending-known t sup l r i j e v g = searched (eqb l r) (bothRefs t l r) (bothRef
 pending-known t closed l r i j e v g = find-pending closed l r t v g e
 
 -- D16. From the moment a type has its number, whoever asks for its key gets that number and nothing is derived: its own signatures, and whatever these derive.
-pub leads-back : (t : Table) (d : Kind) (l r : ℕ) → l < size t → r < size t → withoutNew t d l r ≡ none → (f : ℕ) (v : Table) → Grown (pushed t (pending t d l r)) v → derive f v d l r ≡ some (v, size t)
+pub leads-back : (t : Table) (d : Kind) (l r : ℕ) → l < size t → r < size t → withoutNew t d l r ≡ none → (f : ℕ) (v : Table) → Grown (pushed t (pending t d l r)) v
+    → derive f v d l r ≡ some (v, size t)
 leads-back t d l r i j e f v g = known-again f v d l r (size t) (pending-known t d l r i j e v g)

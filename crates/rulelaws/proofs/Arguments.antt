@@ -17,12 +17,12 @@ use Rattle.model.specs.Check.{placeFits, systemFits}
 use Rattle.model.proofs.Tests.{ltb-so}
 use Rattle.model.proofs.Rules.{first, second}
 use Rattle.model.proofs.Growth.{Grown, grown-refl, grown-trans, method-same}
-use Rattle.modellaws.proofs.Steps.{IfOk, ok-try, ok-map, ok-need}
+use Rattle.modellaws.proofs.Steps.{IfOk, ok-try, ok-map, ok-need, whatever}
 use Rattle.modellaws.proofs.Good.{Sound, sheet-within}
 use Rattle.modellaws.proofs.Demand3.{held-in}
 use Rattle.modellaws.proofs.Fitting.{every-at}
 use Rattle.modellaws.proofs.Checked.{SystemFitting, system-fitting, fits-bounded}
-use Rattle.rulelaws.proofs.Numbering.{any-ok, Sent, sent-last}
+use Rattle.rulelaws.proofs.Numbering.{Sent, sent-last}
 
 -- A reference (true) is the first of the new cells: r's, of the type o. A number makes none.
 abbrev pub First : Bool → ℕ → Option ℕ → (List Cell → Type 0) → List Cell → Type 0
@@ -78,7 +78,7 @@ module _ (t : Table) (r : ℕ) (outer : List ℕ) (class : ℕ) (classIn : class
           let c : Cell = record { holder = r; type = w .0; place = w .2 .next .place } in
           (c ∷ d .0, d .1 ∙ ap (λ cs. cs ++ d .0) (w .2 .next .cells) ∙ append-assoc (s .cells) (c ∷ []) (d .0), (refl, w .1, d .2)))
           (sendArguments (x .0) r way m (suc i) xs vs) (ih (x .0) (grown-trans g (w .2 .table)))
-      go false ih = ok-try _ _ (passLayers true (s .table) v ts) _ (any-ok (passLayers true (s .table) v ts)) λ _ _. ih s g
+      go false ih = ok-try _ _ (passLayers true (s .table) v ts) _ (whatever (passLayers true (s .table) v ts)) λ _ _. ih s g
 
 -- ---- the last layer is the class of the base (C9)
 -- what stands behind an adapter is below it
@@ -117,7 +117,9 @@ module _ (s : System) (fits : So (systemFits s)) where
   downward p b c l e = let h = subst (λ x. So (placeFits s p x)) e (place-fits p l) in ltb-so (first (ltb b p) _ h)
 
   type-in : (p : ℕ) (x : Place) → So (placeFits s p x) → placeType x < size (s .table)
-  type-in p (object c o) h = let q : c < s .table .sheet = ltb-so (first (ltb c (s .table .sheet)) _ (second (ltb o (s .table .subjects)) _ h)) in omega (arith, sheet-within (s .table) (sound .counts))
+  type-in p (object c o) h =
+      let q : c < s .table .sheet = ltb-so (first (ltb c (s .table .sheet)) _ (second (ltb o (s .table .subjects)) _ h)) in
+      omega (arith, sheet-within (s .table) (sound .counts))
   type-in p (adapter b c) h = ltb-so (first (ltb c (size (s .table))) _ (second (ltb b p) _ h))
 
   -- C17. In a state that passes the check (H), the arguments of an accepted call that are references become the next cells, in order: of the owner of the base, and of
@@ -143,7 +145,8 @@ module _ (s : System) (fits : So (systemFits s)) where
       r = baseOwner (s .places) (c .place)
 
       go : named k < length (s .cells) → IfOk {A = System × Result}
-          (try (sendArguments s r (wayOf s c) (named m) 0 xs vs) λ x. ok (withCall x (record { caller = named subject; cell = named k; method = named m; answered = false }), pair (length (s .calls)) (adapterCount (s .places) (c .place))))
+          (try (sendArguments s r (wayOf s c) (named m) 0 xs vs) λ x.
+          ok (withCall x (record { caller = named subject; cell = named k; method = named m; answered = false }), pair (length (s .calls)) (adapterCount (s .places) (c .place))))
           (λ x. (cs : List Cell) × (x .0 .cells ≡ s .cells ++ cs) × Arrived t r (classOf s c) (named m) 0 xs vs cs)
       go l =
           let place-in : c .place < length (s .places) = fits-bounded s fits .cells (named k) l .place in
@@ -151,4 +154,5 @@ module _ (s : System) (fits : So (systemFits s)) where
           let class-in = type-in (baseOf (s .places) (c .place)) (placeAt (s .places) (baseOf (s .places) (c .place))) (place-fits (baseOf (s .places) (c .place)) (e .2)) in
           let w = arguments-sent t r (c .type ∷ e .0) (classOf s c) class-in (named m) xs vs 0 s (grown-refl t) (sound .sigs (c .type) (named m) .0) in
           ok-try _ _ (sendArguments s r (wayOf s c) (named m) 0 xs vs) _
-          (subst (λ ls. IfOk (sendArguments s r (c .type ∷ ls) (named m) 0 xs vs) (λ x. (cs : List Cell) × (x .cells ≡ s .cells ++ cs) × Arrived t r (classOf s c) (named m) 0 xs vs cs)) (sym (e .1)) w) λ x d. d
+          (subst (λ ls. IfOk (sendArguments s r (c .type ∷ ls) (named m) 0 xs vs) (λ x. (cs : List Cell) × (x .cells ≡ s .cells ++ cs) × Arrived t r (classOf s c) (named m) 0 xs vs cs))
+          (sym (e .1)) w) λ x d. d

@@ -4,7 +4,7 @@ use mathlib.Core.Logic.{_⊎_, inl, inr}
 use mathlib.Core.Bool.{Bool, true, false, cond}
 use mathlib.Core.List.{List, [], _∷_, _++_}
 use mathlib.Core.Option.{Option, none, some, Option·some-injective}
-use Prim.Native.Nat.{ℕ, zero, suc, _+_, _≤_, _<_}
+use Prim.Native.Nat.{ℕ, zero, suc, _≤_, _<_}
 use native.Mathlib.Omega.{arith}
 use native.Mathlib.Decide.{decLt, ℕ-discrete}
 use lib.ListN.{getD}
@@ -17,6 +17,7 @@ use Rattle.model.proofs.Derived.{AnswerBelow, SignaturesIn}
 use Rattle.model.proofs.Growth.{Grown, grown-refl, grown-trans}
 use Rattle.modellaws.proofs.Deriving.{IfSome, some-map, pushed, pushed-size, stored-size, pushed-grown, derive-grown}
 use Rattle.modellaws.proofs.Crossings.{known-again}
+use Rattle.modellaws.proofs.Completes.{SignatureBelow}
 use Rattle.rulelaws.proofs.Derivation.{keyOf}
 use Rattle.rulelaws.proofs.Turns.{argumentsAsked, answerAsked, methodAsked, asked, named, InTurn, Anew, make-anew, made-anew}
 
@@ -56,17 +57,15 @@ answer-sides n d none y p q = tt
 answer-sides n d (some x) none p q = tt
 answer-sides n d (some x) (some y) p q = ((p, q), tt)
 
-abbrev Below : ℕ → Method → Type 0
-Below n x = AllBelow n (x .args) × AnswerBelow n (x .answer)
-
-method-sides : (n : ℕ) (d : Kind) (x y : Method) → Below n x → Below n y → AllSides n (methodAsked d x y)
+method-sides : (n : ℕ) (d : Kind) (x y : Method) → SignatureBelow n x → SignatureBelow n y → AllSides n (methodAsked d x y)
 method-sides n d x y p q = go (permit (restricted d (x .state) (y .state)))
   where
     go : (b : Bool) → AllSides n (cond b (argumentsAsked d (x .args) (y .args) ++ answerAsked d (x .answer) (y .answer)) [])
     go true = sides-append n (argumentsAsked d (x .args) (y .args)) _ (arguments-sides n d (x .args) (y .args) (p .0) (q .0)) (answer-sides n d (x .answer) (y .answer) (p .1) (q .1))
     go false = tt
 
-asked-sides : (n : ℕ) (d : Kind) (xs ys : List Method) → ((m : ℕ) → Below n (getD xs m noMethod)) → ((m : ℕ) → Below n (getD ys m noMethod)) → AllSides n (asked d xs ys)
+asked-sides : (n : ℕ) (d : Kind) (xs ys : List Method) → ((m : ℕ) → SignatureBelow n (getD xs m noMethod)) → ((m : ℕ) → SignatureBelow n (getD ys m noMethod))
+    → AllSides n (asked d xs ys)
 asked-sides n d [] ys p q = tt
 asked-sides n d (x ∷ xs) [] p q = tt
 asked-sides n d (x ∷ xs) (y ∷ ys) p q = sides-append n (methodAsked d x y) (asked d xs ys) (method-sides n d x y (p 0) (q 0)) (asked-sides n d xs ys (λ m. p (suc m)) (λ m. q (suc m)))
@@ -80,7 +79,8 @@ module _ (t₀ : Table) (sigs : SignaturesIn t₀) where
     why : ((j ≡ size t) × (key ≡ k)) ⊎ Asks t₀ key k
 
   abbrev NewBy : Derivation → Type 0
-  NewBy rec = (t : Table) → Grown t₀ t → (k : Key) → Sides (size t₀) k → IfSome (rec t (k .kind) (k .left) (k .right)) (λ x. Grown t (x .0) × ((j : ℕ) → size t ≤ j → j < size (x .0) → Came k t (x .0) j))
+  NewBy rec = (t : Table) → Grown t₀ t → (k : Key) → Sides (size t₀) k
+      → IfSome (rec t (k .kind) (k .left) (k .right)) (λ x. Grown t (x .0) × ((j : ℕ) → size t ≤ j → j < size (x .0) → Came k t (x .0) j))
 
   -- type j of u was asked for by one of the keys, or is one of them
   record OneOf (ks : List Key) (u : Table) (j : ℕ) : Type 0 where
@@ -91,7 +91,8 @@ module _ (t₀ : Table) (sigs : SignaturesIn t₀) where
     why : (key ≡ from) ⊎ Asks t₀ key from
 
   module _ (rec : Derivation) (new : NewBy rec) where
-    turns-new : (ks : List Key) (ns : List ℕ) (t u : Table) → Grown t₀ t → AllSides (size t₀) ks → InTurn rec t ks ns u → Grown t u × ((j : ℕ) → size t ≤ j → j < size u → OneOf ks u j)
+    turns-new : (ks : List Key) (ns : List ℕ) (t u : Table) → Grown t₀ t → AllSides (size t₀) ks → InTurn rec t ks ns u
+        → Grown t u × ((j : ℕ) → size t ≤ j → j < size u → OneOf ks u j)
     turns-new [] [] t u g s p = (subst (Grown t) p (grown-refl t), λ j a b. let z : size t ≡ size u = ap size p in absurd (omega arith))
     turns-new [] (n ∷ ns) t u g s p = absurd p
     turns-new (k ∷ ks) [] t u g s p = absurd p
@@ -167,7 +168,8 @@ module _ (t₀ : Table) (sigs : SignaturesIn t₀) where
   unfolding derive
   derive-new zero t g k s = go (withoutNew t (k .kind) (k .left) (k .right)) (known-made t k zero)
     where
-      go : (o : Option ℕ) → ((i : ℕ) → o ≡ some i → IfSome {A = Table × ℕ} (elim o [ some i ↦ some (t, i) | none ↦ none ]) (Made t k)) → IfSome {A = Table × ℕ} (elim o [ some i ↦ some (t, i) | none ↦ none ]) (Made t k)
+      go : (o : Option ℕ) → ((i : ℕ) → o ≡ some i → IfSome {A = Table × ℕ} (elim o [ some i ↦ some (t, i) | none ↦ none ]) (Made t k))
+          → IfSome {A = Table × ℕ} (elim o [ some i ↦ some (t, i) | none ↦ none ]) (Made t k)
       go none h = tt
       go (some i) h = h i refl
   derive-new (suc f) t g k s = go (derive-new f) (withoutNew t (k .kind) (k .left) (k .right)) refl
@@ -180,7 +182,8 @@ module _ (t₀ : Table) (sigs : SignaturesIn t₀) where
 -- Every number that a derivation takes behind its own is of a type that signatures ask for.
 pub only-asked : (t : Table) → SignaturesIn t → (d : Kind) (l r : ℕ) → l < size t → r < size t
     → IfSome (derive maxTypes t d l r) (λ x. (j : ℕ) → size t < j → j < size (x .0) → (k : Key) × (typeAt (x .0) j .key ≡ some k) × Asks t k (keyOf d l r))
-only-asked t sigs d l r low high = some-map (Made t sigs t (keyOf d l r)) _ (λ x h j a b. go x j a (h .1 j (omega arith) b)) (derive maxTypes t d l r) (derive-new t sigs maxTypes t (grown-refl t) (keyOf d l r) (low, high))
+only-asked t sigs d l r low high =
+    some-map (Made t sigs t (keyOf d l r)) _ (λ x h j a b. go x j a (h .1 j (omega arith) b)) (derive maxTypes t d l r) (derive-new t sigs maxTypes t (grown-refl t) (keyOf d l r) (low, high))
   where
     go : (x : Table × ℕ) (j : ℕ) → size t < j → Came t sigs (keyOf d l r) t (x .0) j → (k : Key) × (typeAt (x .0) j .key ≡ some k) × Asks t k (keyOf d l r)
     go x j a c = (c .key, c .stands, why (c .why))
@@ -191,7 +194,8 @@ only-asked t sigs d l r low high = some-map (Made t sigs t (keyOf d l r)) _ (λ 
 
 -- D10. Closed(R,V), where it is not known, takes the next number for itself. No other type is made but those that signatures ask for, so there is no Sub(R,V) among
 -- the new types unless one of these is it.
-pub closed-takes-one : (t : Table) (l r : ℕ) → withoutNew t closed l r ≡ none → IfSome (derive maxTypes t closed l r) (λ x. (x .1 ≡ size t) × (typeAt (x .0) (size t) .key ≡ some (keyOf closed l r)))
+pub closed-takes-one : (t : Table) (l r : ℕ) → withoutNew t closed l r ≡ none
+    → IfSome (derive maxTypes t closed l r) (λ x. (x .1 ≡ size t) × (typeAt (x .0) (size t) .key ≡ some (keyOf closed l r)))
 closed-takes-one t l r e = some-map _ _ (λ x a. (a .number, a .key)) (derive maxTypes t closed l r) (made-anew t closed l r e)
 
 pub closed-makes-no-sub : (t : Table) → SignaturesIn t → (l r : ℕ) → l < size t → r < size t → withoutNew t closed l r ≡ none → (Asks t (keyOf sub l r) (keyOf closed l r) → ⊥)

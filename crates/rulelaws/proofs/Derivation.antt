@@ -31,7 +31,8 @@ pub record Signature (u : Table) (a b : Kind) (x y z : Method) : Type 0 where
 
 -- of every type that u has more than t and whose key is of kind d: the methods it permits, in T and S
 abbrev pub Signatures : Kind → Kind → Kind → Table → Table → Type 0
-Signatures d a b t u = (i l r m : ℕ) → size t ≤ i → i < size u → typeAt u i .key ≡ some (keyOf d l r) → So (permit (methodAt u i m .state)) → Signature u a b (methodAt t l m) (methodAt t r m) (methodAt u i m)
+Signatures d a b t u = (i l r m : ℕ) → size t ≤ i → i < size u → typeAt u i .key ≡ some (keyOf d l r) → So (permit (methodAt u i m .state))
+    → Signature u a b (methodAt t l m) (methodAt t r m) (methodAt u i m)
 
 -- a method past the last is not permitted
 no-method : {C : Type 0} (z : Method) → z ≡ noMethod → So (permit (z .state)) → C
@@ -93,11 +94,15 @@ reached-derived t valid qs = let u = reached t qs .0 .table in let g = reached-g
 -- D12. Sub and Sup of a type with itself are that type; nothing is derived.
 pub sub-of-itself : (f : ℕ) (t : Table) (l : ℕ) → derive f t sub l l ≡ some (t, l)
 unfolding withoutNew
-sub-of-itself f t l = known-again f t sub l l l (ap (λ b. elim b [ true ↦ some l | false ↦ elim (isRef (typeAt t l .rep) && isRef (typeAt t l .rep)) [ true ↦ find sub l l 0 (t .types) | false ↦ some l ] ]) (eqb-self l))
+sub-of-itself f t l =
+    known-again f t sub l l l
+    (ap (λ b. elim b [ true ↦ some l | false ↦ elim (isRef (typeAt t l .rep) && isRef (typeAt t l .rep)) [ true ↦ find sub l l 0 (t .types) | false ↦ some l ] ]) (eqb-self l))
 
 pub sup-of-itself : (f : ℕ) (t : Table) (l : ℕ) → derive f t sup l l ≡ some (t, l)
 unfolding withoutNew
-sup-of-itself f t l = known-again f t sup l l l (ap (λ b. elim b [ true ↦ some l | false ↦ elim (isRef (typeAt t l .rep) && isRef (typeAt t l .rep)) [ true ↦ find sup l l 0 (t .types) | false ↦ some l ] ]) (eqb-self l))
+sup-of-itself f t l =
+    known-again f t sup l l l
+    (ap (λ b. elim b [ true ↦ some l | false ↦ elim (isRef (typeAt t l .rep) && isRef (typeAt t l .rep)) [ true ↦ find sup l l 0 (t .types) | false ↦ some l ] ]) (eqb-self l))
 
 -- D13. Where one of the two is a number type Sub(T,S) is T and Sup(T,S) is S; nothing is derived.
 pub sub-of-numbers : (f : ℕ) (t : Table) (l r : ℕ) → (isRef (typeAt t l .rep) && isRef (typeAt t r .rep)) ≡ false → derive f t sub l r ≡ some (t, l)
@@ -113,7 +118,8 @@ pub sup-of-numbers : (f : ℕ) (t : Table) (l r : ℕ) → (isRef (typeAt t l .r
 unfolding withoutNew
 sup-of-numbers f t l r e = known-again f t sup l r r (go (eqb l r) refl (isRef (typeAt t l .rep) && isRef (typeAt t r .rep)) e)
   where
-    go : (a : Bool) → eqb l r ≡ a → (b : Bool) → b ≡ false → _≡_ {A = Option ℕ} (elim a [ true ↦ some l | false ↦ elim b [ true ↦ find sup l r 0 (t .types) | false ↦ some r ] ]) (some r)
+    go : (a : Bool) → eqb l r ≡ a → (b : Bool) → b ≡ false
+        → _≡_ {A = Option ℕ} (elim a [ true ↦ some l | false ↦ elim b [ true ↦ find sup l r 0 (t .types) | false ↦ some r ] ]) (some r)
     go true q b e = ap some (eqb-so q)
     go false q true e = never (sym e)
     go false q false e = refl

@@ -1,26 +1,20 @@
 -- Which numbers a value can be refused with at the layers of a call or an answer (docs/SPEC.md, C13 to C15, A9).
-use mathlib.Core.Path.{_≡_, refl, ap, sym, _∙_}
+use mathlib.Core.Path.{_≡_, refl, ap}
 use mathlib.Core.Logic.{_⊎_, inl, inr, _≢_}
 use mathlib.Core.Bool.{Bool, true, false, _||_, cond}
-use mathlib.Core.List.{List, [], _∷_, _++_}
+use mathlib.Core.List.{List, [], _∷_}
 use mathlib.Core.Option.{Option, none, some}
-use Prim.Native.Nat.{ℕ, _<_}
+use Prim.Native.Nat.{ℕ}
 use native.Mathlib.Omega.{arith}
-use lib.Dec.{eqb, ltb}
+use lib.Dec.{eqb}
 use lib.IntN.{ℤ}
-use lib.ListN.{length}
 use Rattle.model.specs.Basics.{Res, refuse, ok, try, need}
-use Rattle.model.specs.Table.{Rep, ref, w32, w64, sub, closed, Table, maxTypes, size, typeAt}
-use Rattle.model.specs.Relations.{subtype, conforms, strict, loose, free, related}
-use Rattle.model.specs.Restriction.{derive, derived}
-use Rattle.model.specs.Crossing.{Place, adapter, maxPlaces, placeType, placeAt, baseOf, baseOwner, Reference, adapt, cross}
+use Rattle.model.specs.Table.{Rep, ref, w32, w64, Table, typeAt}
+use Rattle.model.specs.Crossing.{Reference, cross}
 use Rattle.model.specs.Requests.{atLayer, renumber, crossLayers, within, passLayers}
 use Rattle.model.proofs.Tests.{eqb-no}
-use Rattle.model.proofs.Rules.{never}
-use Rattle.model.proofs.Growth.{Grown, grown-trans}
 use Rattle.modellaws.proofs.Steps.{IfOk}
-use Rattle.modellaws.proofs.Trails.{ok-renumber}
-use Rattle.rulelaws.proofs.Numbering.{any-ok, Passed, crossed}
+use Rattle.rulelaws.proofs.Numbering.{any-ok}
 
 -- P holds of the number of a refusal, if it is one
 abbrev pub IfRefused : {A : Type 0} → Res A → (ℕ → Type 0) → Type 0

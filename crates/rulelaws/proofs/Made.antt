@@ -12,9 +12,11 @@ use lib.Seq.{getD-append-seam}
 use Rattle.model.specs.Basics.{ok, try, need, names, named}
 use Rattle.model.specs.Table.{typeAt, methodAt, argumentAt, answerAt, isRef, isAvail, isClass}
 use Rattle.model.specs.Crossing.{Place, object, noPlace, maxPlaces, placeAt, baseOwner, Reference, cross}
-use Rattle.model.specs.Requests.{Call, System, maxCells, maxCalls, Request, new, move, call, answer, Result, pair, number, noCall, cellAt, callAt, isSheetRef, held, leaving, addCell, newRequest, moveRequest, adapterCount, layersOf, wayOf, passLayers, send, argumentsHeld, sendArguments, callRequest, flagged, withAnswer, give, answerRequest, serve}
-use Rattle.modellaws.proofs.Steps.{IfOk, ok-try, ok-map, ok-need}
-use Rattle.rulelaws.proofs.Numbering.{any-ok, NextPlace, crossed, NextCell, Sent, cell-sent, sent-last, send-calls}
+use Rattle.model.specs.Requests.{Call, System, maxCells, maxCalls, Request, new, move, call, answer, Result, pair, number, noCall, cellAt, callAt, isSheetRef, held, leaving, addCell}
+use Rattle.model.specs.Requests.{newRequest, moveRequest, adapterCount, layersOf, wayOf, passLayers, send, argumentsHeld, sendArguments, callRequest, flagged, withAnswer, give}
+use Rattle.model.specs.Requests.{answerRequest, serve}
+use Rattle.modellaws.proofs.Steps.{IfOk, ok-try, ok-map, ok-need, whatever}
+use Rattle.rulelaws.proofs.Numbering.{NextPlace, crossed, NextCell, Sent, cell-sent, sent-last, send-calls}
 
 -- where a reference is due a cell of the caller's, of the type due; else none
 abbrev pub AnswerCell : Bool → System → ℕ → ℕ → System × Result → Type 0
@@ -54,7 +56,7 @@ arguments-calls r way m (a ∷ xs) (v ∷ vs) i s = go (isRef (typeAt (s .table)
       | false ↦ try (passLayers true (s .table) v ts) λ _. sendArguments s r way m (suc i) xs vs
     ]) (λ x. x .calls ≡ s .calls)
     go true ih = ok-try _ _ (send s r (named v) ts) _ (send-calls s r (named v) ts) λ x w. ok-map _ _ (λ u d. d ∙ w) (sendArguments (x .0) r way m (suc i) xs vs) (ih (x .0))
-    go false ih = ok-try _ _ (passLayers true (s .table) v ts) _ (any-ok (passLayers true (s .table) v ts)) λ _ _. ih s
+    go false ih = ok-try _ _ (passLayers true (s .table) v ts) _ (whatever (passLayers true (s .table) v ts)) λ _ _. ih s
 
 -- the calls after an answer, where sending it has left them alone
 answered : (s u : System) (j : ℕ) → u .calls ≡ s .calls → withAnswer u j .calls ≡ set (s .calls) j (flagged (callAt s j) true)
@@ -89,10 +91,11 @@ give-makes s subject j (some a) (some v) e = go (isRef (typeAt (s .table) a .rep
       | false ↦ try (passLayers true (s .table) v ts) λ _. ok (withAnswer s j, number v)
     ]) (λ x. AnswerCell b s r a x × (x .0 .calls ≡ set (s .calls) j (flagged (callAt s j) true)))
     go true = ok-need _ (held s subject v) 15 _ λ _.
-        ok-try _ _ (send s r (named v) ts) _ (subst (λ us. IfOk (send s r (named v) us) (λ x. (type : ℕ) × (dueOf s j ≡ some type) × Sent s r type x)) ends (sent-last s r (named v) (reverse outer) (dueOf s j))) λ x w.
+        ok-try _ _ (send s r (named v) ts) _
+        (subst (λ us. IfOk (send s r (named v) us) (λ x. (type : ℕ) × (dueOf s j ≡ some type) × Sent s r type x)) ends (sent-last s r (named v) (reverse outer) (dueOf s j))) λ x w.
         let q : w .0 ≡ a = Option·some-injective _ _ (sym (w .1) ∙ e) in let n = subst (λ y. Sent s r y x) q (w .2) in
         (record { place = n .next .place; cells = n .next .cells; result = n .next .result }, answered s (x .0) j (n .calls))
-    go false = ok-try _ _ (passLayers true (s .table) v ts) _ (any-ok (passLayers true (s .table) v ts)) λ _ _. (refl, refl)
+    go false = ok-try _ _ (passLayers true (s .table) v ts) _ (whatever (passLayers true (s .table) v ts)) λ _ _. (refl, refl)
 
 -- Q6. What an accepted request makes stands behind what there was, under the count before.
 pub serve-makes : (s : System) (q : Request) → IfOk (serve s q) (Makes s q)

@@ -8,7 +8,7 @@ use mathlib.Core.Option.{Option, none, some}
 use Prim.Native.Nat.{ℕ}
 use lib.Dec.{eqb, ltb}
 use lib.ListN.{length}
-use Rattle.model.specs.Basics.{Res, refuse, ok, try, need}
+use Rattle.model.specs.Basics.{ok, try, need}
 use Rattle.model.specs.Table.{Kind, sub, closed, Table, maxTypes, typeAt}
 use Rattle.model.specs.Relations.{subtype, conforms, strict, loose, free, related}
 use Rattle.model.specs.Restriction.{derived}
@@ -16,14 +16,9 @@ use Rattle.model.specs.Crossing.{Place, adapter, maxPlaces, placeType, placeAt,
 use Rattle.model.specs.Requests.{System, maxCells, Result, pair, number, leaving, addCell, renumber, crossLayers, send}
 use Rattle.model.proofs.Growth.{Grown, grown-refl, grown-trans}
 use Rattle.modellaws.proofs.Deriving.{derive-grown}
-use Rattle.modellaws.proofs.Steps.{IfOk, ok-try, ok-map, ok-need}
+use Rattle.modellaws.proofs.Steps.{IfOk, ok-try, ok-map, ok-need, whatever}
 use Rattle.modellaws.proofs.Trails.{ok-renumber}
 use Rattle.modellaws.proofs.Checked.{derived-of}
-
--- nothing is asked of what comes of it
-pub any-ok : {A : Type 0} (m : Res A) → IfOk m (λ _. Unit {0})
-any-ok (refuse e) = tt
-any-ok (ok a) = tt
 
 -- ---- one crossing
 -- It adds a place and leads to that, whose number is the count before,
@@ -74,10 +69,12 @@ crossed f to r = go (typeAt t to .own) (related subtype t to (f .type))
     ]) (Passed f to)
     go true st = ok-need _ (related free t to (f .type)) 8 _ λ _. ok-need _ (eqb r (baseOwner (f .places) (f .place))) 9 _ λ _. adapt-passes f t (grown-refl t) to to (baseOf (f .places) (f .place))
     go false true = ok-need _ (related loose t to (f .type)) 8 _ λ _. record { type = refl; table = grown-refl t; places = inl refl }
-    go false false = ok-need _ (related loose t to (f .type)) 8 _ λ _. ok-try _ _ (derived t sub to (f .type)) _ (derived-grown t sub to (f .type)) λ x h. adapt-passes f (x .0) h to (x .1) (f .place)
+    go false false = ok-need _ (related loose t to (f .type)) 8 _ λ _. ok-try _ _ (derived t sub to (f .type)) _ (derived-grown t sub to (f .type)) λ x h.
+        adapt-passes f (x .0) h to (x .1) (f .place)
 
 -- several in turn: the last layer has a type at that position, and it is the reference's
-pub layers-end : (ts : List (Option ℕ)) (o : Option ℕ) (b : Bool) (f : Reference) (r : ℕ) → IfOk (crossLayers b f r (ts ++ (o ∷ []))) (λ g. (o ≡ some (g .type)) × Grown (f .table) (g .table))
+pub layers-end : (ts : List (Option ℕ)) (o : Option ℕ) (b : Bool) (f : Reference) (r : ℕ)
+    → IfOk (crossLayers b f r (ts ++ (o ∷ []))) (λ g. (o ≡ some (g .type)) × Grown (f .table) (g .table))
 unfolding crossLayers
 layers-end [] none b f r = tt
 layers-end [] (some to) b f r = ok-try _ _ (renumber b (cross f to r)) _ (ok-renumber _ b (cross f to r) (crossed f to r)) λ g h. (ap some (sym (h .type)), h .table)
@@ -111,4 +108,4 @@ sent-last s r k ts o = ok-try _ _ (crossLayers true (leaving s k) r (ts ++ (o �
 -- sending a reference makes no call
 pub send-calls : (s : System) (r k : ℕ) (ts : List (Option ℕ)) → IfOk (send s r k ts) (λ x. x .0 .calls ≡ s .calls)
 unfolding send addCell
-send-calls s r k ts = ok-try _ _ (crossLayers true (leaving s k) r ts) _ (any-ok (crossLayers true (leaving s k) r ts)) λ f _. ok-need _ (ltb (length (s .cells)) maxCells) 13 _ λ _. refl
+send-calls s r k ts = ok-try _ _ (crossLayers true (leaving s k) r ts) _ (whatever (crossLayers true (leaving s k) r ts)) λ f _. ok-need _ (ltb (length (s .cells)) maxCells) 13 _ λ _. refl

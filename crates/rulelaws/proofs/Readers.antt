@@ -97,7 +97,8 @@ module _ {A B : Type 0} (p : Reader A) (k : A → Reader B) where
   module _ (at : ℕ) (rs : List Row) (x : A) (a : ℕ) (q : List Row) (w : Took p at rs x a q) where
     -- behind what the first took the second goes on
     pub second : (ls : List (List ℕ)) (qs : List Row) → bind p k at (rows (w .lines ++ ls) ++ qs) ≡ k x a (rows ls ++ qs)
-    second ls qs = ap (λ z. bind p k at (z ++ qs)) (rows-append (w .lines) ls) ∙ ap (λ z. bind p k at z) (append-assoc (rows (w .lines)) (rows ls) qs) ∙ ap (λ z. follow z k) (w .always (rows ls ++ qs))
+    second ls qs = ap (λ z. bind p k at (z ++ qs)) (rows-append (w .lines) ls) ∙ ap (λ z. bind p k at z) (append-assoc (rows (w .lines)) (rows ls) qs)
+        ∙ ap (λ z. follow z k) (w .always (rows ls ++ qs))
 
     pub both-passed : (ls : List (List ℕ)) (rest : List Row) → q ≡ rows ls ++ rest → rs ≡ rows (w .lines ++ ls) ++ rest
     both-passed ls rest e = w .passed ∙ ap (λ z. rows (w .lines) ++ z) e ∙ sym (append-assoc (rows (w .lines)) (rows ls) rest) ∙ ap (λ z. z ++ rest) (sym (rows-append (w .lines) ls))
@@ -121,13 +122,22 @@ module _ {A B : Type 0} (p : Reader A) (k : A → Reader B) where
       right = λ qs. subst (NotBefore c) (sym (second (v .lines) qs)) (v .right qs);
       wrong = wrong-behind (v .lines) (v .rest) n c (v .wrong);
     }
-    goes-on (got y c rest) v = record { lines = w .lines ++ v .lines; passed = both-passed (v .lines) rest (v .passed); offset = both-offset (v .lines) c (v .offset); always = λ qs. second (v .lines) qs ∙ v .always qs }
+    goes-on (got y c rest) v =
+        record { lines = w .lines ++ v .lines; passed = both-passed (v .lines) rest (v .passed); offset = both-offset (v .lines) c (v .offset); always = λ qs. second (v .lines) qs ∙ v .always qs }
 
   pub bind-local : Local p → ((x : A) → Local (k x)) → Local (bind p k)
   bind-local h g at rs = go (p at rs) (h at rs)
     where
       go : (r : Reading A) → Came p at rs r → Came (bind p k) at rs (follow r k)
-      go (refused n c) w = record { lines = w .lines; rest = w .rest; passed = w .passed; offset = w .offset; right = λ qs. follow-later k (λ x. never-before (k x) (g x)) c (p at (rows (w .lines) ++ qs)) (w .right qs); wrong = wrong-on at (w .lines) (w .rest) n c (w .wrong) }
+      go (refused n c) w =
+          record {
+            lines = w .lines;
+            rest = w .rest;
+            passed = w .passed;
+            offset = w .offset;
+            right = λ qs. follow-later k (λ x. never-before (k x) (g x)) c (p at (rows (w .lines) ++ qs)) (w .right qs);
+            wrong = wrong-on at (w .lines) (w .rest) n c (w .wrong);
+          }
       go (got x a q) w = goes-on at rs x a q w (k x a q) (g x a q)
 
 pub times-local : {A : Type 0} (p : ℕ → Reader A) → ((i : ℕ) → Local (p i)) → (n i : ℕ) (acc : List A) → Local (times p n i acc)
@@ -138,7 +148,8 @@ times-local p h (suc n) i acc = bind-local (p i) (λ x. times p n (suc i) (acc +
 -- ---- all lines of a sheet but the last
 members-local : (m n : ℕ) (r : Rep) (c : ℕ) → Local (members m n r c)
 unfolding members
-members-local m n ref c = bind-local (line ownLine) _ (line-local ownLine) λ o. bind-local (times (λ j. line (methodLine n)) m 0 []) _ (times-local (λ j. line (methodLine n)) (λ j. line-local (methodLine n)) m 0 []) λ ms. pure-local _
+members-local m n ref c = bind-local (line ownLine) _ (line-local ownLine) λ o.
+    bind-local (times (λ j. line (methodLine n)) m 0 []) _ (times-local (λ j. line (methodLine n)) (λ j. line-local (methodLine n)) m 0 []) λ ms. pure-local _
 members-local m n w32 c = pure-local _
 members-local m n w64 c = pure-local _
 

@@ -13,7 +13,8 @@ use Rattle.model.specs.Table.{sub, closed, Table, maxTypes, typeAt, methodAt, a
 use Rattle.model.specs.Relations.{subtype, conforms, strict, loose, free, related}
 use Rattle.model.specs.Restriction.{derive, derived}
 use Rattle.model.specs.Crossing.{Place, object, adapter, placeType, placeAt, baseOf, baseOwner, Reference, adapt, cross}
-use Rattle.model.specs.Requests.{System, Result, pair, number, cellAt, callAt, isSheetRef, held, leaving, withCell, addCell, newRequest, moveRequest, wayOf, crossLayers, passLayers, send, argumentsHeld, sendArguments, callRequest, withAnswer, give, answerRequest}
+use Rattle.model.specs.Requests.{System, Result, pair, number, cellAt, callAt, isSheetRef, held, leaving, withCell, addCell, newRequest, moveRequest, wayOf, crossLayers, passLayers, send}
+use Rattle.model.specs.Requests.{argumentsHeld, sendArguments, callRequest, withAnswer, give, answerRequest}
 use Rattle.rulelaws.proofs.Made.{dueOf}
 
 -- the number of a refusal, if it is one
@@ -45,7 +46,9 @@ pub record FailsAt (os : List (Option ℕ)) (e : ℕ) : Type 0 where
 
 pub fails-at : (os : List (Option ℕ)) (e : ℕ) → firstOf os ≡ some e → FailsAt os e
 fails-at [] e h = let z : _≡_ {A = ℕ} 0 1 = cc in absurd (omega arith)
-fails-at (none ∷ os) e h = let w = fails-at os e h in record { before = none ∷ w .before; rest = w .rest; split = ap {B = List (Option ℕ)} (λ z. none ∷ z) (w .split); passed = (refl, w .passed) }
+fails-at (none ∷ os) e h =
+    let w = fails-at os e h in
+    record { before = none ∷ w .before; rest = w .rest; split = ap {B = List (Option ℕ)} (λ z. none ∷ z) (w .split); passed = (refl, w .passed) }
 fails-at (some d ∷ os) e h = record { before = []; rest = os; split = ap {B = List (Option ℕ)} (λ z. z ∷ os) h; passed = tt }
 
 pub all-passed : (os : List (Option ℕ)) → firstOf os ≡ none → AllPassed os
@@ -78,7 +81,8 @@ adapt-refusal t ps to r p = go (related conforms t r v) (related strict t r v) (
 
     go : (c s : Bool) (o : Option (Table × ℕ)) (b : Bool) → refusal {A = Reference} (elim c [
       | true ↦ ok (record { table = t; places = ps; type = to; place = p })
-      | false ↦ need s 10 λ _. try {A = Table × ℕ} (elim o [ none ↦ refuse 11 | some p ↦ ok p ]) λ x. need b 12 λ _. ok (record { table = x .0; places = ps ++ (adapter p (x .1) ∷ []); type = to; place = length ps })
+      | false ↦ need s 10 λ _. try {A = Table × ℕ} (elim o [ none ↦ refuse 11 | some p ↦ ok p ]) λ x. need b 12 λ _.
+          ok (record { table = x .0; places = ps ++ (adapter p (x .1) ∷ []); type = to; place = length ps })
     ]) ≡ firstOf (cond c [] (unless s 10 ∷ unless (not (isNone o)) 11 ∷ unless b 12 ∷ []))
     go true s o b = refl
     go false false o b = refl
@@ -88,7 +92,8 @@ adapt-refusal t ps to r p = go (related conforms t r v) (related strict t r v) (
 
 pub cross-refusal : (f : Reference) (to r : ℕ) → refusal (cross f to r) ≡ firstOf (crossTests f to r)
 unfolding cross derived
-cross-refusal f to r = go (typeAt t to .own) (related free t to (f .type)) (eqb r (baseOwner ps (f .place))) (related loose t to (f .type)) (related subtype t to (f .type)) (derive maxTypes t sub to (f .type))
+cross-refusal f to r =
+    go (typeAt t to .own) (related free t to (f .type)) (eqb r (baseOwner ps (f .place))) (related loose t to (f .type)) (related subtype t to (f .type)) (derive maxTypes t sub to (f .type))
   where
     t : Table
     t = f .table
@@ -136,7 +141,8 @@ pub new-refusal : (s : System) (subject class to : ℤ) → refusal (newRequest 
     ∷ unless (ltb (length (s .cells)) 256) 13 ∷ [])
 unfolding newRequest
 new-refusal s subject class to =
-    go (names subject (s .table .subjects)) (names class (s .table .sheet) && isClass (typeAt (s .table) (named class))) (isSheetRef (s .table) to) (ltb (length (s .places)) 128) (cross (entering s subject class) (named to) (named subject))
+    go (names subject (s .table .subjects)) (names class (s .table .sheet) && isClass (typeAt (s .table) (named class))) (isSheetRef (s .table) to) (ltb (length (s .places)) 128)
+    (cross (entering s subject class) (named to) (named subject))
   where
     go : (a b c d : Bool) (m : Res Reference) → refusal (need a 5 λ _. need b 7 λ _. need c 7 λ _. need d 12 λ _. try m λ f. addCell s (named subject) f)
         ≡ firstOf (unless a 5 ∷ unless b 7 ∷ unless c 7 ∷ unless d 12 ∷ refusal m ∷ unless (ltb (length (s .cells)) 256) 13 ∷ [])
@@ -154,7 +160,8 @@ pub move-refusal : (s : System) (subject k receiver to : ℤ) → refusal (moveR
     ∷ refusal (cross (leaving s (named k)) (named to) (named receiver))
     ∷ unless (ltb (length (s .cells)) 256) 13 ∷ [])
 unfolding moveRequest
-move-refusal s subject k receiver to = go (names subject (s .table .subjects) && names receiver (s .table .subjects)) (held s subject k) (isSheetRef (s .table) to) (cross (leaving s (named k)) (named to) (named receiver))
+move-refusal s subject k receiver to =
+    go (names subject (s .table .subjects) && names receiver (s .table .subjects)) (held s subject k) (isSheetRef (s .table) to) (cross (leaving s (named k)) (named to) (named receiver))
   where
     go : (a b c : Bool) (m : Res Reference) → refusal (need a 5 λ _. need b 6 λ _. need c 7 λ _. try m λ f. addCell s (named receiver) f)
         ≡ firstOf (unless a 5 ∷ unless b 6 ∷ unless c 7 ∷ refusal m ∷ unless (ltb (length (s .cells)) 256) 13 ∷ [])
@@ -188,7 +195,8 @@ call-refusal s subject k m vs = let c = cellAt s (named k) in let x = methodAt (
     go true true true true true (ok x) f = refl
 
 -- C17, A10: a reference that is sent meets the layers, then 13
-pub send-refusal : (s : System) (r k : ℕ) (ts : List (Option ℕ)) → refusal (send s r k ts) ≡ firstOf (refusal (crossLayers true (leaving s k) r ts) ∷ unless (ltb (length (s .cells)) 256) 13 ∷ [])
+pub send-refusal : (s : System) (r k : ℕ) (ts : List (Option ℕ))
+    → refusal (send s r k ts) ≡ firstOf (refusal (crossLayers true (leaving s k) r ts) ∷ unless (ltb (length (s .cells)) 256) 13 ∷ [])
 unfolding send
 send-refusal s r k ts = arrival-refusal s r (crossLayers true (leaving s k) r ts)
 
@@ -210,7 +218,8 @@ unfolding give
 give-refusal s subject j none none = refl
 give-refusal s subject j none (some v) = refl
 give-refusal s subject j (some a) none = refl
-give-refusal s subject j (some a) (some v) = go (isRef (typeAt (s .table) a .rep)) (held s subject v) (send s (callAt s j .caller) (named v) (wayOut s j)) (send-refusal s (callAt s j .caller) (named v) (wayOut s j)) (passLayers true (s .table) v (wayOut s j))
+give-refusal s subject j (some a) (some v) = go (isRef (typeAt (s .table) a .rep)) (held s subject v) (send s (callAt s j .caller) (named v) (wayOut s j))
+    (send-refusal s (callAt s j .caller) (named v) (wayOut s j)) (passLayers true (s .table) v (wayOut s j))
   where
     os : List (Option ℕ)
     os = refusal (crossLayers true (leaving s (named v)) (callAt s j .caller) (wayOut s j)) ∷ unless (ltb (length (s .cells)) 256) 13 ∷ []
@@ -232,10 +241,12 @@ pub answer-refusal : (s : System) (subject j : ℤ) (v : Option ℤ) → refusal
     ∷ unless (not (callAt s (named j) .answered)) 17
     ∷ giveTests s subject (named j) (dueOf s (named j)) v)
 unfolding answerRequest
-answer-refusal s subject j v = go (names subject (s .table .subjects)) (names j (length (s .calls)) && eqb (named subject) (baseOwner (s .places) (cellAt s (callAt s (named j) .cell) .place))) (not (callAt s (named j) .answered))
+answer-refusal s subject j v = go (names subject (s .table .subjects)) (names j (length (s .calls)) && eqb (named subject) (baseOwner (s .places) (cellAt s (callAt s (named j) .cell) .place)))
+    (not (callAt s (named j) .answered))
     (give s subject (named j) (dueOf s (named j)) v) (giveTests s subject (named j) (dueOf s (named j)) v) (give-refusal s subject (named j) (dueOf s (named j)) v)
   where
-    go : (a b c : Bool) (m : Res (System × Result)) (os : List (Option ℕ)) → refusal m ≡ firstOf os → refusal (need a 5 λ _. need b 6 λ _. need c 17 λ _. m) ≡ firstOf (unless a 5 ∷ unless b 6 ∷ unless c 17 ∷ os)
+    go : (a b c : Bool) (m : Res (System × Result)) (os : List (Option ℕ)) → refusal m ≡ firstOf os
+        → refusal (need a 5 λ _. need b 6 λ _. need c 17 λ _. m) ≡ firstOf (unless a 5 ∷ unless b 6 ∷ unless c 17 ∷ os)
     go false b c m os e = refl
     go true false c m os e = refl
     go true true false m os e = refl

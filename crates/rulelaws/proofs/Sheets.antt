@@ -33,7 +33,15 @@ pub record RefusedLine (rs : List Row) (n k : ℕ) : Type 0 where
   pub wrong : SheetWrong lines rest n k
 
 of-line : (rs : List Row) (n k : ℕ) → Stopped sheet 0 rs n k → RefusedLine rs n k
-of-line rs n k w = record { lines = w .lines; rest = w .rest; passed = w .passed; offset = let e : k ≡ 0 + length (join (w .lines)) = w .offset in omega arith; right = λ r qs. w .right (r ∷ qs); wrong = ofLine (w .wrong) }
+of-line rs n k w =
+    record {
+      lines = w .lines;
+      rest = w .rest;
+      passed = w .passed;
+      offset = let e : k ≡ 0 + length (join (w .lines)) = w .offset in omega arith;
+      right = λ r qs. w .right (r ∷ qs);
+      wrong = ofLine (w .wrong);
+    }
 
 abbrev OfSheet : List Row → Reading Table → Type 0
 OfSheet rs (refused n k) = RefusedLine rs n k
@@ -124,7 +132,16 @@ unfolding sheet
 of-sheet rs = go (body 0 rs) (body-local 0 rs)
   where
     go : (r : Reading Table) → Came body 0 rs r → OfSheet rs (follow r ending)
-    go (refused n k) w = of-line rs n k (record { lines = w .lines; rest = w .rest; passed = w .passed; offset = w .offset; right = λ qs. follow-later ending ending-later k (body 0 (rows (w .lines) ++ qs)) (w .right qs); wrong = wrong-on body ending 0 (w .lines) (w .rest) n k (w .wrong) })
+    go (refused n k) w =
+        of-line rs n k
+        (record {
+          lines = w .lines;
+          rest = w .rest;
+          passed = w .passed;
+          offset = w .offset;
+          right = λ qs. follow-later ending ending-later k (body 0 (rows (w .lines) ++ qs)) (w .right qs);
+          wrong = wrong-on body ending 0 (w .lines) (w .rest) n k (w .wrong);
+        })
     go (got t a q) w = ends rs t a q w
 
 -- S31, with S6 to S10 and S13: of every input that is refused

@@ -82,7 +82,8 @@ module _ (rec : Derivation) where
       where
         go : (b : Bool) → IfSome {A = Table × Method} (elim b [
           | false ↦ some (t, bare (restricted d (x .state) (y .state)))
-          | true ↦ then (deriveArgs rec d t (x .args) (y .args)) λ p. then (deriveAnswer rec d (p .0) (x .answer) (y .answer)) λ q. some (q .0, signed (restricted d (x .state) (y .state)) (p .1) (q .1))
+          | true ↦ then (deriveArgs rec d t (x .args) (y .args)) λ p. then (deriveAnswer rec d (p .0) (x .answer) (y .answer)) λ q.
+              some (q .0, signed (restricted d (x .state) (y .state)) (p .1) (q .1))
         ]) (λ p. InTurn rec t (cond b (argumentsAsked d (x .args) (y .args) ++ answerAsked d (x .answer) (y .answer)) []) (p .1 .args ++ answerNamed (p .1 .answer)) (p .0))
         go false = refl
         go true = some-then _ _ (deriveArgs rec d t (x .args) (y .args)) _ (arguments-turn (x .args) (y .args) t) λ p h.
@@ -146,7 +147,8 @@ module _ (f : ℕ) (t : Table) (d : Kind) (l r : ℕ) where
       go : (o : Option ℕ) → o ≡ none → IfSome {A = Table × ℕ} (elim o [ some i ↦ some (t, i) | none ↦ elim (ltb (size t) maxTypes) [ false ↦ none | true ↦ rest ] ]) (Anew f t d l r)
       go (some i) e = let z : _≡_ {A = ℕ} 0 1 = cc in absurd (omega arith)
       go none e = some-room (Anew f t d l r) (ltb (size t) maxTypes) rest λ h.
-          some-then _ (Anew f t d l r) (deriveMethods (derive f) d start (typeAt t l .methods) (typeAt t r .methods)) _ (methods-turn (derive f) d (typeAt t l .methods) (typeAt t r .methods) start) new-anew
+          some-then _ (Anew f t d l r) (deriveMethods (derive f) d start (typeAt t l .methods) (typeAt t r .methods)) _
+          (methods-turn (derive f) d (typeAt t l .methods) (typeAt t r .methods) start) new-anew
 
 pub made-anew : (t : Table) (d : Kind) (l r : ℕ) → withoutNew t d l r ≡ none → IfSome (derive maxTypes t d l r) (Anew maxTypes t d l r)
 made-anew t d l r e = subst (λ o. IfSome o (Anew maxTypes t d l r)) (sym (derive-self t d l r)) (make-anew maxTypes t d l r e)

@@ -63,7 +63,8 @@ module _ (l : List ℕ) (c : Counts) (h : Checked l c) where
       (any-same (λ k. reaches f (broaderIn l c) a k) (λ k. reaches (suc f) (broaderIn l c) a k) x (getD (broaderIn l c) x []) (links-below x) (λ k q. more-fuel f a k (omega arith)))
 
   -- from the answers below x, that of x
-  pub next-order : (done : List Bool) (a x : ℕ) → x < 32 → ((k : ℕ) → k < x → getD done k false ≡ reaches 32 (broaderIn l c) a k) → catNext (broaderIn l c) done a x ≡ reaches 32 (broaderIn l c) a x
+  pub next-order : (done : List Bool) (a x : ℕ) → x < 32 → ((k : ℕ) → k < x → getD done k false ≡ reaches 32 (broaderIn l c) a k)
+      → catNext (broaderIn l c) done a x ≡ reaches 32 (broaderIn l c) a x
   unfolding catNext reaches
   next-order done a x p e = ap (λ (b : Bool). eqb a 0 || (eqb a x || b))
       (any-same (λ k. getD done k false) (λ k. reaches 31 (broaderIn l c) a k) x (getD (broaderIn l c) x []) (links-below x) (λ k q. e k q ∙ sym (more-fuel 31 a k (omega arith))))

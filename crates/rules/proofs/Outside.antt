@@ -9,10 +9,11 @@ use Rattle.model.specs.Basics.{_⇒_}
 use Rattle.model.specs.Table.{Rep, ref, w32, w64, Ty, Table, isRef}
 use Rattle.model.specs.Relations.{Relation, subtype, conforms, strict, loose, free, sameRep, sameSort, catLe, outerRule}
 use Rattle.model.specs.Check.{RawType, repOf, typeOf}
-use Rattle.model.proofs.Rules.{first, never}
+use Rattle.model.proofs.Rules.{first}
+use Rattle.model.proofs.Tests.{beq-so}
 use Rattle.table.specs.declared.Head.{Head}
 use Rattle.table.specs.Store.{headOf}
-use Rattle.table.proofs.Codes.{number-rep}
+use Rattle.table.proofs.Codes.{number-rep, rep-code}
 use Rattle.rules.specs.Parts.{repRule, ordered, owned, headOwns, outerHeads}
 
 -- the rule of the two types is that of their heads
@@ -51,35 +52,23 @@ rep-sort w64 ref h = h
 rep-sort w64 w32 h = refl
 rep-sort w64 w64 h = refl
 
-same-sort : (a b : Bool) → So (Bool·beq a b) → a ≡ b
-same-sort true true h = refl
-same-sort true false h = never h
-same-sort false true h = never h
-same-sort false false h = refl
-
 pub outer-sort : (k : Relation) (t : Table) (x y : Ty) → So (outerRule k t x y) → isRef (x .rep) ≡ isRef (y .rep)
 unfolding outerRule
 outer-sort subtype t x y h = rep-sort (x .rep) (y .rep) (first (sameRep (x .rep) (y .rep)) _ h)
 outer-sort conforms t x y h = rep-sort (x .rep) (y .rep) (first (sameRep (x .rep) (y .rep)) _ h)
-outer-sort strict t x y h = same-sort (isRef (x .rep)) (isRef (y .rep)) (first (sameSort (x .rep) (y .rep)) _ h)
-outer-sort loose t x y h = same-sort (isRef (x .rep)) (isRef (y .rep)) h
-outer-sort free t x y h = same-sort (isRef (x .rep)) (isRef (y .rep)) h
-
--- Codes of representations: 0 is ref.
-ref-code : (y : ℕ) → eqb y 0 ≡ isRef (repOf y)
-ref-code zero = refl
-ref-code (suc zero) = refl
-ref-code (suc (suc y)) = ne-eqb (suc (suc y)) 0 (λ e. let z : suc (suc y) ≡ 0 = e in omega arith)
+outer-sort strict t x y h = beq-so (isRef (x .rep)) (isRef (y .rep)) (first (sameSort (x .rep) (y .rep)) _ h)
+outer-sort loose t x y h = beq-so (isRef (x .rep)) (isRef (y .rep)) h
+outer-sort free t x y h = beq-so (isRef (x .rep)) (isRef (y .rep)) h
 
 pub sort-ref : (x y : ℕ) → x ≡ 0 → eqb y 0 ≡ sameSort (repOf x) (repOf y)
-sort-ref x y e = rw e (ref-code y ∙ go (isRef (repOf y)))
+sort-ref x y e = rw e (rep-code y ∙ go (isRef (repOf y)))
   where
     go : (b : Bool) → b ≡ Bool·beq true b
     go true = refl
     go false = refl
 
 pub sort-number : (x y : ℕ) → (x ≡ 0 → ⊥) → not (eqb y 0) ≡ sameSort (repOf x) (repOf y)
-sort-number x y e = rw (number-rep x e) (ap not (ref-code y) ∙ go (isRef (repOf y)))
+sort-number x y e = rw (number-rep x e) (ap not (rep-code y) ∙ go (isRef (repOf y)))
   where
     go : (b : Bool) → not b ≡ Bool·beq false b
     go true = refl
@@ -88,7 +77,7 @@ sort-number x y e = rw (number-rep x e) (ap not (ref-code y) ∙ go (isRef (repO
 pub rep-ref : (x y : ℕ) → x ≡ 0 → eqb y 0 ≡ sameRep (repOf x) (repOf y)
 rep-ref x zero e = rw e
 rep-ref x (suc zero) e = rw e
-rep-ref x (suc (suc y)) e = rw e (ref-code (suc (suc y)))
+rep-ref x (suc (suc y)) e = rw e (rep-code (suc (suc y)))
 
 pub rep-short : (x y : ℕ) → x ≡ 1 → eqb y 1 ≡ sameRep (repOf x) (repOf y)
 rep-short x zero e = rw e

@@ -114,7 +114,9 @@ module _ (s₀ : State) (ws old : List ℤ) where
           let e : room old - i ≡ suc (room old - (i + 1)) = omega arith in
           let qs : List (Option Request) = requests (room old - (i + 1)) (drop (nextAt ws at) ws) in
           ap (λ (f : ℕ). rest s ws f at) e ∙ ap (serveEach (systemIn s)) (request-at ws at here (room old - (i + 1)))
-          ∙ ap (λ (o : Outcome). (o ∷ serveEach (after (systemIn s) (serveAsked (systemIn s) (askedAt ws at))) qs .0, serveEach (after (systemIn s) (serveAsked (systemIn s) (askedAt ws at))) qs .1)) (outcome-is s _ r step)
+          ∙ ap
+          (λ (o : Outcome). (o ∷ serveEach (after (systemIn s) (serveAsked (systemIn s) (askedAt ws at))) qs .0, serveEach (after (systemIn s) (serveAsked (systemIn s) (askedAt ws at))) qs .1))
+          (outcome-is s _ r step)
           ∙ ap (λ (t : System). (outcomeOf (r .answer) ∷ serveEach t qs .0, serveEach t qs .1)) (after-is s _ r step)
 
       pub going-on : (out : List ℤ) → out ≡ sets cur (i * 4) (wordsOf (outcomeOf (r .answer))) → (at′ : ℕ) → at′ ≡ nextAt ws at → at′ ≤ length ws

@@ -3,10 +3,10 @@ use mathlib.Core.Path.{_≡_, sym, ap, subst, _∙_}
 use mathlib.Core.Logic.{inl, inr}
 use mathlib.Core.List.{List}
 use mathlib.Core.Option.{Option, none, some}
-use Prim.Native.Nat.{ℕ, _<_}
+use Prim.Native.Nat.{_<_}
 use native.Mathlib.Omega.{arith}
 use lib.ListN.{length, getD}
-use Rattle.model.specs.Requests.{Cell, System, Request, Result, noCell, serve}
+use Rattle.model.specs.Requests.{Cell, System, Request, Result, noCell}
 use Rattle.returned.proofs.Small.{Small, Named, small-serve}
 use Rattle.state.specs.declared.State.{State}
 use Rattle.state.specs.View.{cellsIn, systemIn}

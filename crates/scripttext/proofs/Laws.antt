@@ -11,6 +11,7 @@ use Rattle.model.specs.Basics.{refuse}
 use Rattle.model.specs.Table.{isNone}
 use Rattle.model.specs.Requests.{System, Request, refused, serve, after, outcome}
 use Rattle.sheet.specs.Lines.{Row, row, cut, bytes, split, firstLine}
+use Rattle.sheet.proofs.Steps.{none-some}
 use Rattle.state.specs.declared.State.{State}
 use Rattle.state.specs.View.{systemIn}
 use Rattle.state.specs.Sound.{Sound}
@@ -28,16 +29,10 @@ use Rattle.answerwrite.specs.Answers.{outcomeText}
 use Rattle.scripttext.specs.Parts.{linesBy, linesFrom}
 use Rattle.scripttext.proofs.Rows.{rows-left, line-some, line-within}
 
-blank-line : requestLine [] ≡ none
-unfolding requestLine
-blank-line = refl
-
-none-some : {C : Type 0} {q : Request} → none ≡ some q → C
-none-some e = let z : _≡_ {A = ℕ} 0 1 = cc in absurd (omega arith)
-
 -- a line that asks something isn't empty
 asks-some : (l : List ℕ) (q : Request) → requestLine l ≡ some q → 0 < length l
-asks-some [] q e = none-some (sym blank-line ∙ e)
+unfolding requestLine
+asks-some [] q e = none-some e
 asks-some (b ∷ l) q e = omega arith
 
 -- ---- the line l at `at`, before the end of the lines

@@ -15,10 +15,12 @@ use borrow.Author.Tests.{ltb-false}
 use Rattle.model.specs.Basics.{Res, refuse, ok, try, need, names, named}
 use Rattle.model.specs.Table.{typeAt, isRef, isAvail, isClass, answerAt, methodAt}
 use Rattle.model.specs.Crossing.{object, maxPlaces, baseOwner, Reference, cross}
-use Rattle.model.specs.Requests.{System, Request, new, move, call, answer, Result, pair, number, nothing, got, outcome, maxCells, maxCalls, cellAt, callAt, isSheetRef, held, leaving, addCell, newRequest, moveRequest, wayOf, crossLayers, passLayers, send, argumentsHeld, sendArguments, callRequest, withAnswer, give, answerRequest, serve, after, run}
+use Rattle.model.specs.Requests.{System, Request, new, move, call, answer, Result, pair, number, nothing, got, outcome, maxCells, maxCalls, cellAt, callAt, isSheetRef, held, leaving}
+use Rattle.model.specs.Requests.{addCell, newRequest, moveRequest, wayOf, crossLayers, passLayers, send, argumentsHeld, sendArguments, callRequest, withAnswer, give, answerRequest, serve}
+use Rattle.model.specs.Requests.{after, run}
 use Rattle.model.specs.Requests.{loaded as start}
 use Rattle.model.specs.Claim.{follow}
-use Rattle.modellaws.proofs.Steps.{IfOk, ok-need, ok-try}
+use Rattle.modellaws.proofs.Steps.{IfOk, ok-need, ok-try, whatever}
 use Rattle.modellaws.proofs.Checked.{Bounded, fits-bounded, bounded-kept}
 use Rattle.modellaws.proofs.Reached.{reached-fits}
 use Rattle.returned.proofs.Small.{Small, Named, small-serve}
@@ -34,6 +36,7 @@ use Rattle.requestread.specs.Asked.{requestLine}
 use Rattle.requestread.proofs.Long.{long, line-long, line-given}
 use Rattle.answerwrite.specs.Answers.{integerText, outcomeText}
 use Rattle.scripttext.specs.Output.{maxInput, sheetEnd, asked, servedLines, printedLines, sheetPart, requestPart, scriptOutput}
+use Rattle.scripttext.proofs.Whole.{printed}
 
 -- ---- a number below 10 to the g has at most g digits
 digits-few : (f g n : ℕ) → n < bound (suc g) → length (decimalIn f n) ≤ suc g
@@ -71,17 +74,13 @@ Given q nothing = Unit {0}
 abbrev Q : Request → System × Result → Type 0
 Q q x = Given q (x .1)
 
-any : {A : Type 0} (m : Res A) → IfOk m (λ _. Unit {0})
-any (refuse n) = tt
-any (ok a) = tt
-
 cell-gives : (q : Request) (s : System) (r : ℕ) (f : Reference) → IfOk (addCell s r f) (Q q)
 unfolding addCell
 cell-gives q s r f = ok-need _ (ltb (length (s .cells)) maxCells) 13 _ λ _. tt
 
 send-gives : (q : Request) (s : System) (r k : ℕ) (ts : List (Option ℕ)) → IfOk (send s r k ts) (Q q)
 unfolding send
-send-gives q s r k ts = ok-try (λ _. Unit {0}) _ (crossLayers true (leaving s k) r ts) _ (any (crossLayers true (leaving s k) r ts)) λ f _. cell-gives q s r f
+send-gives q s r k ts = ok-try (λ _. Unit {0}) _ (crossLayers true (leaving s k) r ts) _ (whatever (crossLayers true (leaving s k) r ts)) λ f _. cell-gives q s r f
 
 give-gives : (s : System) (subject i : ℤ) (j : ℕ) (due : Option ℕ) (v : Option ℤ) → IfOk (give s subject j due v) (Q (answer subject i v))
 unfolding give
@@ -99,7 +98,7 @@ give-gives s subject i j (some a) (some v) = go (isRef (typeAt (s .table) a .rep
     ]) (Q (answer subject i (some v)))
     go true = let q = answer subject i (some v) in ok-need (Q q) (held s subject v) 15 _ λ _.
         ok-try (Q q) (Q q) (send s (callAt s j .caller) (named v) ts) _ (send-gives q s (callAt s j .caller) (named v) ts) λ x h. h
-    go false = ok-try (λ _. Unit {0}) (Q (answer subject i (some v))) (passLayers true (s .table) v ts) _ (any (passLayers true (s .table) v ts)) λ _ _. refl
+    go false = ok-try (λ _. Unit {0}) (Q (answer subject i (some v))) (passLayers true (s .table) v ts) _ (whatever (passLayers true (s .table) v ts)) λ _ _. refl
 
 serve-gives : (s : System) (q : Request) → IfOk (serve s q) (Q q)
 unfolding serve newRequest moveRequest callRequest answerRequest
@@ -110,13 +109,13 @@ serve-gives s (new subject class to) =
     ok-need _ (isSheetRef (s .table) to) 7 _ λ _.
     ok-need _ (ltb (length (s .places)) maxPlaces) 12 _ λ _.
     let crossed = cross f (named to) (named subject) in
-    ok-try (λ _. Unit {0}) _ crossed _ (any crossed) λ g _. cell-gives (new subject class to) s (named subject) g
+    ok-try (λ _. Unit {0}) _ crossed _ (whatever crossed) λ g _. cell-gives (new subject class to) s (named subject) g
 serve-gives s (move subject k receiver to) =
     ok-need _ (names subject (s .table .subjects) && names receiver (s .table .subjects)) 5 _ λ _.
     ok-need _ (held s subject k) 6 _ λ _.
     ok-need _ (isSheetRef (s .table) to) 7 _ λ _.
     let crossed = cross (leaving s (named k)) (named to) (named receiver) in
-    ok-try (λ _. Unit {0}) _ crossed _ (any crossed) λ g _. cell-gives (move subject k receiver to) s (named receiver) g
+    ok-try (λ _. Unit {0}) _ crossed _ (whatever crossed) λ g _. cell-gives (move subject k receiver to) s (named receiver) g
 serve-gives s (call subject k m vs) =
     let c = cellAt s (named k) in let f = methodAt (s .table) (c .type) (named m) in
     let sent = sendArguments s (baseOwner (s .places) (c .place)) (wayOf s c) (named m) 0 (f .args) vs in
@@ -125,7 +124,7 @@ serve-gives s (call subject k m vs) =
     ok-need _ (names m (s .table .methods) && isAvail (f .state)) 14 _ λ _.
     ok-need _ (argumentsHeld s subject (f .args) vs) 15 _ λ _.
     ok-need _ (ltb (length (s .calls)) maxCalls) 18 _ λ _.
-    ok-try (λ _. Unit {0}) _ sent _ (any sent) λ _ _. tt
+    ok-try (λ _. Unit {0}) _ sent _ (whatever sent) λ _ _. tt
 serve-gives s (answer subject j v) =
     let c = cellAt s (callAt s (named j) .cell) in
     ok-need _ (names subject (s .table .subjects)) 5 _ λ _.
@@ -163,10 +162,6 @@ size rs = length (unsplit rs)
 split-size : (s : List ℕ) → size (split s) ≡ length s
 split-size s = ap length (unsplit-split s)
 
--- what ends the program
-abbrev lastLine : Bool → List (List ℕ)
-lastLine b = cond b (bytes "no=1" ∷ []) []
-
 number-short : (l : List ℕ) (q : Request) (v : ℤ) → requestLine l ≡ some q → Gives q v → length (outcomeText (got (number v))) ≤ length l
 unfolding outcomeText
 number-short l (new a b c) v e g = absurd g
@@ -191,9 +186,6 @@ line-short l q e s h = go (serve s q) (small-serve s q) (serve-few s h q)
     go : (m : Res (System × Result)) → Small (λ (x : System × Result). Named s (x .0) (x .1)) m → IfOk m (λ x. Few q (x .1)) → length (outcomeText (outcome m)) ≤ length l
     go (refuse n) w f = omega (arith, k, word-few (bytes "no=") n (omega (arith, w .1)))
     go (ok x) w f = result (x .1) f
-
-abbrev printed : System → List Request × Bool → List (List ℕ)
-printed s x = map outcomeText (run s (x .0) .0) ++ lastLine (x .1)
 
 served-short : (rs : List Row) (s : System) → Bounded s → length (join (printed s (asked rs))) ≤ size rs + 5
 unfolding asked run join

@@ -35,8 +35,12 @@ use Rattle.scripttext.specs.Parts.{linesBy, linesFrom}
 abbrev askedBy : List Request × Bool → Option Request → List Request × Bool
 askedBy x o = elim o [ none ↦ ([], true) | some q ↦ (q ∷ x .0, x .1) ]
 
-abbrev printed : System → List Request × Bool → List (List ℕ)
-printed x y = map outcomeText (run x (y .0) .0) ++ cond (y .1) (bytes "no=1" ∷ []) []
+-- what ends the program
+abbrev pub lastLine : Bool → List (List ℕ)
+lastLine b = cond b (bytes "no=1" ∷ []) []
+
+abbrev pub printed : System → List Request × Bool → List (List ℕ)
+printed x y = map outcomeText (run x (y .0) .0) ++ lastLine (y .1)
 
 lines-are-from : (x : System) (rs : List Row) → printed x (asked rs) ≡ linesFrom x rs
 unfolding asked run linesFrom

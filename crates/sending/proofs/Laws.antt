@@ -15,15 +15,17 @@ use Rattle.model.specs.Basics.{names, named}
 use Rattle.model.specs.Check.{answerOf}
 use Rattle.model.specs.Requests.{noCell}
 use Rattle.model.proofs.Rules.{never}
+use Rattle.model.proofs.Codes.{answer-back}
+use Rattle.model.specs.Records.{answerCode}
 use Rattle.table.specs.declared.Method.{Method}
+use Rattle.table.proofs.Codes.{answer-is}
 use Rattle.operand.specs.Index.{indexOf}
 use Rattle.operand.proofs.Laws.{index-unknown, index-known}
 use Rattle.state.specs.declared.Cell.{Cell}
 use Rattle.state.specs.declared.Cells.{Cells}
 use Rattle.state.specs.View.{cellOf, cellsIn}
 use Rattle.state.proofs.Laws.{cells-length}
-use Rattle.carry.specs.Carried.{codeOf, argumentOf}
-use Rattle.carry.proofs.Laws.{code-is, answer-is}
+use Rattle.carry.specs.Carried.{argumentOf}
 use Rattle.sending.specs.Sent.{argumentsOf}
 
 -- ---- The cell that a number names.
@@ -52,20 +54,20 @@ elem-none [] (suc i) e = refl
 elem-none (x ∷ xs) zero e = absurd (no-none e)
   where
     no-none : some x ≡ none → ⊥
-    no-none e = let z : _≡_ {A = ℕ} (suc x) 0 = ap codeOf e in omega arith
+    no-none e = let z : _≡_ {A = ℕ} (suc x) 0 = ap answerCode e in omega arith
 elem-none (x ∷ xs) (suc i) e = elem-none xs i e
 
 elem-some : (xs : List ℕ) (i a : ℕ) → getElem? xs i ≡ some a → drop i xs ≡ a ∷ drop (suc i) xs
 elem-some [] i a e = absurd (no-none e)
   where
     no-none : none ≡ some a → ⊥
-    no-none e = let z : _≡_ {A = ℕ} 0 (suc a) = ap codeOf e in omega arith
-elem-some (x ∷ xs) zero a e = ap (λ (n : ℕ). n ∷ xs) (let z : suc x ≡ suc a = ap codeOf e in omega arith)
+    no-none e = let z : _≡_ {A = ℕ} 0 (suc a) = ap answerCode e in omega arith
+elem-some (x ∷ xs) zero a e = ap (λ (n : ℕ). n ∷ xs) (let z : suc x ≡ suc a = ap answerCode e in omega arith)
 elem-some (x ∷ xs) (suc i) a e = elem-some xs i a e
 
-module _ (x : Method) (i n : ℕ) (e : n ≡ codeOf (argumentOf x i)) where
+module _ (x : Method) (i n : ℕ) (e : n ≡ answerCode (argumentOf x i)) where
   coded : getElem? (argumentsOf x) i ≡ answerOf n
-  coded = sym (ap answerOf e ∙ code-is (argumentOf x i))
+  coded = sym (ap answerOf e ∙ answer-back (argumentOf x i))
 
   pub none-left : n ≡ 0 → drop i (argumentsOf x) ≡ []
   none-left z = elem-none (argumentsOf x) i (coded ∙ ap answerOf z)

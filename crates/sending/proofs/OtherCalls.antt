@@ -23,7 +23,8 @@ module _ (s : State) (h : Sound s) (calls : Calls) (few : calls .count ≤ 256) 
   pub calls-mean : systemIn (callsLeft s calls) ≡ withCalls (systemIn s) (callsIn calls)
   calls-mean = system-is (callsLeft s calls) ∙ ap (λ (x : System). withCalls x (callsIn calls)) (sym (system-is s))
 
-  pub calls-step : (a : Answer) (x : Result) → outcomeOf a ≡ got x → isAccepted a ≡ true → Step s (ok (withCalls (systemIn s) (callsIn calls), x)) (record { answer = a; state = callsLeft s calls })
+  pub calls-step : (a : Answer) (x : Result) → outcomeOf a ≡ got x → isAccepted a ≡ true
+      → Step s (ok (withCalls (systemIn s) (callsIn calls), x)) (record { answer = a; state = callsLeft s calls })
   calls-step a x e k = record {
     is = ap (servedWith (systemIn (callsLeft s calls))) e ∙ ap (λ (y : System). ok (y, x)) calls-mean;
     stays = λ d y. never (sym (ap isAccepted y) ∙ k);

@@ -93,7 +93,8 @@ any-cell s h p t k = go (lt-or-ge k (s .cells .count))
         subst (CellIn s) (sym (List·getD-eq-default (cellsIn (s .cells)) noCell {n = k} (omega arith))) (record { type = t; place = p })
 
 -- what a new cell leaves of the counts
-went-by : (s q : State) (x : System) → systemIn q ≡ x → length (systemIn s .cells) ≤ length (x .cells) → s .places .count ≤ length (x .places) → x .calls ≡ systemIn s .calls → Went s q
+went-by : (s q : State) (x : System) → systemIn q ≡ x → length (systemIn s .cells) ≤ length (x .cells) → s .places .count ≤ length (x .places) → x .calls ≡ systemIn s .calls
+    → Went s q
 went-by s q x e c p j =
     let c₀ : length (systemIn s .cells) ≡ s .cells .count = ap length (cells-are s) ∙ cells-length (s .cells) in
     let c₁ : length (x .cells) ≡ q .cells .count = ap length (sym (ap (λ (y : System). y .cells) e) ∙ cells-are q) ∙ cells-length (q .cells) in
@@ -113,7 +114,8 @@ added-goes s r f more q k = go (q .answer) refl (ltb (length (systemIn s .cells)
 
     left : (b : Bool) → systemIn (q .state) ≡ after (systemIn s) (need b 13 (λ _. ok new)) → Went s (q .state)
     left true e = went-by s (q .state) (new .0) e (omega (arith, length-append (systemIn s .cells) (record { holder = r; type = f .type; place = f .place } ∷ []))) more refl
-    left false e = went-by s (q .state) (systemIn s) e (omega arith) (let p : length (systemIn s .places) ≡ s .places .count = ap length (places-are s) ∙ places-length (s .places) in omega arith) refl
+    left false e =
+        went-by s (q .state) (systemIn s) e (omega arith) (let p : length (systemIn s .places) ≡ s .places .count = ap length (places-are s) ∙ places-length (s .places) in omega arith) refl
 
     go : (a : Answer) → q .answer ≡ a → (b : Bool) → servedWith (systemIn (q .state)) (outcomeOf a) ≡ need b 13 (λ _. ok new) → Went s (q .state)
     go (Refused d) z b e = subst (Went s) (sym (k .stays d z)) (went-self s)
@@ -181,7 +183,8 @@ module _ (s : State) (h : Sound s) (r k : ℕ) (c : Cell) (is : cellOf c ≡ get
 
 -- ---- One argument.
 module _ (s : State) (h : Sound s) (r : ℕ) (way : List ℕ) (m i a : ℕ) (v : ℤ) (ts : List (Option ℕ))
-    (are : (l : List ℕ) → ts ≡ map (argumentAt (tableIn (s .types) l (s .counts)) m i) way) (q : Bool) (kind : (l : List ℕ) → q ≡ isRef (typeAt (tableIn (s .types) l (s .counts)) a .rep)) where
+    (are : (l : List ℕ) → ts ≡ map (argumentAt (tableIn (s .types) l (s .counts)) m i) way) (q : Bool)
+    (kind : (l : List ℕ) → q ≡ isRef (typeAt (tableIn (s .types) l (s .counts)) a .rep)) where
   abbrev Either : Bool → List (Option ℕ) → Table → Res (System × Result)
   Either y os t = elim y [ true ↦ send (systemIn s) r (named v) os | false ↦ try (passLayers true t v os) λ _. ok (systemIn s, nothing) ]
 

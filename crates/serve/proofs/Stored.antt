@@ -98,7 +98,8 @@ module _ (s s′ : State) (w : Stored s s′) where
       (cells-counted (s′ .cells)) (places-counted (s′ .places)) (calls-counted (s′ .calls))
       ∙ ap (storedFrom (rawState s)) (sym (system-is s′)) ∙ sym (stored-counted (rawState s) (systemIn s′))
     where
-      by-parts : {t t₂ : RawTable} {a b c a₂ b₂ c₂ : ℕ} {x x₂ : List Cellᵐ} {y y₂ : List RawPlace} {z z₂ : List RawCall} → t ≡ t₂ → a ≡ a₂ → b ≡ b₂ → c ≡ c₂ → x ≡ x₂ → y ≡ y₂ → z ≡ z₂
+      by-parts : {t t₂ : RawTable} {a b c a₂ b₂ c₂ : ℕ} {x x₂ : List Cellᵐ} {y y₂ : List RawPlace} {z z₂ : List RawCall} → t ≡ t₂ → a ≡ a₂ → b ≡ b₂ → c ≡ c₂
+          → x ≡ x₂ → y ≡ y₂ → z ≡ z₂
           → _≡_ {A = RawSystem} (record { table = t; cells = a; places = b; calls = c; cellRecords = x; placeRecords = y; callRecords = z })
           (record { table = t₂; cells = a₂; places = b₂; calls = c₂; cellRecords = x₂; placeRecords = y₂; callRecords = z₂ })
       by-parts p₀ p₁ p₂ p₃ p₄ p₅ p₆ = cc

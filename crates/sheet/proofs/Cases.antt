@@ -5,14 +5,10 @@ use mathlib.Core.List.{List, [], _∷_, _++_}
 use mathlib.Core.Option.{none, some}
 use Prim.Native.Nat.{ℕ}
 use Rattle.model.specs.Basics.{refuse, ok, from}
-use Rattle.model.specs.Table.{denied, optional, avail, unavail, ref, w32, w64, Method, Table, State, withTypes, validSheet}
+use Rattle.model.specs.Table.{denied, optional, avail, unavail, ref, w32, w64, Method, Table, State, withTypes, validSheet, bare}
 use Rattle.sheet.specs.Lines.{bytes}
 use Rattle.sheet.specs.Text.{text, writeText, write}
 use Rattle.sheet.specs.Sheet.{malformed, loaded, read, sheetType}
-
--- methods without a signature or with an empty one, with an answer of type 0, and with an argument of type 0
-bare : State → Method
-bare s = record { state = s; args = []; answer = none }
 
 asks : Method
 asks = record { state = avail; args = []; answer = some 0 }
@@ -22,7 +18,7 @@ takes s = record { state = s; args = 0 ∷ []; answer = none }
 
 -- Case P (K1)
 unfoldable pub caseP : Table
-unfolding bare asks takes
+unfolding asks takes
 caseP = record {
   subjects = 3;
   methods = 3;
@@ -66,7 +62,6 @@ derived-not-written = refl
 
 -- categories, two broader ones, two arguments, unavail and w64
 unfoldable pub mixed : Table
-unfolding bare
 mixed = record {
   subjects = 16;
   methods = 2;

@@ -40,9 +40,11 @@ endOfInput-got at (r ∷ rs) u at′ rs′ h = refused-got h
 abbrev behindEnd : Table → ℕ → Reader Table
 behindEnd t last = bind endOfInput λ u at rs. cond (signaturesStand t) (got t at rs) (refused 3 last)
 
-ending-sound : (t : Table) (at : ℕ) (rs : List Row) (u : Table) (at′ : ℕ) (rs′ : List Row) → ending t at rs ≡ got u at′ rs′ → (t ≡ u) × So (signaturesStand t) × (rs ≡ row endText ∷ [])
+ending-sound : (t : Table) (at : ℕ) (rs : List Row) (u : Table) (at′ : ℕ) (rs′ : List Row) → ending t at rs ≡ got u at′ rs′
+    → (t ≡ u) × So (signaturesStand t) × (rs ≡ row endText ∷ [])
 unfolding ending
-ending-sound t at rs u at′ rs′ h = follow-got (line endLine at rs) (λ v. behindEnd t at) h λ v a q e₁ e₂. follow-got (endOfInput a q) (λ v b r. cond (signaturesStand t) (got t b r) (refused 3 at)) e₂ λ w b r e₃ e₄.
+ending-sound t at rs u at′ rs′ h = follow-got (line endLine at rs) (λ v. behindEnd t at) h λ v a q e₁ e₂.
+    follow-got (endOfInput a q) (λ v b r. cond (signaturesStand t) (got t b r) (refused 3 at)) e₂ λ w b r e₃ e₄.
     cond-cases (signaturesStand t) e₄
     (λ o e. (got-value e, o, line-exact end-exact .sound at rs v a q e₁ .1 ∙ ap (λ z. row endText ∷ z) (endOfInput-got a q w b r e₃)))
     (λ o e. refused-got e)
@@ -78,7 +80,8 @@ read-exact bs t = (λ h. from (sheet 0 (split bs)) refl h, λ p. to (p .0) (p .1
         let i = body-exact .full 0 t (row endText ∷ []) (v .0) in
         let j = ending-full t (i .0) (v .1) in
         ap read (e ∙ ap (λ z. join (sheetLines z ++ (endText ∷ []))) (valid-whole t h))
-        ∙ ap (λ z. sheetAnswer (sheet 0 z)) (split-full (sheetLines t ++ (endText ∷ [])) (clean-lines (sheetLines t) (endText ∷ []) (body-exact .lf t (v .0)) (refl, tt)) ∙ rows-append (sheetLines t) (endText ∷ []))
+        ∙ ap (λ z. sheetAnswer (sheet 0 z))
+        (split-full (sheetLines t ++ (endText ∷ [])) (clean-lines (sheetLines t) (endText ∷ []) (body-exact .lf t (v .0)) (refl, tt)) ∙ rows-append (sheetLines t) (endText ∷ []))
         ∙ ap (λ z. sheetAnswer (follow z ending)) (i .1) ∙ ap sheetAnswer (j .1)
 
 -- The premise of demand 3: what is loaded is valid.

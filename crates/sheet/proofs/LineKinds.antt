@@ -10,15 +10,15 @@ use lib.Dec.{eqb, ltb, leb}
 use lib.ListN.{length, drop}
 use borrow.Author.Tests.{ltb-true, leb-true, eqb-true, lt-ltb, le-leb, ne-eqb}
 use Rattle.model.specs.Basics.{Res, ok, try, need, all, unlessMissing}
-use Rattle.model.specs.Table.{State, denied, optional, avail, unavail, Rep, ref, w32, w64, Method, between, linksFit, permit, isNil, isNone, maxArguments}
+use Rattle.model.specs.Table.{State, denied, optional, avail, unavail, Rep, ref, w32, w64, Method, between, linksFit, permit, isNil, isNone, maxArguments, signed, bare}
 use Rattle.model.proofs.Rules.{both, first, second, never}
-use Rattle.sheet.specs.Lines.{bytes, starts, same, keyed, choice}
+use Rattle.sheet.specs.Lines.{bytes, starts, same, keyed, choice, notLF, clean}
 use Rattle.sheet.specs.Numbers.{took, bindScan, whole, isDigit, top, number, numbers, decimal, tails, commas}
 use Rattle.sheet.specs.Text.{numberText, underText, repText, ownText, stateText, answerText, signatureText, methodTextBy, methodText, endText}
-use Rattle.sheet.specs.Sheet.{numberLine, underLine, repLine, ownLine, endLine, closing, arguments, answer, below, signature, unsigned, methodLine}
+use Rattle.sheet.specs.Sheet.{numberLine, underLine, repLine, ownLine, endLine, closing, arguments, answer, below, signature, methodLine}
 use Rattle.sheet.proofs.Steps.{cond-cases, refuse-ok, ok-value, try-ok, need-ok, fail-took, took-value, took-rest, bindScan-took, whole-ok}
 use Rattle.sheet.proofs.Numbers.{isDigit-low, number-sound, number-full, decimal-head, small, numbers-sound, numbers-full}
-use Rattle.sheet.proofs.Lines.{notLF, clean, all-append, decimal-clean, commas-clean, starts-sound, same-sound, keyed-sound, keyed-full, LineExact, Any, choice-exact}
+use Rattle.sheet.proofs.Lines.{all-append, decimal-clean, commas-clean, starts-sound, same-sound, keyed-sound, keyed-full, LineExact, Any, choice-exact}
 
 -- ranges and bounds
 pub between-low : (low high n : ℕ) → So (between low high n) → low ≤ n
@@ -34,7 +34,7 @@ pub all-weaken : {A : Type 0} (f g : A → Bool) (xs : List A) → ((n : A) → 
 all-weaken f g [] k h = refl
 all-weaken f g (x ∷ xs) k h = both (k x (first (f x) (all f xs) h)) (all-weaken f g xs k (second (f x) (all f xs) h))
 
-missing-weaken : (f g : ℕ → Bool) (o : Option ℕ) → ((n : ℕ) → So (f n) → So (g n)) → So (unlessMissing o f) → So (unlessMissing o g)
+pub missing-weaken : (f g : ℕ → Bool) (o : Option ℕ) → ((n : ℕ) → So (f n) → So (g n)) → So (unlessMissing o f) → So (unlessMissing o g)
 missing-weaken f g none k h = refl
 missing-weaken f g (some n) k h = k n h
 
@@ -47,7 +47,7 @@ within low high n = need (between low high n) 2 λ u. ok n
 
 pub number-exact : (key : List ℕ) (low high : ℕ) → high < top → So (clean key) → LineExact (numberLine key low high) (λ n. So (between low high n)) (numberText key)
 unfolding numberLine numberText
-number-exact key low high h ck = record { sound = from; full = to; lf = λ n b. all-append notLF key (decimal n) ck (decimal-clean n (fits n b)) }
+number-exact key low high h ck = record { sound = from; full = to; lf = λ n b. all-append notLF key (decimal n) ck (decimal-clean n) }
   where
     fits : (n : ℕ) → So (between low high n) → n < top
     fits n b = let q : n ≤ high = between-high low high n b in omega arith
@@ -70,7 +70,7 @@ linksTried c k links = need (all (λ n. leb n c) links) 2 λ u. need (all (λ n.
 
 pub under-exact : (c k : ℕ) → c < top → k ≤ c → LineExact (underLine c k) (λ links. So (linksFit k links)) underText
 unfolding underLine underText
-under-exact c k h kc = record { sound = from; full = to; lf = λ links b. all-append notLF (bytes "under=") (commas links) refl (commas-clean links (smalls links b)) }
+under-exact c k h kc = record { sound = from; full = to; lf = λ links b. all-append notLF (bytes "under=") (commas links) refl (commas-clean links) }
   where
     smalls : (links : List ℕ) → So (linksFit k links) → So (all small links)
     smalls links b = all-weaken (λ n. ltb n k) small links (below-small k (omega arith)) (second (between 1 2 (length links)) _ b)
@@ -158,7 +158,8 @@ arguments-sound (b ∷ bs) xs r h = cond-cases (eqb b 41) h
     (omega arith, λ s. ap (λ z. z ∷ bs) (eqb-true b 41 t) ∙ ap (λ z. 41 ∷ z) (took-rest v)))
     (λ t v. bindScan-took (numbers maxArguments [] (b ∷ bs)) closing v shut)
   where
-    shut : (ys q : List ℕ) → numbers maxArguments [] (b ∷ bs) ≡ took ys q → closing ys q ≡ took xs r → (length xs ≤ maxArguments) × (So (all small xs) → b ∷ bs ≡ commas xs ++ 41 ∷ r)
+    shut : (ys q : List ℕ) → numbers maxArguments [] (b ∷ bs) ≡ took ys q → closing ys q ≡ took xs r
+        → (length xs ≤ maxArguments) × (So (all small xs) → b ∷ bs ≡ commas xs ++ 41 ∷ r)
     shut ys [] s c = absurd (fail-took c)
     shut ys (d ∷ q) s c = cond-cases (eqb d 41) c
         (λ t v. let i = numbers-sound maxArguments [] (b ∷ bs) ys (d ∷ q) s in
@@ -206,9 +207,6 @@ permitted n m = leb (length (m .args)) maxArguments && (all (below n) (m .args) 
 abbrev SignatureOf : ℕ → State → List ℕ → Method → Type 0
 SignatureOf n s l m = (m .state ≡ s) × So (permitted n m) × (l ≡ signatureText m)
 
-abbrev method : State → List ℕ → Option ℕ → Method
-method s xs o = record { state = s; args = xs; answer = o }
-
 abbrev named : ℕ → Method → Res Method
 named n m = need (all (below n) (m .args) && unlessMissing (m .answer) (below n)) 2 λ u. ok m
 
@@ -224,10 +222,10 @@ signature-sound n s l m h e = try-ok (whole (bindScan (arguments l) _)) (named n
     bindScan-took (arguments l) _ (whole-ok _ e₁) λ xs q a e₂. bindScan-took (answer q) _ e₂ λ o p w e₃. go y b (ok-value e) xs q a o p w (took-value e₃) (took-rest e₃)
   where
     go : (y : Method) → So (all (below n) (y .args) && unlessMissing (y .answer) (below n)) → y ≡ m →
-        (xs q : List ℕ) → arguments l ≡ took xs q → (o : Option ℕ) (p : List ℕ) → answer q ≡ took o p → method s xs o ≡ y → p ≡ [] → SignatureOf n s l m
+        (xs q : List ℕ) → arguments l ≡ took xs q → (o : Option ℕ) (p : List ℕ) → answer q ≡ took o p → signed s xs o ≡ y → p ≡ [] → SignatureOf n s l m
     go y b ym xs q a o p w e z =
         let i = arguments-sound l xs q a in
-        let v : Method = method s xs o in
+        let v : Method = signed s xs o in
         let fit : So (permitted n v) = both (le-leb (length xs) maxArguments (i .0)) (subst (λ (z : Method). So (all (below n) (z .args) && unlessMissing (z .answer) (below n))) (sym e) b) in
         subst (λ (z : Method). SignatureOf n s l z) (e ∙ ym) (
           refl,
@@ -238,17 +236,17 @@ signature-sound n s l m h e = try-ok (whole (bindScan (arguments l) _)) (named n
 signature-full : (n : ℕ) (m : Method) → n ≤ top → So (permitted n m) → signature n (m .state) (signatureText m) ≡ ok m
 unfolding signature
 signature-full n m h b =
-    ap (λ z. try (whole (bindScan z λ xs r. bindScan (answer r) λ o q. took (method (m .state) xs o) q)) (named n))
+    ap (λ z. try (whole (bindScan z λ xs r. bindScan (answer r) λ o q. took (signed (m .state) xs o) q)) (named n))
     (arguments-full (m .args) (answerText (m .answer)) (leb-true (length (m .args)) maxArguments (first (leb (length (m .args)) maxArguments) _ b)) (args-small n m h b))
-    ∙ ap (λ z. try (whole (bindScan z λ o q. took (method (m .state) (m .args) o) q)) (named n)) (answer-full (m .answer) (answer-small n m h b))
+    ∙ ap (λ z. try (whole (bindScan z λ o q. took (signed (m .state) (m .args) o) q)) (named n)) (answer-full (m .answer) (answer-small n m h b))
     ∙ ap (λ z. need z 2 λ u. ok m) (second (leb (length (m .args)) maxArguments) _ b)
 
-answer-clean : (o : Option ℕ) → So (unlessMissing o small) → So (clean (answerText o))
-answer-clean none h = refl
-answer-clean (some n) h = decimal-clean n (ltb-true n top h)
+answer-clean : (o : Option ℕ) → So (clean (answerText o))
+answer-clean none = refl
+answer-clean (some n) = decimal-clean n
 
-signature-clean : (n : ℕ) (m : Method) → n ≤ top → So (permitted n m) → So (clean (signatureText m))
-signature-clean n m h b = all-append notLF (commas (m .args)) (code ")" ∷ answerText (m .answer)) (commas-clean (m .args) (args-small n m h b)) (answer-clean (m .answer) (answer-small n m h b))
+signature-clean : (m : Method) → So (clean (signatureText m))
+signature-clean m = all-append notLF (commas (m .args)) (code ")" ∷ answerText (m .answer)) (commas-clean (m .args)) (answer-clean (m .answer))
 
 no-arguments : (xs : List ℕ) (o : Option ℕ) → So (isNil xs && isNone o) → (xs ≡ []) × (o ≡ none)
 no-arguments [] none h = (refl, refl)
@@ -260,24 +258,25 @@ pub method-exact : (n : ℕ) → n ≤ top → LineExact (methodLine n) (λ m. S
 unfolding methodLine methodText starts
 method-exact n h = record { sound = from; full = λ m b. to (m .state) m refl b; lf = λ m b. lf (m .state) m b }
   where
-    signed : (s : State) (l q : List ℕ) (m : Method) → (So (permitted n m) → So (signatureInBy s n m)) → l ≡ stateText s ++ q → cond (permit s) (signatureText m) [] ≡ signatureText m → SignatureOf n s q m → So (signatureIn n m) × (l ≡ methodText m)
-    signed s l q m f e g i = (subst (λ z. So (signatureInBy z n m)) (sym (i .0)) (f (i .1)), e ∙ ap (λ z. stateText s ++ z) (i .2 ∙ sym g) ∙ ap (λ z. methodTextBy z m) (sym (i .0)))
+    with-signature : (s : State) (l q : List ℕ) (m : Method) → (So (permitted n m) → So (signatureInBy s n m)) → l ≡ stateText s ++ q
+        → cond (permit s) (signatureText m) [] ≡ signatureText m → SignatureOf n s q m → So (signatureIn n m) × (l ≡ methodText m)
+    with-signature s l q m f e g i = (subst (λ z. So (signatureInBy z n m)) (sym (i .0)) (f (i .1)), e ∙ ap (λ z. stateText s ++ z) (i .2 ∙ sym g) ∙ ap (λ z. methodTextBy z m) (sym (i .0)))
 
     from : (l : List ℕ) (m : Method) → methodLine n l ≡ ok m → So (signatureIn n m) × (l ≡ methodText m)
     from l m e = cond-cases (starts (stateText avail) l) e
-        (λ t v. signed avail l (drop 8 l) m (λ x. x) (starts-sound (stateText avail) l t) refl (signature-sound n avail (drop 8 l) m h v))
+        (λ t v. with-signature avail l (drop 8 l) m (λ x. x) (starts-sound (stateText avail) l t) refl (signature-sound n avail (drop 8 l) m h v))
         (λ t v. cond-cases (starts (stateText optional) l) v
-        (λ t v. signed optional l (drop 11 l) m (λ x. x) (starts-sound (stateText optional) l t) refl (signature-sound n optional (drop 11 l) m h v))
+        (λ t v. with-signature optional l (drop 11 l) m (λ x. x) (starts-sound (stateText optional) l t) refl (signature-sound n optional (drop 11 l) m h v))
         (λ t v. cond-cases (same (stateText denied) l) v
         (λ t v. subst (λ z. So (signatureIn n z) × (l ≡ methodText z)) (ok-value v) (refl, same-sound (stateText denied) l t))
         (λ t v. cond-cases (same (stateText unavail) l) v
         (λ t v. subst (λ z. So (signatureIn n z) × (l ≡ methodText z)) (ok-value v) (refl, same-sound (stateText unavail) l t))
         (λ t v. refuse-ok v))))
 
-    plain : (s : State) (m : Method) → m .state ≡ s → So (isNil (m .args) && isNone (m .answer)) → unsigned s ≡ m
+    plain : (s : State) (m : Method) → m .state ≡ s → So (isNil (m .args) && isNone (m .answer)) → bare s ≡ m
     plain s m e b =
         let i = no-arguments (m .args) (m .answer) b in
-        ap (λ z. method z [] none) (sym e) ∙ ap (λ z. method (m .state) z none) (sym (i .0)) ∙ ap (λ z. method (m .state) (m .args) z) (sym (i .1))
+        ap (λ z. signed z [] none) (sym e) ∙ ap (λ z. signed (m .state) z none) (sym (i .0)) ∙ ap (λ z. signed (m .state) (m .args) z) (sym (i .1))
 
     to : (s : State) (m : Method) → m .state ≡ s → So (signatureInBy s n m) → methodLine n (methodTextBy s m) ≡ ok m
     to avail m e b = ap (λ z. signature n z (signatureText m)) (sym e) ∙ signature-full n m h b
@@ -286,7 +285,7 @@ method-exact n h = record { sound = from; full = λ m b. to (m .state) m refl b;
     to unavail m e b = ap ok (plain unavail m e b)
 
     lf : (s : State) (m : Method) → So (signatureInBy s n m) → So (clean (methodTextBy s m))
-    lf avail m b = all-append notLF (stateText avail) (signatureText m) refl (signature-clean n m h b)
-    lf optional m b = all-append notLF (stateText optional) (signatureText m) refl (signature-clean n m h b)
+    lf avail m b = all-append notLF (stateText avail) (signatureText m) refl (signature-clean m)
+    lf optional m b = all-append notLF (stateText optional) (signatureText m) refl (signature-clean m)
     lf denied m b = refl
     lf unavail m b = refl

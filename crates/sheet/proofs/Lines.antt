@@ -2,18 +2,17 @@
 use mathlib.Core.Path.{_≡_, refl, sym, ap, _∙_}
 use mathlib.Core.Bool.{Bool, true, false, So, cond}
 use mathlib.Core.List.{List, [], _∷_, _++_, append-nil}
-use Prim.Native.Nat.{ℕ, _+_, _≤_, _<_}
+use Prim.Native.Nat.{ℕ, _+_, zero, suc, _/_, _%_}
 use native.Mathlib.Omega.{arith}
-use lib.Dec.{eqb}
+use lib.Dec.{eqb, ltb}
 use lib.ListN.{length, drop, length-append}
 use lib.Seq.{drop-append-seam}
-use borrow.Author.Tests.{eqb-true, eq-eqb, ne-eqb, ltb-true}
+use borrow.Author.Tests.{eqb-true, eq-eqb, ne-eqb}
 use Rattle.model.specs.Basics.{Res, ok, all, need}
 use Rattle.model.proofs.Rules.{both, first, second, never}
-use Rattle.sheet.specs.Lines.{Row, row, cut, push, split, join, starts, same, keyed, choice}
-use Rattle.sheet.specs.Numbers.{isDigit, top, decimal, tails, commas}
-use Rattle.sheet.proofs.Steps.{clash, cond-cases, ok-value, refuse-ok, need-ok}
-use Rattle.sheet.proofs.Numbers.{isDigit-low, decimal-digits, small}
+use Rattle.sheet.specs.Lines.{Row, row, cut, push, split, join, starts, same, keyed, choice, notLF, clean}
+use Rattle.sheet.specs.Numbers.{decimal, tails, commas, decimalIn}
+use Rattle.sheet.proofs.Steps.{cond-cases, ok-value, refuse-ok, need-ok}
 
 -- bytes back from rows
 abbrev pub unsplit : List Row → List ℕ
@@ -51,13 +50,6 @@ unsplit-rows (l ∷ ls) = ap (λ z. l ++ 10 ∷ z) (unsplit-rows ls)
 pub split-sound : (bs : List ℕ) (ls : List (List ℕ)) → split bs ≡ rows ls → bs ≡ join ls
 split-sound bs ls h = sym (unsplit-split bs) ∙ ap unsplit h ∙ unsplit-rows ls
 
--- a line without LF in it
-abbrev pub notLF : ℕ → Bool
-notLF b = cond (eqb b 10) false true
-
-abbrev pub clean : List ℕ → Bool
-clean l = all notLF l
-
 abbrev pub Clean : List (List ℕ) → Type 0
 Clean [] = Unit {0}
 Clean (l ∷ ls) = So (clean l) × Clean ls
@@ -66,10 +58,10 @@ pub clean-lines : (a b : List (List ℕ)) → Clean a → Clean b → Clean (a +
 clean-lines [] b h k = k
 clean-lines (l ∷ a) b h k = (h .0, clean-lines a b (h .1) k)
 
-notLF-eqb : (b : ℕ) → So (notLF b) → eqb b 10 ≡ false
-notLF-eqb b h = cond-cases (eqb b 10) h (λ e k. clash (sym k)) (λ e k. e)
+pub notLF-eqb : (b : ℕ) → So (notLF b) → eqb b 10 ≡ false
+notLF-eqb b h = cond-cases (eqb b 10) h (λ e k. never k) (λ e k. e)
 
-split-line : (l xs : List ℕ) → So (clean l) → split (l ++ 10 ∷ xs) ≡ row l ∷ split xs
+pub split-line : (l xs : List ℕ) → So (clean l) → split (l ++ 10 ∷ xs) ≡ row l ∷ split xs
 unfolding split
 split-line [] xs h = refl
 split-line (b ∷ l) xs h =
@@ -86,22 +78,28 @@ pub all-append : (f : ℕ → Bool) (a b : List ℕ) → So (all f a) → So (al
 all-append f [] b h k = k
 all-append f (x ∷ a) b h k = both (first (f x) (all f a) h) (all-append f a b (second (f x) (all f a) h) k)
 
-digits-clean : (l : List ℕ) → So (all isDigit l) → So (clean l)
-digits-clean [] h = refl
-digits-clean (b ∷ l) h =
-    let low : 48 ≤ b = isDigit-low b (first (isDigit b) (all isDigit l) h) in
-    both (ap (λ z. cond z false true) (ne-eqb b 10 (λ q. omega arith))) (digits-clean l (second (isDigit b) (all isDigit l) h))
+digit-clean : (n : ℕ) → So (notLF (48 + n))
+digit-clean n = ap (λ z. cond z false true) (ne-eqb (48 + n) 10 (λ q. omega arith))
 
-pub decimal-clean : (n : ℕ) → n < top → So (clean (decimal n))
-decimal-clean n h = digits-clean (decimal n) (decimal-digits n h)
+digits-clean : (f n : ℕ) → So (clean (decimalIn f n))
+unfolding decimalIn
+digits-clean zero n = refl
+digits-clean (suc f) n = go (digits-clean f (n / 10)) (ltb n 10)
+  where
+    go : So (clean (decimalIn f (n / 10))) → (b : Bool) → So (clean (cond b ((48 + n) ∷ []) (decimalIn f (n / 10) ++ (48 + n % 10) ∷ [])))
+    go ih true = both (digit-clean n) refl
+    go ih false = all-append notLF (decimalIn f (n / 10)) ((48 + n % 10) ∷ []) ih (both (digit-clean (n % 10)) refl)
 
-tails-clean : (xs : List ℕ) → So (all small xs) → So (clean (tails xs))
-tails-clean [] h = refl
-tails-clean (x ∷ xs) h = all-append notLF (decimal x) (tails xs) (decimal-clean x (ltb-true x top (first (small x) (all small xs) h))) (tails-clean xs (second (small x) (all small xs) h))
+pub decimal-clean : (n : ℕ) → So (clean (decimal n))
+decimal-clean n = digits-clean 20 n
 
-pub commas-clean : (xs : List ℕ) → So (all small xs) → So (clean (commas xs))
-commas-clean [] h = refl
-commas-clean (x ∷ xs) h = all-append notLF (decimal x) (tails xs) (decimal-clean x (ltb-true x top (first (small x) (all small xs) h))) (tails-clean xs (second (small x) (all small xs) h))
+tails-clean : (xs : List ℕ) → So (clean (tails xs))
+tails-clean [] = refl
+tails-clean (x ∷ xs) = all-append notLF (decimal x) (tails xs) (decimal-clean x) (tails-clean xs)
+
+pub commas-clean : (xs : List ℕ) → So (clean (commas xs))
+commas-clean [] = refl
+commas-clean (x ∷ xs) = all-append notLF (decimal x) (tails xs) (decimal-clean x) (tails-clean xs)
 
 -- words at the start of a line
 pub starts-sound : (k l : List ℕ) → So (starts k l) → l ≡ k ++ drop (length k) l
@@ -116,7 +114,7 @@ unfolding starts
 starts-full [] l = refl
 starts-full (k ∷ ks) l = both (eq-eqb k k refl) (starts-full ks l)
 
-nil-length : (l : List ℕ) → length l ≡ 0 → l ≡ []
+pub nil-length : (l : List ℕ) → length l ≡ 0 → l ≡ []
 nil-length [] h = refl
 nil-length (x ∷ l) h = absurd (omega arith)
 

@@ -9,9 +9,9 @@ use lib.Dec.{eqb, ltb, leb}
 use lib.ListN.{length}
 use borrow.Author.Tests.{ltb-true, ltb-false, leb-true, eqb-true, eqb-false, lt-ltb, le-ltb, le-leb, ne-eqb}
 use Rattle.model.specs.Basics.{all}
-use Rattle.model.proofs.Rules.{both, first, second}
+use Rattle.model.proofs.Rules.{both, first, second, never}
 use Rattle.sheet.specs.Numbers.{Scan, fail, took, bindScan, isDigit, top, limit, digits, number, comma, numbers, decimalIn, decimal, tails}
-use Rattle.sheet.proofs.Steps.{clash, cond-cases, fail-took, took-value, took-rest}
+use Rattle.sheet.proofs.Steps.{cond-cases, fail-took, took-value, took-rest}
 
 pub isDigit-low : (b : ℕ) → isDigit b ≡ true → 48 ≤ b
 isDigit-low b h = leb-true 48 b (first (leb 48 b) (leb b 57) h)
@@ -53,7 +53,7 @@ stops (b ∷ r) = cond (isDigit b) false true
 
 stop-here : (a b : ℕ) (r : List ℕ) → stops (b ∷ r) ≡ true → digits a (b ∷ r) ≡ took a (b ∷ r)
 unfolding digits
-stop-here a b r h = cond-cases (isDigit b) h (λ e k. clash (sym k)) (λ e k. rw e)
+stop-here a b r h = cond-cases (isDigit b) h (λ e k. never k) (λ e k. rw e)
 
 pub digits-full : (a : ℕ) (ds r : List ℕ) → all isDigit ds ≡ true → stops r ≡ true → val a ds < top → digits a (ds ++ r) ≡ took (val a ds) r
 unfolding digits
@@ -102,7 +102,8 @@ pub decimal-more : (n : ℕ) → 10 ≤ n → n < bound 20 → decimal n ≡ dec
 decimal-more n h l = digits-more 19 n h ∙ ap (λ z. z ++ (48 + n % 10) ∷ []) (fuel-more 18 (n / 10) (part-low n (bound 19) l))
 
 decimal-step : (a d : ℕ) → 1 ≤ a → d < 10 → a * 10 + d < top → decimal (a * 10 + d) ≡ decimal a ++ (48 + d) ∷ []
-decimal-step a d p h l = decimal-more (a * 10 + d) (omega arith) (omega arith) ∙ ap (λ z. decimal z ++ (48 + (a * 10 + d) % 10) ∷ []) (tenth a d h) ∙ ap (λ z. decimal a ++ (48 + z) ∷ []) (unit a d h)
+decimal-step a d p h l = decimal-more (a * 10 + d) (omega arith) (omega arith) ∙ ap (λ z. decimal z ++ (48 + (a * 10 + d) % 10) ∷ []) (tenth a d h)
+    ∙ ap (λ z. decimal a ++ (48 + z) ∷ []) (unit a d h)
 
 decimal-val : (a : ℕ) (ds : List ℕ) → 1 ≤ a → all isDigit ds ≡ true → val a ds < top → decimal (val a ds) ≡ decimal a ++ ds
 decimal-val a [] p d l = sym (append-nil (decimal a))
@@ -189,16 +190,6 @@ number-full n r h s = go (eqb n 0) refl
     go true e = let q : n ≡ 0 = eqb-true n 0 e in rw q
     go false e = let q : n ≡ 0 → ⊥ = eqb-false n 0 e in number-pos n r h s (omega arith)
 
-pub decimal-digits : (n : ℕ) → n < top → all isDigit (decimal n) ≡ true
-unfolding decimalIn
-decimal-digits n h = go (eqb n 0) refl
-  where
-    go : (t : Bool) → eqb n 0 ≡ t → all isDigit (decimal n) ≡ true
-    go true e = let q : n ≡ 0 = eqb-true n 0 e in rw q
-    go false e = let q : n ≡ 0 → ⊥ = eqb-false n 0 e in
-        let i = shape 20 n (omega arith) (omega arith) in
-        ap (λ x. all isDigit x) (i .2) ∙ both (i .4) (i .5)
-
 pub decimal-head : (n : ℕ) → n < top → (b : ℕ) × (ds : List ℕ) × (decimal n ≡ b ∷ ds) × (isDigit b ≡ true)
 decimal-head n h = go (eqb n 0) refl
   where
@@ -218,14 +209,10 @@ free (b ∷ r) = cond (isDigit b) false (cond (eqb b 44) false true)
 
 free-stops : (r : List ℕ) → free r ≡ true → stops r ≡ true
 free-stops [] h = refl
-free-stops (b ∷ r) h = cond-cases (isDigit b) h (λ e k. clash (sym k)) (λ e k. rw e)
+free-stops (b ∷ r) h = cond-cases (isDigit b) h (λ e k. never k) (λ e k. rw e)
 
 free-comma : (b : ℕ) (r : List ℕ) → free (b ∷ r) ≡ true → eqb b 44 ≡ false
-free-comma b r h = cond-cases (isDigit b) h (λ e k. clash (sym k)) (λ e k. cond-cases (eqb b 44) k (λ e k. clash (sym k)) (λ e k. e))
-
-tails-stop : (xs r : List ℕ) → free r ≡ true → stops (tails xs ++ r) ≡ true
-tails-stop [] r h = free-stops r h
-tails-stop (x ∷ xs) r h = refl
+free-comma b r h = cond-cases (isDigit b) h (λ e k. never k) (λ e k. cond-cases (eqb b 44) k (λ e k. never k) (λ e k. e))
 
 abbrev pub Listed : ℕ → List ℕ → List ℕ → List ℕ → List ℕ → Type 0
 Listed k acc l ns r = (a : ℕ) × (xs : List ℕ) × (ns ≡ acc ++ a ∷ xs) × (suc (length xs) ≤ k) × (all small (a ∷ xs) ≡ true → l ≡ decimal a ++ (tails xs ++ r))
@@ -238,7 +225,8 @@ numbers-sound (suc k) acc l ns r h = go (λ b q h. numbers-sound k b q ns r h) (
     last : (a : ℕ) (r₁ : List ℕ) → number l ≡ took a r₁ → r₁ ≡ r → all small (a ∷ []) ≡ true → l ≡ decimal a ++ r
     last a r₁ e q s = number-sound l a r₁ e (ltb-true a top (first (small a) true s)) ∙ ap (λ x. decimal a ++ x) q
 
-    come : ((b q : List ℕ) → numbers k b q ≡ took ns r → Listed k b q ns r) → (a : ℕ) (r₁ : List ℕ) → number l ≡ took a r₁ → comma (acc ++ a ∷ []) (λ q. numbers k (acc ++ a ∷ []) q) r₁ ≡ took ns r → Listed (suc k) acc l ns r
+    come : ((b q : List ℕ) → numbers k b q ≡ took ns r → Listed k b q ns r) → (a : ℕ) (r₁ : List ℕ) → number l ≡ took a r₁
+        → comma (acc ++ a ∷ []) (λ q. numbers k (acc ++ a ∷ []) q) r₁ ≡ took ns r → Listed (suc k) acc l ns r
     come ih a [] e h = (a, [], sym (took-value h), omega arith, last a [] e (took-rest h))
     come ih a (b ∷ q) e h = cond-cases (eqb b 44) h
         (λ t k₁. let i = ih (acc ++ a ∷ []) q k₁ in (
@@ -252,7 +240,8 @@ numbers-sound (suc k) acc l ns r h = go (λ b q h. numbers-sound k b q ns r h) (
         ))
         (λ t k₁. (a, [], sym (took-value k₁), omega arith, last a (b ∷ q) e (took-rest k₁)))
 
-    go : ((b q : List ℕ) → numbers k b q ≡ took ns r → Listed k b q ns r) → (s : Scan ℕ) → number l ≡ s → bindScan s (λ a r. comma (acc ++ a ∷ []) (λ q. numbers k (acc ++ a ∷ []) q) r) ≡ took ns r → Listed (suc k) acc l ns r
+    go : ((b q : List ℕ) → numbers k b q ≡ took ns r → Listed k b q ns r) → (s : Scan ℕ) → number l ≡ s
+        → bindScan s (λ a r. comma (acc ++ a ∷ []) (λ q. numbers k (acc ++ a ∷ []) q) r) ≡ took ns r → Listed (suc k) acc l ns r
     go ih fail e h = absurd (fail-took h)
     go ih (took a r₁) e h = come ih a r₁ e h
 
@@ -260,7 +249,8 @@ comma-free : (xs : List ℕ) (k : List ℕ → Scan (List ℕ)) (r : List ℕ) �
 comma-free xs k [] h = refl
 comma-free xs k (b ∷ r) h = rw (free-comma b r h)
 
-pub numbers-full : (k : ℕ) (acc : List ℕ) (a : ℕ) (xs r : List ℕ) → suc (length xs) ≤ k → all small (a ∷ xs) ≡ true → free r ≡ true → numbers k acc (decimal a ++ (tails xs ++ r)) ≡ took (acc ++ a ∷ xs) r
+pub numbers-full : (k : ℕ) (acc : List ℕ) (a : ℕ) (xs r : List ℕ) → suc (length xs) ≤ k → all small (a ∷ xs) ≡ true → free r ≡ true
+    → numbers k acc (decimal a ++ (tails xs ++ r)) ≡ took (acc ++ a ∷ xs) r
 unfolding numbers
 numbers-full zero acc a xs r h s f = absurd (not-suc-le-zero h)
 numbers-full (suc k) acc a [] r h s f =

@@ -78,7 +78,8 @@ times-places p h (suc n) i acc at rs = follow-places at rs (p i at rs) _ (h i at
 
 members-places : (m n : ℕ) (r : Rep) (c : ℕ) → Places (members m n r c)
 unfolding members
-members-places m n ref c = bind-places (line ownLine) _ (line-places ownLine) λ o. bind-places (times (λ j. line (methodLine n)) m 0 []) _ (times-places (λ j. line (methodLine n)) (λ j. line-places (methodLine n)) m 0 []) λ ms. ahead-none
+members-places m n ref c = bind-places (line ownLine) _ (line-places ownLine) λ o.
+    bind-places (times (λ j. line (methodLine n)) m 0 []) _ (times-places (λ j. line (methodLine n)) (λ j. line-places (methodLine n)) m 0 []) λ ms. ahead-none
 members-places m n w32 c = ahead-none
 members-places m n w64 c = ahead-none
 

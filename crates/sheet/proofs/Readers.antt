@@ -26,7 +26,8 @@ got-value p = cc
 pub got-rest : {A : Type 0} {x y : A} {a b : ℕ} {r q : List Row} → got x a r ≡ got y b q → r ≡ q
 got-rest p = cc
 
-pub follow-got : {A B C : Type 0} {y : B} {b : ℕ} {q : List Row} (r : Reading A) (k : A → Reader B) → follow r k ≡ got y b q → ((x : A) (a : ℕ) (rs : List Row) → r ≡ got x a rs → k x a rs ≡ got y b q → C) → C
+pub follow-got : {A B C : Type 0} {y : B} {b : ℕ} {q : List Row} (r : Reading A) (k : A → Reader B) → follow r k ≡ got y b q
+    → ((x : A) (a : ℕ) (rs : List Row) → r ≡ got x a rs → k x a rs ≡ got y b q → C) → C
 follow-got (refused n at) k h c = refused-got h
 follow-got (got x a rs) k h c = c x a rs refl h
 
@@ -54,7 +55,8 @@ pure-exact {v} {fit} h only = record {
 -- One reader and then another, where the first one's value is a part of the second one's.
 pub bind-exact : {A B : Type 0} {p : Reader A} {k : A → Reader B} {fitA : A → Type 0} {fit : B → Type 0} {lsA : A → List (List ℕ)} {ls : B → List (List ℕ)} (part : B → A)
     → Exact p fitA lsA → ((y : B) → fit y → fitA (part y)) → ((x : A) → fitA x → Exact (k x) (λ y. (part y ≡ x) × fit y) ls) → Exact (bind p k) fit (λ y. lsA (part y) ++ ls y)
-bind-exact {p} {k} {fitA} {fit} {lsA} {ls} part E fits F = record { sound = from; full = to; lf = λ y o. clean-lines (lsA (part y)) (ls y) (E .lf (part y) (fits y o)) (F (part y) (fits y o) .lf y (refl, o)) }
+bind-exact {p} {k} {fitA} {fit} {lsA} {ls} part E fits F =
+    record { sound = from; full = to; lf = λ y o. clean-lines (lsA (part y)) (ls y) (E .lf (part y) (fits y o)) (F (part y) (fits y o) .lf y (refl, o)) }
   where
     join-rows : (y : _) (rs′ : List Row) → rows (lsA (part y) ++ ls y) ++ rs′ ≡ rows (lsA (part y)) ++ (rows (ls y) ++ rs′)
     join-rows y rs′ = ap (λ z. z ++ rs′) (rows-append (lsA (part y)) (ls y)) ∙ append-assoc (rows (lsA (part y))) (rows (ls y)) rs′
@@ -80,11 +82,13 @@ exact-lines {p} {fit} {ls} {ls′} e E = record {
 }
 
 -- several things
-module _ {A : Type 0} (p : ℕ → Reader A) (fit : ℕ → A → Bool) (ls : ℕ → A → List (List ℕ)) (limit : ℕ) (E : (i : ℕ) → i < limit → Exact (p i) (λ x. So (fit i x)) (ls i)) where
+module _ {A : Type 0} (p : ℕ → Reader A) (fit : ℕ → A → Bool) (ls : ℕ → A → List (List ℕ)) (limit : ℕ)
+    (E : (i : ℕ) → i < limit → Exact (p i) (λ x. So (fit i x)) (ls i)) where
   abbrev Several : ℕ → ℕ → List A → List Row → List A → List Row → Type 0
   Several n i acc rs ys rs′ = (xs : List A) × (ys ≡ acc ++ xs) × (length xs ≡ n) × So (every fit i xs) × (rs ≡ rows (each ls i xs) ++ rs′)
 
-  times-sound : (n i : ℕ) (acc : List A) (at : ℕ) (rs : List Row) (ys : List A) (at′ : ℕ) (rs′ : List Row) → i + n ≤ limit → times p n i acc at rs ≡ got ys at′ rs′ → Several n i acc rs ys rs′
+  times-sound : (n i : ℕ) (acc : List A) (at : ℕ) (rs : List Row) (ys : List A) (at′ : ℕ) (rs′ : List Row) → i + n ≤ limit → times p n i acc at rs ≡ got ys at′ rs′
+      → Several n i acc rs ys rs′
   unfolding times each
   times-sound zero i acc at rs ys at′ rs′ h e = ([], sym (got-value e) ∙ sym (append-nil acc), refl, refl, got-rest e)
   times-sound (suc n) i acc at rs ys at′ rs′ h e = follow-got (p i at rs) _ e (λ x a q e₁ e₂.
@@ -94,10 +98,12 @@ module _ {A : Type 0} (p : ℕ → Reader A) (fit : ℕ → A → Bool) (ls : �
         k .1 ∙ append-assoc acc (x ∷ []) (k .0),
         ap suc (k .2),
         both (j .0) (k .3),
-        j .1 ∙ ap (λ z. rows (ls i x) ++ z) (k .4) ∙ sym (append-assoc (rows (ls i x)) (rows (each ls (suc i) (k .0))) rs′) ∙ ap (λ z. z ++ rs′) (sym (rows-append (ls i x) (each ls (suc i) (k .0)))),
+        j .1 ∙ ap (λ z. rows (ls i x) ++ z) (k .4) ∙ sym (append-assoc (rows (ls i x)) (rows (each ls (suc i) (k .0))) rs′)
+            ∙ ap (λ z. z ++ rs′) (sym (rows-append (ls i x) (each ls (suc i) (k .0)))),
       ))
 
-  times-full : (xs : List A) (i : ℕ) (acc : List A) (at : ℕ) (rs′ : List Row) → i + length xs ≤ limit → So (every fit i xs) → (at′ : ℕ) × (times p (length xs) i acc at (rows (each ls i xs) ++ rs′) ≡ got (acc ++ xs) at′ rs′)
+  times-full : (xs : List A) (i : ℕ) (acc : List A) (at : ℕ) (rs′ : List Row) → i + length xs ≤ limit → So (every fit i xs)
+      → (at′ : ℕ) × (times p (length xs) i acc at (rows (each ls i xs) ++ rs′) ≡ got (acc ++ xs) at′ rs′)
   unfolding times each
   times-full [] i acc at rs′ h o = (at, ap (λ z. got z at rs′) (sym (append-nil acc)))
   times-full (x ∷ xs) i acc at rs′ h o =

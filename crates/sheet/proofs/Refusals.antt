@@ -7,11 +7,12 @@ use native.Mathlib.Omega.{arith}
 use lib.Dec.{ltb, leb}
 use lib.ListN.{drop, length}
 use Rattle.model.specs.Basics.{Res, refuse, ok, try, need, all, unlessMissing}
-use Rattle.model.specs.Table.{State, avail, optional, denied, unavail, Rep, ref, w32, w64, Method, Table, between, maxSubjects, maxMethods, maxCategories, maxSheetTypes}
-use Rattle.sheet.specs.Lines.{bytes, Row, row, cut, split, Reading, refused, got, Reader, line, lineAt, bind, follow, times, endOfInput, starts, same, keyed, choice}
+use Rattle.model.specs.Table.{State, avail, optional, denied, unavail, Rep, ref, w32, w64, Method, Table, between, maxSubjects, maxMethods, maxCategories, maxSheetTypes, bare}
+use Rattle.sheet.specs.Lines.{bytes, Row, row, cut, split, Reading, refused, got, Reader, line, lineAt, follow, times, endOfInput, starts, same, keyed, choice}
 use Rattle.sheet.specs.Numbers.{Scan, fail, took, bindScan, whole, number, numbers}
 use Rattle.sheet.specs.Text.{newestForm, repText, ownText, stateText, endText}
-use Rattle.sheet.specs.Sheet.{numberLine, underLine, repLine, ownLine, endLine, arguments, answer, signature, unsigned, methodLine, below, members, oneType, body, signaturesStand, ending, sheet, SheetAnswer, malformed, loaded, sheetAnswer, read}
+use Rattle.sheet.specs.Sheet.{numberLine, underLine, repLine, ownLine, endLine, arguments, answer, signature, methodLine, below, members, oneType, body, signaturesStand, ending}
+use Rattle.sheet.specs.Sheet.{sheet, SheetAnswer, malformed, loaded, sheetAnswer, read}
 
 abbrev pub Number : ℕ → Type 0
 Number n = (1 ≤ n) × (n ≤ 3)
@@ -72,11 +73,11 @@ unfolding methodLine
 method-told n l =
     let al : List ℕ = drop (length (stateText avail)) l in
     let ol : List ℕ = drop (length (stateText optional)) l in
-    let u : Res Method = cond (same (stateText unavail) l) (ok (unsigned unavail)) (refuse 1) in
-    let d : Res Method = cond (same (stateText denied) l) (ok (unsigned denied)) u in
+    let u : Res Method = cond (same (stateText unavail) l) (ok (bare unavail)) (refuse 1) in
+    let d : Res Method = cond (same (stateText denied) l) (ok (bare denied)) u in
     let p : Res Method = cond (starts (stateText optional) l) (signature n optional ol) d in
-    let ut : Told u = cond-told (same (stateText unavail) l) (ok (unsigned unavail)) (refuse 1) tt (omega arith, omega arith) in
-    let dt : Told d = cond-told (same (stateText denied) l) (ok (unsigned denied)) u tt ut in
+    let ut : Told u = cond-told (same (stateText unavail) l) (ok (bare unavail)) (refuse 1) tt (omega arith, omega arith) in
+    let dt : Told d = cond-told (same (stateText denied) l) (ok (bare denied)) u tt ut in
     let pt : Told p = cond-told (starts (stateText optional) l) (signature n optional ol) d (signature-told n optional ol) dt in
     cond-told (starts (stateText avail) l) (signature n avail al) p (signature-told n avail al) pt
 
@@ -94,7 +95,8 @@ follow-numbered : {A B : Type 0} (r : Reading A) (k : A → Reader B) → Number
 follow-numbered (refused n at) k h f = h
 follow-numbered (got x at rs) k h f = f x at rs
 
-times-numbered : {A : Type 0} (p : ℕ → Reader A) → ((i at : ℕ) (rs : List Row) → Numbered (p i at rs)) → (n i : ℕ) (acc : List A) (at : ℕ) (rs : List Row) → Numbered (times p n i acc at rs)
+times-numbered : {A : Type 0} (p : ℕ → Reader A) → ((i at : ℕ) (rs : List Row) → Numbered (p i at rs)) → (n i : ℕ) (acc : List A) (at : ℕ) (rs : List Row)
+    → Numbered (times p n i acc at rs)
 unfolding times
 times-numbered p h zero i acc at rs = tt
 times-numbered p h (suc n) i acc at rs = follow-numbered (p i at rs) _ (h i at rs) (λ x at rs. times-numbered p h n (suc i) (acc ++ x ∷ []) at rs)

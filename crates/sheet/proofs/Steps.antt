@@ -2,13 +2,11 @@
 use mathlib.Core.Path.{_≡_, refl}
 use mathlib.Core.Bool.{Bool, true, false, So, cond}
 use mathlib.Core.List.{List, [], _∷_}
+use mathlib.Core.Option.{none, some}
 use Prim.Native.Nat.{ℕ}
 use native.Mathlib.Omega.{arith}
 use Rattle.model.specs.Basics.{Res, refuse, ok, try, need}
 use Rattle.sheet.specs.Numbers.{Scan, fail, took, bindScan, whole}
-
-pub clash : {A : Type 0} → true ≡ false → A
-clash p = let z : _≡_ {A = ℕ} 0 1 = cc in absurd (omega arith)
 
 pub cond-cases : {A C : Type 0} {x y z : A} (b : Bool) → cond b x y ≡ z → (b ≡ true → x ≡ z → C) → (b ≡ false → y ≡ z → C) → C
 cond-cases true h f g = f refl h
@@ -20,6 +18,9 @@ refuse-ok p = let z : _≡_ {A = ℕ} 0 1 = cc in absurd (omega arith)
 
 pub ok-value : {A : Type 0} {x y : A} → ok x ≡ ok y → x ≡ y
 ok-value p = cc
+
+pub none-some : {A C : Type 0} {x : A} → none ≡ some x → C
+none-some p = let z : _≡_ {A = ℕ} 0 1 = cc in absurd (omega arith)
 
 pub try-ok : {A B C : Type 0} {y : B} (r : Res A) (k : A → Res B) → try r k ≡ ok y → ((x : A) → r ≡ ok x → k x ≡ ok y → C) → C
 try-ok (refuse e) k h c = refuse-ok h
@@ -39,7 +40,8 @@ took-value p = cc
 pub took-rest : {A : Type 0} {x y : A} {r q : List ℕ} → took x r ≡ took y q → r ≡ q
 took-rest p = cc
 
-pub bindScan-took : {A B C : Type 0} {y : B} {r : List ℕ} (s : Scan A) (k : A → List ℕ → Scan B) → bindScan s k ≡ took y r → ((x : A) (q : List ℕ) → s ≡ took x q → k x q ≡ took y r → C) → C
+pub bindScan-took : {A B C : Type 0} {y : B} {r : List ℕ} (s : Scan A) (k : A → List ℕ → Scan B) → bindScan s k ≡ took y r
+    → ((x : A) (q : List ℕ) → s ≡ took x q → k x q ≡ took y r → C) → C
 bindScan-took fail k h c = absurd (fail-took h)
 bindScan-took (took x q) k h c = c x q refl h
 

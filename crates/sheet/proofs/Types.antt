@@ -108,7 +108,8 @@ module _ (m c n : ℕ) (hm : m ≤ maxMethods) (hc : c ≤ maxCategories) (hn : 
   number-type r er em Q q k hk = pure-exact
       (refl, (refl, (q, from-parts m c n (sheetType r k false []) (record { cat = hk; own = refl; count = sym em; methods = refl; key = refl }))))
       λ y f. let p = type-parts m c n y (f .1 .1 .1) in
-      type-is y (f .1 .0) (f .0) (no-own (y .own) (subst (λ z. So (y .own ⇒ z)) (ap isRef (f .1 .0) ∙ er) (p .own))) (nil-methods (y .methods) (p .count ∙ ap (λ z. methodCount z m) (f .1 .0) ∙ em)) (p .key)
+      type-is y (f .1 .0) (f .0) (no-own (y .own) (subst (λ z. So (y .own ⇒ z)) (ap isRef (f .1 .0) ∙ er) (p .own)))
+      (nil-methods (y .methods) (p .count ∙ ap (λ z. methodCount z m) (f .1 .0) ∙ em)) (p .key)
 
   members-exact : (Q : Type 0) → Q → (r : Rep) (k : ℕ) → So (leb k c) → Exact (members m n r k) (Rest Q r k) (λ y. memberLines (y .rep) y)
   unfolding members memberLines
@@ -143,7 +144,8 @@ table-is t p q u v w = sym (λ i. record { subjects = p i; methods = q i; cats =
 one-under : (c : ℕ) → c ≤ maxCategories → (k : ℕ) → k < suc c → Exact (line (underLine c k)) (λ us. So (linksFit k us)) (λ us. underText us ∷ [])
 one-under c h k l = line-exact (under-exact c k (omega arith) (omega arith))
 
-right-at : {m c n : ℕ} (t : Table) → t .methods ≡ m → length (t .cats) ≡ c → t .sheet ≡ n → So (every (λ i. typeRight (t .methods) (length (t .cats)) (t .sheet)) 0 (t .types)) → So (every (λ i. typeRight m c n) 0 (t .types))
+right-at : {m c n : ℕ} (t : Table) → t .methods ≡ m → length (t .cats) ≡ c → t .sheet ≡ n → So (every (λ i. typeRight (t .methods) (length (t .cats)) (t .sheet)) 0 (t .types))
+    → So (every (λ i. typeRight m c n) 0 (t .types))
 right-at t p q r h = rw (p, q, r) at h
 
 pub body-exact : Exact body LinesRight sheetLines
@@ -151,11 +153,15 @@ unfolding body sheetLines
 body-exact = bind-exact (λ t. newestForm) (line-exact (number-exact (bytes "guide=") 1 newestForm (omega arith) refl)) (λ t f. refl) λ g hg.
     bind-exact (λ t. t .subjects) (line-exact (number-exact (bytes "subjects=") 1 maxSubjects (omega arith) refl)) (λ t f. f .1 .subjects) λ s hs.
     bind-exact (λ t. t .methods) (line-exact (number-exact (bytes "methods=") 1 maxMethods (omega arith) refl)) (λ t f. f .1 .1 .methods) λ m hm.
-    bind-exact (λ t. length (t .cats)) (line-exact (number-exact (bytes "cats=") 0 maxCategories (omega arith) refl)) (λ t f. in-between 0 maxCategories (length (t .cats)) (omega arith) (f .1 .1 .1 .cats)) λ c hc.
-    bind-exact (λ t. t .cats) (times-exact (λ k. line (underLine c k)) linksFit (λ k us. underText us ∷ []) (suc c) (one-under c (between-high 0 maxCategories c hc)) c 1 (omega arith)) (λ t f. (f .0, f .1 .1 .1 .1 .links)) λ us hu.
+    bind-exact (λ t. length (t .cats)) (line-exact (number-exact (bytes "cats=") 0 maxCategories (omega arith) refl))
+    (λ t f. in-between 0 maxCategories (length (t .cats)) (omega arith) (f .1 .1 .1 .cats)) λ c hc.
+    bind-exact (λ t. t .cats) (times-exact (λ k. line (underLine c k)) linksFit (λ k us. underText us ∷ []) (suc c) (one-under c (between-high 0 maxCategories c hc)) c 1 (omega arith))
+    (λ t f. (f .0, f .1 .1 .1 .1 .links)) λ us hu.
     bind-exact (λ t. t .sheet) (line-exact (number-exact (bytes "types=") 1 maxSheetTypes (omega arith) refl)) (λ t f. f .1 .1 .1 .1 .1 .sheet) λ n hn.
     exact-lines (λ t f. append-nil (each typeLines 0 (t .types)))
-    (bind-exact (λ t. t .types) (times-exact (oneType m c n) (λ i. typeRight m c n) typeLines top (type-exact m c n (between-high 1 maxMethods m hm) (between-high 0 maxCategories c hc) (between-high 1 maxSheetTypes n hn)) n 0 (small n hn))
+    (bind-exact (λ t. t .types)
+    (times-exact (oneType m c n) (λ i. typeRight m c n) typeLines top
+    (type-exact m c n (between-high 1 maxMethods m hm) (between-high 0 maxCategories c hc) (between-high 1 maxSheetTypes n hn)) n 0 (small n hn))
     (λ t f. (
       f .1 .1 .1 .1 .1 .1 .count ∙ f .0,
       right-at t (f .1 .1 .1 .0) (f .1 .1 .0) (f .0) (f .1 .1 .1 .1 .1 .1 .types),

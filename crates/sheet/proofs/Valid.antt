@@ -11,11 +11,12 @@ use lib.ListN.{length, getD, take}
 use lib.Seq.{take-all, length-take-le, getD-take}
 use borrow.Author.Tests.{leb-true, eqb-true, lt-ltb, le-leb, lt-leb, eq-eqb}
 use Rattle.model.specs.Basics.{_⇒_, all, every, unlessMissing}
-use Rattle.model.specs.Table.{Key, Method, Ty, Table, noType, size, typeAt, withTypes, isRef, permit, isNil, isNone, between, countsFit, linksFit, mayStand, standsIn, signatureFits, methodCount, keyFits, typeFits, tableFits, validSheet, maxSubjects, maxMethods, maxCategories, maxSheetTypes, maxTypes, maxArguments}
-use Rattle.model.proofs.Rules.{both, first, second, never}
+use Rattle.model.specs.Table.{Key, Method, Ty, Table, noType, size, typeAt, withTypes, isRef, permit, isNil, isNone, between, countsFit, linksFit, mayStand, standsIn, signatureFits}
+use Rattle.model.specs.Table.{methodCount, keyFits, typeFits, tableFits, validSheet, maxSubjects, maxMethods, maxCategories, maxSheetTypes, maxTypes, maxArguments}
+use Rattle.model.proofs.Rules.{both, first, second}
 use Rattle.sheet.specs.Text.{withoutDerived}
 use Rattle.sheet.specs.Sheet.{below, stands, signaturesStand}
-use Rattle.sheet.proofs.LineKinds.{between-high, signatureIn, all-weaken}
+use Rattle.sheet.proofs.LineKinds.{between-high, signatureIn, all-weaken, missing-weaken}
 use Rattle.sheet.proofs.Types.{typeRight, LinesRight, every-all}
 
 -- the test of signatures taken out of a conjunction
@@ -42,7 +43,8 @@ behind-out false b o = refl
 module _ {A : Type 0} (g : ℕ → A → Bool) (f o : A → Bool) (end : ℕ) (e : (i : ℕ) (x : A) → i < end → g i x ≡ f x && o x) where
   every-out : (i : ℕ) (xs : List A) → i + length xs ≤ end → every g i xs ≡ all f xs && all o xs
   every-out i [] h = refl
-  every-out i (x ∷ xs) h = ap (λ z. z && every g (suc i) xs) (e i x (omega arith)) ∙ ap (λ z. (f x && o x) && z) (every-out (suc i) xs (omega arith)) ∙ pair-out (f x) (o x) (all f xs) (all o xs)
+  every-out i (x ∷ xs) h = ap (λ z. z && every g (suc i) xs) (e i x (omega arith)) ∙ ap (λ z. (f x && o x) && z) (every-out (suc i) xs (omega arith))
+      ∙ pair-out (f x) (o x) (all f xs) (all o xs)
 
 all-out : {A : Type 0} (g f o : A → Bool) → ((x : A) → g x ≡ f x && o x) → (xs : List A) → all g xs ≡ all f xs && all o xs
 all-out g f o e [] = refl
@@ -114,7 +116,10 @@ unfolding validSheet tableFits signaturesStand
 valid-test t r o =
     let n : t .sheet ≤ maxSheetTypes = between-high 1 maxSheetTypes (t .sheet) (r .sheet) in
     let e : length (t .types) ≡ t .sheet = r .count in
-    both (both (both (r .subjects) (both (r .methods) (both (le-leb (length (t .cats)) maxCategories (r .cats)) (both (r .sheet) (both (le-leb (t .sheet) (size t) (omega arith)) (le-leb (size t) maxTypes (omega arith)))))))
+    both
+    (both
+    (both (r .subjects)
+    (both (r .methods) (both (le-leb (length (t .cats)) maxCategories (r .cats)) (both (r .sheet) (both (le-leb (t .sheet) (size t) (omega arith)) (le-leb (size t) maxTypes (omega arith)))))))
     (both (r .links) (types-fit-out t (t .types) (omega arith) ∙ both (sym (every-all (rightAt t) 0 (t .types)) ∙ r .types) o)))
     (eq-eqb (t .sheet) (size t) (sym e))
 
@@ -122,10 +127,6 @@ every-take : {A : Type 0} (f : ℕ → A → Bool) (n i : ℕ) (xs : List A) →
 every-take f zero i xs h = refl
 every-take f (suc n) i [] h = refl
 every-take f (suc n) i (x ∷ xs) h = both (first (f i x) _ h) (every-take f n (suc i) xs (second (f i x) _ h))
-
-missing-weaken : (f g : ℕ → Bool) (o : Option ℕ) → ((x : ℕ) → So (f x) → So (g x)) → So (unlessMissing o f) → So (unlessMissing o g)
-missing-weaken f g none k h = refl
-missing-weaken f g (some x) k h = k x h
 
 -- a type that may stand in the table's signatures may stand in the sheet's
 stands-kept : (t : Table) (a : ℕ) → So (may t a) → So (may (withoutDerived t) a)
@@ -154,7 +155,8 @@ fits-says t h =
     let short : t .sheet ≤ length (t .types) = leb-true (t .sheet) (size t) (first (leb (t .sheet) (size t)) _ c₄) in
     let ts : List Ty = take (t .sheet) (t .types) in
     let n : length ts ≡ t .sheet = length-take-le (t .sheet) (t .types) short in
-    let q : So (all (rightAt t) ts && all (typeStands t) ts) = sym (types-fit-out t ts (omega arith)) ∙ every-take (typeFits t) (t .sheet) 0 (t .types) (second (every linksFit 1 (t .cats)) _ rest) in (
+    let q : So (all (rightAt t) ts && all (typeStands t) ts) = sym (types-fit-out t ts (omega arith))
+    ∙ every-take (typeFits t) (t .sheet) 0 (t .types) (second (every linksFit 1 (t .cats)) _ rest) in (
       record {
         subjects = first (between 1 maxSubjects (t .subjects)) _ counts;
         methods = first (between 1 maxMethods (t .methods)) _ c₁;

@@ -7,7 +7,8 @@ use Prim.Native.Char.{code}
 use lib.Dec.{eqb, ltb, leb}
 use lib.ListN.{length, drop}
 use Rattle.model.specs.Basics.{Res, refuse, ok, try, need, all, unlessMissing}
-use Rattle.model.specs.Table.{State, denied, optional, avail, unavail, Rep, ref, w32, w64, Method, Ty, Table, typeAt, between, mayStand, maxSubjects, maxMethods, maxCategories, maxSheetTypes, maxArguments}
+use Rattle.model.specs.Table.{State, denied, optional, avail, unavail, Rep, ref, w32, w64, Method, Ty, Table, typeAt, between, mayStand, maxSubjects, maxMethods, maxCategories}
+use Rattle.model.specs.Table.{maxSheetTypes, maxArguments, bare}
 use Rattle.sheet.specs.Lines.{bytes, split, Reading, refused, got, Reader, pure, line, bind, times, endOfInput, starts, same, keyed, choice}
 use Rattle.sheet.specs.Numbers.{Scan, fail, took, bindScan, whole, number, numbers}
 use Rattle.sheet.specs.Text.{newestForm, repText, ownText, stateText, endText}
@@ -63,17 +64,13 @@ unfolding arguments answer
 signature n s l = try (whole (bindScan (arguments l) λ xs r. bindScan (answer r) λ o q. took (record { state = s; args = xs; answer = o }) q))
     λ (m : Method). need (all (below n) (m .args) && unlessMissing (m .answer) (below n)) 2 λ _. ok m
 
--- denied and unavail have no signature
-abbrev pub unsigned : State → Method
-unsigned s = record { state = s; args = []; answer = none }
-
 -- the line of one method (S26)
 unfoldable pub methodLine : ℕ → List ℕ → Res Method
 unfolding signature starts
 methodLine n l = cond (starts (stateText avail) l) (signature n avail (drop (length (stateText avail)) l))
     (cond (starts (stateText optional) l) (signature n optional (drop (length (stateText optional)) l))
-    (cond (same (stateText denied) l) (ok (unsigned denied))
-    (cond (same (stateText unavail) l) (ok (unsigned unavail)) (refuse 1))))
+    (cond (same (stateText denied) l) (ok (bare denied))
+    (cond (same (stateText unavail) l) (ok (bare unavail)) (refuse 1))))
 
 -- a type of the sheet, which has no key (T17)
 abbrev pub sheetType : Rep → ℕ → Bool → List Method → Ty

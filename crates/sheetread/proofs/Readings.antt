@@ -7,12 +7,11 @@ use native.Mathlib.Omega.{arith}
 use lib.Dec.{eqb}
 use lib.ListN.{length, getD, drop}
 use borrow.Author.Tests.{eq-eqb, ne-eqb}
-use Rattle.model.specs.Basics.{refuse, ok}
-use Rattle.model.specs.Table.{Rep, ref, Method, Ty, Table, maxSubjects, maxMethods, maxCategories, maxSheetTypes}
+use Rattle.model.specs.Table.{ref, Ty, Table, maxSubjects, maxMethods, maxCategories, maxSheetTypes, Rep, Method}
 use Rattle.model.specs.Check.{repOf, linksOf}
-use Rattle.sheet.specs.Lines.{bytes, Row, row, cut, push, split, Reading, refused, got, Reader, pure, line, follow, bind, times, endOfInput, same, choice}
-use Rattle.sheet.specs.Text.{newestForm, endText}
-use Rattle.sheet.specs.Sheet.{numberLine, repLine, ownLine, methodLine, endLine, sheetType, members, oneType, body, signaturesStand, ending, sheet, sheetAnswer, read}
+use Rattle.sheet.specs.Lines.{bytes, Row, row, cut, push, split, Reading, refused, got, Reader, pure, line, follow, bind, times, endOfInput}
+use Rattle.sheet.specs.Text.{newestForm}
+use Rattle.sheet.specs.Sheet.{numberLine, repLine, ownLine, endLine, sheetType, members, oneType, body, signaturesStand, ending, sheet, sheetAnswer, read}
 use Rattle.textread.specs.View.{reading, readBy, GotAtMost}
 use Rattle.textread.proofs.Laws.{from-here, at-end}
 use Rattle.cursor.specs.declared.Cursor.{Cursor}
@@ -71,13 +70,13 @@ module _ {A : Type 0} (s : List ℕ) (x : A) (r : Done) (R : Reading A) (is : do
 pub on-done : (r : Done) (c : Cursor) (P : Type 0) → r ≡ Atᵈ c → OnDone r P → P
 on-done r c P e h = subst (λ (z : Done). OnDone z P) e h
 
--- One reader behind another.
-module _ {A B : Type 0} (R : Reading A) (k : A → Reader B) where
-  pub follow-no : (n at : ℕ) → refused n at ≡ R → refused n at ≡ follow R k
-  follow-no n at e = ap (λ z. follow z k) e
+-- One reader behind another, k, where both come to S: the step of every line.
+module _ {A B : Type 0} {R : Reading A} {S : Reading B} (k : A → Reader B) (whole : follow R k ≡ S) where
+  pub step-no : {n at : ℕ} → refused n at ≡ R → refused n at ≡ S
+  step-no e = ap (λ z. follow z k) e ∙ whole
 
-  pub follow-ok : (x : A) (at : ℕ) (rs : List Row) → got x at rs ≡ R → k x at rs ≡ follow R k
-  follow-ok x at rs e = ap (λ z. follow z k) e
+  pub step-ok : {x : A} {at : ℕ} {rs : List Row} → got x at rs ≡ R → k x at rs ≡ S
+  step-ok e = ap (λ z. follow z k) e ∙ whole
 
 -- two readers as one
 pub regroup : {A B C : Type 0} (R : Reading A) (k : A → Reader B) (e : B → Reader C) (f : A → Reader C) → ((x : A) (at : ℕ) (rs : List Row) → f x at rs ≡ follow (k x at rs) e)
@@ -99,74 +98,32 @@ module _ {A : Type 0} (p : ℕ → Reader A) (n j i : ℕ) (acc : List A) (at : 
     pub times-stop : (k a : ℕ) → refused k a ≡ p i at rs → refused k a ≡ R
     times-stop k a e = ap (λ z. follow z (λ x. times p (n - (j + 1)) (suc i) (acc ++ x ∷ []))) e ∙ one-more
 
-    pub times-next : (x : A) (a : ℕ) (q : List Row) (i′ : ℕ) (acc′ : List A) → got x a q ≡ p i at rs → i′ ≡ suc i → acc′ ≡ acc ++ x ∷ [] → times p (n - (j + 1)) i′ acc′ a q ≡ R
+    pub times-next : (x : A) (a : ℕ) (q : List Row) (i′ : ℕ) (acc′ : List A) → got x a q ≡ p i at rs → i′ ≡ suc i → acc′ ≡ acc ++ x ∷ []
+        → times p (n - (j + 1)) i′ acc′ a q ≡ R
     times-next x a q i′ acc′ e f g =
         ap (λ z. times p (n - (j + 1)) z acc′ a q) f ∙ ap (λ z. times p (n - (j + 1)) (suc i) z a q) g
         ∙ ap (λ z. follow z (λ x. times p (n - (j + 1)) (suc i) (acc ++ x ∷ []))) e ∙ one-more
 
--- A type's lines.
-module _ (m c n i at : ℕ) (rs : List Row) where
-  after-rep : Rep → Reader Ty
-  unfolding numberLine members
-  after-rep r = bind (line (numberLine (bytes "cat=") 0 c)) λ k. members m n r k
+-- A type's lines, and those of a reference type.
+abbrev pub afterRep : ℕ → ℕ → ℕ → Rep → Reader Ty
+afterRep m c n r = bind (line (numberLine (bytes "cat=") 0 c)) (members m n r)
 
-  after-number : ℕ → Reader Ty
-  unfolding repLine after-rep
-  after-number x = bind (line repLine) after-rep
+abbrev pub afterNumber : ℕ → ℕ → ℕ → ℕ → Reader Ty
+afterNumber m c n x = bind (line repLine) (afterRep m c n)
 
-  type-of : follow (line (numberLine (bytes "type=") i i) at rs) after-number ≡ oneType m c n i at rs
-  unfolding oneType after-number after-rep
-  type-of = refl
+pub type-of : (m c n i at : ℕ) (rs : List Row) → follow (line (numberLine (bytes "type=") i i) at rs) (afterNumber m c n) ≡ oneType m c n i at rs
+unfolding oneType
+type-of m c n i at rs = refl
 
-  pub type-number-no : (k a : ℕ) → refused k a ≡ line (numberLine (bytes "type=") i i) at rs → refused k a ≡ oneType m c n i at rs
-  type-number-no k a e = follow-no (line (numberLine (bytes "type=") i i) at rs) after-number k a e ∙ type-of
+abbrev pub afterMethods : ℕ → Bool → List Method → Reader Ty
+afterMethods c o ms = pure (sheetType ref c o ms)
 
-  module _ (x : ℕ) (at₁ : ℕ) (rs₁ : List Row) (e₁ : got x at₁ rs₁ ≡ line (numberLine (bytes "type=") i i) at rs) where
-    to-rep : follow (line repLine at₁ rs₁) after-rep ≡ oneType m c n i at rs
-    unfolding after-number
-    to-rep = follow-ok (line (numberLine (bytes "type=") i i) at rs) after-number x at₁ rs₁ e₁ ∙ type-of
+abbrev pub afterOwn : ℕ → ℕ → ℕ → Bool → Reader Ty
+afterOwn m n c o = bind (times (eachMethod n) m 0 []) (afterMethods c o)
 
-    pub type-rep-no : (k a : ℕ) → refused k a ≡ line repLine at₁ rs₁ → refused k a ≡ oneType m c n i at rs
-    type-rep-no k a e = follow-no (line repLine at₁ rs₁) after-rep k a e ∙ to-rep
-
-    module _ (r : Rep) (at₂ : ℕ) (rs₂ : List Row) (e₂ : got r at₂ rs₂ ≡ line repLine at₁ rs₁) where
-      to-cat : follow (line (numberLine (bytes "cat=") 0 c) at₂ rs₂) (λ k. members m n r k) ≡ oneType m c n i at rs
-      unfolding after-rep
-      to-cat = follow-ok (line repLine at₁ rs₁) after-rep r at₂ rs₂ e₂ ∙ to-rep
-
-      pub type-cat-no : (k a : ℕ) → refused k a ≡ line (numberLine (bytes "cat=") 0 c) at₂ rs₂ → refused k a ≡ oneType m c n i at rs
-      type-cat-no k a e = follow-no (line (numberLine (bytes "cat=") 0 c) at₂ rs₂) (λ k. members m n r k) k a e ∙ to-cat
-
-      pub type-members : (k at₃ : ℕ) (rs₃ : List Row) → got k at₃ rs₃ ≡ line (numberLine (bytes "cat=") 0 c) at₂ rs₂ → members m n r k at₃ rs₃ ≡ oneType m c n i at rs
-      type-members k at₃ rs₃ e = follow-ok (line (numberLine (bytes "cat=") 0 c) at₂ rs₂) (λ k. members m n r k) k at₃ rs₃ e ∙ to-cat
-
--- the lines of a reference type
-module _ (m n c at : ℕ) (rs : List Row) where
-  typed : Bool → List Method → Reader Ty
-  typed o ms = pure (sheetType ref c o ms)
-
-  after-own : Bool → Reader Ty
-  unfolding times methodLine typed
-  after-own o = bind (times (eachMethod n) m 0 []) (typed o)
-
-  members-of : follow (line ownLine at rs) after-own ≡ membersRead m n c at rs
-  unfolding membersRead after-own typed
-  members-of = refl
-
-  pub member-own-no : (k a : ℕ) → refused k a ≡ line ownLine at rs → refused k a ≡ membersRead m n c at rs
-  member-own-no k a e = follow-no (line ownLine at rs) after-own k a e ∙ members-of
-
-  module _ (o : Bool) (at₁ : ℕ) (rs₁ : List Row) (e₁ : got o at₁ rs₁ ≡ line ownLine at rs) where
-    to-list : follow (times (eachMethod n) m 0 [] at₁ rs₁) (typed o) ≡ membersRead m n c at rs
-    unfolding after-own
-    to-list = follow-ok (line ownLine at rs) after-own o at₁ rs₁ e₁ ∙ members-of
-
-    pub member-methods-no : (k a : ℕ) → refused k a ≡ times (eachMethod n) m 0 [] at₁ rs₁ → refused k a ≡ membersRead m n c at rs
-    member-methods-no k a e = follow-no (times (eachMethod n) m 0 [] at₁ rs₁) (typed o) k a e ∙ to-list
-
-    pub member-ok : (ms : List Method) (at₂ : ℕ) (rs₂ : List Row) → got ms at₂ rs₂ ≡ times (eachMethod n) m 0 [] at₁ rs₁ → got (sheetType ref c o ms) at₂ rs₂ ≡ membersRead m n c at rs
-    unfolding typed
-    member-ok ms at₂ rs₂ e = follow-ok (times (eachMethod n) m 0 [] at₁ rs₁) (typed o) ms at₂ rs₂ e ∙ to-list
+pub members-of : (m n c at : ℕ) (rs : List Row) → follow (line ownLine at rs) (afterOwn m n c) ≡ membersRead m n c at rs
+unfolding membersRead
+members-of m n c at rs = refl
 
 pub members-ref : (m n r c at : ℕ) (rs : List Row) → r ≡ 0 → membersRead m n c at rs ≡ members m n (repOf r) c at rs
 unfolding membersRead members
@@ -179,53 +136,18 @@ members-number m n (suc zero) c at rs h = refl
 members-number m n (suc (suc r)) c at rs h = refl
 
 -- The first four lines, and the whole sheet behind them.
-counted : ℕ → ℕ → ℕ → Reader Front
-counted s m c = pure (record { subjects = s; methods = m; cats = c })
+abbrev pub afterCatsLine : ℕ → ℕ → ℕ → Reader Front
+afterCatsLine s m c = pure (record { subjects = s; methods = m; cats = c })
 
-cats-next : ℕ → ℕ → Reader Front
-unfolding numberLine counted
-cats-next s m = bind (line (numberLine (bytes "cats=") 0 maxCategories)) (counted s m)
+abbrev pub afterMethodsLine : ℕ → ℕ → Reader Front
+afterMethodsLine s m = bind (line (numberLine (bytes "cats=") 0 maxCategories)) (afterCatsLine s m)
 
-methods-next : ℕ → Reader Front
-unfolding numberLine cats-next
-methods-next s = bind (line (numberLine (bytes "methods=") 1 maxMethods)) (cats-next s)
+abbrev pub afterSubjectsLine : ℕ → Reader Front
+afterSubjectsLine s = bind (line (numberLine (bytes "methods=") 1 maxMethods)) (afterMethodsLine s)
 
-module _ (at : ℕ) (rs : List Row) where
-  first-of : follow (line (numberLine (bytes "guide=") 1 newestForm) at rs) first₁ ≡ first at rs
-  unfolding first
-  first-of = refl
-
-  pub guide-no : (k a : ℕ) → refused k a ≡ line (numberLine (bytes "guide=") 1 newestForm) at rs → refused k a ≡ first at rs
-  guide-no k a e = follow-no (line (numberLine (bytes "guide=") 1 newestForm) at rs) first₁ k a e ∙ first-of
-
-  module _ (g at₁ : ℕ) (rs₁ : List Row) (e₁ : got g at₁ rs₁ ≡ line (numberLine (bytes "guide=") 1 newestForm) at rs) where
-    to-subjects : follow (line (numberLine (bytes "subjects=") 1 maxSubjects) at₁ rs₁) methods-next ≡ first at rs
-    unfolding methods-next cats-next counted
-    to-subjects = follow-ok (line (numberLine (bytes "guide=") 1 newestForm) at rs) first₁ g at₁ rs₁ e₁ ∙ first-of
-
-    pub subjects-no : (k a : ℕ) → refused k a ≡ line (numberLine (bytes "subjects=") 1 maxSubjects) at₁ rs₁ → refused k a ≡ first at rs
-    subjects-no k a e = follow-no (line (numberLine (bytes "subjects=") 1 maxSubjects) at₁ rs₁) methods-next k a e ∙ to-subjects
-
-    module _ (s at₂ : ℕ) (rs₂ : List Row) (e₂ : got s at₂ rs₂ ≡ line (numberLine (bytes "subjects=") 1 maxSubjects) at₁ rs₁) where
-      to-methods : follow (line (numberLine (bytes "methods=") 1 maxMethods) at₂ rs₂) (cats-next s) ≡ first at rs
-      unfolding methods-next
-      to-methods = follow-ok (line (numberLine (bytes "subjects=") 1 maxSubjects) at₁ rs₁) methods-next s at₂ rs₂ e₂ ∙ to-subjects
-
-      pub methods-no : (k a : ℕ) → refused k a ≡ line (numberLine (bytes "methods=") 1 maxMethods) at₂ rs₂ → refused k a ≡ first at rs
-      methods-no k a e = follow-no (line (numberLine (bytes "methods=") 1 maxMethods) at₂ rs₂) (cats-next s) k a e ∙ to-methods
-
-      module _ (m at₃ : ℕ) (rs₃ : List Row) (e₃ : got m at₃ rs₃ ≡ line (numberLine (bytes "methods=") 1 maxMethods) at₂ rs₂) where
-        to-cats : follow (line (numberLine (bytes "cats=") 0 maxCategories) at₃ rs₃) (counted s m) ≡ first at rs
-        unfolding cats-next
-        to-cats = follow-ok (line (numberLine (bytes "methods=") 1 maxMethods) at₂ rs₂) (cats-next s) m at₃ rs₃ e₃ ∙ to-methods
-
-        pub cats-no : (k a : ℕ) → refused k a ≡ line (numberLine (bytes "cats=") 0 maxCategories) at₃ rs₃ → refused k a ≡ first at rs
-        cats-no k a e = follow-no (line (numberLine (bytes "cats=") 0 maxCategories) at₃ rs₃) (counted s m) k a e ∙ to-cats
-
-        pub first-ok : (c at₄ : ℕ) (rs₄ : List Row) → got c at₄ rs₄ ≡ line (numberLine (bytes "cats=") 0 maxCategories) at₃ rs₃
-            → got (record { subjects = s; methods = m; cats = c }) at₄ rs₄ ≡ first at rs
-        unfolding counted
-        first-ok c at₄ rs₄ e = follow-ok (line (numberLine (bytes "cats=") 0 maxCategories) at₃ rs₃) (counted s m) c at₄ rs₄ e ∙ to-cats
+pub first-of : (at : ℕ) (rs : List Row) → follow (line (numberLine (bytes "guide=") 1 newestForm) at rs) first₁ ≡ first at rs
+unfolding first
+first-of at rs = refl
 
 pub first-body : (at : ℕ) (rs : List Row) → body at rs ≡ follow (first at rs) afterFirst
 unfolding body first afterFirst afterCats afterCount
@@ -309,16 +231,15 @@ module _ (t : Table) (s : List ℕ) (last : ℕ) where
   ending-of = refl
 
   pub ending-no : (k a : ℕ) → refused k a ≡ line endLine last (split (drop last s)) → refused k a ≡ ending t last (split (drop last s))
-  ending-no k a e = follow-no (line endLine last (split (drop last s))) after-end k a e ∙ ending-of
+  ending-no k a e = step-no after-end ending-of e
 
   module _ (a : ℕ) (e : got tt a (split (drop a s)) ≡ line endLine last (split (drop last s))) where
     to-endOfInput : follow (endOfInput a (split (drop a s))) after-endOfInput ≡ ending t last (split (drop last s))
     unfolding after-end
-    to-endOfInput = follow-ok (line endLine last (split (drop last s))) after-end tt a (split (drop a s)) e ∙ ending-of
+    to-endOfInput = step-ok after-end ending-of e
 
     pub ending-more : a < length s → refused 1 a ≡ ending t last (split (drop last s))
-    ending-more h = follow-no (endOfInput a (split (drop a s))) after-endOfInput 1 a (sym (ap (λ z. endOfInput a (split z)) (from-here s a h) ∙ more-left a (getD s a 0) (drop (a + 1) s)))
-        ∙ to-endOfInput
+    ending-more h = step-no after-endOfInput to-endOfInput (sym (ap (λ z. endOfInput a (split z)) (from-here s a h) ∙ more-left a (getD s a 0) (drop (a + 1) s)))
 
     module _ (h : length s ≤ a) where
       alone : cond (signaturesStand t) (got t a (split (drop a s))) (refused 3 last) ≡ ending t last (split (drop last s))

@@ -1,9 +1,9 @@
 -- Laws of what is stored: the categories' links, a type's methods, and the table that the bytes mean.
 use mathlib.Core.Path.{_≡_, refl, sym, ap, _∙_, subst}
 use mathlib.Core.Bool.{Bool, true, false, _&&_, cond}
-use mathlib.Core.List.{List, [], _∷_, _++_, map, flatten, append-assoc, append-nil}
+use mathlib.Core.List.{List, [], _∷_, _++_, map, flatten, append-assoc, append-nil, map-append}
 use mathlib.Core.Option.{none, some}
-use Prim.Native.Nat.{ℕ, zero, suc, _+_, _*_, _≤_, _<_}
+use Prim.Native.Nat.{ℕ, suc, _+_, _*_, _≤_, _<_}
 use mathlib.Core.Logic.{⊎-elim}
 use native.Mathlib.Omega.{arith}
 use native.Mathlib.Numerals.{add-one}
@@ -45,13 +45,8 @@ links-add ls j x h =
     ∙ ap (λ (zs : List (List ℕ)). zs ++ (f (1 + j) ∷ [])) (from-same f g j 1 (λ k p q. ap linksOf (getD-set-other ls (j + 1) k x noRawLinks (λ r. let d : k ≡ j + 1 = r in omega arith))))
     ∙ ap (λ (n : ℕ). from j 1 g ++ (f n ∷ [])) e ∙ ap (λ (v : RawLinks). from j 1 g ++ (linksOf v ∷ [])) (getD-set-same ls (j + 1) x noRawLinks h)
 
--- A type's methods, one more and all.
-map-snoc : {A B : Type 0} (f : A → B) (xs : List A) (y : A) → map f (xs ++ y ∷ []) ≡ map f xs ++ f y ∷ []
-map-snoc f [] y = refl
-map-snoc f (x ∷ xs) y = ap (λ z. f x ∷ z) (map-snoc f xs y)
-
 pub methods-add : (l : List Method) (j : ℕ) (x : Method) → j < length l → map methodIs (take (j + 1) (set l j x)) ≡ map methodIs (take j l) ++ methodIs x ∷ []
-methods-add l j x h = ap (λ (n : ℕ). map methodIs (take n (set l j x))) (add-one j) ∙ ap (map methodIs) (take-suc-set l j x h) ∙ map-snoc methodIs (take j l) x
+methods-add l j x h = ap (λ (n : ℕ). map methodIs (take n (set l j x))) (add-one j) ∙ ap (map methodIs) (take-suc-set l j x h) ∙ map-append methodIs (take j l) (x ∷ [])
 
 pub methods-all : (l : List Method) (m : ℕ) → m ≤ length l → from m 0 (λ j. methodOf (getD (map rawMethod l) j noRawMethod)) ≡ map methodIs (take m l)
 methods-all l m h =
@@ -114,7 +109,8 @@ links-room cs h = let l : length (flatten (map linkBytesOf ([] ∷ cs))) ≡ suc
     (flatten (map linkBytesOf ([] ∷ cs))) (omega arith)
 
 -- a type more is stored behind i others
-pub types-stored : (ts : List Ty) (t : Ty) (i : ℕ) (x : RawType) (b b′ : List ℕ) → length ts ≡ i → i < 128 → b ≡ typeBytes ts → typeRecord t ≡ x → b′ ≡ sets b (i * 128) (recordBytes x)
+pub types-stored : (ts : List Ty) (t : Ty) (i : ℕ) (x : RawType) (b b′ : List ℕ) → length ts ≡ i → i < 128 → b ≡ typeBytes ts → typeRecord t ≡ x
+    → b′ ≡ sets b (i * 128) (recordBytes x)
     → b′ ≡ typeBytes (ts ++ t ∷ [])
 unfolding typeBytes
 types-stored ts t i x b b′ n h e r w =

@@ -13,7 +13,6 @@ use Rattle.table.specs.Records.{MethodExact, typeBytes, linkBytes, countsOf}
 use Rattle.sheet.specs.Lines.{bytes, split, Reading, refused, got, Reader, pure, line, bind, times}
 use Rattle.sheet.specs.Text.{newestForm}
 use Rattle.sheet.specs.Sheet.{numberLine, underLine, ownLine, methodLine, sheetType, oneType, SheetAnswer, malformed, loaded}
-use Rattle.cursor.specs.declared.Cursor.{Cursor}
 use Rattle.sheetread.specs.declared.Done.{Done}
 use Rattle.sheetread.specs.declared.Done.the-variants.{Refused, At}
 use Rattle.sheetread.specs.declared.Front.{Front}

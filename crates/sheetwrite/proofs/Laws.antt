@@ -39,7 +39,8 @@ module _ (i m s : ℕ) (x : RawType) where
 
 -- the same, as the code has it
 pub ref-type : (b : List ℕ) (c : Counts) (i : ℕ) (h : Head) → h ≡ headOf (getD (typesIn b) i noRawType) → h .rep ≡ 0
-    → (numberText (bytes "type=") i ∷ repText (repOf (h .rep)) ∷ numberText (bytes "cat=") (h .cat) ∷ []) ++ (ownText (eqb (h .own) 1) ∷ methodLines b i (c .methods)) ≡ typeLines i (typeIn b c i)
+    → (numberText (bytes "type=") i ∷ repText (repOf (h .rep)) ∷ numberText (bytes "cat=") (h .cat) ∷ []) ++ (ownText (eqb (h .own) 1) ∷ methodLines b i (c .methods)) ≡ typeLines i
+    (typeIn b c i)
 unfolding methodLines
 ref-type b c i h e z =
     let x : RawType = getD (typesIn b) i noRawType in

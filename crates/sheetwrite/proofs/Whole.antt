@@ -1,15 +1,15 @@
 -- The parts together are the text of the table's sheet; and the writer's answers.
-use mathlib.Core.Path.{_≡_, refl, sym, ap, _∙_}
+use mathlib.Core.Path.{_≡_, sym, ap, _∙_}
 use mathlib.Core.Bool.{true, false}
 use mathlib.Core.List.{List, [], _∷_, _++_, append-assoc}
-use Prim.Native.Nat.{ℕ, zero, suc, _≤_, _<_}
-use native.Mathlib.Nat.{le-of-suc-le-suc}
+use Prim.Native.Nat.{ℕ, _≤_, _<_}
 use native.Mathlib.Omega.{arith}
-use lib.ListN.{length, take}
+use lib.ListN.{length}
 use borrow.Author.Tests.{le-leb, lt-leb}
 use Rattle.model.specs.Basics.{from}
 use Rattle.model.specs.Table.{Ty}
 use Rattle.model.specs.Check.{RawTable, tableOf, tableAccepted}
+use Rattle.model.proofs.Lists.{take-from}
 use Rattle.table.specs.declared.Counts.{Counts}
 use Rattle.table.specs.Limits.{Limits}
 use Rattle.table.specs.Store.{rawTable, broaderOf}
@@ -21,12 +21,6 @@ use Rattle.textwrite.proofs.Laws.{counted, fill-is}
 use Rattle.sheetwrite.specs.declared.Wrote.the-variants.{UnfitTable, ShortBuffer, Length}
 use Rattle.sheetwrite.specs.Parts.{typeIn, typeLinesTo, underLines, countLines, frontLines, backLines}
 use Rattle.sheetwrite.specs.Answer.{writtenOf}
-
-take-from : {A : Type 0} (f : ℕ → A) (n c i : ℕ) → n ≤ c → take n (from c i f) ≡ from n i f
-unfolding from
-take-from f zero c i h = refl
-take-from f (suc n) zero i h = absurd (omega arith)
-take-from f (suc n) (suc c) i h = ap (λ z. f i ∷ z) (take-from f n c (suc i) (le-of-suc-le-suc h))
 
 regroup : (front u x e : List (List ℕ)) (t : List ℕ) → (front ++ (u ++ (t ∷ []))) ++ (x ++ e) ≡ (front ++ (u ++ (t ∷ x))) ++ e
 regroup front u x e t = simp append-assoc

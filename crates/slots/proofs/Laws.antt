@@ -1,6 +1,6 @@
 -- Codes of kinds and states, the slots of two methods, and a method from its slots.
 use mathlib.Core.Path.{_≡_, refl, sym, ap, _∙_, subst}
-use mathlib.Core.Bool.{Bool, true, false, So, _&&_, cond}
+use mathlib.Core.Bool.{Bool, true, false, So, _&&_}
 use mathlib.Core.List.{List, [], _∷_, map}
 use Prim.Native.Nat.{ℕ, zero, suc, _+_, _*_, _-_, _≤_, _<_, min}
 use native.Mathlib.Omega.{arith}
@@ -10,12 +10,12 @@ use lib.ListN.{length, getD, set, take, replicate, length-set, length-map, List�
 use lib.Seq.{take-nil, getD-set-other}
 use borrow.Author.Tests.{eq-eqb, ne-eqb, le-leb, lt-ltb, le-ltb}
 use Rattle.model.specs.Basics.{_⇒_}
-use Rattle.model.specs.Table.{State, denied, optional, avail, unavail, Kind, sub, sup, closed, permit, isAvail}
+use Rattle.model.specs.Table.{State, denied, optional, avail, unavail, Kind, sub, sup, closed, permit}
 use Rattle.model.specs.Table as model
 use Rattle.model.specs.Restriction.{restricted, sameKind, isKey}
 use Rattle.model.specs.Check.{RawMethod, RawType, noRawMethod, stateOf, kindOf, answerOf, methodOf}
-use Rattle.model.proofs.Rules.{never, both, first, second, imply, applied}
-use Rattle.model.proofs.Tests.{ltb-so, so-ltb, leb-so, so-leb}
+use Rattle.model.proofs.Rules.{never, both, second, imply, applied}
+use Rattle.model.proofs.Tests.{so-ltb, leb-so, so-leb}
 use Rattle.model.proofs.States.{each₂}
 use Rattle.table.specs.declared.Head.{Head}
 use Rattle.table.specs.declared.Method.{Method}
@@ -24,11 +24,12 @@ use Rattle.table.specs.Store.{rawMethod, rawOf, emptyMethod}
 use Rattle.table.proofs.Lists.{set-next}
 use Rattle.table.specs.Records.{MethodExact, TypeExact}
 use Rattle.table.proofs.Laws.{absent, four}
-use Rattle.table.proofs.Codes.{closed-kind}
+use Rattle.table.proofs.Codes.{closed-kind, not-avail}
 use Rattle.tablelaws.proofs.Exact.{blank, unsigned-exact, signed-exact, derived-key, ref-exact}
 use Rattle.slots.specs.declared.Work.{Work}
 use Rattle.slots.specs.declared.Slot.the-variants.{Empty, Argument, Answer}
-use Rattle.slots.specs.Slots.{argumentSlot, answerSlot, slotOf, shared, fill, fillAt, leftIn, rightIn, methodIn, rawIn, MethodCoded, bareMethod, slotByte, signedMethod, keyIn, kindIn, catIn, mainOf, newRecord, keptState, Finished}
+use Rattle.slots.specs.Slots.{argumentSlot, answerSlot, slotOf, shared, fill, fillAt, leftIn, rightIn, methodIn, rawIn, MethodCoded, bareMethod, slotByte, signedMethod, keyIn}
+use Rattle.slots.specs.Slots.{kindIn, catIn, mainOf, newRecord, keptState, Finished}
 
 -- Kinds.
 pub closed-same : (kind k : ℕ) → kind ≡ 2 → leb 2 k ≡ sameKind (kindOf kind) (kindOf k)
@@ -49,13 +50,6 @@ open-same (suc zero) (suc (suc k)) h n = ne-eqb (suc (suc k)) 1 (λ e. let w : s
 open-same (suc (suc zero)) k h n = absurd (n refl)
 open-same (suc (suc (suc kind))) k h n = absurd (omega arith)
 
--- States.
-pub state-high : (x : ℕ) → 3 ≤ x → unavail ≡ stateOf x
-state-high zero h = absurd (omega arith)
-state-high (suc zero) h = absurd (omega arith)
-state-high (suc (suc zero)) h = absurd (omega arith)
-state-high (suc (suc (suc x))) h = refl
-
 module _ (own other lost : State) where
   pub kept-not : permit own ≡ false → own ≡ keptState own other lost
   kept-not e = rw e
@@ -65,12 +59,6 @@ module _ (own other lost : State) where
 
   pub kept-lost : permit own ≡ true → permit other ≡ false → lost ≡ keptState own other lost
   kept-lost e f = rw (e, f)
-
-not-avail : (y : ℕ) → (y ≡ 2 → ⊥) → isAvail (stateOf y) ≡ false
-not-avail zero h = refl
-not-avail (suc zero) h = refl
-not-avail (suc (suc zero)) h = absurd (h refl)
-not-avail (suc (suc (suc y))) h = refl
 
 -- Closed: what the left side permits is avail, the rest unavail, where the right side has it avail
 shut-on : (a : State) → permit a ≡ true → avail ≡ restricted closed a avail
@@ -90,7 +78,8 @@ module _ (kind x y : ℕ) (a : kind ≡ 0 → ⊥) (b : kind ≡ 1 → ⊥) wher
   closed-off h = rw (closed-kind kind a b, not-avail y h)
 
   pub closed-on : y ≡ 2 → permit (stateOf x) ≡ true → avail ≡ restricted (kindOf kind) (stateOf x) (stateOf y)
-  closed-on h e = shut-on (stateOf x) e ∙ ap (λ (k : Kind). restricted k (stateOf x) avail) (sym (closed-kind kind a b)) ∙ ap (λ (z : ℕ). restricted (kindOf kind) (stateOf x) (stateOf z)) (sym h)
+  closed-on h e = shut-on (stateOf x) e ∙ ap (λ (k : Kind). restricted k (stateOf x) avail) (sym (closed-kind kind a b))
+      ∙ ap (λ (z : ℕ). restricted (kindOf kind) (stateOf x) (stateOf z)) (sym h)
 
   pub closed-none : y ≡ 2 → permit (stateOf x) ≡ false → unavail ≡ restricted (kindOf kind) (stateOf x) (stateOf y)
   closed-none h e = shut-none (stateOf x) e ∙ ap (λ (k : Kind). restricted k (stateOf x) avail) (sym (closed-kind kind a b)) ∙ ap
@@ -236,7 +225,8 @@ module _ (d : Kind) (p q : RawMethod) where
             let v = min-le-left (p .count) (q .count) in omega arith
 
 -- A method's bytes, and a type's head, put together from their parts.
-pub signed-bytes : (st count : ℕ) (args : List ℕ) (a : ℕ) {n x₀ x₁ x₂ x₃ : ℕ} → n ≡ count → x₀ ≡ slotByte count args 0 → x₁ ≡ slotByte count args 1 → x₂ ≡ slotByte count args 2
+pub signed-bytes : (st count : ℕ) (args : List ℕ) (a : ℕ) {n x₀ x₁ x₂ x₃ : ℕ} → n ≡ count → x₀ ≡ slotByte count args 0 → x₁ ≡ slotByte count args 1
+    → x₂ ≡ slotByte count args 2
     → x₃ ≡ slotByte count args 3
     → _≡_ {A = RawMethod} (record { state = st; count = n; args = x₀ ∷ x₁ ∷ x₂ ∷ x₃ ∷ []; answer = a }) (signedMethod st count args a)
 signed-bytes st count args a e e₀ e₁ e₂ e₃ = rw (e, e₀, e₁, e₂, e₃)
@@ -288,7 +278,8 @@ filled-here : (d : Kind) (x y : TypeRec) (ns : List ℕ) (j : ℕ) (p q m : Meth
 filled-here d x y ns j p q m ep eq em =
     em ∙ ap (λ (z : model.Method). fill d z (methodOf (rawMethod q)) (getD ns (j * 5) 0 ∷ getD ns (j * 5 + 1) 0 ∷ getD ns (j * 5 + 2) 0 ∷ getD ns (j * 5 + 3) 0 ∷ [])
     (getD ns (j * 5 + 4) 0)) (ap methodOf ep)
-    ∙ ap (λ (z : model.Method). fill d (methodIn x j) z (getD ns (j * 5) 0 ∷ getD ns (j * 5 + 1) 0 ∷ getD ns (j * 5 + 2) 0 ∷ getD ns (j * 5 + 3) 0 ∷ []) (getD ns (j * 5 + 4) 0)) (ap methodOf eq)
+    ∙ ap (λ (z : model.Method). fill d (methodIn x j) z (getD ns (j * 5) 0 ∷ getD ns (j * 5 + 1) 0 ∷ getD ns (j * 5 + 2) 0 ∷ getD ns (j * 5 + 3) 0 ∷ []) (getD ns (j * 5 + 4) 0))
+    (ap methodOf eq)
 
 -- The loop over the methods: those before j are made from their slots, the others are blank.
 module _ (w : Work) (ns : List ℕ) where
@@ -311,7 +302,8 @@ module _ (w : Work) (ns : List ℕ) where
       blank-at (suc n) zero h = refl
       blank-at (suc n) (suc i) h = blank-at n i (le-of-suc-le-suc h)
 
-  pub filling-next : {ms : ℕ} {all : List Method} {j : ℕ} → Filling ms all j → j < ms → ms ≤ 16 → (p q m : Method) → rawMethod p ≡ rawIn (leftIn w) j → rawMethod q ≡ rawIn (rightIn w) j
+  pub filling-next : {ms : ℕ} {all : List Method} {j : ℕ} → Filling ms all j → j < ms → ms ≤ 16 → (p q m : Method) → rawMethod p ≡ rawIn (leftIn w) j
+      → rawMethod q ≡ rawIn (rightIn w) j
       → (methodOf (rawMethod m) ≡ fill (kindIn w) (methodOf (rawMethod p)) (methodOf (rawMethod q))
       (getD ns (j * 5) 0 ∷ getD ns (j * 5 + 1) 0 ∷ getD ns (j * 5 + 2) 0 ∷ getD ns (j * 5 + 3) 0 ∷ []) (getD ns (j * 5 + 4) 0))
       × (MethodExact (rawMethod m) × (MethodCoded (rawMethod p) → MethodCoded (rawMethod m))) → Filling ms (set all j m) (j + 1)
@@ -324,7 +316,8 @@ module _ (w : Work) (ns : List ℕ) where
   }
 
   -- the type that they make
-  pub filling-ends : {ms : ℕ} {all : List Method} {j : ℕ} → Filling ms all j → ms ≤ j → w .key .kind < 3 → (z : TypeRec) → rawOf z ≡ newRecord w (rawOf z .methods) → z .methods ≡ all
+  pub filling-ends : {ms : ℕ} {all : List Method} {j : ℕ} → Filling ms all j → ms ≤ j → w .key .kind < 3 → (z : TypeRec) → rawOf z ≡ newRecord w (rawOf z .methods)
+      → z .methods ≡ all
       → Finished w ms ns z
   filling-ends {ms} {all} {j} so done k z e em = record {
     head = e;

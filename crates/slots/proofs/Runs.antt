@@ -11,7 +11,7 @@ use lib.ListN.{length, getD, set, take, length-set}
 use lib.Seq.{getD-set-same, getD-set-other}
 use borrow.Author.Tests.{lt-ltb}
 use Rattle.model.specs.Basics.{then, from}
-use Rattle.model.specs.Table.{State, Kind, Method, Table, permit}
+use Rattle.model.specs.Table.{State, Kind, Method, Table, permit, signed}
 use Rattle.model.specs.Restriction.{restricted, argKind, answerKind, Derivation, deriveArgs, deriveAnswer, deriveMethod, deriveMethods}
 use Rattle.model.specs.Check.{answerOf}
 use Rattle.slots.specs.declared.Slot.{Slot}
@@ -69,10 +69,6 @@ four-bytes k ns = let a : suc k ≡ k + 1 = omega arith in let b : suc (k + 1) �
 
 four-same : (k : ℕ) (ns ms : List ℕ) → ((i : ℕ) → i < k + 4 → getD ms i 0 ≡ getD ns i 0) → four k ns ≡ four k ms
 four-same k ns ms e = rw (e k (omega arith), e (k + 1) (omega arith), e (k + 2) (omega arith), e (k + 3) (omega arith))
-
--- a method that stays permitted, from what its arguments and its answer came to
-abbrev signed : State → List ℕ → Option ℕ → Method
-signed s zs z = record { state = s; args = zs; answer = z }
 
 module _ (rec : Derivation) (d : Kind) where
   -- what follows a slot, or a run of them, may count on the other bytes
@@ -188,7 +184,8 @@ module _ (rec : Derivation) (d : Kind) where
     abbrev Signs : Method → Method → State → Table → List ℕ → Option (Table × Method)
     Signs x y s t zs = then (deriveAnswer rec d t (x .answer) (y .answer)) λ z. some (z .0, signed s zs (z .1))
 
-    permitted-run : {B : Type 0} (x y : Method) (s : State) (k : ℕ) (q : Row) (go : Table → Method → Option B) → shared (x .args) (y .args) ≤ 4 → k + 5 ≤ length (q .1) → getD (q .1) (k + 4) 0 ≡ 0
+    permitted-run : {B : Type 0} (x y : Method) (s : State) (k : ℕ) (q : Row) (go : Table → Method → Option B) → shared (x .args) (y .args) ≤ 4 → k + 5 ≤ length (q .1)
+        → getD (q .1) (k + 4) 0 ≡ 0
         → ((i : ℕ) → i < 4 → f (k + i) ≡ argumentSlot i (x .args) (y .args)) → f (k + 4) ≡ answerSlot (x .answer) (y .answer)
         → _≡_ {A = Option B} (then (then (deriveArgs rec d (q .0) (x .args) (y .args)) λ p. Signs x y s (p .0) (p .1)) (λ p. go (p .0) (p .1)))
         (then (Run 5 k q) λ p. go (p .0) (signed s (take (shared (x .args) (y .args)) (four k (p .1))) (answerOf (getD (p .1) (k + 4) 0))))
@@ -210,7 +207,8 @@ module _ (rec : Derivation) (d : Kind) where
         end : Row → Option B
         end p = go (p .0) (signed s (take (shared (x .args) (y .args)) (four k (p .1))) (answerOf (getD (p .1) (k + 4) 0)))
 
-    method-run : {B : Type 0} (x y : Method) (k : ℕ) (q : Row) (go : Table → Method → Option B) → shared (x .args) (y .args) ≤ 4 → k + 5 ≤ length (q .1) → getD (q .1) (k + 4) 0 ≡ 0 →
+    method-run : {B : Type 0} (x y : Method) (k : ℕ) (q : Row) (go : Table → Method → Option B) → shared (x .args) (y .args) ≤ 4 → k + 5 ≤ length (q .1)
+        → getD (q .1) (k + 4) 0 ≡ 0 →
         ((i : ℕ) → i < 5 → f (k + i) ≡ slotOf d x y i)
         → then (deriveMethod rec d (q .0) x y) (λ p. go (p .0) (p .1)) ≡ then (Run 5 k q) λ p. go (p .0) (fill d x y (four k (p .1)) (getD (p .1) (k + 4) 0))
     unfolding deriveMethod

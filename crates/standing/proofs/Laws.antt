@@ -1,7 +1,7 @@
 -- Laws of what may stand in a signature: tests over lists, one thing after the other, and what the bytes of a method and of a type say.
 use mathlib.Core.Path.{_≡_, refl, sym, ap, _∙_}
 use mathlib.Core.Bool.{Bool, true, false, _&&_, cond}
-use mathlib.Core.List.{List, [], _∷_}
+use mathlib.Core.List.{List, []}
 use mathlib.Core.Option.{Option, none, some}
 use Prim.Native.Nat.{ℕ, suc, _+_, _-_, _≤_, _<_}
 use native.Mathlib.Omega.{arith}
@@ -14,6 +14,7 @@ use Rattle.model.specs.Basics.{all, unlessMissing, from}
 use Rattle.model.specs.Table.{Ty, Table, Method as Methodᵐ, noType, typeAt, isRef, permit, mayStand}
 use Rattle.model.specs.Check.{RawType, RawMethod, noRawType, noRawMethod, stateOf, repOf, answerOf, methodOf, typeOf}
 use Rattle.model.proofs.Largest.{getD-from-out}
+use Rattle.model.proofs.Lists.{all-same}
 use Rattle.table.specs.Store.{typesTo, mayStandAs}
 use Rattle.table.proofs.Tables.{types-to-at}
 use Rattle.sheet.specs.Sheet.{stands, signaturesStand}
@@ -32,10 +33,6 @@ module _ {A : Type 0} (f : A → Bool) (l : List A) (i : ℕ) (d : A) (inv : all
 
   pub all-done : length l ≤ i → true ≡ all f l
   all-done h = sym (inv ∙ ap (all f) (drop-of-length-le l {i = i} h))
-
-all-same : {A : Type 0} (f g : A → Bool) (l : List A) → ((x : A) → f x ≡ g x) → all f l ≡ all g l
-all-same f g [] h = refl
-all-same f g (x ∷ xs) h = ap (λ z. z && all f xs) (h x) ∙ ap (λ z. g x && z) (all-same f g xs h)
 
 -- A type among the first n.
 pub stands-out : (rs : List RawType) (n a : ℕ) → n ≤ a → true ≡ standsAt rs n a
@@ -118,7 +115,7 @@ module _ (t : Table) (m n : ℕ) (rs : List RawType) (e : t .types ≡ typesTo m
 
   method-same : (x : Methodᵐ) → stands (λ a. mayStand (typeAt t a)) x ≡ stands (standsAt rs n) x
   method-same x =
-      ap (λ z. z && unlessMissing (x .answer) (λ a. mayStand (typeAt t a))) (all-same (λ a. mayStand (typeAt t a)) (standsAt rs n) (x .args) may-is)
+      ap (λ z. z && unlessMissing (x .answer) (λ a. mayStand (typeAt t a))) (all-same (λ a. mayStand (typeAt t a)) (standsAt rs n) may-is (x .args))
       ∙ ap (λ z. all (standsAt rs n) (x .args) && z) (answer-same (x .answer))
     where
       answer-same : (o : Option ℕ) → unlessMissing o (λ a. mayStand (typeAt t a)) ≡ unlessMissing o (standsAt rs n)
@@ -128,6 +125,6 @@ module _ (t : Table) (m n : ℕ) (rs : List RawType) (e : t .types ≡ typesTo m
   pub table-stands : signaturesStand t ≡ all (typeStands rs n) (typesTo m n n rs)
   unfolding signaturesStand
   table-stands =
-      all-same (λ (x : Ty). all (stands (λ a. mayStand (typeAt t a))) (x .methods)) (typeStands rs n) (t .types)
-      (λ (x : Ty). all-same (stands (λ a. mayStand (typeAt t a))) (stands (standsAt rs n)) (x .methods) method-same)
+      all-same (λ (x : Ty). all (stands (λ a. mayStand (typeAt t a))) (x .methods)) (typeStands rs n)
+      (λ (x : Ty). all-same (stands (λ a. mayStand (typeAt t a))) (stands (standsAt rs n)) method-same (x .methods)) (t .types)
       ∙ ap (all (typeStands rs n)) e

@@ -1,12 +1,11 @@
 -- Going behind adapters: it ends at the base, and one step of it is one step of the model's (Q2, C9).
-use mathlib.Core.Path.{_≡_, refl, ap, sym, subst, _∙_}
+use mathlib.Core.Path.{_≡_, refl, ap, sym}
 use mathlib.Core.Bool.{true, false}
 use mathlib.Core.List.{List, [], _∷_}
 use Prim.Native.Nat.{ℕ, zero, suc, _<_}
 use native.Mathlib.Nat.{not-suc-le-zero}
 use native.Mathlib.Omega.{arith}
 use lib.ListN.{length}
-use Rattle.model.specs.Basics.{AllBelow}
 use Rattle.model.specs.Crossing.{Place as Placeᵐ, object, adapter, placeAt, placeType, base, baseOf}
 use Rattle.model.specs.Requests.{layers, layersOf}
 use Rattle.model.proofs.Rules.{never}
@@ -20,7 +19,8 @@ module _ (ps : List Placeᵐ) (falls : (p : ℕ) → p < length ps → isObject 
   base-enough (suc f) zero p h a b = absurd (not-suc-le-zero b)
   base-enough (suc f) (suc g) p h a b = go (placeAt ps p) (falls p h) (λ q k c d. base-enough f g q k c d)
     where
-      go : (x : Placeᵐ) → (isObject x ≡ false → behindOf x < p) → ((q : ℕ) → q < length ps → q < f → q < g → base f ps q ≡ base g ps q) → _≡_ {A = ℕ} (elim x [ object c o ↦ p | adapter b c ↦ base f ps b ]) (elim x [ object c o ↦ p | adapter b c ↦ base g ps b ])
+      go : (x : Placeᵐ) → (isObject x ≡ false → behindOf x < p) → ((q : ℕ) → q < length ps → q < f → q < g → base f ps q ≡ base g ps q)
+          → _≡_ {A = ℕ} (elim x [ object c o ↦ p | adapter b c ↦ base f ps b ]) (elim x [ object c o ↦ p | adapter b c ↦ base g ps b ])
       go (object c o) l again = refl
       go (adapter q c) l again = let r : q < p = l refl in again q (omega arith) (omega arith) (omega arith)
 
@@ -54,7 +54,8 @@ module _ (ps : List Placeᵐ) (falls : (p : ℕ) → p < length ps → isObject 
   layers-enough (suc f) zero p h a b = absurd (not-suc-le-zero b)
   layers-enough (suc f) (suc g) p h a b = go (placeAt ps p) (falls p h) (λ q k c d. layers-enough f g q k c d)
     where
-      go : (x : Placeᵐ) → (isObject x ≡ false → behindOf x < p) → ((q : ℕ) → q < length ps → q < f → q < g → layers f ps q ≡ layers g ps q) → _≡_ {A = List ℕ} (elim x [ object c o ↦ c ∷ [] | adapter b c ↦ c ∷ layers f ps b ]) (elim x [ object c o ↦ c ∷ [] | adapter b c ↦ c ∷ layers g ps b ])
+      go : (x : Placeᵐ) → (isObject x ≡ false → behindOf x < p) → ((q : ℕ) → q < length ps → q < f → q < g → layers f ps q ≡ layers g ps q)
+          → _≡_ {A = List ℕ} (elim x [ object c o ↦ c ∷ [] | adapter b c ↦ c ∷ layers f ps b ]) (elim x [ object c o ↦ c ∷ [] | adapter b c ↦ c ∷ layers g ps b ])
       go (object c o) l again = refl
       go (adapter q c) l again = let r : q < p = l refl in ap (λ (xs : List ℕ). c ∷ xs) (again q (omega arith) (omega arith) (omega arith))
 
@@ -74,20 +75,11 @@ module _ (ps : List Placeᵐ) (falls : (p : ℕ) → p < length ps → isObject 
   unfolding layers
   layers-behind p h e = go (length ps) h
     where
-      at : (f : ℕ) (x : Placeᵐ) → p < suc f → isObject x ≡ false → behindOf x < p → _≡_ {A = List ℕ} (elim x [ object c o ↦ c ∷ [] | adapter b c ↦ c ∷ layers f ps b ]) (placeType x ∷ layersOf ps (behindOf x))
+      at : (f : ℕ) (x : Placeᵐ) → p < suc f → isObject x ≡ false → behindOf x < p
+          → _≡_ {A = List ℕ} (elim x [ object c o ↦ c ∷ [] | adapter b c ↦ c ∷ layers f ps b ]) (placeType x ∷ layersOf ps (behindOf x))
       at f (object c o) l e d = never (sym e)
       at f (adapter b c) l e d = ap (λ (xs : List ℕ). c ∷ xs) (layers-enough f (length ps) b (omega arith) (omega arith) (omega arith))
 
       go : (f : ℕ) → p < f → layers f ps p ≡ placeType (placeAt ps p) ∷ layersOf ps (behindOf (placeAt ps p))
       go zero l = absurd (not-suc-le-zero l)
       go (suc f) l = at f (placeAt ps p) l e (falls p h e)
-
-  -- layers are types of places
-  pub layers-below : (n : ℕ) → ((p : ℕ) → p < length ps → placeType (placeAt ps p) < n) → (f p : ℕ) → p < length ps → AllBelow n (layers f ps p)
-  unfolding layers
-  layers-below n each zero p h = tt
-  layers-below n each (suc f) p h = go (placeAt ps p) (falls p h) (each p h) (λ q k. layers-below n each f q k)
-    where
-      go : (x : Placeᵐ) → (isObject x ≡ false → behindOf x < p) → placeType x < n → ((q : ℕ) → q < length ps → AllBelow n (layers f ps q)) → AllBelow n (elim x [ object c o ↦ c ∷ [] | adapter b c ↦ c ∷ layers f ps b ])
-      go (object c o) l k again = (k, tt)
-      go (adapter q c) l k again = let r : q < p = l refl in (k, again q (omega arith))

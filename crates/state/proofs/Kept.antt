@@ -1,27 +1,24 @@
 -- What the steps keep: one record more leaves a state sound, where the record's numbers are below their counts.
-use mathlib.Core.Path.{_≡_, ap, sym, subst, _∙_}
-use mathlib.Core.Bool.{true, false}
+use mathlib.Core.Path.{_≡_, sym, subst}
+use mathlib.Core.Bool.{false}
 use mathlib.Core.List.{List, [], _∷_, _++_}
-use Prim.Native.Nat.{ℕ, _+_, _≤_, _<_}
+use Prim.Native.Nat.{ℕ, _+_, _<_}
 use native.Mathlib.Nat.{not-suc-le-zero}
 use native.Mathlib.Omega.{arith}
 use native.Mathlib.Decide.{decLt}
 use lib.ListN.{length, getD, List·getD-append}
 use lib.Seq.{getD-at}
-use Rattle.model.specs.Basics.{AllBelow}
-use Rattle.model.specs.Crossing.{Place as Placeᵐ, noPlace, placeAt, placeType, baseOf}
-use Rattle.model.specs.Requests.{noCell, noCall, layersOf}
+use Rattle.model.specs.Crossing.{Place as Placeᵐ, noPlace, placeAt, placeType}
 use Rattle.table.specs.declared.Counts.{Counts}
 use Rattle.table.specs.Limits.{Checked}
-use Rattle.state.specs.declared.Cells.{Cells}
 use Rattle.state.specs.declared.Places.{Places}
-use Rattle.state.specs.declared.Calls.{Calls}
-use Rattle.state.specs.View.{cellsIn, placesIn, callsIn, isObject, behindOf, stateLoaded}
+use Rattle.state.specs.View.{placesIn, isObject, behindOf, stateLoaded}
 use Rattle.state.specs.Sound.{Falling, Typed, Sound}
 use Rattle.state.proofs.Laws.{places-length}
 
 -- what holds of every element of a list and of one more
-more : {A : Type 0} (d : A) (P : ℕ → A → Type 0) (xs : List A) (x : A) → ((i : ℕ) → i < length xs → P i (getD xs i d)) → P (length xs) x → (i : ℕ) → i < length xs + 1 → P i (getD (xs ++ (x ∷ [])) i d)
+more : {A : Type 0} (d : A) (P : ℕ → A → Type 0) (xs : List A) (x : A) → ((i : ℕ) → i < length xs → P i (getD xs i d)) → P (length xs) x → (i : ℕ) → i < length xs + 1
+    → P i (getD (xs ++ (x ∷ [])) i d)
 more d P xs x each new i l = go (decLt i (length xs))
   where
     go : Dec (i < length xs) → P i (getD (xs ++ (x ∷ [])) i d)
@@ -30,7 +27,8 @@ more d P xs x each new i l = go (decLt i (length xs))
 
 -- places ps with one more, x
 module _ (ps qs : Places) (x : Placeᵐ) (count : qs .count ≡ ps .count + 1) (e : placesIn qs ≡ placesIn ps ++ (x ∷ [])) where
-  each-more : (P : ℕ → Placeᵐ → Type 0) → ((p : ℕ) → p < ps .count → P p (placeAt (placesIn ps) p)) → P (ps .count) x → (p : ℕ) → p < qs .count → P p (placeAt (placesIn qs) p)
+  each-more : (P : ℕ → Placeᵐ → Type 0) → ((p : ℕ) → p < ps .count → P p (placeAt (placesIn ps) p)) → P (ps .count) x → (p : ℕ) → p < qs .count
+      → P p (placeAt (placesIn qs) p)
   each-more P each new p l =
       let n : length (placesIn ps) ≡ ps .count = places-length ps in
       subst (λ xs. P p (placeAt xs p)) (sym e) (more noPlace P (placesIn ps) x (λ i h. each i (omega arith)) (subst (λ k. P k x) (sym n) new) p (omega arith))
@@ -40,10 +38,6 @@ module _ (ps qs : Places) (x : Placeᵐ) (count : qs .count ≡ ps .count + 1) (
 
   pub typed-more : (c : Counts) → Typed ps c → placeType x < c .types → Typed qs c
   typed-more c h new = each-more (λ p y. placeType y < c .types) h new
-
--- more types
-pub typed-wider : (ps : Places) (c d : Counts) → c .types ≤ d .types → Typed ps c → Typed ps d
-typed-wider ps c d l h p k = let q = h p k in omega arith
 
 -- the state of a loaded sheet
 pub loaded-sound : (types links : List ℕ) (counts : Counts) → Checked links counts → Sound (stateLoaded types links counts)

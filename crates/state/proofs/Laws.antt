@@ -1,13 +1,12 @@
 -- The views of a state's parts: how long they are, what stands in them, what one record more does.
 use mathlib.Core.Path.{_≡_, ap, sym, subst, _∙_}
 use mathlib.Core.Bool.{true, false}
-use mathlib.Core.List.{List, [], _∷_, _++_, map}
-use Prim.Native.Nat.{ℕ, _+_, _≤_, _<_}
+use mathlib.Core.List.{[], _∷_, _++_, map}
+use Prim.Native.Nat.{ℕ, _≤_, _<_}
 use lib.ListN.{length, getD, set, List·getD-map}
-use Rattle.model.specs.Basics.{AllBelow}
-use Rattle.model.specs.Crossing.{Place as Placeᵐ, noPlace, placeAt, placeType, base, baseOf}
-use Rattle.model.specs.Requests.{Cell as Cellᵐ, Call as Callᵐ, System, noCell, noCall, flagged, layers, layersOf}
-use Rattle.model.specs.Check.{RawPlace, RawCall, noRawPlace, noRawCall, systemOf}
+use Rattle.model.specs.Crossing.{Place as Placeᵐ, noPlace, placeAt, placeType, baseOf}
+use Rattle.model.specs.Requests.{Call as Callᵐ, noCell, noCall, flagged, layersOf}
+use Rattle.model.specs.Check.{noRawPlace, noRawCall, systemOf}
 use Rattle.model.specs.Check.{placeOf as placeMeant, callOf as callMeant}
 use Rattle.model.specs.Handed.{placeRecord, callRecord}
 use Rattle.model.proofs.Lists.{from-same}
@@ -20,7 +19,8 @@ use Rattle.state.specs.declared.Cells.{Cells}
 use Rattle.state.specs.declared.Places.{Places}
 use Rattle.state.specs.declared.Calls.{Calls}
 use Rattle.state.specs.declared.State.{State}
-use Rattle.state.specs.View.{cellOf, placeOf, callOf, blankCell, blankPlace, blankCall, cellsIn, placesIn, callsIn, cellAdded, placeAdded, callAdded, callAnswered, answeredAs, systemIn, isObject, behindOf}
+use Rattle.state.specs.View.{cellOf, placeOf, callOf, blankCell, blankPlace, blankCall, cellsIn, placesIn, callsIn, cellAdded, placeAdded, callAdded, callAnswered, answeredAs}
+use Rattle.state.specs.View.{systemIn, isObject, behindOf}
 use Rattle.state.specs.Sound.{Falling, BaseAt}
 use Rattle.state.proofs.Lists.{seen-length, seen-at, seen-added, seen-set}
 use Rattle.state.proofs.Going as go
@@ -74,7 +74,8 @@ pub system-is : (s : State) → systemIn s ≡ record { table = tableIn (s .type
 unfolding systemIn systemOf tableIn cellsIn placesIn callsIn
 system-is s =
     rw (
-      from-same (λ k. getD (map cellOf (s .cells .list)) k noCell) (λ k. cellOf (getD (s .cells .list) k blankCell)) (s .cells .count) 0 (λ k p q. List·getD-map cellOf (s .cells .list) k blankCell),
+      from-same (λ k. getD (map cellOf (s .cells .list)) k noCell) (λ k. cellOf (getD (s .cells .list) k blankCell)) (s .cells .count) 0
+          (λ k p q. List·getD-map cellOf (s .cells .list) k blankCell),
       from-same (λ k. placeMeant (getD (map (λ p. placeRecord (recOf p)) (s .places .list)) k noRawPlace)) (λ k. recOf (getD (s .places .list) k blankPlace)) (s .places .count) 0
           (λ k p q. ap placeMeant (List·getD-map (λ p. placeRecord (recOf p)) (s .places .list) k blankPlace) ∙ place-back (recOf (getD (s .places .list) k blankPlace))),
       from-same (λ k. callMeant (getD (map (λ c. callRecord (callOf c)) (s .calls .list)) k noRawCall)) (λ k. callOf (getD (s .calls .list) k blankCall)) (s .calls .count) 0
@@ -109,7 +110,3 @@ module _ (ps : Places) (h : Falling ps) where
 
     pub layers-go : isObject x ≡ false → layersOf (placesIn ps) p ≡ placeType x ∷ layersOf (placesIn ps) (behindOf x)
     layers-go o = rw e (go.layers-behind (placesIn ps) falls p (inside p l) (rw (← e) o))
-
-  -- every layer is in the table where every place's type is
-  pub layers-in : (n : ℕ) → ((p : ℕ) → p < ps .count → placeType (placeAt (placesIn ps) p) < n) → (p : ℕ) → p < ps .count → AllBelow n (layersOf (placesIn ps) p)
-  layers-in n each p l = go.layers-below (placesIn ps) falls n (λ q k. each q (subst (λ (m : ℕ). q < m) (places-length ps) k)) (length (placesIn ps)) p (inside p l)

@@ -79,7 +79,8 @@ module _ (R : RattleType) (n : ℕ) (single : Single (R .mir)) (vals : R .Denot 
 
     -- xs is the list that the call left, and m the count that was lent
     pub back-mut : (κ : Lft) (γ : GName) (m : ℕ) → length xs ≡ n
-        → ent 𝓤 (sep 𝓤 (A .dead κ) (sep 𝓤 (A .lent κ (Held R m b o γ)) (sem 𝓤 H A (finally R γ xs)))) (H .⇛ (sep 𝓤 (sem 𝓤 H A whole) (sem 𝓤 H A (Array R n .own xs (val xs ∷ [])))))
+        → ent 𝓤 (sep 𝓤 (A .dead κ) (sep 𝓤 (A .lent κ (Held R m b o γ)) (sem 𝓤 H A (finally R γ xs))))
+        (H .⇛ (sep 𝓤 (sem 𝓤 H A whole) (sem 𝓤 H A (Array R n .own xs (val xs ∷ [])))))
     back-mut κ γ m e =
         qed W (‵ (fdead κ) ∷ ‵ (flent κ (Held R m b o γ)) ∷ ‵ (finally R γ xs) ∷ []) ∵ updating ! $
         use3 W (later (‵ (Arr (mem R) m .lies xs b o))) (slice-back 𝓤 H A W R κ γ xs m b o) $ await ! tt $ fsplit ! $ drop ! $

@@ -2,7 +2,7 @@
 use mathlib.Core.Path.{_≡_, refl, ap, sym, subst, _∙_}
 use mathlib.Core.Bool.{true, false}
 use mathlib.Core.List.{List, [], _∷_, _++_}
-use Prim.Native.Nat.{ℕ, suc, _+_, _-_, _≤_, _<_}
+use Prim.Native.Nat.{ℕ, _+_, _-_, _≤_, _<_}
 use native.Mathlib.Numerals.{add-one}
 use native.Mathlib.Omega.{arith}
 use lib.ListN.{length, set, take, length-set}
@@ -43,7 +43,8 @@ module _ (ps : Places) (h : Falling ps) (p : ℕ) (pl : p < ps .count) where
             inside = omega (arith, less, w .inside);
             room = omega (arith, less, w .room);
             slots = length-set list count v ∙ w .slots;
-            rest = w .rest ∙ ap (λ (l : List ℕ). take count list ++ l) (layers-go ps h q (w .inside) x e o ∙ ap (λ (n : ℕ). placeType x ∷ layersOf (placesIn ps) n) (sym f)) ∙ sym (stored (layersOf (placesIn ps) b));
+            rest = w .rest ∙ ap (λ (l : List ℕ). take count list ++ l) (layers-go ps h q (w .inside) x e o ∙ ap (λ (n : ℕ). placeType x ∷ layersOf (placesIn ps) n) (sym f))
+                ∙ sym (stored (layersOf (placesIn ps) b));
           },
         )
 

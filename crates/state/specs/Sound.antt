@@ -5,13 +5,11 @@ use mathlib.Core.Bool.{true, false}
 use mathlib.Core.List.{List}
 use Prim.Native.Nat.{ℕ, _-_, _≤_, _<_}
 use lib.ListN.{getD, take}
-use Rattle.model.specs.Crossing.{Place as Placeᵐ, maxPlaces, placeAt, placeType, baseOf}
+use Rattle.model.specs.Crossing.{maxPlaces, placeAt, placeType, baseOf}
 use Rattle.model.specs.Requests.{Cell as Cellᵐ, Call as Callᵐ, noCell, noCall, maxCells, maxCalls, layersOf, adapterCount}
 use Rattle.table.specs.declared.Counts.{Counts}
 use Rattle.table.specs.Limits.{Checked}
-use Rattle.state.specs.declared.Cells.{Cells}
 use Rattle.state.specs.declared.Places.{Places}
-use Rattle.state.specs.declared.Calls.{Calls}
 use Rattle.state.specs.declared.Layers.{Layers}
 use Rattle.state.specs.declared.State.{State}
 use Rattle.state.specs.View.{cellsIn, placesIn, callsIn, isObject, behindOf}

@@ -1,6 +1,6 @@
 -- The parts of the check come to the model's `systemAccepted`.
 use mathlib.Core.Path.{_≡_, refl, ap, sym, _∙_}
-use mathlib.Core.Bool.{Bool, true, false, not, _&&_}
+use mathlib.Core.Bool.{Bool, true, false, not, _&&_, and-false}
 use mathlib.Core.List.{List, map}
 use Prim.Native.Nat.{ℕ, _≤_, _<_}
 use native.Mathlib.Omega.{arith}
@@ -11,7 +11,8 @@ use Rattle.model.specs.Basics.{all, every, from}
 use Rattle.model.specs.Table.{Ty, Method, typeAt, isRef, isSettled, isClass, tableFits}
 use Rattle.model.specs.Crossing.{Place as Placeᵐ, object, adapter, maxPlaces}
 use Rattle.model.specs.Requests.{Cell as Cellᵐ, Call as Callᵐ, System, maxCells, maxCalls}
-use Rattle.model.specs.Check.{RawType, RawTable, noRawType, noRawMethod, methodOf, typeOf, repOf, cellFits, placeFits, callFits, systemFits, tableOf, codesFit, stateCodesFit, tableAccepted, systemAccepted, noRawPlace, noRawCall}
+use Rattle.model.specs.Check.{RawType, RawTable, noRawType, noRawMethod, methodOf, typeOf, repOf, cellFits, placeFits, callFits, systemFits, tableOf, codesFit, stateCodesFit, tableAccepted}
+use Rattle.model.specs.Check.{systemAccepted, noRawPlace, noRawCall}
 use Rattle.model.specs.Handed.{placeRecord, callRecord}
 use Rattle.model.proofs.Rules.{both, first, second}
 use Rattle.modellaws.proofs.Records.{place-code, call-code}
@@ -39,7 +40,8 @@ unfolding settledAs
 class-of methods sheet i x =
     let y : Ty = typeOf methods sheet i x in
     let ms : List Method = from methods 0 (λ j. methodOf (getD (x .methods) j noRawMethod)) in
-    class-parts (isRef (repOf (x .rep))) _ (settledAs methods x) ms (y .methods) (λ m. isSettled (m .state)) (λ e. rw e) (all-each (λ j. methodOf (getD (x .methods) j noRawMethod)) (λ m. isSettled (m .state)) methods 0)
+    class-parts (isRef (repOf (x .rep))) _ (settledAs methods x) ms (y .methods) (λ m. isSettled (m .state)) (λ e. rw e)
+    (all-each (λ j. methodOf (getD (x .methods) j noRawMethod)) (λ m. isSettled (m .state)) methods 0)
 
 module _ (b l : List ℕ) (c : Counts) (i : ℕ) (h : i < c .types) where
   pub class-is : isClass (typeAt (tableIn b l c) i) ≡ classAs (c .methods) (getD (typesIn b) i noRawType)
@@ -61,7 +63,8 @@ module _ (s : State) (limits : Limits (s .counts)) where
   cell-is x =
       rw (places-length (s .places))
       (ap (λ (z : Bool). ltb (x .holder) (s .counts .subjects) && (ltb (x .place) (s .places .count) && z))
-      (under-and (ltb (x .type) (s .counts .sheet)) _ _ (λ e. let h : x .type < s .counts .sheet = ltb-true (x .type) (s .counts .sheet) e in ref-is (s .types) (s .links) (s .counts) (x .type) (omega (arith, limits .counted)))))
+      (under-and (ltb (x .type) (s .counts .sheet)) _ _
+      (λ e. let h : x .type < s .counts .sheet = ltb-true (x .type) (s .counts .sheet) e in ref-is (s .types) (s .links) (s .counts) (x .type) (omega (arith, limits .counted)))))
 
   place-is : (p : ℕ) (x : Placeᵐ) → placeFits m p x ≡ placeAccepted rs (s .counts) p x
   unfolding tableIn tableOf
@@ -99,10 +102,6 @@ codes-hold s =
     (λ k p q. rw (List·getD-map (λ (p : PlaceRec). placeRecord (placeOf (p .place))) (s .places .list) k blankPlace) (place-code (placeOf (getD (s .places .list) k blankPlace .place)))))
     (all-from (λ k. getD (map (λ (c : Call). callRecord (callOf c)) (s .calls .list)) k noRawCall) (λ c. ltb (c .answered) 2) (s .calls .count) 0
     (λ k p q. rw (List·getD-map (λ (c : Call). callRecord (callOf c)) (s .calls .list) k blankCall) (call-code (callOf (getD (s .calls .list) k blankCall)))))
-
-and-false : (b : Bool) → (b && false) ≡ false
-and-false true = refl
-and-false false = refl
 
 -- the tests in the order of the code: a codes, t table, x, y, z counts, r records
 in-order : (a t x y z r r′ : Bool) → ((a && t) ≡ true → r ≡ r′) → (a && (t && (x && (y && (z && r))))) ≡ ((x && (y && z)) && ((a && t) && r′))

@@ -1,11 +1,11 @@
 -- A state that passes the check has what the steps of requests need.
 use mathlib.Core.Path.{_≡_, sym, subst, _∙_}
-use mathlib.Core.Bool.{true, false, So}
+use mathlib.Core.Bool.{false, So}
 use Prim.Native.Nat.{ℕ, _≤_, _<_}
 use native.Mathlib.Omega.{arith}
 use lib.Dec.{ltb}
 use lib.ListN.{length}
-use Rattle.model.specs.Table.{Table, size}
+use Rattle.model.specs.Table.{size}
 use Rattle.model.specs.Crossing.{Place as Placeᵐ, object, adapter, noPlace, placeAt, placeType}
 use Rattle.model.specs.Requests.{System, cellAt, callAt, noCell, noCall}
 use Rattle.model.specs.Check.{cellFits, placeFits, callFits, systemFits, codesFit, stateCodesFit, tableAccepted, systemAccepted, tableOf}
@@ -66,7 +66,8 @@ module _ (s : State) (h : So (systemAccepted (rawState s))) where
       record {
         checked = checked;
         falling = record { count = z .1; behind = λ p l. falls m p (placeAt (placesIn (s .places)) p) (place-fits p l) };
-        typed = λ p l. subst (λ (n : ℕ). placeType (placeAt (placesIn (s .places)) p) < n) (size-is (s .types) (s .links) (s .counts)) (typed m p (placeAt (placesIn (s .places)) p) sheet-below (place-fits p l));
+        typed = λ p l. subst (λ (n : ℕ). placeType (placeAt (placesIn (s .places)) p) < n) (size-is (s .types) (s .links) (s .counts))
+            (typed m p (placeAt (placesIn (s .places)) p) sheet-below (place-fits p l));
         cellCount = z .0;
         callCount = z .2;
         cells = λ k l. let c = cellAt m k in

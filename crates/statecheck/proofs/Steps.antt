@@ -4,12 +4,12 @@ use mathlib.Core.Bool.{Bool, true, false}
 use mathlib.Core.List.{List}
 use Prim.Native.Nat.{ℕ, zero, suc, _≤_, _<_}
 use native.Mathlib.Omega.{arith}
-use lib.Dec.{eqb, ltb}
+use lib.Dec.{ltb}
 use lib.ListN.{getD}
-use borrow.Author.Tests.{lt-ltb, le-ltb, ne-eqb}
-use Rattle.model.specs.Table.{isRef, isSettled}
+use borrow.Author.Tests.{lt-ltb, le-ltb}
+use Rattle.model.specs.Table.{isSettled}
 use Rattle.model.specs.Crossing.{Place as Placeᵐ, object, adapter, placeType, ownerOf}
-use Rattle.model.specs.Check.{RawType, noRawType, noRawMethod, stateOf, repOf}
+use Rattle.model.specs.Check.{RawType, noRawType, noRawMethod, stateOf}
 use Rattle.model.proofs.Rules.{never}
 use Rattle.table.specs.declared.Counts.{Counts}
 use Rattle.table.specs.Store.{typesIn}
@@ -25,11 +25,6 @@ out w x n e h = le-ltb x n (omega arith)
 
 pub inside : (w x n : ℕ) → w ≡ x → w < n → ltb x n ≡ true
 inside w x n e h = lt-ltb x n (omega arith)
-
-pub ref-code : (r : ℕ) → eqb r 0 ≡ isRef (repOf r)
-ref-code zero = refl
-ref-code (suc zero) = refl
-ref-code (suc (suc r)) = ne-eqb (suc (suc r)) 0 (λ e. let w : suc (suc r) ≡ 0 = e in omega arith)
 
 pub unsettled : (s : ℕ) → s < 2 → isSettled (stateOf s) ≡ false
 unsettled zero h = refl

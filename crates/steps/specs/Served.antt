@@ -10,7 +10,6 @@ use Rattle.model.specs.Basics.{Res, refuse, ok, names, named}
 use Rattle.model.specs.Table.{Table, typeAt, isClass}
 use Rattle.model.specs.Crossing.{Reference}
 use Rattle.model.specs.Requests.{System, Result, pair, number, nothing, Outcome, got, refused}
-use Rattle.table.specs.declared.Counts.{Counts}
 use Rattle.table.specs.Store.{tableIn, withCount}
 use Rattle.restrict.specs.Link.{Kept}
 use Rattle.state.specs.declared.Places.{Places}

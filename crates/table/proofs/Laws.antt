@@ -6,14 +6,14 @@ use Prim.Native.Nat.{ℕ, zero, suc, _+_, _*_, _≤_, _<_}
 use native.Mathlib.Nat.{le-of-suc-le-suc, not-suc-le-zero}
 use native.Mathlib.Numerals.{add-one}
 use native.Mathlib.Omega.{arith}
-use lib.ListN.{length, getD, set, length-set, take, length-map, length-replicate, List·getD-append, List·getD-map}
+use lib.ListN.{length, getD, set, length-set, take, length-map, List·getD-append, List·getD-map}
 use lib.Seq.{sets, ext-getD, getD-set-same, getD-set-other, length-sets, getD-append-add, length-take-le}
 use Rattle.model.specs.Basics.{from}
 use Rattle.model.specs.Check.{RawMethod, RawType, RawLinks, noRawType, noRawMethod}
 use Rattle.table.specs.declared.Method.{Method}
-use Rattle.table.specs.declared.TypeRec.{TypeRec}
 use Rattle.table.specs.declared.Head.{Head}
-use Rattle.table.specs.Store.{headOf, rawMethodAt, rawMethodsAt, rawTypeAt, rawLinksAt, typesIn, linksIn, rawMethod, rawOf, methodBytes, methodsBytes, headBytes, spareBytes, recordBytes, Shaped, Put, emptyTypes, emptyLinks}
+use Rattle.table.specs.Store.{headOf, rawMethodAt, rawMethodsAt, rawTypeAt, rawLinksAt, typesIn, linksIn, rawMethod, rawOf, methodBytes, methodsBytes, headBytes, spareBytes}
+use Rattle.table.specs.Store.{recordBytes, Shaped, Put}
 use Rattle.table.proofs.Lists.{lt-or-ge, same-or, length-from, from-first, from-same, is-from, sets-append, getD-sets-below, getD-sets-above, getD-sets-in}
 
 -- Where a type, its methods and the links of a category stand.
@@ -41,20 +41,13 @@ pub links-in : (l : List ℕ) (k : ℕ) (d : RawLinks) → k < 32 → getD (link
 unfolding linksIn
 links-in l k d h = from-first (λ k. rawLinksAt l (k * 3)) 32 k d h
 
-pub empty-types-length : length emptyTypes ≡ 16384
-unfolding emptyTypes
-empty-types-length = length-replicate {A = ℕ} 16384 0
-
-pub empty-links-length : length emptyLinks ≡ 96
-unfolding emptyLinks
-empty-links-length = length-replicate {A = ℕ} 96 0
-
 -- what stands for a method past the end of a list of the code's
 abbrev pub absent : Method
 absent = record { state = 0; count = 0; args = []; answer = 0 }
 
 -- methods of the code that are those of a record
-pub methods-are : (ms : List Method) (rs : List RawMethod) → length ms ≡ 16 → length rs ≡ 16 → ((k : ℕ) → k < 16 → rawMethod (getD ms k absent) ≡ getD rs k noRawMethod) → map rawMethod ms ≡ rs
+pub methods-are : (ms : List Method) (rs : List RawMethod) → length ms ≡ 16 → length rs ≡ 16 → ((k : ℕ) → k < 16 → rawMethod (getD ms k absent) ≡ getD rs k noRawMethod)
+    → map rawMethod ms ≡ rs
 methods-are ms rs e f h =
     ext-getD noRawMethod (map rawMethod ms) rs (length-map ms rawMethod ∙ e ∙ sym f)
     (λ k p. let q : k < 16 = subst (λ (n : ℕ). k < n) (length-map ms rawMethod ∙ e) p in List·getD-map rawMethod ms k absent ∙ h k q)
@@ -93,23 +86,25 @@ bytes-at (m ∷ ms) (suc j) k h l =
     ap (λ (x : ℕ). getD (methodBytes m ++ methodsBytes ms) x 0) e ∙ getD-append-add (methodBytes m) (methodsBytes ms) (j * 7 + k) 0 ∙ bytes-at ms j k (le-of-suc-le-suc h) l
 
 -- Records by their parts.
-mk : ℕ → ℕ → ℕ → ℕ → ℕ → ℕ → ℕ → RawMethod
+unfoldable pub mk : ℕ → ℕ → ℕ → ℕ → ℕ → ℕ → ℕ → RawMethod
 mk s n a₀ a₁ a₂ a₃ r = record { state = s; count = n; args = a₀ ∷ a₁ ∷ a₂ ∷ a₃ ∷ []; answer = r }
 
-mk-eq : {s n a₀ a₁ a₂ a₃ r s′ n′ b₀ b₁ b₂ b₃ r′ : ℕ} → s ≡ s′ → n ≡ n′ → a₀ ≡ b₀ → a₁ ≡ b₁ → a₂ ≡ b₂ → a₃ ≡ b₃ → r ≡ r′ → mk s n a₀ a₁ a₂ a₃ r ≡ mk s′ n′ b₀ b₁ b₂ b₃ r′
+pub mk-eq : {s n a₀ a₁ a₂ a₃ r s′ n′ b₀ b₁ b₂ b₃ r′ : ℕ} → s ≡ s′ → n ≡ n′ → a₀ ≡ b₀ → a₁ ≡ b₁ → a₂ ≡ b₂ → a₃ ≡ b₃ → r ≡ r′
+    → mk s n a₀ a₁ a₂ a₃ r ≡ mk s′ n′ b₀ b₁ b₂ b₃ r′
 mk-eq p₀ p₁ p₂ p₃ p₄ p₅ p₆ = cc
 
-mkT : ℕ → ℕ → ℕ → ℕ → ℕ → ℕ → List RawMethod → RawType
+unfoldable pub mkT : ℕ → ℕ → ℕ → ℕ → ℕ → ℕ → List RawMethod → RawType
 mkT a b c d e f ms = record { rep = a; cat = b; own = c; kind = d; left = e; right = f; methods = ms }
 
-mkT-eq : {a b c d e f a′ b′ c′ d′ e′ f′ : ℕ} {m m′ : List RawMethod} → a ≡ a′ → b ≡ b′ → c ≡ c′ → d ≡ d′ → e ≡ e′ → f ≡ f′ → m ≡ m′ → mkT a b c d e f m ≡ mkT a′ b′ c′ d′ e′ f′ m′
+pub mkT-eq : {a b c d e f a′ b′ c′ d′ e′ f′ : ℕ} {m m′ : List RawMethod} → a ≡ a′ → b ≡ b′ → c ≡ c′ → d ≡ d′ → e ≡ e′ → f ≡ f′ → m ≡ m′
+    → mkT a b c d e f m ≡ mkT a′ b′ c′ d′ e′ f′ m′
 mkT-eq p₀ p₁ p₂ p₃ p₄ p₅ p₆ = cc
 
 -- n bytes of one list from `at` on are those of another from `at′` on
 unfoldable pub Agree : List ℕ → ℕ → List ℕ → ℕ → ℕ → Type 0
 Agree b at b′ at′ n = (p : ℕ) → p < n → getD b (at + p) 0 ≡ getD b′ (at′ + p) 0
 
-at-zero : (b : List ℕ) (at : ℕ) → getD b (at + 0) 0 ≡ getD b at 0
+pub at-zero : (b : List ℕ) (at : ℕ) → getD b (at + 0) 0 ≡ getD b at 0
 at-zero b at = let e : at + 0 ≡ at = omega arith in ap (λ (k : ℕ). getD b k 0) e
 
 module _ (b : List ℕ) (at : ℕ) (b′ : List ℕ) (at′ n : ℕ) where
@@ -126,7 +121,8 @@ module _ (b : List ℕ) (at : ℕ) (b′ : List ℕ) (at′ n : ℕ) where
 
 method-agree : (b : List ℕ) (at : ℕ) (b′ : List ℕ) (at′ : ℕ) → Agree b at b′ at′ 7 → rawMethodAt b at ≡ rawMethodAt b′ at′
 unfolding Agree mk
-method-agree b at b′ at′ h = mk-eq (agree-first b at b′ at′ 7 h (omega arith)) (h 1 (omega arith)) (h 2 (omega arith)) (h 3 (omega arith)) (h 4 (omega arith)) (h 5 (omega arith)) (h 6 (omega arith))
+method-agree b at b′ at′ h =
+    mk-eq (agree-first b at b′ at′ 7 h (omega arith)) (h 1 (omega arith)) (h 2 (omega arith)) (h 3 (omega arith)) (h 4 (omega arith)) (h 5 (omega arith)) (h 6 (omega arith))
 
 pub type-agree : (b : List ℕ) (at : ℕ) (b′ : List ℕ) (at′ : ℕ) → Agree b at b′ at′ 128 → rawTypeAt b at ≡ rawTypeAt b′ at′
 unfolding Agree mkT rawMethodsAt
@@ -217,7 +213,8 @@ stored b i x eb hi s =
     sym
     (is-from (λ k. rawTypeAt b′ (k * 128)) 128 x (set (from 128 0 f) i x) (length-set (from 128 0 f) i x ∙ length-from f 128 0)
     (λ k l. ⊎-elim
-    (λ (e : k ≡ i). ap (λ (n : ℕ). getD (set (from 128 0 f) i x) n x) e ∙ getD-set-same (from 128 0 f) i x x (rw (length-from f 128 0) hi) ∙ sym own ∙ ap (λ (n : ℕ). rawTypeAt b′ (n * 128)) (sym e))
+    (λ (e : k ≡ i). ap (λ (n : ℕ). getD (set (from 128 0 f) i x) n x) e ∙ getD-set-same (from 128 0 f) i x x (rw (length-from f 128 0) hi) ∙ sym own
+    ∙ ap (λ (n : ℕ). rawTypeAt b′ (n * 128)) (sym e))
     (λ (ne : k ≡ i → ⊥). getD-set-other (from 128 0 f) i k x x ne ∙ from-first f 128 k x l ∙ other k ne)
     (same-or k i)))
 

@@ -52,7 +52,8 @@ module _ (l : List ℕ) (k x y z : ℕ) (h : k < 32) (e : length l ≡ 96) where
       (λ (ge : k ≤ i). let gt : k < i = omega (arith, ne) in go i (λ p a. omega arith) (λ p a. omega arith) (λ p a. omega arith))
       (lt-or-ge i k)
     where
-      go : (i : ℕ) → ((p : ℕ) → p < 3 → i * 3 + p ≡ k * 3 → ⊥) → ((p : ℕ) → p < 3 → i * 3 + p ≡ k * 3 + 1 → ⊥) → ((p : ℕ) → p < 3 → i * 3 + p ≡ k * 3 + 2 → ⊥) → rawLinksAt l (i * 3) ≡ rawLinksAt stored (i * 3)
+      go : (i : ℕ) → ((p : ℕ) → p < 3 → i * 3 + p ≡ k * 3 → ⊥) → ((p : ℕ) → p < 3 → i * 3 + p ≡ k * 3 + 1 → ⊥)
+          → ((p : ℕ) → p < 3 → i * 3 + p ≡ k * 3 + 2 → ⊥) → rawLinksAt l (i * 3) ≡ rawLinksAt stored (i * 3)
       go i a b c =
           let zero′ : i * 3 + 0 ≡ i * 3 = omega arith in
           ap (λ (v : ℕ). let r : RawLinks = record { count = v; first = getD l (i * 3 + 1) 0; second = getD l (i * 3 + 2) 0 } in r)
@@ -68,7 +69,8 @@ module _ (l : List ℕ) (k x y z : ℕ) (h : k < 32) (e : length l ≡ 96) where
       let r : RawLinks = record { count = x; first = y; second = z } in
       sym (is-from (λ i. rawLinksAt stored (i * 3)) 32 noRawLinks (set (linksIn l) k r) (length-set (linksIn l) k r ∙ links-length l)
       (λ i p. ⊎-elim
-      (λ (q : i ≡ k). ap (λ (v : ℕ). getD (set (linksIn l) k r) v noRawLinks) q ∙ getD-set-same (linksIn l) k r noRawLinks (subst (λ (v : ℕ). k < v) (sym (links-length l)) h) ∙ sym at-k ∙ ap (λ (v : ℕ). rawLinksAt stored (v * 3)) (sym q))
+      (λ (q : i ≡ k). ap (λ (v : ℕ). getD (set (linksIn l) k r) v noRawLinks) q ∙ getD-set-same (linksIn l) k r noRawLinks (subst (λ (v : ℕ). k < v) (sym (links-length l)) h) ∙ sym at-k
+      ∙ ap (λ (v : ℕ). rawLinksAt stored (v * 3)) (sym q))
       (λ (q : i ≡ k → ⊥). getD-set-other (linksIn l) k i r noRawLinks q ∙ links-in l i noRawLinks p ∙ at-other i q)
       (same-or i k)))
 

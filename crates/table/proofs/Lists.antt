@@ -4,13 +4,13 @@ use mathlib.Core.Logic.{⊎-elim, _⊎_, inl, inr}
 use mathlib.Core.Bool.{Bool, true, false}
 use mathlib.Core.List.{List, [], _∷_, _++_}
 use Prim.Native.Nat.{ℕ, zero, suc, _+_, _≤_, _<_}
-use native.Mathlib.Nat.{le-of-suc-le-suc, not-suc-le-zero, eq-or-lt-of-le, zero-add}
+use native.Mathlib.Nat.{le-of-suc-le-suc, not-suc-le-zero, eq-or-lt-of-le}
 use native.Mathlib.Numerals.{add-one}
 use native.Mathlib.Omega.{arith}
 use lib.Dec.{ltb}
 use borrow.Author.Tests.{ltb-true, ltb-false}
 use lib.ListN.{length, getD, set, replicate, length-set, length-replicate, replicate-append-replicate}
-use lib.Seq.{sets, ext-getD, getD-set-same, getD-set-other}
+use lib.Seq.{sets, getD-set-same, getD-set-other}
 use Rattle.model.specs.Basics.{from}
 pub use Rattle.model.proofs.Lists.{length-from, from-first, from-same}
 use Rattle.model.proofs.Lists.{is-from as from-is}
@@ -24,7 +24,8 @@ lt-or-ge a b = go (ltb a b) refl
     go false e = inr (ltb-false a b e)
 
 pub same-or : (k i : ℕ) → (k ≡ i) ⊎ (k ≡ i → ⊥)
-same-or k i = ⊎-elim (λ (lt : k < i). inr (λ e. omega arith)) (λ (ge : i ≤ k). ⊎-elim (λ (lt : i < k). inr (λ e. omega arith)) (λ (le : k ≤ i). inl (omega arith)) (lt-or-ge i k)) (lt-or-ge k i)
+same-or k i =
+    ⊎-elim (λ (lt : k < i). inr (λ e. omega arith)) (λ (ge : i ≤ k). ⊎-elim (λ (lt : i < k). inr (λ e. omega arith)) (λ (le : k ≤ i). inl (omega arith)) (lt-or-ge i k)) (lt-or-ge k i)
 
 -- The first c values of a rule (the model's laws), and one more of them.
 module _ {A : Type 0} (f : ℕ → A) where
@@ -70,7 +71,8 @@ three b at x₀ x₁ x₂ =
     let e₂ : at + 2 ≡ suc (suc at) = omega arith in
     rw (e₁, e₂)
 
-pub six : (b : List ℕ) (at x₀ x₁ x₂ x₃ x₄ x₅ : ℕ) → set (set (set (set (set (set b at x₀) (at + 1) x₁) (at + 2) x₂) (at + 3) x₃) (at + 4) x₄) (at + 5) x₅ ≡ sets b at (x₀ ∷ x₁ ∷ x₂ ∷ x₃ ∷ x₄ ∷ x₅ ∷ [])
+pub six : (b : List ℕ) (at x₀ x₁ x₂ x₃ x₄ x₅ : ℕ)
+    → set (set (set (set (set (set b at x₀) (at + 1) x₁) (at + 2) x₂) (at + 3) x₃) (at + 4) x₄) (at + 5) x₅ ≡ sets b at (x₀ ∷ x₁ ∷ x₂ ∷ x₃ ∷ x₄ ∷ x₅ ∷ [])
 six b at x₀ x₁ x₂ x₃ x₄ x₅ =
     let e₁ : at + 1 ≡ suc at = omega arith in
     let e₂ : at + 2 ≡ suc (suc at) = omega arith in
@@ -79,7 +81,8 @@ six b at x₀ x₁ x₂ x₃ x₄ x₅ =
     let e₅ : at + 5 ≡ suc (suc (suc (suc (suc at)))) = omega arith in
     rw (e₁, e₂, e₃, e₄, e₅)
 
-pub seven : (b : List ℕ) (at x₀ x₁ x₂ x₃ x₄ x₅ x₆ : ℕ) → set (set (set (set (set (set (set b at x₀) (at + 1) x₁) (at + 2) x₂) (at + 3) x₃) (at + 4) x₄) (at + 5) x₅) (at + 6) x₆ ≡ sets b at (x₀ ∷ x₁ ∷ x₂ ∷ x₃ ∷ x₄ ∷ x₅ ∷ x₆ ∷ [])
+pub seven : (b : List ℕ) (at x₀ x₁ x₂ x₃ x₄ x₅ x₆ : ℕ) → set (set (set (set (set (set (set b at x₀) (at + 1) x₁) (at + 2) x₂) (at + 3) x₃) (at + 4) x₄) (at + 5) x₅)
+    (at + 6) x₆ ≡ sets b at (x₀ ∷ x₁ ∷ x₂ ∷ x₃ ∷ x₄ ∷ x₅ ∷ x₆ ∷ [])
 seven b at x₀ x₁ x₂ x₃ x₄ x₅ x₆ =
     let e : at + 6 ≡ suc (suc (suc (suc (suc (suc at))))) = omega arith in
     ap (λ (l : List ℕ). set l (at + 6) x₆) (six b at x₀ x₁ x₂ x₃ x₄ x₅) ∙ ap (λ (k : ℕ). set (sets b at (x₀ ∷ x₁ ∷ x₂ ∷ x₃ ∷ x₄ ∷ x₅ ∷ [])) k x₆) e
@@ -92,7 +95,8 @@ run-next b at j v =
     ∙ sym (sets-append b at (replicate j v) (v ∷ [])) ∙ ap (sets b at) (replicate-append-replicate j 1 v)
 
 -- A list that a loop fills from the front: what holds of each element so far, with its number, holds after one store more.
-pub set-next : {A : Type 0} (P : ℕ → A → Type 0) (l : List A) (j : ℕ) (v d : A) → j < length l → ((k : ℕ) → k < j → P k (getD l k d)) → P j v → (k : ℕ) → k < j + 1 → P k (getD (set l j v) k d)
+pub set-next : {A : Type 0} (P : ℕ → A → Type 0) (l : List A) (j : ℕ) (v d : A) → j < length l → ((k : ℕ) → k < j → P k (getD l k d)) → P j v → (k : ℕ) → k < j + 1
+    → P k (getD (set l j v) k d)
 set-next P l j v d h so e k p =
     ⊎-elim
     (λ (q : k ≡ j). let w : P j (getD (set l j v) j d) = rw (getD-set-same l j v d h) e in subst (λ (n : ℕ). P n (getD (set l j v) n d)) (sym q) w)

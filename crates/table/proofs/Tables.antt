@@ -8,13 +8,12 @@ use native.Mathlib.Omega.{arith}
 use lib.ListN.{length, getD, set, length-set}
 use lib.Seq.{ext-getD, getD-set-same, getD-set-other}
 use Rattle.model.specs.Basics.{from}
-use Rattle.model.specs.Table.{Ty, noType, size, typeAt, withTypes}
+use Rattle.model.specs.Table.{Ty, noType, size, typeAt}
 use Rattle.model.specs.Check.{RawType, noRawType, noRawLinks, linksOf, typeOf, tableOf}
 use Rattle.model.proofs.Largest.{getD-from-out}
 use Rattle.table.specs.declared.Counts.{Counts}
-use Rattle.table.specs.Store.{typesIn, linksIn, tableIn, typesTo, withCount}
+use Rattle.table.specs.Store.{typesIn, linksIn, tableIn, typesTo}
 use Rattle.table.proofs.Lists.{same-or, length-from, from-first, from-last, from-same}
-use Rattle.table.proofs.Laws.{types-length}
 
 -- The first n records as types.
 module _ (ms sh : ℕ) (rs : List RawType) where
@@ -49,8 +48,10 @@ module _ (ms sh : ℕ) (rs : List RawType) where
       (λ k l. let l′ : k < n = subst (λ (z : ℕ). k < z) (length-from f n 0) l in
       let lg : i < length (from n 0 g) = subst (λ (z : ℕ). i < z) (sym (length-from g n 0)) p in
       ⊎-elim
-      (λ (e : k ≡ i). from-first f n k noType l′ ∙ ap f e ∙ ap (typeOf ms sh i) (getD-set-same rs i t noRawType (omega arith)) ∙ sym (ap (λ (z : ℕ). getD (set (from n 0 g) i x) z noType) e ∙ getD-set-same (from n 0 g) i x noType lg))
-      (λ (e : k ≡ i → ⊥). from-first f n k noType l′ ∙ ap (typeOf ms sh k) (getD-set-other rs i k t noRawType e) ∙ sym (getD-set-other (from n 0 g) i k x noType e ∙ from-first g n k noType l′))
+      (λ (e : k ≡ i). from-first f n k noType l′ ∙ ap f e ∙ ap (typeOf ms sh i) (getD-set-same rs i t noRawType (omega arith))
+      ∙ sym (ap (λ (z : ℕ). getD (set (from n 0 g) i x) z noType) e ∙ getD-set-same (from n 0 g) i x noType lg))
+      (λ (e : k ≡ i → ⊥). from-first f n k noType l′ ∙ ap (typeOf ms sh k) (getD-set-other rs i k t noRawType e)
+      ∙ sym (getD-set-other (from n 0 g) i k x noType e ∙ from-first g n k noType l′))
       (same-or k i))
 
 -- The parts of the table that the bytes mean.
@@ -74,24 +75,3 @@ module _ (b l : List ℕ) (c : Counts) where
   pub cats-length : length (tableIn b l c .cats) ≡ c .cats
   unfolding tableIn tableOf
   cats-length = length-from (λ k. linksOf (getD (linksIn l) k noRawLinks)) (c .cats) 1
-
--- What other bytes mean, with the same links.
-module _ (b b′ l : List ℕ) (c : Counts) where
-  -- bytes past the count are open
-  pub table-same : ((i : ℕ) → i < c .types → getD (typesIn b′) i noRawType ≡ getD (typesIn b) i noRawType) → tableIn b′ l c ≡ tableIn b l c
-  unfolding tableIn tableOf typesTo
-  table-same h = ap (withTypes (tableIn b l c)) (types-same (c .methods) (c .sheet) (typesIn b) (c .types) (typesIn b′) h)
-
-  -- a type stored at the count joins the table
-  pub table-add : (t : RawType) → c .types < 128 → typesIn b′ ≡ set (typesIn b) (c .types) t → tableIn b′ l (withCount c (suc (c .types))) ≡ withTypes (tableIn b l c) (tableIn b l c .types ++ (typeOf (c .methods) (c .sheet) (c .types) t ∷ []))
-  unfolding tableIn tableOf typesTo
-  table-add t h e =
-      ap (λ (rs : List RawType). withTypes (tableIn b l c) (typesTo (c .methods) (c .sheet) (suc (c .types)) rs)) e
-      ∙ ap (withTypes (tableIn b l c)) (types-add (c .methods) (c .sheet) (typesIn b) (c .types) t (rw (types-length b) h))
-
-  -- one stored below the count takes its place
-  pub table-put : (i : ℕ) (t : RawType) → i < c .types → c .types ≤ 128 → typesIn b′ ≡ set (typesIn b) i t → tableIn b′ l c ≡ withTypes (tableIn b l c) (set (tableIn b l c .types) i (typeOf (c .methods) (c .sheet) i t))
-  unfolding tableIn tableOf typesTo
-  table-put i t h k e =
-      ap (λ (rs : List RawType). withTypes (tableIn b l c) (typesTo (c .methods) (c .sheet) (c .types) rs)) e
-      ∙ ap (withTypes (tableIn b l c)) (types-put (c .methods) (c .sheet) (typesIn b) (c .types) i t h (rw (types-length b) k))

@@ -1,28 +1,21 @@
 -- A table that passes the check is within the limits, and its links fall: what the functions ask that are called after it.
 use mathlib.Core.Path.{_≡_, sym, _∙_}
 use mathlib.Core.Bool.{So}
-use mathlib.Core.List.{List, [], _∷_}
+use mathlib.Core.List.{List, []}
 use Prim.Native.Nat.{ℕ, zero, suc, _+_}
 use native.Mathlib.Nat.{not-suc-le-zero}
 use native.Mathlib.Omega.{arith}
-use lib.Dec.{ltb}
 use lib.ListN.{length, getD}
-use Rattle.model.specs.Basics.{all, AllBelow}
 use Rattle.model.specs.Table.{between, linksFit}
 use Rattle.model.specs.Check.{tableOf, codesFit, tableAccepted}
-use Rattle.model.proofs.Tests.{ltb-so}
-use Rattle.model.proofs.Rules.{first, second}
-use Rattle.modellaws.proofs.Fitting.{TableFitting, table-fitting, every-at}
+use Rattle.model.proofs.Rules.{second}
+use Rattle.modellaws.proofs.Fitting.{TableFitting, table-fitting, every-at, all-below}
 use Rattle.model.proofs.Largest.{getD-from}
 use Rattle.table.specs.declared.Counts.{Counts}
 use Rattle.table.specs.Store.{rawTable, tableIn, broaderOf}
 use Rattle.table.specs.Limits.{Limits, Falls, Checked}
 use Rattle.table.proofs.Tables.{cats-length}
 use Rattle.tablecheck.proofs.Laws.{counts-limits, counts-are}
-
-below : (n : ℕ) (xs : List ℕ) → So (all (λ k. ltb k n) xs) → AllBelow n xs
-below n [] h = tt
-below n (x ∷ xs) h = (ltb-so (first (ltb x n) _ h), below n xs (second (ltb x n) _ h))
 
 module _ (b l : List ℕ) (c : Counts) (f : TableFitting (tableIn b l c)) where
   pub fitting-limits : Limits c
@@ -36,7 +29,7 @@ module _ (b l : List ℕ) (c : Counts) (f : TableFitting (tableIn b l c)) where
       let e : 1 + k ≡ suc k = omega arith in
       let w : So (linksFit (1 + k) (getD cs k [])) = every-at linksFit [] 1 cs (f .links) k (rw (cats-length b l c) q) in
       let v : So (linksFit (suc k) (broaderOf l (suc k))) = rw (getD-from (broaderOf l) [] (c .cats) 1 k q, e) at w in
-      below (suc k) (broaderOf l (suc k)) (second (between 1 2 (length (broaderOf l (suc k)))) _ v)
+      all-below (suc k) (broaderOf l (suc k)) (second (between 1 2 (length (broaderOf l (suc k)))) _ v)
 
   pub fitting-checked : Checked l c
   fitting-checked = record { limits = fitting-limits; falls = links }

@@ -48,10 +48,6 @@ unfolding eachFrom
 each-same f g h zero i = refl
 each-same f g h (suc c) i = rw (h i, each-same f g h c (suc i))
 
-pub all-same : {A : Type 0} (f g : A → Bool) → ((x : A) → f x ≡ g x) → (xs : List A) → all f xs ≡ all g xs
-all-same f g h [] = refl
-all-same f g h (x ∷ xs) = rw (h x, all-same f g h xs)
-
 -- the first c elements of a list, by their numbers
 pub all-take : (p : ℕ → Bool) (c : ℕ) (xs : List ℕ) → c ≤ length xs → all p (take c xs) ≡ eachFrom c 0 (λ k. p (getD xs k 0))
 unfolding eachFrom

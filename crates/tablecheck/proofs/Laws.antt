@@ -1,6 +1,6 @@
 -- The parts of the check come to the model's `tableAccepted`.
 use mathlib.Core.Path.{_≡_, refl, ap, sym, _∙_}
-use mathlib.Core.Bool.{Bool, true, false, not, _&&_, _||_, cond, and-assoc, and-comm, and-true}
+use mathlib.Core.Bool.{Bool, true, false, _&&_, _||_, cond, and-assoc, and-comm, and-true}
 use mathlib.Core.List.{List, []}
 use mathlib.Core.Option.{Option, none, some}
 use Prim.Native.Nat.{ℕ, _≤_, _<_}
@@ -10,16 +10,19 @@ use lib.Dec.{eqb, ltb, leb}
 use lib.ListN.{length, getD, take, length-take}
 use borrow.Author.Tests.{ltb-true, ltb-false, leb-true, le-leb, eq-eqb}
 use Rattle.model.specs.Basics.{_⇒_, all, every, from, unlessMissing}
-use Rattle.model.specs.Table.{mayStand, maxSubjects, maxMethods, maxCategories, maxSheetTypes, maxTypes, Rep, ref, w32, w64, Key, Method, Ty, Table, size, isRef, permit, between, countsFit, linksFit, standsIn, isNil, isNone, signatureFits, methodCount, keyFits, typeFits, tableFits}
-use Rattle.model.specs.Check.{RawMethod, RawType, RawLinks, noRawType, noRawMethod, noRawLinks, stateOf, answerOf, kindOf, methodOf, typeOf, linksOf, tableOf, rawMethodFits, rawTypeFits, codesFit, tableAccepted}
+use Rattle.model.specs.Table.{mayStand, maxSubjects, maxMethods, maxCategories, maxSheetTypes, maxTypes, Rep, ref, w32, w64, Key, Method, Ty, Table, size, isRef, permit, between, countsFit}
+use Rattle.model.specs.Table.{linksFit, standsIn, isNil, isNone, signatureFits, methodCount, keyFits, typeFits, tableFits}
+use Rattle.model.specs.Check.{RawMethod, RawType, RawLinks, noRawType, noRawMethod, noRawLinks, stateOf, answerOf, kindOf, methodOf, typeOf, linksOf, tableOf, rawMethodFits, rawTypeFits}
+use Rattle.model.specs.Check.{codesFit, tableAccepted}
 use Rattle.model.proofs.Rules.{first, second}
+use Rattle.model.proofs.Lists.{all-same}
 use Rattle.table.specs.declared.Counts.{Counts}
 use Rattle.table.specs.Store.{typesIn, linksIn, rawTable, tableIn, headOf}
 use Rattle.table.specs.Limits.{Limits}
 use Rattle.table.proofs.Lists.{length-from}
 use Rattle.table.proofs.Tables.{size-is, type-is, cats-length}
 use Rattle.tablecheck.specs.Parts.{eachFrom, countsAccepted, standsAs, methodAccepted, keyAccepted, boundOf, methodsAccepted, typeAccepted, linksAccepted, typesAccepted}
-use Rattle.tablecheck.proofs.Each.{left-comm, interchange, under-and, all-each, every-each, each-and, each-same, all-same}
+use Rattle.tablecheck.proofs.Each.{left-comm, interchange, under-and, all-each, every-each, each-and, each-same}
 
 -- Counts that pass are within the limits.
 pub counts-limits : (c : Counts) → countsAccepted c ≡ true → Limits c
@@ -47,8 +50,10 @@ module _ (F G : ℕ → Bool) (same : (a : ℕ) → F a ≡ G a) where
   missing-same (some a) = same a
 
   -- b: the code names a state; p: it permits, and then xs′ and a′ are the signature read; q: the count is in its limits, and then so is the number of arguments read
-  method-parts : (b p q : Bool) (k : ℕ) (xs xs′ : List ℕ) (a a′ : Option ℕ) → (p ≡ true → (xs′ ≡ xs) × (a′ ≡ a)) → (p ≡ false → (xs′ ≡ []) × (a′ ≡ none)) → (q ≡ true → leb (length xs) k ≡ true)
-      → ((b && (p ⇒ q)) && elim p [ true ↦ leb (length xs′) k && (all F xs′ && unlessMissing a′ F) | false ↦ isNil xs′ && isNone a′ ]) ≡ (b && (p ⇒ (q && (all G xs && unlessMissing a G))))
+  method-parts : (b p q : Bool) (k : ℕ) (xs xs′ : List ℕ) (a a′ : Option ℕ) → (p ≡ true → (xs′ ≡ xs) × (a′ ≡ a)) → (p ≡ false → (xs′ ≡ []) × (a′ ≡ none))
+      → (q ≡ true → leb (length xs) k ≡ true)
+      → ((b && (p ⇒ q)) && elim p [ true ↦ leb (length xs′) k && (all F xs′ && unlessMissing a′ F) | false ↦ isNil xs′ && isNone a′ ]) ≡
+      (b && (p ⇒ (q && (all G xs && unlessMissing a G))))
   method-parts b false q k xs xs′ a a′ on off h = rw (off refl .0, off refl .1) (and-true (b && true))
   method-parts b true q k xs xs′ a a′ on off h =
       rw (on refl .0, on refl .1)

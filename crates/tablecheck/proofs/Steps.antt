@@ -4,16 +4,16 @@ use mathlib.Core.Bool.{Bool, true, false, not, _&&_, _||_, and-true}
 use mathlib.Core.List.{List}
 use Prim.Native.Nat.{ℕ, zero, suc, _-_, _≤_, _<_}
 use native.Mathlib.Omega.{arith}
-use lib.Dec.{eqb, ltb, leb}
+use lib.Dec.{eqb, ltb}
 use lib.ListN.{length, getD, take}
-use borrow.Author.Tests.{leb-true, lt-ltb, le-ltb, eq-eqb, ne-eqb, not-true, not-false}
+use borrow.Author.Tests.{lt-ltb, le-ltb, eq-eqb, ne-eqb, not-true, not-false}
 use Rattle.model.specs.Basics.{_⇒_, all, unlessMissing}
 use Rattle.model.specs.Table.{isRef, permit, between, linksFit}
 use Rattle.model.specs.Check.{RawLinks, stateOf, repOf, answerOf, linksOf}
 use Rattle.model.proofs.Rules.{first, second}
 use Rattle.table.specs.declared.Counts.{Counts}
 use Rattle.table.specs.declared.Head.{Head}
-use Rattle.tablecheck.specs.Parts.{eachFrom, countsAccepted, linkAccepted, headAccepted, boundOf}
+use Rattle.tablecheck.specs.Parts.{eachFrom, linkAccepted, headAccepted, boundOf}
 use Rattle.tablecheck.proofs.Each.{all-take}
 use Rattle.table.proofs.Codes.{number-rep, ref-rep}
 

@@ -13,22 +13,15 @@ use lib.ListN.{length, getD, take, drop, replicate, length-append, length-replic
 use lib.Seq.{sets, sets-eq, getD-take, length-take-le, take-append-seam, drop-append-add}
 use Rattle.model.specs.Basics.{from}
 use Rattle.model.specs.Table.{permit, Method, noMethod}
-use Rattle.model.specs.Check.{RawMethod, RawType, noRawMethod, stateOf, answerOf, repOf, kindOf, methodOf}
+use Rattle.model.specs.Check.{RawMethod, RawType, noRawMethod, stateOf, repOf, kindOf, methodOf}
 use Rattle.model.specs.Relations.{bit}
-use Rattle.model.specs.Records.{stateCode, repCode, kindCode, answerCode, keyCodes, methodRecord}
+use Rattle.model.specs.Records.{repCode, kindCode, keyCodes, methodRecord}
 use Rattle.model.proofs.Largest.{getD-from-out}
+use Rattle.model.proofs.Codes.{code-back}
 use Rattle.table.specs.Records.{padded, MethodExact, TypeExact}
 use Rattle.table.proofs.Lists.{lt-or-ge, from-first, is-from}
 use Rattle.table.proofs.Laws.{four}
-use Rattle.table.proofs.Codes.{number-rep, ref-rep}
-
--- codes that name something are read back
-pub state-back : (s : ℕ) → s < 4 → stateCode (stateOf s) ≡ s
-state-back zero h = refl
-state-back (suc zero) h = refl
-state-back (suc (suc zero)) h = refl
-state-back (suc (suc (suc zero))) h = refl
-state-back (suc (suc (suc (suc s)))) h = absurd (not-suc-le-zero (le-of-suc-le-suc (le-of-suc-le-suc (le-of-suc-le-suc (le-of-suc-le-suc h)))))
+use Rattle.table.proofs.Codes.{number-rep, ref-rep, state-back}
 
 pub kind-back : (k : ℕ) → k < 3 → kindCode (kindOf k) ≡ k
 kind-back zero h = refl
@@ -41,10 +34,6 @@ rep-back zero h = refl
 rep-back (suc zero) h = refl
 rep-back (suc (suc zero)) h = refl
 rep-back (suc (suc (suc k))) h = absurd (not-suc-le-zero (le-of-suc-le-suc (le-of-suc-le-suc (le-of-suc-le-suc h))))
-
-pub answer-back : (a : ℕ) → answerCode (answerOf a) ≡ a
-answer-back zero = refl
-answer-back (suc a) = refl
 
 short : (n : ℕ) (xs : List ℕ) → length (take n xs) ≤ n
 short zero xs = omega arith
@@ -70,13 +59,14 @@ pub unsigned-exact : (s : ℕ) → s < 4 → permit (stateOf s) ≡ false → Me
 unfolding mk from
 unsigned-exact s h p = rw p (mk-eq (state-back s h) refl refl refl)
 
-pub signed-exact : (m : RawMethod) → m .state < 4 → permit (stateOf (m .state)) ≡ true → m .count ≤ 4 → length (m .args) ≡ 4 → ((k : ℕ) → m .count ≤ k → getD (m .args) k 0 ≡ 0) → MethodExact m
+pub signed-exact : (m : RawMethod) → m .state < 4 → permit (stateOf (m .state)) ≡ true → m .count ≤ 4 → length (m .args) ≡ 4
+    → ((k : ℕ) → m .count ≤ k → getD (m .args) k 0 ≡ 0) → MethodExact m
 unfolding mk from
 signed-exact m h p n l z =
     rw p
     (mk-eq (state-back (m .state) h) (length-take-le (m .count) (m .args) (omega arith))
     (rw (taken (m .count) 0 (m .args) (z 0), taken (m .count) 1 (m .args) (z 1), taken (m .count) 2 (m .args) (z 2), taken (m .count) 3 (m .args) (z 3)) (four (m .args) l))
-    (answer-back (m .answer)))
+    (code-back (m .answer)))
 
 -- a method that isn't there: denied, and every byte of it is 0
 abbrev pub blank : RawMethod
@@ -101,15 +91,18 @@ own-back (suc (suc n)) h = absurd (not-suc-le-zero (le-of-suc-le-suc (le-of-suc-
 mkT : ℕ → ℕ → ℕ → ℕ × ℕ × ℕ → List RawMethod → RawType
 mkT r c o k ms = record { rep = r; cat = c; own = o; kind = k .0; left = k .1; right = k .2; methods = ms }
 
-mkT-eq : {r o r′ o′ : ℕ} (c : ℕ) {k k′ : ℕ × ℕ × ℕ} {m m′ : List RawMethod} → r ≡ r′ → o ≡ o′ → k ≡ k′ → m ≡ m′ → mkT r c o k m ≡ mkT r′ c o′ k′ m′
+mkT-eq : {r o r′ o′ : ℕ} (c : ℕ) {k k′ : ℕ × ℕ × ℕ} {m m′ : List RawMethod} → r ≡ r′ → o ≡ o′ → k ≡ k′ → m ≡ m′
+    → mkT r c o k m ≡ mkT r′ c o′ k′ m′
 mkT-eq c p q s t = cc
 
 module _ (ms sh i : ℕ) (x : RawType) (l : length (x .methods) ≡ 16) (key : KeyExact sh i x) where
-  stored-methods : (ys : List Method) → ((j : ℕ) → j < 16 → getD (x .methods) j noRawMethod ≡ methodRecord (getD ys j noMethod)) → from 16 0 (λ j. methodRecord (getD ys j noMethod)) ≡ x .methods
+  stored-methods : (ys : List Method) → ((j : ℕ) → j < 16 → getD (x .methods) j noRawMethod ≡ methodRecord (getD ys j noMethod))
+      → from 16 0 (λ j. methodRecord (getD ys j noMethod)) ≡ x .methods
   stored-methods ys h = sym (is-from (λ j. methodRecord (getD ys j noMethod)) 16 noRawMethod (x .methods) l h)
 
   -- A reference type whose methods are exact, and blank behind the last.
-  pub ref-exact : x .rep ≡ 0 → x .own < 2 → ((j : ℕ) → j < ms → MethodExact (getD (x .methods) j noRawMethod)) → ((j : ℕ) → ms ≤ j → j < 16 → getD (x .methods) j noRawMethod ≡ blank) → TypeExact ms sh i x
+  pub ref-exact : x .rep ≡ 0 → x .own < 2 → ((j : ℕ) → j < ms → MethodExact (getD (x .methods) j noRawMethod))
+      → ((j : ℕ) → ms ≤ j → j < 16 → getD (x .methods) j noRawMethod ≡ blank) → TypeExact ms sh i x
   unfolding TypeExact mkT from
   ref-exact r o e z =
       let f : ℕ → Method = λ j. methodOf (getD (x .methods) j noRawMethod) in

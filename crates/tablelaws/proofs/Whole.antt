@@ -8,7 +8,7 @@ use native.Mathlib.Omega.{arith}
 use lib.Dec.{leb}
 use lib.ListN.{length, getD, replicate, length-append, List·getD-append}
 use lib.Seq.{getD-append-add}
-use Rattle.model.specs.Basics.{from, every}
+use Rattle.model.specs.Basics.{from}
 use Rattle.model.specs.Table.{Ty, Table, noType, noMethod, size, between, tableFits}
 use Rattle.model.specs.Check.{RawMethod, RawType, RawLinks, RawTable, noRawType, noRawMethod, noRawLinks, typeOf, linksOf, tableOf, codesFit}
 use Rattle.model.specs.Records.{methodRecord, typeRecord, linksRecord}
@@ -28,7 +28,8 @@ module _ {A : Type 0} (f : A → List ℕ) (n : ℕ) (long : (x : A) → length 
   pub flat-length : (xs : List A) → length (flatten (map f xs)) ≡ length xs * n
   unfolding flatten
   flat-length [] = sym (zero-mul n)
-  flat-length (x ∷ xs) = length-append (f x) (flatten (map f xs)) ∙ ap (λ (k : ℕ). k + length (flatten (map f xs))) (long x) ∙ ap (λ (k : ℕ). n + k) (flat-length xs) ∙ add-comm n (length xs * n) ∙ sym (suc-mul (length xs) n)
+  flat-length (x ∷ xs) = length-append (f x) (flatten (map f xs)) ∙ ap (λ (k : ℕ). k + length (flatten (map f xs))) (long x) ∙ ap (λ (k : ℕ). n + k) (flat-length xs)
+      ∙ add-comm n (length xs * n) ∙ sym (suc-mul (length xs) n)
 
   flat-at : (xs : List A) (zs : List ℕ) (d : A) (i p : ℕ) → i < length xs → p < n → getD (flatten (map f xs) ++ zs) (i * n + p) 0 ≡ getD (f (getD xs i d)) p 0
   unfolding flatten
@@ -77,7 +78,8 @@ links-back-at cs k m l =
     links-in (linkBytes cs) k noRawLinks (omega arith)
     ∙ links-eq (ap (λ (n : ℕ). getD (linkBytes cs) n 0) z ∙ at 0 (omega arith)) (at 1 (omega arith)) (at 2 (omega arith))
   where
-    links-eq : {x y z x′ y′ z′ : ℕ} → x ≡ x′ → y ≡ y′ → z ≡ z′ → _≡_ {A = RawLinks} (record { count = x; first = y; second = z }) (record { count = x′; first = y′; second = z′ })
+    links-eq : {x y z x′ y′ z′ : ℕ} → x ≡ x′ → y ≡ y′ → z ≡ z′
+        → _≡_ {A = RawLinks} (record { count = x; first = y; second = z }) (record { count = x′; first = y′; second = z′ })
     links-eq p q r = cc
 
 -- A table that fits: what the bytes that stand for it mean, and that they pass the check.
@@ -99,10 +101,12 @@ module _ (t : Table) (fits : So (tableFits t)) where
   link-agrees (suc k) p l = links-back-at (t .cats) (suc k) (few .0) (omega arith) ∙ sym (getD-map-in linksRecord (t .cats) k [] noRawLinks (omega arith))
 
   -- what is made of each counted record
-  types-same : {A : Type 0} (f : ℕ → RawType → A) → from (size t) 0 (λ i. f i (getD (typesIn (typeBytes (t .types))) i noRawType)) ≡ from (size t) 0 (λ i. f i (getD (map typeRecord (t .types)) i noRawType))
+  types-same : {A : Type 0} (f : ℕ → RawType → A)
+      → from (size t) 0 (λ i. f i (getD (typesIn (typeBytes (t .types))) i noRawType)) ≡ from (size t) 0 (λ i. f i (getD (map typeRecord (t .types)) i noRawType))
   types-same f = from-same _ _ (size t) 0 (λ i p l. ap (f i) (type-agrees i (omega arith)))
 
-  links-same : {A : Type 0} (f : RawLinks → A) → from (length (t .cats)) 1 (λ k. f (getD (linksIn (linkBytes (t .cats))) k noRawLinks)) ≡ from (length (t .cats)) 1 (λ k. f (getD (rawTableOf t .links) k noRawLinks))
+  links-same : {A : Type 0} (f : RawLinks → A) → from (length (t .cats)) 1 (λ k. f (getD (linksIn (linkBytes (t .cats))) k noRawLinks)) ≡ from (length (t .cats)) 1
+      (λ k. f (getD (rawTableOf t .links) k noRawLinks))
   links-same f = from-same _ _ (length (t .cats)) 1 (λ k p l. ap f (link-agrees k p l))
 
   pub bytes-codes : So (codesFit whole)

@@ -13,6 +13,7 @@ use borrow.Rule.Slice.PartMut.{midOf, putMid}
 use Rattle.sheet.specs.Lines.{join}
 use Rattle.sheet.specs.Numbers.{decimalIn, decimal}
 use Rattle.sheet.proofs.Offsets.{join-append}
+use Rattle.sheet.proofs.Lines.{nil-length}
 use Rattle.textwrite.specs.Fill.{Filled, Lined}
 
 pub fill-none : (l : List ℕ) → Filled l l [] 0
@@ -44,7 +45,8 @@ copy-all b t new i a h k e =
     record { said = q; size = ap length w ∙ omega arith; text = λ _. w }
 
 -- a second filling, of the rest
-fill-more : (old mid tl new xs ys : List ℕ) (a b k : ℕ) → Filled old mid xs a → k ≡ min a (length mid) → Filled (drop k mid) tl ys b → new ≡ take k mid ++ tl → Filled old new (xs ++ ys) (a + b)
+fill-more : (old mid tl new xs ys : List ℕ) (a b k : ℕ) → Filled old mid xs a → k ≡ min a (length mid) → Filled (drop k mid) tl ys b → new ≡ take k mid ++ tl
+    → Filled old new (xs ++ ys) (a + b)
 fill-more old mid tl new xs ys a b k f e g n =
     let s = f .said in
     let t = g .said in
@@ -99,10 +101,6 @@ lines-none l = record { filled = fill-none l }
 -- the same lines, said otherwise
 pub lines-are : {old new : List ℕ} {xs ys : List (List ℕ)} {r : ℕ} → xs ≡ ys → Lined old new xs r → Lined old new ys r
 lines-are {old} {new} {r = r} e f = subst (λ z. Lined old new z r) e f
-
-nil-length : (l : List ℕ) → length l ≡ 0 → l ≡ []
-nil-length [] h = refl
-nil-length (x ∷ l) h = absurd (omega arith)
 
 -- A writer on an empty part of the buffer b counts, and leaves b as it is.
 pub counted : {b tl xs : List ℕ} {r : ℕ} → Filled [] tl xs r → tl ++ b ≡ b

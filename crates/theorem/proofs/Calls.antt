@@ -14,7 +14,8 @@ use Rattle.model.specs.Basics.{Res, refuse, ok, names, named, _⇒_}
 use Rattle.model.specs.Table.{Table, size, typeAt, methodAt, argumentAt, answerAt, isRef, permit, isAvail, validSheet}
 use Rattle.model.specs.Relations.{conforms, stateLe, sameRep, outerRule, related}
 use Rattle.model.specs.Crossing.{baseOwner}
-use Rattle.model.specs.Requests.{System, loaded, Request, new, move, call, answer, Result, maxCalls, cellAt, callAt, held, wayOf, argumentsHeld, sendArguments, callRequest, give, answerRequest, serve, after}
+use Rattle.model.specs.Requests.{System, loaded, Request, new, move, call, answer, Result, maxCalls, cellAt, callAt, held, wayOf, argumentsHeld, sendArguments, callRequest, give}
+use Rattle.model.specs.Requests.{answerRequest, serve, after}
 use Rattle.model.specs.Chains.{Permits}
 use Rattle.model.specs.Book.{Note, Book, opened, noteAt, pageAt, pageWay, lastType, copyPage, copyArguments, copyAnswer, enter}
 use Rattle.model.specs.Claim.{accepted, feed, follow, reached}
@@ -23,9 +24,10 @@ use Rattle.model.proofs.Rules.{never, first, second, applied}
 use Rattle.model.proofs.States.{each, each₂}
 use Rattle.model.proofs.Largest.{keeps-related, related-inside}
 use Rattle.model.proofs.Order.{same-sort}
-use Rattle.model.proofs.ChainLaws.{beq-so, steps}
+use Rattle.model.proofs.Tests.{beq-so}
+use Rattle.model.proofs.ChainLaws.{steps}
 use Rattle.model.proofs.Growth.{method-same}
-use Rattle.modellaws.proofs.Steps.{IfOk, ok-need, ok-try}
+use Rattle.modellaws.proofs.Steps.{IfOk, ok-need, ok-try, whatever}
 use Rattle.modellaws.proofs.Demand3.{reached-together, names-below}
 use Rattle.modellaws.proofs.Sheets.{sheet-fitting, sheet-good}
 use Rattle.modellaws.proofs.Checked.{fits-bounded}
@@ -57,10 +59,6 @@ pub record Tested (s : System) (k m : ℤ) : Type 0 where
   pub cell : So (names k (length (s .cells)))
   pub method : So (names m (s .table .methods))
   pub avail : So (isAvail (methodAt (s .table) (cellAt s (named k) .type) (named m) .state))
-
-whatever : {A : Type 0} (m : Res A) → IfOk m (λ _. Unit {0})
-whatever (refuse n) = tt
-whatever (ok a) = tt
 
 pub call-tested : (s : System) (subject k m : ℤ) (vs : List ℤ) → IfOk (serve s (call subject k m vs)) (λ _. Tested s k m)
 unfolding serve callRequest
@@ -150,13 +148,15 @@ unfolding copyArguments copyPage
 arguments-note b way m i [] vs = refl
 arguments-note b way m i (a ∷ xs) [] = refl
 arguments-note b way m i (a ∷ xs) (v ∷ vs) = let c = copyPage b (named v) (map (argumentAt (b .table) m i) way) in
-    either (b .calls) (isRef (typeAt (b .table) a .rep)) (copyArguments c way m (suc i) xs vs) (copyArguments b way m (suc i) xs vs) (arguments-note c way m (suc i) xs vs) (arguments-note b way m (suc i) xs vs)
+    either (b .calls) (isRef (typeAt (b .table) a .rep)) (copyArguments c way m (suc i) xs vs) (copyArguments b way m (suc i) xs vs) (arguments-note c way m (suc i) xs vs)
+    (arguments-note b way m (suc i) xs vs)
 
 answer-note : (b : Book) (n : Note) (due : Option ℕ) (v : Option ℤ) → copyAnswer b n due v .calls ≡ b .calls
 unfolding copyAnswer copyPage
 answer-note b n none v = refl
 answer-note b n (some a) none = refl
-answer-note b n (some a) (some v) = either (b .calls) (isRef (typeAt (b .table) a .rep)) (copyPage b (named v) (reverse (map (answerAt (b .table) (n .method)) (pageWay (pageAt b (n .page)))))) b refl refl
+answer-note b n (some a) (some v) =
+    either (b .calls) (isRef (typeAt (b .table) a .rep)) (copyPage b (named v) (reverse (map (answerAt (b .table) (n .method)) (pageWay (pageAt b (n .page)))))) b refl refl
 
 module _ (s : System) (b : Book) (typed : Typed s) (h : Called s (b .calls)) where
   -- nothing is noted
@@ -170,7 +170,8 @@ module _ (s : System) (b : Book) (typed : Typed s) (h : Called s (b .calls)) whe
       n : Note
       n = record { page = named k; method = named m }
 
-      go : (j : ℕ) → Dec (j < length (b .calls)) → j < suc (length (b .calls)) → Tested s′ (pos (getD (b .calls ++ (n ∷ [])) j noNote .page)) (pos (getD (b .calls ++ (n ∷ [])) j noNote .method))
+      go : (j : ℕ) → Dec (j < length (b .calls)) → j < suc (length (b .calls))
+          → Tested s′ (pos (getD (b .calls ++ (n ∷ [])) j noNote .page)) (pos (getD (b .calls ++ (n ∷ [])) j noNote .method))
       go j (yes l) u = rw (List·getD-append (b .calls) (n ∷ []) noNote j l) (tested-kept s s′ o typed _ _ (h j l))
       go j (no l) u = rw (getD-at (b .calls) n [] noNote j (omega arith)) (tested-kept s s′ o typed _ _ (tested-again s k m w))
 
@@ -190,7 +191,8 @@ module _ (s : System) (b : Book) (typed : Typed s) (h : Called s (b .calls)) whe
       go (ok y) o a = entered q a (y .0) o
 
 -- ---- One request more, for state and book
-pub follow-on : (q : Request) (qs : List Request) (s : System) (b : Book) → let r = follow s b qs in follow s b (qs ++ (q ∷ [])) ≡ (after (r .0) (serve (r .0) q), feed (r .1) q (accepted (serve (r .0) q)))
+pub follow-on : (q : Request) (qs : List Request) (s : System) (b : Book) → let r = follow s b qs in
+    follow s b (qs ++ (q ∷ [])) ≡ (after (r .0) (serve (r .0) q), feed (r .1) q (accepted (serve (r .0) q)))
 unfolding follow
 follow-on q qs s b = follow-both qs (q ∷ []) s b
 

@@ -6,23 +6,17 @@ use mathlib.Core.Option.{Option, none, some}
 use Prim.Native.Nat.{ℕ, _≤_, _<_}
 use native.Mathlib.Omega.{arith}
 use native.Mathlib.Decide.{decLt}
-use lib.Dec.{ltb}
-use lib.ListN.{length, List·getD-map}
 use Rattle.model.specs.Basics.{Res, refuse, ok}
 use Rattle.model.specs.Table.{Table, size, typeAt, tableFits, validSheet}
-use Rattle.model.specs.Crossing.{noPlace, placeAt}
-use Rattle.model.specs.Requests.{System, Request, Result, noCall, callAt, outcome, loaded, serve, after, run}
-use Rattle.model.specs.Check.{RawSystem, tableOf, systemOf, codesFit, stateCodesFit, systemFits, systemAccepted}
-use Rattle.model.specs.Handed.{placeRecord, callRecord, storedFrom}
+use Rattle.model.specs.Requests.{System, Request, Result, outcome, loaded, serve, after, run}
+use Rattle.model.specs.Check.{RawSystem, tableOf, systemOf, codesFit, systemFits, systemAccepted}
+use Rattle.model.specs.Handed.{storedFrom}
 use Rattle.model.specs.Book.{Book, opened}
 use Rattle.model.specs.Claim.{accepted, feed, follow, reached}
-use Rattle.model.proofs.Rules.{both}
-use Rattle.model.proofs.Lists.{all-from}
 use Rattle.model.proofs.Growth.{grown-refl, grown-trans}
 use Rattle.modellaws.proofs.Checked.{system-fitting, fits-bounded}
 use Rattle.modellaws.proofs.Reached.{reached-fits}
-use Rattle.modellaws.proofs.Records.{place-code, call-code}
-use Rattle.modellaws.proofs.Returned.{NewType, Added, request-adds, system-means, accepted-codes, accept, stored-codes}
+use Rattle.modellaws.proofs.Returned.{NewType, Added, request-adds, system-means, accepted-codes, accept, stored-codes, stored-state-codes}
 use Rattle.run.specs.Requested.{asked, placed}
 use Rattle.theorem.specs.Shown.{taken, told}
 
@@ -50,13 +44,6 @@ added-on t u w a b = record { sound = b .sound; grown = grown-trans (a .grown) (
     go : (i : ℕ) → size t ≤ i → i < size w → Dec (i < size u) → NewType (typeAt w i)
     go i l k (yes h) = rw (b .grown .same i h) (a .each i l h)
     go i l k (no h) = b .each i (omega arith) k
-
--- the codes of places and calls, of any state of the model's
-codes-stored : (r : RawSystem) (s : System) → So (stateCodesFit (storedFrom r s))
-unfolding stateCodesFit storedFrom
-codes-stored r s = both
-    (all-from _ (λ p. ltb (p .code) 2) (length (s .places)) 0 λ p l k. rw (List·getD-map placeRecord (s .places) p noPlace) (place-code (placeAt (s .places) p)))
-    (all-from _ (λ c. ltb (c .answered) 2) (length (s .calls)) 0 λ j l k. rw (List·getD-map callRecord (s .calls) j noCall) (call-code (callAt s j)))
 
 module _ (t : Table) (v : So (validSheet t)) where
   follow-added : (qs : List Request) (s : System) (b : Book) → ((ps : List Request) → So (systemFits (follow s b ps .0))) → Added (s .table) (follow s b qs .0 .table)
@@ -91,4 +78,4 @@ module _ (t : Table) (v : So (validSheet t)) where
     codes = stored-codes (r .table) fits (accepted-codes r h .0) (m .table) adds
 
     pub stored-accepted : So (systemAccepted (storedFrom r m))
-    stored-accepted = accept (storedFrom r m) codes (codes-stored r m) (subst (λ s. So (systemFits s)) (sym stored-means) (reached-fits t v (ps ++ qs)))
+    stored-accepted = accept (storedFrom r m) codes (stored-state-codes r m) (subst (λ s. So (systemFits s)) (sym stored-means) (reached-fits t v (ps ++ qs)))

@@ -5,33 +5,34 @@ use mathlib.Core.Logic.{_⊎_, inl, inr}
 use mathlib.Core.Bool.{Bool, true, false, So, cond}
 use mathlib.Core.List.{List, [], _∷_, _++_, map}
 use mathlib.Core.Option.{Option, none, some}
-use Prim.Native.Nat.{ℕ, zero, suc, _+_, _/_, _%_, _≤_, _<_}
+use Prim.Native.Nat.{ℕ, zero, suc, _+_, _≤_, _<_}
 use native.Mathlib.Omega.{arith}
-use lib.Dec.{ltb, leb}
+use lib.Dec.{leb}
 use lib.IntN.{ℤ, pos, negsuc}
 use lib.ListN.{length, take, drop, getElem?, length-append, length-drop}
 use lib.Seq.{take-append-seam, drop-append-seam}
-use borrow.Author.Tests.{leb-true, leb-false, ne-eqb, lt-ltb, le-ltb}
+use borrow.Author.Tests.{leb-true, leb-false, lt-ltb, le-ltb}
 use Rattle.model.specs.Basics.{Res, refuse, ok}
 use Rattle.model.specs.Table.{Table}
 use Rattle.model.specs.Requests.{System, Request, call, Result, pair, number, nothing, Outcome, got, refused, outcome, serve, after, run}
 use Rattle.model.specs.Requests.{loaded as start}
 use Rattle.model.specs.Book.{Book, opened}
 use Rattle.model.specs.Claim.{accepted, feed, follow}
-use Rattle.model.proofs.Rules.{both, never}
+use Rattle.model.proofs.Rules.{never}
 use Rattle.modellaws.proofs.Steps.{IfOk}
-use Rattle.sheet.specs.Lines.{Row, row, cut, bytes, split, join, starts, firstLine}
-use Rattle.sheet.specs.Numbers.{decimal, decimalIn}
+use Rattle.sheet.specs.Lines.{Row, row, cut, bytes, split, join, starts, firstLine, notLF, clean}
+use Rattle.sheet.specs.Numbers.{decimal}
 use Rattle.sheet.specs.Text.{numberText, Written, writeText}
 use Rattle.sheet.specs.Sheet.{SheetAnswer, malformed, loaded, read}
-use Rattle.sheet.proofs.Steps.{clash}
-use Rattle.sheet.proofs.Lines.{rows, notLF, clean, Clean, clean-lines, all-append, split-full}
+use Rattle.sheet.proofs.Steps.{none-some}
+use Rattle.sheet.proofs.Lines.{rows, Clean, clean-lines, all-append, split-full, decimal-clean}
 use Rattle.sheet.proofs.Exact.{loaded-valid, loaded-demand3}
 use Rattle.requestread.specs.Asked.{requestLine}
 use Rattle.answerwrite.specs.Answers.{integerText, outcomeText}
 use Rattle.scripttext.specs.Output.{maxInput, sheetPart, requestPart, asked, servedLines, printedLines, scriptOutput}
 use Rattle.scripttext.specs.Answer.{writtenOf}
 use Rattle.scripttext.proofs.Short.{output-short, output-fits}
+use Rattle.scripttext.proofs.Whole.{lastLine}
 use Rattle.theorem.specs.Shown.{Permitted}
 use Rattle.theorem.specs.Scripted.{Fits, TooShort, lineOf, requestsOf, endsMalformed, stateAfter, bookAfter, Served, ShownOfScripts}
 use Rattle.theorem.proofs.Calls.{call-tested, tested-permitted}
@@ -58,26 +59,15 @@ written text old = go (leb (length text) (length old)) refl
     go false e = inr (record { short = leb-false (length text) (length old) e; answer = refl; untouched = refl })
 
 -- ---- no line has an LF
-digit-clean : (n : ℕ) → So (notLF (48 + n))
-digit-clean n = ap (λ z. cond z false true) (ne-eqb (48 + n) 10 (λ q. omega arith))
-
-decimal-clean : (f n : ℕ) → So (clean (decimalIn f n))
-unfolding decimalIn
-decimal-clean zero n = refl
-decimal-clean (suc f) n = go (decimal-clean f (n / 10)) (ltb n 10)
-  where
-    go : So (clean (decimalIn f (n / 10))) → (b : Bool) → So (clean (cond b ((48 + n) ∷ []) (decimalIn f (n / 10) ++ (48 + n % 10) ∷ [])))
-    go ih true = both (digit-clean n) refl
-    go ih false = all-append notLF (decimalIn f (n / 10)) ((48 + n % 10) ∷ []) ih (both (digit-clean (n % 10)) refl)
 
 number-clean : (key : List ℕ) (n : ℕ) → So (clean key) → So (clean (numberText key n))
 unfolding numberText
-number-clean key n h = all-append notLF key (decimal n) h (decimal-clean 20 n)
+number-clean key n h = all-append notLF key (decimal n) h (decimal-clean n)
 
 integer-clean : (v : ℤ) → So (clean (integerText v))
 unfolding integerText
-integer-clean (pos n) = decimal-clean 20 n
-integer-clean (negsuc n) = decimal-clean 20 (suc n)
+integer-clean (pos n) = decimal-clean n
+integer-clean (negsuc n) = decimal-clean (suc n)
 
 outcome-clean : (o : Outcome) → So (clean (outcomeText o))
 unfolding outcomeText
@@ -94,16 +84,14 @@ outcomes-clean (o ∷ os) = (outcome-clean o, outcomes-clean os)
 some-value : {x y : Request} → some x ≡ some y → x ≡ y
 some-value p = cc
 
-none-some : {A C : Type 0} {x : A} → none ≡ some x → C
-none-some p = let z : _≡_ {A = ℕ} 0 1 = cc in absurd (omega arith)
-
 line-asks : (rs : List Row) (k : ℕ) (q : Request) → getElem? (asked rs .0) k ≡ some q → requestLine (firstLine (drop k rs)) ≡ some q
 unfolding asked
 line-asks [] k q h = none-some h
 line-asks (cut l ∷ rs) k q h = none-some h
 line-asks (row l ∷ rs) k q h = go (requestLine l) refl k h (λ k. line-asks rs k q)
   where
-    go : (o : Option Request) → requestLine l ≡ o → (k : ℕ) → getElem? (elim o as (λ _. List Request × Bool) [ none ↦ ([], true) | some q ↦ (q ∷ asked rs .0, asked rs .1) ] .0) k ≡ some q
+    go : (o : Option Request) → requestLine l ≡ o → (k : ℕ)
+        → getElem? (elim o as (λ _. List Request × Bool) [ none ↦ ([], true) | some q ↦ (q ∷ asked rs .0, asked rs .1) ] .0) k ≡ some q
         → ((k : ℕ) → getElem? (asked rs .0) k ≡ some q → requestLine (firstLine (drop k rs)) ≡ some q) → requestLine (firstLine (drop k (row l ∷ rs))) ≡ some q
     go none e k h ih = none-some h
     go (some p) e zero h ih = e ∙ h
@@ -123,12 +111,12 @@ lines-stop (row l ∷ rs) h = go (requestLine l) refl h (lines-stop rs)
 lines-all : (rs : List Row) → asked rs .1 ≡ false → drop (length (asked rs .0)) rs ≡ []
 unfolding asked
 lines-all [] h = refl
-lines-all (cut l ∷ rs) h = clash h
+lines-all (cut l ∷ rs) h = never (sym h)
 lines-all (row l ∷ rs) h = go (requestLine l) h (lines-all rs)
   where
     go : (o : Option Request) → let x : List Request × Bool = elim o [ none ↦ ([], true) | some q ↦ (q ∷ asked rs .0, asked rs .1) ] in x .1 ≡ false
         → (asked rs .1 ≡ false → drop (length (asked rs .0)) rs ≡ []) → drop (length (x .0)) (row l ∷ rs) ≡ []
-    go none h ih = clash h
+    go none h ih = never (sym h)
     go (some q) h ih = ih h
 
 line-prints : (qs : List Request) (k : ℕ) (q : Request) → getElem? qs k ≡ some q → (s : System) (b : Book) (ls : List (List ℕ))
@@ -154,8 +142,6 @@ if-accepted (refuse e) p h = never h
 if-accepted (ok x) p h = p
 
 -- ---- the output by its cases
-abbrev lastLine : Bool → List (List ℕ)
-lastLine b = cond b (bytes "no=1" ∷ []) []
 
 last-clean : (b : Bool) → Clean (lastLine b)
 last-clean true = (refl, tt)

@@ -43,7 +43,13 @@ returns c = let a = c .before .before .before .before .before .before .before .b
       (layersIn (c .before .before .before .before .before .before .layers-of .result)) (wayIn (c .before .before .before .before .before .way-of .result))
       (c .before .before .before .before .before .before .layers-of .ensures .are) (c .before .before .before .before .before .way-of .ensures .0)
       (targetsIn (c .before .targets-of .result)) (targetsIn (c .reversed .result)) (c .before .targets-of .ensures .0) (c .reversed .ensures .0),
-  omega (arith, c .reversed .ensures .1, c .before .targets-of .ensures .1, c .before .before .before .before .before .way-of .ensures .1, c .before .before .before .before .before .before .layers-of .ensures .few),
+  omega (
+    arith,
+    c .reversed .ensures .1,
+    c .before .targets-of .ensures .1,
+    c .before .before .before .before .before .way-of .ensures .1,
+    c .before .before .before .before .before .before .layers-of .ensures .few,
+  ),
 )
 
 pub answers-met-spec : {M : Type 1} → statement M

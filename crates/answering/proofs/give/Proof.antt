@@ -55,7 +55,8 @@ returns-2 c = λ subject w. let a = c .before .before .before .before .before .b
     (a .given) (c .refused2 .result) (c .before .if2 .taken) (c .before .before .enum-told .given .1) (c .refused2 .ensures)
 
 answered-requires : tie.Need-answered-requires
-answered-requires c κs = (c .before .before .before .before .before .before .before .before .before .pre .0, c .before .before .before .before .before .before .before .before .before .pre .1 .number, refl)
+answered-requires c κs =
+    (c .before .before .before .before .before .before .before .before .before .pre .0, c .before .before .before .before .before .before .before .before .before .pre .1 .number, refl)
 
 returns-3 : tie.Need-returns-3
 returns-3 c = λ subject w. let a = c .before .before .before .before .before .before .before .before .before .before .before .args in

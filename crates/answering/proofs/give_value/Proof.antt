@@ -36,8 +36,14 @@ returns c = λ subject w. let a = c .before .before .before .before .before .bef
     ∙ not-true (c .before .before .is-held .result) (c .before .if2 .taken)) (c .refused .result) (c .refused .ensures)
 
 give-reference-requires : tie.Need-give-reference-requires
-give-reference-requires c κs = let h = c .before .before .before .before .before .before .before .before .before .before .pre in
-    (h .0, h .1 .number, omega (arith, h .1 .place), omega (arith, h .1 .sort), c .before .before .before .before .before .before .before .wide .ensures .1, c .before .before .before .before .before .before .answers-met .ensures .1)
+give-reference-requires c κs = let h = c .before .before .before .before .before .before .before .before .before .before .pre in (
+  h .0,
+  h .1 .number,
+  omega (arith, h .1 .place),
+  omega (arith, h .1 .sort),
+  c .before .before .before .before .before .before .before .wide .ensures .1,
+  c .before .before .before .before .before .before .answers-met .ensures .1,
+)
 
 returns-2 : tie.Need-returns-2
 returns-2 c = λ subject w. let a = c .before .before .before .before .before .before .before .before .before .before .before .args in
@@ -50,7 +56,8 @@ returns-2 c = λ subject w. let a = c .before .before .before .before .before .b
     (c .give-reference .result) (rw (toZ-ofZ (c .before .before .before .before .before .before .before .before .before .before .before .fits .v)) at (c .give-reference .ensures))
 
 pass-requires : tie.Need-pass-requires
-pass-requires c κs = (c .before .before .before .before .before .before .before .before .before .before .pre .0 .checked .limits, c .before .before .before .before .before .before .answers-met .ensures .1)
+pass-requires c κs =
+    (c .before .before .before .before .before .before .before .before .before .before .pre .0 .checked .limits, c .before .before .before .before .before .before .answers-met .ensures .1)
 
 refused-requires-2 : tie.Need-refused-requires-2
 refused-requires-2 c κs = search needs
@@ -66,7 +73,11 @@ returns-3 c = λ subject w. let a = c .before .before .before .before .before .b
     (c .before .before .pass .ensures)) (c .before .if3 .taken) (c .refused2 .result) (c .refused2 .ensures)
 
 answered-requires : tie.Need-answered-requires
-answered-requires c κs = (c .before .before .before .before .before .before .before .before .before .before .before .before .pre .0, c .before .before .before .before .before .before .before .before .before .before .before .before .pre .1 .number, refl)
+answered-requires c κs = (
+  c .before .before .before .before .before .before .before .before .before .before .before .before .pre .0,
+  c .before .before .before .before .before .before .before .before .before .before .before .before .pre .1 .number,
+  refl,
+)
 
 returns-4 : tie.Need-returns-4
 returns-4 c = λ subject w. let a = c .before .before .before .before .before .before .before .before .before .before .before .before .before .args in

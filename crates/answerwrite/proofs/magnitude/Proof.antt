@@ -1,4 +1,4 @@
--- Rests on `opposite`; a signed local is kept as 64 bits, from which `toZ-ofZ` reads it back.
+-- A number without its sign: a negative one is turned round before the 1 is added, so that the least 64-bit number is met too (`opposite`).
 use mir.Facts.{toZ-ofZ}
 use native.Mathlib.Omega.{arith}
 use Rattle.operand.proofs.Laws.{index-cast}

@@ -1,3 +1,4 @@
+-- A signed decimal stands in the buffer: the sign where there is one, then the digits of the magnitude in the rest (`fill-rest`).
 use Rattle.textwrite.proofs.Laws.{fill-rest, fill-is}
 -- Rests on `fill-rest`, and on `integer-negative` and `integer-positive`; a signed local is kept as 64 bits, from which `toZ-ofZ` reads it back.
 use lib.IntN.{natAbs}

@@ -1,4 +1,4 @@
--- One variant after the other.
+-- The line of an answer is chosen by its variant, as the definition chooses by the outcome; each variant's writer has its text.
 use Rattle.textwrite.proofs.Laws.{lines-are}
 use mir.Facts.{toZ-ofZ}
 use Rattle.answerwrite.proofs.Laws.{refused-is, paired-is, numbered-is, nothing-is}

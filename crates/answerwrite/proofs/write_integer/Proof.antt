@@ -1,4 +1,4 @@
--- Rests on `fill-rest`, twice, and `number-is`.
+-- The line of a number answered: key, number and LF, each written in the rest that the one before left (`fill-rest`), are its text (`number-is`).
 use mir.Facts.{toZ-ofZ}
 use Rattle.answerwrite.proofs.Laws.{number-is}
 use Rattle.textwrite.proofs.Laws.{fill-rest, fill-is, ended}

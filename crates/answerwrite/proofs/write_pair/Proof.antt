@@ -1,4 +1,4 @@
--- Rests on `fill-rest` and `pair-is`.
+-- The line of two numbers: the second is written in the rest behind the first (`fill-rest`), and both together are its text (`pair-is`).
 use Rattle.answerwrite.proofs.Laws.{pair-is}
 use Rattle.textwrite.proofs.Laws.{fill-rest, fill-is, ended}
 use native.Mathlib.Omega.{arith}

@@ -1,4 +1,4 @@
--- The width of 32 bits.
+-- A number fits 32 bits where it lies between the two ends: the code's two comparisons are the definition's one test (C14).
 use mir.Facts.{toZ-ofZ}
 use mathlib.Core.Path.{refl, sym, _∙_}
 use borrow.Author.Needs.{needs}

@@ -5,8 +5,9 @@ use Prim.Native.Nat.{ℕ, _-_, _≤_}
 use native.Mathlib.Omega.{arith}
 use lib.ListN.{length, take, length-set}
 use Rattle.model.specs.Check.{answerOf}
+use Rattle.model.specs.Records.{answerCode}
 use Rattle.table.specs.Store.{tableIn}
-use Rattle.carry.specs.Carried.{slotAt, codeOf}
+use Rattle.carry.specs.Carried.{slotAt}
 use Rattle.carry.proofs.Laws.{targets-next, targets-end}
 use Rattle.carry.proofs.targets_of.Statement.{statement}
 use Rattle.carry.proofs.targets_of.Tie as tie
@@ -47,7 +48,7 @@ loop-again c =
       length-set (w .list) (w .i) _ ∙ w .inv .1,
       λ l. targets-next (slotAt (tableIn (a .types .now) l (a .c)) (a .m) (a .s)) (w .list) (a .w .list) (w .i) _ (w .inv .1) (y .1)
           (omega (arith, c .before .before .loop-test .taken, c .before .before .before .before .pre .1))
-          (c .target-at .ensures l ∙ ap (λ (t : ℕ). codeOf (slotAt (tableIn (a .types .now) l (a .c)) (a .m) (a .s) t)) (y .0)) (w .inv .2 l),
+          (c .target-at .ensures l ∙ ap (λ (t : ℕ). answerCode (slotAt (tableIn (a .types .now) l (a .c)) (a .m) (a .s) t)) (y .0)) (w .inv .2 l),
     )
 
 returns : tie.Need-returns Inv-loop μ-loop

@@ -167,7 +167,8 @@ enum-told-4 c = search needs
 returns-3 : tie.Need-returns-3 Inv-loop μ-loop
 returns-3 c = new-full (begun (c .before .before .before .before .before .before .before .before .before .before .before .before))
     (c .before .before .before .before .before .before .before .before .before .before .loop .inv) (c .before .before .sub .ensures .keeps)
-    (answer-full (c .before .before .before .before .before .before .before .before .before .before .loop .inv) (c .before .before .before .before .before .before .before .before .before .loop-test .taken)
+    (answer-full (c .before .before .before .before .before .before .before .before .before .before .loop .inv)
+    (c .before .before .before .before .before .before .before .before .before .loop-test .taken)
     (slot (c .before .before .before .before .before .before .before)) (c .before .before .before .before .before .before .before .slot-at .ensures .1)
     (c .before .before .before .before .before .l4 .given .1) (c .before .before .sub .ensures) (c .enum-told4 .given .1))
 

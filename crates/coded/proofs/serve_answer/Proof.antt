@@ -2,11 +2,12 @@
 use Rattle.state.specs.View.{systemIn}
 use Rattle.operand.specs.Coded.{byCode}
 use Rattle.coded.proofs.Words.{is-read}
-use Rattle.coded.proofs.Laws.{refuses, step-as, answer-none, nothing-is, answer-is}
-use native.Mathlib.Omega.{arith}
+use Rattle.coded.proofs.Laws.{refuses, answer-none, nothing-is, answer-is}
 use borrow.Author.Needs.{needs}
 use Rattle.coded.proofs.serve_answer.Statement.{statement}
 use Rattle.coded.proofs.serve_answer.Tie as tie
+use Rattle.steps.proofs.Laws.{step-as}
+use mathlib.Core.Path.{sym}
 
 shared-slice-copy-out-answer-step : tie.Need-shared-slice-copy-out-answer-step
 shared-slice-copy-out-answer-step c = search needs
@@ -19,7 +20,8 @@ answer-step-requires c κs = search needs
 
 returns : tie.Need-returns
 returns c = let a = c .before .before .before .before .args in let w = a .ops .now in
-    step-as (nothing-is (systemIn (a .s)) w (c .before .before .before .if1 .taken)) (rw (is-read w 0 (c .before .before .answer-step-arg .given), is-read w 1 (c .before .answer-step-arg2 .given)) at (c .answer-step .ensures))
+    step-as (sym (nothing-is (systemIn (a .s)) w (c .before .before .before .if1 .taken)))
+    (rw (is-read w 0 (c .before .before .answer-step-arg .given), is-read w 1 (c .before .answer-step-arg2 .given)) at (c .answer-step .ensures))
 
 refused-requires : tie.Need-refused-requires
 refused-requires c κs = search needs
@@ -42,7 +44,7 @@ answer-step-requires-2 c κs = search needs
 
 returns-3 : tie.Need-returns-3
 returns-3 c = let a = c .before .before .before .before .before .before .args in let w = a .ops .now in
-    step-as (answer-is (systemIn (a .s)) w (c .before .before .before .before .before .if1 .left) (c .before .before .before .before .if2 .left))
+    step-as (sym (answer-is (systemIn (a .s)) w (c .before .before .before .before .before .if1 .left) (c .before .before .before .before .if2 .left)))
     (rw (is-read w 0 (c .before .before .answer-step-arg3 .given), is-read w 1 (c .before .answer-step-arg4 .given), is-read w 2 (c .before .before .before .v .given)) at (c .answer-step2 .ensures))
 
 pub serve-answer-spec : {M : Type 1} → statement M

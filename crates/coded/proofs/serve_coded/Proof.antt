@@ -1,17 +1,16 @@
 -- One of the four by its code, or none.
 use mathlib.Core.List.{List}
-use mathlib.Core.Option.{none}
 use mathlib.Core.Path.{_≡_, sym, ap}
 use Prim.Native.Nat.{ℕ}
 use lib.IntN.{ℤ}
 use Rattle.state.specs.View.{systemIn}
 use Rattle.operand.specs.Coded.{byCode}
 use Rattle.coded.specs.Coded.{serveAsked}
-use Rattle.coded.proofs.Laws.{refuses, step-as, code-none}
-use native.Mathlib.Omega.{arith}
+use Rattle.coded.proofs.Laws.{refuses, code-none}
 use borrow.Author.Needs.{needs}
 use Rattle.coded.proofs.serve_coded.Statement.{statement}
 use Rattle.coded.proofs.serve_coded.Tie as tie
+use Rattle.steps.proofs.Laws.{step-as}
 
 chosen : (k n : ℕ) (ws : List ℤ) → k ≡ n → byCode n ws ≡ byCode k ws
 chosen k n ws h = ap (λ (m : ℕ). byCode m ws) (sym h)
@@ -21,28 +20,28 @@ serve-new-requires c κs = search needs
 
 returns : tie.Need-returns
 returns c = let a = c .before .before .args in
-    step-as (ap (serveAsked (systemIn (a .s))) (chosen (a .k) 0 (a .ops .now) (c .before .if1 .taken))) (c .serve-new .ensures)
+    step-as (sym (ap (serveAsked (systemIn (a .s))) (chosen (a .k) 0 (a .ops .now) (c .before .if1 .taken)))) (c .serve-new .ensures)
 
 serve-move-requires : tie.Need-serve-move-requires
 serve-move-requires c κs = search needs
 
 returns-2 : tie.Need-returns-2
 returns-2 c = let a = c .before .before .before .args in
-    step-as (ap (serveAsked (systemIn (a .s))) (chosen (a .k) 1 (a .ops .now) (c .before .if2 .taken))) (c .serve-move .ensures)
+    step-as (sym (ap (serveAsked (systemIn (a .s))) (chosen (a .k) 1 (a .ops .now) (c .before .if2 .taken)))) (c .serve-move .ensures)
 
 serve-call-requires : tie.Need-serve-call-requires
 serve-call-requires c κs = search needs
 
 returns-3 : tie.Need-returns-3
 returns-3 c = let a = c .before .before .before .before .args in
-    step-as (ap (serveAsked (systemIn (a .s))) (chosen (a .k) 2 (a .ops .now) (c .before .if3 .taken))) (c .serve-call .ensures)
+    step-as (sym (ap (serveAsked (systemIn (a .s))) (chosen (a .k) 2 (a .ops .now) (c .before .if3 .taken)))) (c .serve-call .ensures)
 
 serve-answer-requires : tie.Need-serve-answer-requires
 serve-answer-requires c κs = search needs
 
 returns-4 : tie.Need-returns-4
 returns-4 c = let a = c .before .before .before .before .before .args in
-    step-as (ap (serveAsked (systemIn (a .s))) (chosen (a .k) 3 (a .ops .now) (c .before .if4 .taken))) (c .serve-answer .ensures)
+    step-as (sym (ap (serveAsked (systemIn (a .s))) (chosen (a .k) 3 (a .ops .now) (c .before .if4 .taken)))) (c .serve-answer .ensures)
 
 refused-requires : tie.Need-refused-requires
 refused-requires c κs = search needs

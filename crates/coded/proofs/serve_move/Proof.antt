@@ -2,16 +2,21 @@
 use Rattle.state.specs.View.{systemIn}
 use Rattle.operand.specs.Coded.{byCode}
 use Rattle.coded.proofs.Words.{is-read}
-use Rattle.coded.proofs.Laws.{refuses, step-as, move-none, move-is}
+use Rattle.coded.proofs.Laws.{refuses, move-none, move-is}
 use borrow.Author.Needs.{needs}
 use Rattle.coded.proofs.serve_move.Statement.{statement}
 use Rattle.coded.proofs.serve_move.Tie as tie
+use Rattle.steps.proofs.Laws.{step-as}
+use mathlib.Core.Path.{sym}
 
 refused-requires : tie.Need-refused-requires
 refused-requires c κs = search needs
 
 returns : tie.Need-returns
-returns c = let a = c .before .before .args in let w = a .ops .now in refuses (a .s) (byCode 1 w) (c .refused .result) (c .before .before .pre) (move-none (systemIn (a .s)) w (c .before .if1 .taken)) (c .refused .ensures)
+returns c =
+    let a = c .before .before .args in
+    let w = a .ops .now in
+    refuses (a .s) (byCode 1 w) (c .refused .result) (c .before .before .pre) (move-none (systemIn (a .s)) w (c .before .if1 .taken)) (c .refused .ensures)
 
 shared-slice-copy-out-move-step : tie.Need-shared-slice-copy-out-move-step
 shared-slice-copy-out-move-step c = search needs
@@ -30,7 +35,13 @@ move-step-requires c κs = search needs
 
 returns-2 : tie.Need-returns-2
 returns-2 c = let a = c .before .before .before .before .before .before .args in let w = a .ops .now in
-    step-as (move-is (systemIn (a .s)) w (c .before .before .before .before .before .if1 .left)) (rw (is-read w 0 (c .before .before .before .before .move-step-arg .given), is-read w 1 (c .before .before .before .move-step-arg2 .given), is-read w 2 (c .before .before .move-step-arg3 .given), is-read w 3 (c .before .move-step-arg4 .given)) at (c .move-step .ensures))
+    step-as (sym (move-is (systemIn (a .s)) w (c .before .before .before .before .before .if1 .left)))
+    (rw (
+      is-read w 0 (c .before .before .before .before .move-step-arg .given),
+      is-read w 1 (c .before .before .before .move-step-arg2 .given),
+      is-read w 2 (c .before .before .move-step-arg3 .given),
+      is-read w 3 (c .before .move-step-arg4 .given),
+    ) at (c .move-step .ensures))
 
 pub serve-move-spec : {M : Type 1} → statement M
 serve-move-spec =

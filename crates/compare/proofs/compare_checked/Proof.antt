@@ -1,4 +1,4 @@
--- Rests on the laws of Compare; a signed local is kept as 64 bits, from which `toZ-ofZ` reads it back.
+-- Compare in a checked table is the model's: 7 where an index is none of the table, else the four answers at the pair.
 use mir.Facts.{toZ-ofZ}
 use borrow.Author.Needs.{needs}
 use Rattle.table.specs.Store.{tableIn}

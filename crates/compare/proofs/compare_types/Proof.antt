@@ -1,4 +1,4 @@
--- Rests on the check of the table, and on Compare in a checked one; a signed local is kept as 64 bits, from which `toZ-ofZ` reads it back.
+-- Compare on any table: 2 exactly where the check fails; behind it the checked one answers, whose operands are read back from their 64 bits (`toZ-ofZ`).
 use mathlib.Core.Path.{sym, _∙_}
 use mir.Facts.{toZ-ofZ}
 use borrow.Author.Needs.{needs}

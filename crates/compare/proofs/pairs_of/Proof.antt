@@ -1,4 +1,4 @@
--- Rests on the check of the table, and on the pair table of a checked one.
+-- The pair table of any table: 2 exactly where the check fails, else the one that is made of a checked table.
 use mathlib.Core.Path.{sym, _∙_}
 use borrow.Author.Needs.{needs}
 use Rattle.tablecheck.proofs.Accepted.{accepted-checked}

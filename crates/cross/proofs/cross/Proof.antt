@@ -1,4 +1,4 @@
--- What `lead` answered, and then what `meet` did.
+-- A crossing is what `lead` answered (X1 to X5), and where that goes on what `meet` did (X6 to X10): put together they are the model's.
 use mathlib.Core.Path.{ap, _∙_}
 use Rattle.model.specs.Crossing.{placeType}
 use Rattle.cross.proofs.Laws.{cross-refused, cross-stays, led-to, led-ready, cross-meets}

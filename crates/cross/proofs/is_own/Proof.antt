@@ -1,4 +1,4 @@
--- Rests on `own-out` and `own-in`.
+-- The own flag of a type that the bytes hold, no beyond the count: the two cases of the model's lookup (`own-out`, `own-in`).
 use Rattle.cross.proofs.Laws.{own-out, own-in}
 use native.Mathlib.Omega.{arith}
 use Rattle.cross.proofs.is_own.Statement.{statement}

@@ -1,4 +1,4 @@
--- Rests on `past-found` and `past-none`.
+-- Where the next line begins: behind the LF that the search found (`past-found`), or where it stood if the text ends first (`past-none`).
 use borrow.Author.Needs.{needs}
 use Rattle.cursor.proofs.Laws.{past-found, past-none}
 use Rattle.cursor.proofs.behind.Statement.{statement}

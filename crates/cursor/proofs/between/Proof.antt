@@ -1,4 +1,4 @@
--- Rests on `past-within`, `line-passed` and `line-stayed`.
+-- The bytes between two places of the cursor are the line there: all but its LF where it was passed (`line-passed`), none where the cursor stayed (`line-stayed`).
 use native.Mathlib.Omega.{arith}
 use borrow.Author.Needs.{needs}
 use Rattle.cursor.proofs.Laws.{past-within, line-passed, line-stayed}

@@ -71,7 +71,9 @@ module _ {M : Type 1} (𝓤 : URA M) (H : Heap 𝓤) (A : Atoms 𝓤) (W : Given
     asked : ent 𝓤 (⋆ 𝓤 H A ((‵ (flft κ q) ⊛ ‵ (flft (α ∷ []) fullShare) ⊛ ‵ ftrue) ∷ ‵ (ShrSlice (named 0) κ u8 .own s (sv ∷ [])) ∷ ‵
         (MutRef (named 0) (α ∷ []) R .own c (vptr l 0 ∷ [])) ∷ [])) (SkipLine 𝓤 H A at-mem run .pre to)
     asked =
-        qed W ((‵ (flft κ q) ⊛ ‵ (flft (α ∷ []) fullShare) ⊛ ‵ ftrue) ∷ ‵ (ShrSlice (named 0) κ u8 .own s (sv ∷ [])) ∷ ‵ (MutRef (named 0) (α ∷ []) R .own c (vptr l 0 ∷ [])) ∷
+        qed W
+        ((‵ (flft κ q) ⊛ ‵ (flft (α ∷ []) fullShare) ⊛ ‵ ftrue) ∷ ‵ (ShrSlice (named 0) κ u8 .own s (sv ∷ [])) ∷ ‵
+        (MutRef (named 0) (α ∷ []) R .own c (vptr l 0 ∷ [])) ∷
         []) ∵ suffices ! _ (bare 𝓤 _) $ frame ! $
         nothing ! $ move ! (2 ∷ 0 ∷ []) $ fjoin ! $ move ! (1 ∷ 0 ∷ []) $ fjoin ! $ done !
 

@@ -63,7 +63,8 @@ module _ {M : Type 1} (𝓤 : URA M) (H : Heap 𝓤) (A : Atoms 𝓤) (W : Given
   spelled : (r : ℕ) (u : Val) → Is usize r (u ∷ []) → u ≡ vint w64 r
   spelled r u is = ap only (is .0)
 
-  exits : (r : ℕ) → Told r → ent 𝓤 (⋆ 𝓤 H A (‵ (fobs γ (R .coded .code (h r))) ∷ ‵ (fbor κ′ (Body (mem R) b o γ)) ∷ ‵ (flft κ′ q′) ∷ (‵ (flft κ q) ⊛ ‵ ftrue) ∷ [])) (Post vunit)
+  exits : (r : ℕ) → Told r
+      → ent 𝓤 (⋆ 𝓤 H A (‵ (fobs γ (R .coded .code (h r))) ∷ ‵ (fbor κ′ (Body (mem R) b o γ)) ∷ ‵ (flft κ′ q′) ∷ (‵ (flft κ q) ⊛ ‵ ftrue) ∷ [])) (Post vunit)
   exits r e =
       qed W (‵ (fobs γ (R .coded .code (h r))) ∷ ‵ (fbor κ′ (Body (mem R) b o γ)) ∷ ‵ (flft κ′ q′) ∷ (‵ (flft κ q) ⊛ ‵ ftrue) ∷ []) ∵
       suffices ! _ (ends-at 𝓤 H A skip-line.ended stayed (skip-line.clauses 𝓤 H A at-mem run) W (((κ, (κ′, tt)), (q, (q′, tt)), bounds, a, at), tt) vunit tt (tt, (h r, tt))

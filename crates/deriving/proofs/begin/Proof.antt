@@ -1,4 +1,4 @@
--- Rests on `begins-self`, `begins-number` and `begins-search`.
+-- What needs no new type: itself (D12), the main side of numbers (D13), or one with the key that is known (D14); every return is the definition's next case.
 use mathlib.Core.Path.{sym, _∙_}
 use borrow.Author.Tests.{not-true, not-false}
 use Rattle.deriving.specs.Begins.{refIn}

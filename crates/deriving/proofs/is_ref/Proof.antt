@@ -1,4 +1,4 @@
--- Rests on `no-ref` and `ref-code`.
+-- Whether a number names a reference type of the first n: not past them, and by the code of its record.
 use borrow.Author.Needs.{needs}
 use Rattle.deriving.proofs.Begins.{no-ref, ref-code}
 use Rattle.deriving.proofs.is_ref.Tie as tie

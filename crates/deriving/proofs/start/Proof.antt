@@ -1,4 +1,4 @@
--- What `get_type`, `pending` and `put_type` ensure.
+-- The type at work stands in the table with its key before its signatures are derived (D16): by what `get_type`, `pending` and `put_type` ensure.
 use mathlib.Core.Path.{refl, subst}
 use Rattle.model.specs.Check.{RawType}
 use Rattle.table.specs.Store.{Put}

@@ -1,4 +1,4 @@
--- Rests on Compare; a signed local is kept as 64 bits, from which `toZ-ofZ` reads it back.
+-- The C function gives the number and the answers that Compare gives: its signed operands are kept as 64 bits and read back unchanged (`toZ-ofZ`).
 use mathlib.Core.Path.{ap, _∙_}
 use mir.Facts.{toZ-ofZ}
 use borrow.Author.Needs.{needs}

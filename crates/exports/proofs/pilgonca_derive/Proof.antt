@@ -1,4 +1,4 @@
--- Rests on the derivation's contract; a signed local is kept as 64 bits, from which `toZ-ofZ` reads it back.
+-- The C function stores what the derivation answers, and on a refusal what was there: by the derivation's contract, with operands read back from 64 bits (`toZ-ofZ`).
 use mathlib.Core.Path.{refl, ap, subst}
 use mir.Facts.{toZ-ofZ}
 use Rattle.table.specs.Store.{withCount}
@@ -34,7 +34,8 @@ returns c =
     let a = s .args in
     let r = c .before .before .derive in
     let g = rw (toZ-ofZ (s .fits .t), toZ-ofZ (s .fits .s), c .before .before .before .before .counts-of .ensures) at (r .ensures) in
-    derivation-refused (a .links .now) _ 2 (lent (a .types .now) (a .counts .now) (a .number .now)) (r .last .0) refl (ap (λ z. left (countsIn (a .counts .now)) z (r .last .0)) (c .enum-told .given .1)) g
+    derivation-refused (a .links .now) _ 2 (lent (a .types .now) (a .counts .now) (a .number .now)) (r .last .0) refl
+    (ap (λ z. left (countsIn (a .counts .now)) z (r .last .0)) (c .enum-told .given .1)) g
 
 returns-2 : tie.Need-returns-2
 returns-2 c =
@@ -42,7 +43,8 @@ returns-2 c =
     let a = s .args in
     let r = c .before .before .derive in
     let g = rw (toZ-ofZ (s .fits .t), toZ-ofZ (s .fits .s), c .before .before .before .before .counts-of .ensures) at (r .ensures) in
-    derivation-refused (a .links .now) _ 7 (lent (a .types .now) (a .counts .now) (a .number .now)) (r .last .0) refl (ap (λ z. left (countsIn (a .counts .now)) z (r .last .0)) (c .enum-told2 .given .1)) g
+    derivation-refused (a .links .now) _ 7 (lent (a .types .now) (a .counts .now) (a .number .now)) (r .last .0) refl
+    (ap (λ z. left (countsIn (a .counts .now)) z (r .last .0)) (c .enum-told2 .given .1)) g
 
 returns-3 : tie.Need-returns-3
 returns-3 c =
@@ -50,7 +52,8 @@ returns-3 c =
     let a = s .args in
     let r = c .before .before .derive in
     let g = rw (toZ-ofZ (s .fits .t), toZ-ofZ (s .fits .s), c .before .before .before .before .counts-of .ensures) at (r .ensures) in
-    derivation-refused (a .links .now) _ 11 (lent (a .types .now) (a .counts .now) (a .number .now)) (r .last .0) refl (ap (λ z. left (countsIn (a .counts .now)) z (r .last .0)) (c .enum-told3 .given .1)) g
+    derivation-refused (a .links .now) _ 11 (lent (a .types .now) (a .counts .now) (a .number .now)) (r .last .0) refl
+    (ap (λ z. left (countsIn (a .counts .now)) z (r .last .0)) (c .enum-told3 .given .1)) g
 
 returns-4 : tie.Need-returns-4
 returns-4 c =

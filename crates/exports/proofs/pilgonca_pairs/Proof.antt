@@ -1,4 +1,4 @@
--- Rests on the pair table's contract, by whether the table fits.
+-- The C function writes the pair table where the table fits, and leaves the buffer where it doesn't: by the contract of the pair table.
 use Rattle.compare.specs.Pairs.{pairsHanded}
 use Rattle.compare.specs.Answered.{pairsGiven}
 use mathlib.Core.Path.{ap, _∙_}
@@ -19,13 +19,15 @@ returns : tie.Need-returns
 returns c =
     let a = c .before .before .before .before .before .args in
     let r = c .before .before .pairs-of in
-    pairs-new (rawTable (a .types .now) (a .links .now) (countsIn (a .counts .now))) (a .out .now) (r .result) (r .ensures ∙ ap (λ z. pairsGiven (pairsHanded (rawTable (a .types .now) (a .links .now) z))) (c .before .before .before .counts-of .ensures)) (c .before .if1 .taken)
+    pairs-new (rawTable (a .types .now) (a .links .now) (countsIn (a .counts .now))) (a .out .now) (r .result)
+    (r .ensures ∙ ap (λ z. pairsGiven (pairsHanded (rawTable (a .types .now) (a .links .now) z))) (c .before .before .before .counts-of .ensures)) (c .before .if1 .taken)
 
 returns-2 : tie.Need-returns-2
 returns-2 c =
     let a = c .before .before .before .before .args in
     let r = c .before .pairs-of in
-    pairs-old (rawTable (a .types .now) (a .links .now) (countsIn (a .counts .now))) (a .out .now) (r .result) (r .ensures ∙ ap (λ z. pairsGiven (pairsHanded (rawTable (a .types .now) (a .links .now) z))) (c .before .before .counts-of .ensures)) (c .if1 .left)
+    pairs-old (rawTable (a .types .now) (a .links .now) (countsIn (a .counts .now))) (a .out .now) (r .result)
+    (r .ensures ∙ ap (λ z. pairsGiven (pairsHanded (rawTable (a .types .now) (a .links .now) z))) (c .before .before .counts-of .ensures)) (c .if1 .left)
 
 pub pilgonca-pairs-spec : {M : Type 1} → statement M
 pilgonca-pairs-spec = tie.close (tie.spec counts-of-requires pairs-of-requires returns returns-2)

@@ -1,4 +1,4 @@
--- Rests on the writer: its answer and the buffer that it leaves are the definition's.
+-- The C function gives the writer's number and length and leaves the writer's buffer, which are the definition's.
 use mathlib.Core.Path.{ap, _∙_}
 use borrow.Author.Needs.{needs}
 use Rattle.table.specs.Store.{rawTable}
@@ -22,7 +22,9 @@ same-length c = search needs
 returns : tie.Need-returns
 returns c =
     let a = c .before .before .before .before .before .before .before .before .before .args in
-    written-is _ _ (c .before .before .before .before .write-sheet .ensures ∙ ap (λ z. write (rawTable (a .types .now) (a .links .now) z) (a .buffer .now)) (c .before .before .before .before .before .before .counts-of .ensures)) (c .wrote-code .ensures .0) (c .wrote-code .ensures .1)
+    written-is _ _
+    (c .before .before .before .before .write-sheet .ensures ∙ ap (λ z. write (rawTable (a .types .now) (a .links .now) z) (a .buffer .now))
+    (c .before .before .before .before .before .before .counts-of .ensures)) (c .wrote-code .ensures .0) (c .wrote-code .ensures .1)
 
 pub pilgonca-write-spec : {M : Type 1} → statement M
 pilgonca-write-spec =

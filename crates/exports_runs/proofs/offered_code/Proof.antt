@@ -1,4 +1,4 @@
--- Each case of the answer.
+-- The code of an answer is that of the definition's answer, in each of its cases.
 use mathlib.Core.Path.{sym, ap}
 use Rattle.offers.specs.Chained.{offeredAs}
 use Rattle.exports_runs.specs.Results.{offeredOut}

@@ -1,4 +1,4 @@
--- Rests on `offers::offers`, on the state that is read (Offering).
+-- The C function answers as `offers::offers` does on the state that the bytes mean (proofs/Offering); on 2 the answer's place is as it was.
 use mathlib.Core.Path.{ap, subst, _≡_, _∙_}
 use mir.Facts.{toZ-ofZ}
 use Rattle.tablecheck.proofs.Steps.{refused, passed}
@@ -21,7 +21,10 @@ codes-fit-requires : tie.Need-codes-fit-requires
 codes-fit-requires c κs = search needs
 
 returns : tie.Need-returns
-returns c = let a = c .before .before .before .before .args in offers-unfit (flat (a .types .now) (a .links .now) (a .cells .now) (a .places .now) (a .calls .now) (a .counts .now)) (a .cell) (a .chain .now) (a .offered .now) (refused _ _ (c .before .codes-fit .ensures) (c .if1 .taken))
+returns c =
+    let a = c .before .before .before .before .args in
+    offers-unfit (flat (a .types .now) (a .links .now) (a .cells .now) (a .places .now) (a .calls .now) (a .counts .now)) (a .cell) (a .chain .now) (a .offered .now)
+    (refused _ _ (c .before .codes-fit .ensures) (c .if1 .taken))
 
 state-from-requires : tie.Need-state-from-requires
 state-from-requires c κs = search needs
@@ -39,7 +42,8 @@ returns-2 c =
     let o = c .before .before .offers in
     let e = rw (toZ-ofZ (c .before .before .before .before .before .before .before .before .before .fits .cell)) at (o .ensures) in
     let w = subst (λ s. offeredAs (o .result) ≡ offersHanded (rawState s) (a .cell) (a .chain .now)) (c .before .before .before .state-from .ensures) e in
-    c .offered-code .ensures ∙ ap (offeredOut (a .offered .now)) (w ∙ offers-same f (a .cell) (a .chain .now) (passed _ _ (c .before .before .before .before .before .before .codes-fit .ensures) (c .before .before .before .before .before .if1 .left)))
+    c .offered-code .ensures ∙ ap (offeredOut (a .offered .now))
+    (w ∙ offers-same f (a .cell) (a .chain .now) (passed _ _ (c .before .before .before .before .before .before .codes-fit .ensures) (c .before .before .before .before .before .if1 .left)))
 
 pub pilgonca-offers-spec : {M : Type 1} → statement M
 pilgonca-offers-spec =

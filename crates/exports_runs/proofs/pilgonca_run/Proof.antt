@@ -1,4 +1,4 @@
--- Rests on `run::run`, on the state that is read (Running).
+-- The C function gives back what `run::run` leaves of the state that the bytes mean (proofs/Running); on 2 every array is as it was.
 use mathlib.Core.Path.{refl, subst}
 use Rattle.tablecheck.proofs.Steps.{refused, passed}
 use Rattle.state.specs.View.{rawState}
@@ -20,7 +20,10 @@ codes-fit-requires : tie.Need-codes-fit-requires
 codes-fit-requires c κs = search needs
 
 returns : tie.Need-returns
-returns c = let a = c .before .before .before .before .before .before .args in run-unfit (flat (a .types .now) (a .links .now) (a .cells .now) (a .places .now) (a .calls .now) (a .counts .now)) (room (a .answers .now)) (a .words .now) _ (refused _ _ (c .before .codes-fit .ensures) (c .if1 .taken))
+returns c =
+    let a = c .before .before .before .before .before .before .args in
+    run-unfit (flat (a .types .now) (a .links .now) (a .cells .now) (a .places .now) (a .calls .now) (a .counts .now)) (room (a .answers .now)) (a .words .now) _
+    (refused _ _ (c .before .codes-fit .ensures) (c .if1 .taken))
 
 state-from-requires : tie.Need-state-from-requires
 state-from-requires c κs = search needs
@@ -36,8 +39,11 @@ returns-2 c =
     let a = c .before .before .before .before .before .before .before .before .before .before .before .before .before .before .before .before .before .args in
     let f = flat (a .types .now) (a .links .now) (a .cells .now) (a .places .now) (a .calls .now) (a .counts .now) in
     let r = c .before .before .before .run in
-    let w = subst (λ s. Runs s (a .answers .now) (r .last .1 .1 .0) (runHanded (rawState s) (room (a .answers .now)) (a .words .now)) (r .result)) (c .before .before .before .before .before .state-from .ensures) (r .ensures) in
-    run-refused f (room (a .answers .now)) (a .words .now) (passed _ _ (c .before .before .before .before .before .before .before .before .before .before .before .before .codes-fit .ensures) (c .before .before .before .before .before .before .before .before .before .before .before .if1 .left)) (a .answers .now) (r .last .1 .1 .0) (r .result) w (a .served .now) (c .if2 .taken)
+    let w = subst (λ s. Runs s (a .answers .now) (r .last .1 .1 .0) (runHanded (rawState s) (room (a .answers .now)) (a .words .now)) (r .result))
+    (c .before .before .before .before .before .state-from .ensures) (r .ensures) in
+    run-refused f (room (a .answers .now)) (a .words .now)
+    (passed _ _ (c .before .before .before .before .before .before .before .before .before .before .before .before .codes-fit .ensures)
+    (c .before .before .before .before .before .before .before .before .before .before .before .if1 .left)) (a .answers .now) (r .last .1 .1 .0) (r .result) w (a .served .now) (c .if2 .taken)
 
 store-requires : tie.Need-store-requires
 store-requires c κs = search needs
@@ -47,11 +53,16 @@ same-length-2 c = search needs
 
 returns-3 : tie.Need-returns-3
 returns-3 c =
-    let a = c .before .before .before .before .before .before .before .before .before .before .before .before .before .before .before .before .before .before .before .before .before .before .before .before .args in
+    let c12 = c .before .before .before .before .before .before .before .before .before .before .before .before in
+    let a = c12 .before .before .before .before .before .before .before .before .before .before .before .before .args in
     let f = flat (a .types .now) (a .links .now) (a .cells .now) (a .places .now) (a .calls .now) (a .counts .now) in
     let r = c .before .before .before .before .before .before .before .before .before .before .run in
-    let w = subst (λ s. Runs s (a .answers .now) (r .last .1 .1 .0) (runHanded (rawState s) (room (a .answers .now)) (a .words .now)) (r .result)) (c .before .before .before .before .before .before .before .before .before .before .before .before .state-from .ensures) (r .ensures) in
-    run-taken f (room (a .answers .now)) (a .words .now) (passed _ _ (c .before .before .before .before .before .before .before .before .before .before .before .before .before .before .before .before .before .before .before .codes-fit .ensures) (c .before .before .before .before .before .before .before .before .before .before .before .before .before .before .before .before .before .before .if1 .left)) (a .answers .now) (r .last .1 .1 .0) (r .result) w (a .served .now) _ refl (c .store .ensures) (c .before .before .before .before .before .before .before .if2 .left)
+    let w = subst (λ s. Runs s (a .answers .now) (r .last .1 .1 .0) (runHanded (rawState s) (room (a .answers .now)) (a .words .now)) (r .result))
+    (c .before .before .before .before .before .before .before .before .before .before .before .before .state-from .ensures) (r .ensures) in
+    run-taken f (room (a .answers .now)) (a .words .now)
+    (passed _ _ (c .before .before .before .before .before .before .before .before .before .before .before .before .before .before .before .before .before .before .before .codes-fit .ensures)
+    (c .before .before .before .before .before .before .before .before .before .before .before .before .before .before .before .before .before .before .if1 .left)) (a .answers .now)
+    (r .last .1 .1 .0) (r .result) w (a .served .now) _ refl (c .store .ensures) (c .before .before .before .before .before .before .before .if2 .left)
 
 pub pilgonca-run-spec : {M : Type 1} → statement M
 pilgonca-run-spec =

@@ -1,4 +1,4 @@
--- Rests on the library: its answer and the buffer that it leaves are the definition's.
+-- The C function gives the library's answer and leaves its buffer, which are the definition's for every input.
 use borrow.Author.Needs.{needs}
 use Rattle.exports.proofs.Leaving.{written-is}
 use Rattle.exports_script.proofs.pilgonca_script.Statement.{statement}

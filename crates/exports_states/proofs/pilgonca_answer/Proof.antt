@@ -1,4 +1,4 @@
--- Rests on `serve::answer` and what is handed back of it (crate handing).
+-- The C function hands back what `serve::answer` comes to on the state that the bytes mean; on a refusal every array is as it was (crate handing).
 use mathlib.Core.Path.{refl}
 use mir.Facts.{toZ-ofZ}
 use Rattle.model.specs.Requests.{answer}
@@ -45,7 +45,9 @@ returns-2 c =
     let g = rw (toZ-ofZ (t .value)) at (c .before .before .before .before .before .before .before .before .given-of .ensures) in
     let w = rw (toZ-ofZ (t .subject), toZ-ofZ (t .call), g) at (r .ensures) in
     let s = c .before .before .before .before .before .before .before .before .before .state-from in
-    request-handed f q (a .values .now) _ (c .before .before .before .before .before .before .before .before .before .before .before .before .before .before .before .before .codes-fit .ensures) (c .before .before .before .before .before .before .before .before .before .before .before .before .before .before .before .if1 .left) (s .result) (s .ensures) (r .result) w _ _ _ refl (c .hand-back .ensures (a .links .now))
+    request-handed f q (a .values .now) _ (c .before .before .before .before .before .before .before .before .before .before .before .before .before .before .before .before .codes-fit .ensures)
+    (c .before .before .before .before .before .before .before .before .before .before .before .before .before .before .before .if1 .left) (s .result) (s .ensures) (r .result) w _ _ _ refl
+    (c .hand-back .ensures (a .links .now))
 
 pub pilgonca-answer-spec : {M : Type 1} → statement M
 pilgonca-answer-spec =

@@ -21,7 +21,10 @@ loop-holds : tie.Need-loop-holds Inv-loop μ-loop
 loop-holds c = (omega arith, omega arith, calls-each (c .args .b .now) (c .args .count))
 
 returns : tie.Need-returns Inv-loop μ-loop
-returns c = sym (c .before .before .loop .inv .2 ∙ calls-past (c .before .before .before .args .b .now) (c .before .before .before .args .count - c .before .before .loop .j) (c .before .before .loop .j) (omega (arith, c .if1 .taken)))
+returns c =
+    sym
+    (c .before .before .loop .inv .2 ∙ calls-past (c .before .before .before .args .b .now) (c .before .before .before .args .count - c .before .before .loop .j) (c .before .before .loop .j)
+    (omega (arith, c .if1 .taken)))
 
 mul-if2 : tie.Need-mul-if2 Inv-loop μ-loop
 mul-if2 c = search needs
@@ -33,8 +36,13 @@ element-copy-out-if2 : tie.Need-element-copy-out-if2 Inv-loop μ-loop
 element-copy-out-if2 c = search needs
 
 returns-2 : tie.Need-returns-2 Inv-loop μ-loop
-returns-2 c = let l = c .before .before .before .before .loop in sym (l .inv .2 ∙ rest-broken (CallFits (c .before .before .before .before .before .args .b .now)) (c .before .before .before .before .before .args .count) (l .j) (c .before .before .before .loop-test .taken)
-    (call-fits (c .before .before .before .before .before .args .b .now) (l .j) (omega (arith, l .inv .1, c .before .before .if1 .left)) ∙ too-large (getD (c .before .before .before .before .before .args .b .now) (c .before .before .before .before .loop .j * 4 + 3) 0) (c .if2 .taken)))
+returns-2 c =
+    let l = c .before .before .before .before .loop in
+    sym
+    (l .inv .2 ∙ rest-broken (CallFits (c .before .before .before .before .before .args .b .now)) (c .before .before .before .before .before .args .count) (l .j)
+    (c .before .before .before .loop-test .taken)
+    (call-fits (c .before .before .before .before .before .args .b .now) (l .j) (omega (arith, l .inv .1, c .before .before .if1 .left))
+    ∙ too-large (getD (c .before .before .before .before .before .args .b .now) (c .before .before .before .before .loop .j * 4 + 3) 0) (c .if2 .taken)))
 
 add-j : tie.Need-add-j Inv-loop μ-loop
 add-j c = search needs
@@ -46,8 +54,10 @@ loop-again : tie.Need-loop-again Inv-loop μ-loop
 loop-again c = let l = c .before .before .before .before .loop in (
   omega (arith, c .before .before .before .loop-test .taken),
   omega (arith, l .inv .1, c .before .before .if1 .left),
-  l .inv .2 ∙ rest-next (CallFits (c .before .before .before .before .before .args .b .now)) (c .before .before .before .before .before .args .count) (l .j) (c .before .before .before .loop-test .taken)
-      (call-fits (c .before .before .before .before .before .args .b .now) (l .j) (omega (arith, l .inv .1, c .before .before .if1 .left)) ∙ small-enough (getD (c .before .before .before .before .before .args .b .now) (c .before .before .before .before .loop .j * 4 + 3) 0) (c .if2 .left)),
+  l .inv .2 ∙ rest-next (CallFits (c .before .before .before .before .before .args .b .now)) (c .before .before .before .before .before .args .count) (l .j)
+      (c .before .before .before .loop-test .taken)
+      (call-fits (c .before .before .before .before .before .args .b .now) (l .j) (omega (arith, l .inv .1, c .before .before .if1 .left))
+      ∙ small-enough (getD (c .before .before .before .before .before .args .b .now) (c .before .before .before .before .loop .j * 4 + 3) 0) (c .if2 .left)),
 )
 
 returns-3 : tie.Need-returns-3 Inv-loop μ-loop

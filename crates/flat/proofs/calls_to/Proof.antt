@@ -34,10 +34,16 @@ loop-less : tie.Need-loop-less Inv-loop μ-loop
 loop-less c = search needs
 
 loop-again : tie.Need-loop-again Inv-loop μ-loop
-loop-again c = (omega arith, rows-more 4 (callRow (c .before .before .before .before .before .args .t1)) (λ i. refl) below-4 1024 (c .before .before .before .before .loop .j) (c .before .before .before .before .loop .b) _ (omega (arith, c .before .before .before .loop-test .taken)) (c .put-call .ensures) (c .before .before .before .before .loop .inv .1))
+loop-again c = (
+  omega arith,
+  rows-more 4 (callRow (c .before .before .before .before .before .args .t1)) (λ i. refl) below-4 1024 (c .before .before .before .before .loop .j)
+      (c .before .before .before .before .loop .b) _ (omega (arith, c .before .before .before .loop-test .taken)) (c .put-call .ensures) (c .before .before .before .before .loop .inv .1),
+)
 
 returns : tie.Need-returns Inv-loop μ-loop
-returns c = let n : length (c .before .before .args .t1 .list) ≡ 256 = simp length-map at (c .before .before .good .0 .1 .1 .0 .1 .0 .1) in calls-written (c .before .before .args .t1) (c .before .loop .j) (c .before .loop .b) n (c .loop-test .left) (c .before .loop .inv .1)
+returns c =
+    let n : length (c .before .before .args .t1 .list) ≡ 256 = simp length-map at (c .before .before .good .0 .1 .1 .0 .1 .0 .1) in
+    calls-written (c .before .before .args .t1) (c .before .loop .j) (c .before .loop .b) n (c .loop-test .left) (c .before .loop .inv .1)
 
 pub calls-to-spec : {M : Type 1} → statement M
 calls-to-spec =

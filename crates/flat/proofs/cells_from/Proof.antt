@@ -35,11 +35,16 @@ loop-less : tie.Need-loop-less Inv-loop μ-loop
 loop-less c = search needs
 
 loop-again : tie.Need-loop-again Inv-loop μ-loop
-loop-again c = (omega arith, filled-more blankCell (cellFrom (c .before .before .before .args .b .now)) 256 (c .before .before .loop .k) (c .before .before .loop .list) _ (c .cell-from .ensures) (c .before .loop-test .taken) (c .before .before .loop .inv .1))
+loop-again c = (
+  omega arith,
+  filled-more blankCell (cellFrom (c .before .before .before .args .b .now)) 256 (c .before .before .loop .k) (c .before .before .loop .list) _ (c .cell-from .ensures)
+      (c .before .loop-test .taken) (c .before .before .loop .inv .1),
+)
 
 returns : tie.Need-returns Inv-loop μ-loop
 unfolding cellsFrom
-returns c = ap (λ l. record { list = l; count = c .before .before .args .count }) (filled-all blankCell (cellFrom (c .before .before .args .b .now)) 256 (c .before .loop .k) (c .before .loop .list) (c .loop-test .left) (c .before .loop .inv .1))
+returns c = ap (λ l. record { list = l; count = c .before .before .args .count })
+    (filled-all blankCell (cellFrom (c .before .before .args .b .now)) 256 (c .before .loop .k) (c .before .loop .list) (c .loop-test .left) (c .before .loop .inv .1))
 
 pub cells-from-spec : {M : Type 1} → statement M
 cells-from-spec =

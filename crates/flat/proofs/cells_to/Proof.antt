@@ -34,10 +34,16 @@ loop-less : tie.Need-loop-less Inv-loop μ-loop
 loop-less c = search needs
 
 loop-again : tie.Need-loop-again Inv-loop μ-loop
-loop-again c = (omega arith, rows-more 3 (cellRow (c .before .before .before .before .before .args .t1)) (λ i. refl) below-3 768 (c .before .before .before .before .loop .k) (c .before .before .before .before .loop .b) _ (omega (arith, c .before .before .before .loop-test .taken)) (c .put-cell .ensures) (c .before .before .before .before .loop .inv .1))
+loop-again c = (
+  omega arith,
+  rows-more 3 (cellRow (c .before .before .before .before .before .args .t1)) (λ i. refl) below-3 768 (c .before .before .before .before .loop .k)
+      (c .before .before .before .before .loop .b) _ (omega (arith, c .before .before .before .loop-test .taken)) (c .put-cell .ensures) (c .before .before .before .before .loop .inv .1),
+)
 
 returns : tie.Need-returns Inv-loop μ-loop
-returns c = let n : length (c .before .before .args .t1 .list) ≡ 256 = simp length-map at (c .before .before .good .0 .1 .1 .0 .1 .0 .1) in cells-written (c .before .before .args .t1) (c .before .loop .k) (c .before .loop .b) n (c .loop-test .left) (c .before .loop .inv .1)
+returns c =
+    let n : length (c .before .before .args .t1 .list) ≡ 256 = simp length-map at (c .before .before .good .0 .1 .1 .0 .1 .0 .1) in
+    cells-written (c .before .before .args .t1) (c .before .loop .k) (c .before .loop .b) n (c .loop-test .left) (c .before .loop .inv .1)
 
 pub cells-to-spec : {M : Type 1} → statement M
 cells-to-spec =

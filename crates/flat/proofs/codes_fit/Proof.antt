@@ -1,4 +1,4 @@
--- Both tests, the places first.
+-- All codes fit where the places' do and then the calls': the definition's test, in the same order.
 use Rattle.tablecheck.proofs.Steps.{refused, passed, ends, goes}
 use borrow.Author.Needs.{needs}
 use Rattle.flat.proofs.codes_fit.Statement.{statement}

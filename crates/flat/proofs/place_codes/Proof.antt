@@ -21,7 +21,10 @@ loop-holds : tie.Need-loop-holds Inv-loop μ-loop
 loop-holds c = (omega arith, omega arith, places-each (c .args .b .now) (c .args .count))
 
 returns : tie.Need-returns Inv-loop μ-loop
-returns c = sym (c .before .before .loop .inv .2 ∙ places-past (c .before .before .before .args .b .now) (c .before .before .before .args .count - c .before .before .loop .p) (c .before .before .loop .p) (omega (arith, c .if1 .taken)))
+returns c =
+    sym
+    (c .before .before .loop .inv .2 ∙ places-past (c .before .before .before .args .b .now) (c .before .before .before .args .count - c .before .before .loop .p) (c .before .before .loop .p)
+    (omega (arith, c .if1 .taken)))
 
 mul-if2 : tie.Need-mul-if2 Inv-loop μ-loop
 mul-if2 c = search needs
@@ -30,8 +33,13 @@ element-copy-out-if2 : tie.Need-element-copy-out-if2 Inv-loop μ-loop
 element-copy-out-if2 c = search needs
 
 returns-2 : tie.Need-returns-2 Inv-loop μ-loop
-returns-2 c = let l = c .before .before .before .before .loop in sym (l .inv .2 ∙ rest-broken (PlaceFits (c .before .before .before .before .before .args .b .now)) (c .before .before .before .before .before .args .count) (l .p) (c .before .before .before .loop-test .taken)
-    (place-fits (c .before .before .before .before .before .args .b .now) (l .p) (omega (arith, l .inv .1, c .before .before .if1 .left)) ∙ too-large (getD (c .before .before .before .before .before .args .b .now) (c .before .before .before .before .loop .p * 3) 0) (c .if2 .taken)))
+returns-2 c =
+    let l = c .before .before .before .before .loop in
+    sym
+    (l .inv .2 ∙ rest-broken (PlaceFits (c .before .before .before .before .before .args .b .now)) (c .before .before .before .before .before .args .count) (l .p)
+    (c .before .before .before .loop-test .taken)
+    (place-fits (c .before .before .before .before .before .args .b .now) (l .p) (omega (arith, l .inv .1, c .before .before .if1 .left))
+    ∙ too-large (getD (c .before .before .before .before .before .args .b .now) (c .before .before .before .before .loop .p * 3) 0) (c .if2 .taken)))
 
 add-p : tie.Need-add-p Inv-loop μ-loop
 add-p c = search needs
@@ -43,8 +51,10 @@ loop-again : tie.Need-loop-again Inv-loop μ-loop
 loop-again c = let l = c .before .before .before .before .loop in (
   omega (arith, c .before .before .before .loop-test .taken),
   omega (arith, l .inv .1, c .before .before .if1 .left),
-  l .inv .2 ∙ rest-next (PlaceFits (c .before .before .before .before .before .args .b .now)) (c .before .before .before .before .before .args .count) (l .p) (c .before .before .before .loop-test .taken)
-      (place-fits (c .before .before .before .before .before .args .b .now) (l .p) (omega (arith, l .inv .1, c .before .before .if1 .left)) ∙ small-enough (getD (c .before .before .before .before .before .args .b .now) (c .before .before .before .before .loop .p * 3) 0) (c .if2 .left)),
+  l .inv .2 ∙ rest-next (PlaceFits (c .before .before .before .before .before .args .b .now)) (c .before .before .before .before .before .args .count) (l .p)
+      (c .before .before .before .loop-test .taken)
+      (place-fits (c .before .before .before .before .before .args .b .now) (l .p) (omega (arith, l .inv .1, c .before .before .if1 .left))
+      ∙ small-enough (getD (c .before .before .before .before .before .args .b .now) (c .before .before .before .before .loop .p * 3) 0) (c .if2 .left)),
 )
 
 returns-3 : tie.Need-returns-3 Inv-loop μ-loop

@@ -1,4 +1,4 @@
--- Rests on `place_by`.
+-- The record of a place is made of its three bytes: `place_by` chooses by the code, as the definition does.
 use mathlib.Core.Path.{ap}
 use borrow.Author.Needs.{needs}
 use Rattle.flat.proofs.place_from.Statement.{statement}

@@ -1,4 +1,4 @@
--- Four stores in a row.
+-- Four stores in a row are one store of the call's bytes; no other call's change.
 use mathlib.Core.Path.{ap, _∙_}
 use mathlib.Core.List.{[], _∷_}
 use Prim.Native.Nat.{ℕ, _*_}

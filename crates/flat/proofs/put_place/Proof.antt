@@ -20,10 +20,14 @@ put-three-requires-2 : tie.Need-put-three-requires-2
 put-three-requires-2 c κs = search needs
 
 returns : tie.Need-returns
-returns c = c .put-three .ensures ∙ sym (ap (λ x. sets (c .before .before .before .before .before .args .b .now) (c .before .before .before .before .before .args .p * 3) (placeBytes x)) (c .before .before .before .x .given .1))
+returns c =
+    c .put-three .ensures ∙ sym
+    (ap (λ x. sets (c .before .before .before .before .before .args .b .now) (c .before .before .before .before .before .args .p * 3) (placeBytes x)) (c .before .before .before .x .given .1))
 
 returns-2 : tie.Need-returns-2
-returns-2 c = c .put-three2 .ensures ∙ sym (ap (λ x. sets (c .before .before .before .before .before .args .b .now) (c .before .before .before .before .before .args .p * 3) (placeBytes x)) (c .before .before .before .x2 .given .1))
+returns-2 c =
+    c .put-three2 .ensures ∙ sym
+    (ap (λ x. sets (c .before .before .before .before .before .args .b .now) (c .before .before .before .before .before .args .p * 3) (placeBytes x)) (c .before .before .before .x2 .given .1))
 
 pub put-place-spec : {M : Type 1} → statement M
 put-place-spec =

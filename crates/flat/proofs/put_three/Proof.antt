@@ -1,4 +1,4 @@
--- Three stores in a row.
+-- Three stores in a row are one store of three bytes.
 use Prim.Native.Nat.{_*_}
 use Rattle.table.proofs.Lists.{three}
 use borrow.Author.Needs.{needs}

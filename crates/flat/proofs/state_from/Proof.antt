@@ -1,4 +1,4 @@
--- Part by part.
+-- The state that the arrays hold is made part by part, each by the function that reads it.
 use borrow.Author.Needs.{needs}
 use Rattle.flat.proofs.state_from.Statement.{statement}
 use Rattle.flat.proofs.state_from.Tie as tie

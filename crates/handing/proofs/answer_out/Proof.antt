@@ -34,17 +34,24 @@ returns : tie.Need-returns
 returns c = search needs
 
 returns-2 : tie.Need-returns-2
-returns-2 c = let e = c .before .before .before .a2 .given .1 in (ap (λ x. outcomeNumber (outcomeOf x)) (sym e), c .put-pair .ensures ∙ ap (λ x. outcomeValues (c .before .before .before .before .before .args .values .now) (outcomeOf x)) (sym e))
+returns-2 c =
+    let e = c .before .before .before .a2 .given .1 in
+    (ap (λ x. outcomeNumber (outcomeOf x)) (sym e), c .put-pair .ensures ∙ ap (λ x. outcomeValues (c .before .before .before .before .before .args .values .now) (outcomeOf x)) (sym e))
 
 returns-3 : tie.Need-returns-3
 returns-3 c =
     let e = c .before .before .before .a3 .given .1 in
     let h = rw e at (c .before .before .before .before .before .good .0) in
-    let f : SFits w64 (c .before .before .before .a3 .given .0 .0) = record { sfits = h .1 .1 .1 .1 .0 .1 } in
-    (ap (λ x. outcomeNumber (outcomeOf x)) (sym e), (rw (toZ-ofZ f) at (c .put-number .ensures)) ∙ ap (λ x. outcomeValues (c .before .before .before .before .before .args .values .now) (outcomeOf x)) (sym e))
+    let f : SFits w64 (c .before .before .before .a3 .given .0 .0) = record { sfits = h .1 .1 .1 .1 .0 .1 } in (
+      ap (λ x. outcomeNumber (outcomeOf x)) (sym e),
+      (rw (toZ-ofZ f) at (c .put-number .ensures))
+          ∙ ap (λ x. outcomeValues (c .before .before .before .before .before .args .values .now) (outcomeOf x)) (sym e),
+    )
 
 returns-4 : tie.Need-returns-4
-returns-4 c = let e = c .before .before .enum-told .given .1 in (ap (λ x. outcomeNumber (outcomeOf x)) (sym e), c .put-nothing .ensures ∙ ap (λ x. outcomeValues (c .before .before .before .before .args .values .now) (outcomeOf x)) (sym e))
+returns-4 c =
+    let e = c .before .before .enum-told .given .1 in
+    (ap (λ x. outcomeNumber (outcomeOf x)) (sym e), c .put-nothing .ensures ∙ ap (λ x. outcomeValues (c .before .before .before .before .args .values .now) (outcomeOf x)) (sym e))
 
 pub answer-out-spec : {M : Type 1} → statement M
 answer-out-spec =

@@ -13,7 +13,13 @@ answer-out-requires : tie.Need-answer-out-requires
 answer-out-requires c κs = search needs
 
 returns : tie.Need-returns
-returns c = λ l. record { number = c .answer-out .ensures .0; values = c .answer-out .ensures .1; refused = λ _. refl; accepted = λ h. never (sym (refused _ _ (c .before .before .before .accepted .ensures) (c .before .before .if1 .taken)) ∙ h) }
+returns c = λ l.
+    record {
+      number = c .answer-out .ensures .0;
+      values = c .answer-out .ensures .1;
+      refused = λ _. refl;
+      accepted = λ h. never (sym (refused _ _ (c .before .before .before .accepted .ensures) (c .before .before .if1 .taken)) ∙ h);
+    }
 
 store-requires : tie.Need-store-requires
 store-requires c κs = search needs
@@ -22,7 +28,12 @@ answer-out-requires-2 : tie.Need-answer-out-requires-2
 answer-out-requires-2 c κs = search needs
 
 returns-2 : tie.Need-returns-2
-returns-2 c = λ l. record { number = c .answer-out2 .ensures .0; values = c .answer-out2 .ensures .1; refused = λ h. never (sym h ∙ passed _ _ (c .before .before .before .before .before .before .before .before .before .before .accepted .ensures) (c .before .before .before .before .before .before .before .before .before .if1 .left)); accepted = λ _. c .before .before .store .ensures }
+returns-2 c = λ l. let c9 = c .before .before .before .before .before .before .before .before .before in record {
+  number = c .answer-out2 .ensures .0;
+  values = c .answer-out2 .ensures .1;
+  refused = λ h. never (sym h ∙ passed _ _ (c9 .before .accepted .ensures) (c9 .if1 .left));
+  accepted = λ _. c .before .before .store .ensures;
+}
 
 pub hand-back-spec : {M : Type 1} → statement M
 hand-back-spec =

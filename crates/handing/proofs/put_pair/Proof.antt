@@ -14,7 +14,10 @@ cast-t5 : tie.Need-cast-t5
 cast-t5 c = search needs
 
 returns : tie.Need-returns
-returns c = let g : c .before .args .first < 2 ^ 63 = omega (arith, c .before .pre .0) in let h : c .before .args .second < 2 ^ 63 = omega (arith, c .before .pre .1) in rw (toZ-pos w64 g, toZ-pos w64 h)
+returns c =
+    let g : c .before .args .first < 2 ^ 63 = omega (arith, c .before .pre .0) in
+    let h : c .before .args .second < 2 ^ 63 = omega (arith, c .before .pre .1) in
+    rw (toZ-pos w64 g, toZ-pos w64 h)
 
 pub put-pair-spec : {M : Type 1} → statement M
 put-pair-spec = tie.close (tie.spec cast-t4 cast-t5 returns)

@@ -1,4 +1,4 @@
--- Rests on `number-scan-wrong`, `number-scan-right`, `right-within`, `answer-none`, `answer-dash` and `answer-wrong` and what stands beside them.
+-- The answer of a signature is read as the definition reads it: by the byte that stands there, none, `-` or a digit, one law for each.
 use Prim.Native.Nat.{_<_}
 use native.Mathlib.Omega.{arith}
 use lib.ListN.{length}

@@ -1,4 +1,4 @@
--- Rests on `line-read` and `end-empty`.
+-- The cursor goes past the last line as the definition does: the one law of a line (`line-read`), since this kind too refuses an empty line (`end-empty`).
 use borrow.Author.Needs.{needs}
 use Rattle.sheet.specs.Sheet.{endLine}
 use Rattle.textread.proofs.Laws.{line-read}

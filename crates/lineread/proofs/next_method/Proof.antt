@@ -1,4 +1,4 @@
--- Rests on `line-result` and `method-empty`.
+-- The cursor goes past an `m=` line as the definition does: the one law of a line (`line-result`), since this kind too refuses an empty line (`method-empty`).
 use borrow.Author.Needs.{needs}
 use Rattle.model.specs.Check.{methodOf}
 use Rattle.table.specs.Store.{rawMethod}

@@ -1,4 +1,4 @@
--- Rests on `line-read`, `passed-at-most` and `own-empty`.
+-- The cursor goes past an `own=` line as the definition does: the one law of a line (`line-read`), since this kind too refuses an empty line (`own-empty`).
 use borrow.Author.Needs.{needs}
 use Rattle.sheet.specs.Sheet.{ownLine}
 use Rattle.textread.proofs.Laws.{line-read, passed-at-most}

@@ -1,4 +1,4 @@
--- Rests on `line-read`, `passed-at-most` and `rep-empty`.
+-- The cursor goes past a `rep=` line as the definition does: the one law of a line (`line-read`), since this kind too refuses an empty line (`rep-empty`).
 use borrow.Author.Needs.{needs}
 use Rattle.model.specs.Check.{repOf}
 use Rattle.sheet.specs.Sheet.{repLine}

@@ -1,4 +1,4 @@
--- Rests on `line-refused`, `line-accepted` and `under-empty`.
+-- The cursor goes past an `under=` line as the definition does, refused or accepted: the one law of a line, since this kind too refuses an empty line (`under-empty`).
 use mathlib.Core.Path.{ap, sym, subst, _∙_}
 use borrow.Author.Needs.{needs}
 use Rattle.model.specs.Check.{linksOf}

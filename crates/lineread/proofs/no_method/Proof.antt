@@ -1,4 +1,4 @@
--- Rests on `unsigned-exact` and `result-refused`.
+-- A refusal carries a method that holds nothing, which is an exact record all the same (`unsigned-exact`).
 use mathlib.Core.Path.{refl, subst, sym}
 use native.Mathlib.Omega.{arith}
 use borrow.Author.Needs.{needs}

@@ -1,11 +1,11 @@
--- Rests on `clash`, `below-not`, `below-next`, `below-all`, `kept-next` and `rest-none` and what stands beside them.
+-- The loop has packed the first i numbers: they are all below n and stand as bytes, the bytes behind them are 0. One that is not below n ends it (`below-not`).
 use mathlib.Core.Path.{_≡_, refl, sym, ap, _∙_}
 use Prim.Native.Nat.{ℕ, _≤_, _<_, _-_}
 use native.Mathlib.Omega.{arith}
 use lib.ListN.{length, getD, take, drop, length-set}
 use borrow.Author.Needs.{needs}
 use Rattle.model.specs.Basics.{all}
-use Rattle.sheet.proofs.Steps.{clash}
+use Rattle.model.proofs.Rules.{never}
 use Rattle.sheet.specs.Sheet.{below}
 use Rattle.lineread.proofs.Laws.{below-not, below-next, below-all, kept-next, rest-none, rest-next}
 use Rattle.lineread.proofs.pack.Statement.{statement}
@@ -30,7 +30,7 @@ array-read-x c = search needs
 returns : tie.Need-returns Inv-loop μ-loop
 returns c = let a = c .before .before .before .args in let p = c .before .before .loop in (
   below-not (a .t1) (a .count) (p .i) (a .n) (c .before .before .before .pre .1) (c .before .before .before .pre .0) (p .inv .4) (c .before .loop-test .taken) (c .if1 .taken),
-  (λ h. clash (sym h), p .inv .1, λ k h. p .inv .3 k (omega arith)),
+  (λ h. never h, p .inv .1, λ k h. p .inv .3 k (omega arith)),
 )
 
 narrow-requires : tie.Need-narrow-requires Inv-loop μ-loop

@@ -1,4 +1,4 @@
--- Rests on `end-yes` and `end-no`.
+-- The last line is the one word, or refused: the definition's two cases.
 use mathlib.Core.Path.{sym, _∙_}
 use borrow.Author.Needs.{needs}
 use Rattle.lineread.proofs.Laws.{end-yes, end-no}

@@ -1,4 +1,4 @@
--- Rests on `starts-length`, `method-avail`, `method-optional`, `method-denied`, `method-unavail` and `method-none`.
+-- An `m=` line by the word that it begins with: avail and optional have a signature behind it, denied and unavail are whole lines, any other is refused.
 use mathlib.Core.Path.{refl, sym, _∙_}
 use native.Mathlib.Omega.{arith}
 use borrow.Author.Needs.{needs}

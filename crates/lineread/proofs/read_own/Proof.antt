@@ -1,4 +1,4 @@
--- Rests on `own-yes`, `own-no` and `own-none`.
+-- An `own=` line is one of two words, or refused: the definition's cases in their order.
 use mathlib.Core.Path.{sym, _∙_}
 use native.Mathlib.Omega.{arith}
 use borrow.Author.Needs.{needs}

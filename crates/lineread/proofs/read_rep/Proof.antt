@@ -1,4 +1,4 @@
--- Rests on `rep-ref`, `rep-w32`, `rep-w64` and `rep-none`.
+-- A `rep=` line is one of three words, or refused: the definition's cases in their order.
 use mathlib.Core.Path.{sym, _∙_}
 use native.Mathlib.Omega.{arith}
 use borrow.Author.Needs.{needs}

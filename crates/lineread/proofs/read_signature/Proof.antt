@@ -1,4 +1,4 @@
--- Rests on `signed-exact`, `scan-right`, `scan-wrong`, `number-scan-wrong`, `number-scan-right` and `signature-args` and what stands beside them.
+-- Arguments, answer and nothing behind them, then the bounds: every return is the case of the definition that the tests before it left (S5).
 use mathlib.Core.Path.{ap, sym, _∙_}
 use Prim.Native.Nat.{ℕ}
 use native.Mathlib.Omega.{arith}

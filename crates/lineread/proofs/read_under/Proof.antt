@@ -1,4 +1,4 @@
--- Rests on `starts-length`, `scan-right`, `scan-wrong`, `under-key`, `under-wrong` and `under-behind` and what stands beside them.
+-- Key, numbers and nothing behind them (1), then the last category (2), then the category's own number (3): every return is the definition's next case.
 use mathlib.Core.Bool.{cond}
 use mathlib.Core.List.{[], _∷_}
 use mathlib.Core.Path.{ap, sym, _∙_}

@@ -1,4 +1,4 @@
--- Rests on the text of an answer, missing or there.
+-- The text of an answer stands in the buffer: `-` for none, else its decimal.
 use Rattle.linewrite.proofs.Laws.{answer-none, answer-some}
 use Rattle.textwrite.proofs.Laws.{fill-is}
 use native.Mathlib.Omega.{arith}

@@ -1,4 +1,4 @@
--- Rests on the text of an argument, the first or a later one.
+-- The text of an argument stands in the buffer: a later one has a comma in front.
 use Rattle.linewrite.proofs.Laws.{argument-first, argument-later}
 use Rattle.textwrite.proofs.Laws.{fill-is}
 use native.Mathlib.Omega.{arith}

@@ -1,4 +1,4 @@
--- Rests on `fill-rest` and `argument-next`: the loop has written the first i arguments. `slots`: four slots are enough.
+-- The loop has written the first i arguments, and one more goes into the rest of the buffer (`fill-rest`, `argument-next`); four slots are enough for the count.
 use Rattle.linewrite.proofs.Laws.{argument-next, slots}
 use Rattle.textwrite.proofs.Laws.{fill-none, fill-rest, fill-is}
 use Rattle.textwrite.specs.Fill.{Filled}

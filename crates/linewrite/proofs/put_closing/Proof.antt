@@ -1,4 +1,4 @@
--- Rests on `fill-rest`, twice.
+-- Bracket, answer and LF, each written in the rest that the one before left (`fill-rest`).
 use Rattle.linewrite.proofs.Laws.{closing-is}
 use Rattle.textwrite.proofs.Laws.{fill-rest, fill-is}
 use native.Mathlib.Omega.{arith}

@@ -1,4 +1,4 @@
--- Rests on what follows the first number, by the count.
+-- What follows the first broader category: by the count a comma and the second number, or nothing, and LF.
 use Rattle.linewrite.proofs.Laws.{second-is, second-none}
 use Rattle.textwrite.proofs.Laws.{fill-is}
 use native.Mathlib.Omega.{arith}

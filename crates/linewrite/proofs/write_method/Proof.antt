@@ -1,4 +1,4 @@
--- Rests on the text of a method, by its state.
+-- The line of a method is chosen by the code of its state, as the definition chooses by the state.
 use Rattle.linewrite.proofs.Laws.{denied-is, optional-is, avail-is, unavail-is}
 use Rattle.textwrite.proofs.Laws.{lines-are}
 use native.Mathlib.Omega.{arith}

@@ -1,4 +1,4 @@
--- Rests on the text of own, by its code.
+-- The line of the own flag is chosen by its code, as the definition chooses by the flag.
 use Rattle.linewrite.proofs.Laws.{own-yes, own-no}
 use Rattle.textwrite.proofs.Laws.{lines-are}
 use borrow.Author.Needs.{needs}

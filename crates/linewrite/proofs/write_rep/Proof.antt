@@ -1,4 +1,4 @@
--- Rests on the text of a representation, by its code.
+-- The line of a representation is chosen by its code, as the definition chooses by the representation.
 use Rattle.linewrite.proofs.Laws.{rep-is, rep-else}
 use Rattle.textwrite.proofs.Laws.{lines-are}
 use borrow.Author.Needs.{needs}

@@ -1,4 +1,4 @@
--- Rests on `fill-rest`, twice, and `signed-is`, which puts the pieces together.
+-- State, arguments and end, each written in the rest that the one before left (`fill-rest`), are the line's text (`signed-is`).
 use Rattle.linewrite.proofs.Laws.{signed-is}
 use Rattle.textwrite.proofs.Laws.{fill-rest, fill-is, ended}
 use native.Mathlib.Omega.{arith}

@@ -1,4 +1,4 @@
--- Rests on `fill-rest` and `under-is`, which puts the pieces together.
+-- Key and first number, then what follows, written in the rest (`fill-rest`), are the line's text (`under-is`).
 use Rattle.linewrite.proofs.Laws.{under-is}
 use Rattle.textwrite.proofs.Laws.{fill-rest, fill-is, ended}
 use native.Mathlib.Omega.{arith}

@@ -1,4 +1,4 @@
--- One place more (`made`).
+-- The new object is one place more, behind all others, so the state stays sound (`made`).
 use borrow.Author.Needs.{needs}
 use Rattle.moves.proofs.Laws.{made}
 use Rattle.moves.proofs.make.Statement.{statement}

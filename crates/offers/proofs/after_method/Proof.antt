@@ -13,14 +13,18 @@ index-of-requires : tie.Need-index-of-requires
 index-of-requires c κs = search needs
 
 returns : tie.Need-returns
-returns c = let a = c .before .before .before .args in λ l. step-unknown (a .types .now) l (a .c) (a .t) (a .z) (c .before .before .index-of .result) (rw (toZ-ofZ (c .before .before .before .fits .z)) at (c .before .before .index-of .ensures)) (c .if1 .taken)
+returns c =
+    let a = c .before .before .before .args in
+    λ l. step-unknown (a .types .now) l (a .c) (a .t) (a .z) (c .before .before .index-of .result) (rw (toZ-ofZ (c .before .before .before .fits .z)) at (c .before .before .index-of .ensures))
+    (c .if1 .taken)
 
 is-ref-requires : tie.Need-is-ref-requires
 is-ref-requires c κs = c .before .before .before .pre .types
 
 returns-2 : tie.Need-returns-2
 returns-2 c = let a = c .before .before .before .before .before .args in
-    λ l. step-number (a .types .now) l (a .c) (a .t) (a .z) (c .before .before .before .before .index-of .result) (rw (toZ-ofZ (c .before .before .before .before .before .fits .z)) at (c .before .before .before .before .index-of .ensures)) (c .before .before .if1 .left)
+    λ l. step-number (a .types .now) l (a .c) (a .t) (a .z) (c .before .before .before .before .index-of .result)
+    (rw (toZ-ofZ (c .before .before .before .before .before .fits .z)) at (c .before .before .before .before .index-of .ensures)) (c .before .before .if1 .left)
     (sym (c .before .is-ref .ensures) ∙ not-true (c .before .is-ref .result) (c .if2 .taken))
 
 get-method-requires : tie.Need-get-method-requires
@@ -33,8 +37,12 @@ permits-requires c κs = search needs
 
 returns-3 : tie.Need-returns-3
 returns-3 c = let a = c .before .before .before .before .before .before .before .before .args in
-    λ l. step-off (a .types .now) l (a .c) (a .t) (a .z) (c .before .before .before .before .before .before .before .index-of .result) (rw (toZ-ofZ (c .before .before .before .before .before .before .before .before .fits .z)) at (c .before .before .before .before .before .before .before .index-of .ensures)) (c .before .before .before .before .before .if1 .left)
-    (sym (c .before .before .before .before .is-ref .ensures) ∙ not-false (c .before .before .before .before .is-ref .result) (c .before .before .before .if2 .left)) (c .before .before .get-method .result) (c .before .before .get-method .ensures)
+    λ l.
+    step-off (a .types .now) l (a .c) (a .t) (a .z) (c .before .before .before .before .before .before .before .index-of .result)
+    (rw (toZ-ofZ (c .before .before .before .before .before .before .before .before .fits .z)) at (c .before .before .before .before .before .before .before .index-of .ensures))
+    (c .before .before .before .before .before .if1 .left)
+    (sym (c .before .before .before .before .is-ref .ensures) ∙ not-false (c .before .before .before .before .is-ref .result) (c .before .before .before .if2 .left))
+    (c .before .before .get-method .result) (c .before .before .get-method .ensures)
     (sym (c .before .permits .ensures) ∙ not-true (c .before .permits .result) (c .if3 .taken))
 
 wide-requires : tie.Need-wide-requires
@@ -45,8 +53,12 @@ add-result c = search needs
 
 returns-4 : tie.Need-returns-4
 returns-4 c = let a = c .before .before .before .before .before .before .before .before .before .args in
-    λ l. step-on (a .types .now) l (a .c) (a .t) (a .z) (c .before .before .before .before .before .before .before .before .index-of .result) (rw (toZ-ofZ (c .before .before .before .before .before .before .before .before .before .fits .z)) at (c .before .before .before .before .before .before .before .before .index-of .ensures)) (c .before .before .before .before .before .before .if1 .left)
-    (sym (c .before .before .before .before .before .is-ref .ensures) ∙ not-false (c .before .before .before .before .before .is-ref .result) (c .before .before .before .before .if2 .left)) (c .before .before .before .get-method .result) (c .before .before .before .get-method .ensures)
+    λ l.
+    step-on (a .types .now) l (a .c) (a .t) (a .z) (c .before .before .before .before .before .before .before .before .index-of .result)
+    (rw (toZ-ofZ (c .before .before .before .before .before .before .before .before .before .fits .z)) at (c .before .before .before .before .before .before .before .before .index-of .ensures))
+    (c .before .before .before .before .before .before .if1 .left)
+    (sym (c .before .before .before .before .before .is-ref .ensures) ∙ not-false (c .before .before .before .before .before .is-ref .result) (c .before .before .before .before .if2 .left))
+    (c .before .before .before .get-method .result) (c .before .before .before .get-method .ensures)
     (sym (c .before .before .permits .ensures) ∙ not-false (c .before .before .permits .result) (c .before .if3 .left)) (c .wide .result) (c .wide .ensures .0)
 
 pub after-method-spec : {M : Type 1} → statement M

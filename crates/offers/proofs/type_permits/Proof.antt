@@ -43,7 +43,8 @@ after-method-requires c κs = search needs
 
 returns : tie.Need-returns Inv-loop μ-loop
 returns c = let a = c .before .before .before .before .before .args in let w = a .chain .now in let i = c .before .before .before .before .loop .i in
-    λ l. rest-refused (tableIn (a .types .now) l (a .c)) w (a .t) (c .before .before .before .before .loop .at) i (c .before .before .before .before .loop .inv .1 l) (c .before .before .before .loop-test .taken) (read w i)
+    λ l. rest-refused (tableIn (a .types .now) l (a .c)) w (a .t) (c .before .before .before .before .loop .at) i (c .before .before .before .before .loop .inv .1 l)
+    (c .before .before .before .loop-test .taken) (read w i)
     (is-read w i (record { sfits = c .before .before .z .given })) (c .before .after-method .result) (c .before .after-method .ensures l) (c .if1 .taken)
 
 add-i : tie.Need-add-i Inv-loop μ-loop
@@ -51,13 +52,16 @@ add-i c = search needs
 
 returns-2 : tie.Need-returns-2 Inv-loop μ-loop
 returns-2 c = let a = c .before .before .before .before .before .before .args in let w = a .chain .now in let i = c .before .before .before .before .before .loop .i in
-    λ l. rest-last (tableIn (a .types .now) l (a .c)) w (a .t) (c .before .before .before .before .before .loop .at) i (c .before .before .before .before .before .loop .inv .1 l) (c .before .before .before .before .loop-test .taken) (read w i)
+    λ l. rest-last (tableIn (a .types .now) l (a .c)) w (a .t) (c .before .before .before .before .before .loop .at) i (c .before .before .before .before .before .loop .inv .1 l)
+    (c .before .before .before .before .loop-test .taken) (read w i)
     (is-read w i (record { sfits = c .before .before .before .z .given })) (c .before .before .after-method .result) (c .before .before .after-method .ensures l) (c .before .if1 .left) (c .if2 .taken)
 
 returns-3 : tie.Need-returns-3 Inv-loop μ-loop
 returns-3 c = let a = c .before .before .before .before .before .before .before .args in let w = a .chain .now in let i = c .before .before .before .before .before .before .loop .i in
-    λ l. rest-silent (tableIn (a .types .now) l (a .c)) w (a .t) (c .before .before .before .before .before .before .loop .at) i (c .before .before .before .before .before .before .loop .inv .1 l) (c .before .before .before .before .before .loop-test .taken) (read w i)
-    (is-read w i (record { sfits = c .before .before .before .before .z .given })) (c .before .before .before .after-method .result) (c .before .before .before .after-method .ensures l) (c .before .before .if1 .left) (c .before .if2 .left) (c .if3 .taken)
+    λ l. rest-silent (tableIn (a .types .now) l (a .c)) w (a .t) (c .before .before .before .before .before .before .loop .at) i (c .before .before .before .before .before .before .loop .inv .1 l)
+    (c .before .before .before .before .before .loop-test .taken) (read w i)
+    (is-read w i (record { sfits = c .before .before .before .before .z .given })) (c .before .before .before .after-method .result) (c .before .before .before .after-method .ensures l)
+    (c .before .before .if1 .left) (c .before .if2 .left) (c .if3 .taken)
 
 sub-at : tie.Need-sub-at Inv-loop μ-loop
 sub-at c = search needs
@@ -68,8 +72,10 @@ loop-less c = omega (arith, c .before .before .before .before .before .loop-test
 loop-again : tie.Need-loop-again Inv-loop μ-loop
 loop-again c = let a = c .before .before .before .before .before .before .before .args in let w = a .chain .now in let i = c .before .before .before .before .before .before .loop .i in (
   omega (arith, c .before .before .before .before .before .loop-test .taken),
-  λ l. rest-next (tableIn (a .types .now) l (a .c)) w (a .t) (c .before .before .before .before .before .before .loop .at) i (c .before .before .before .before .before .before .loop .inv .1 l) (c .before .before .before .before .before .loop-test .taken) (read w i)
-      (is-read w i (record { sfits = c .before .before .before .before .z .given })) (c .before .before .before .after-method .result) (c .before .before .before .after-method .ensures l) (c .before .before .if1 .left) (c .before .if2 .left) (c .if3 .left),
+  λ l. rest-next (tableIn (a .types .now) l (a .c)) w (a .t) (c .before .before .before .before .before .before .loop .at) i (c .before .before .before .before .before .before .loop .inv .1 l)
+      (c .before .before .before .before .before .loop-test .taken) (read w i)
+      (is-read w i (record { sfits = c .before .before .before .before .z .given })) (c .before .before .before .after-method .result) (c .before .before .before .after-method .ensures l)
+      (c .before .before .if1 .left) (c .before .if2 .left) (c .if3 .left),
 )
 
 is-ref-requires : tie.Need-is-ref-requires Inv-loop μ-loop
@@ -77,7 +83,8 @@ is-ref-requires c κs = c .before .before .pre .types
 
 returns-4 : tie.Need-returns-4 Inv-loop μ-loop
 returns-4 c = let a = c .before .before .before .args in let at = c .before .before .loop .at in
-    λ l. c .is-ref .ensures ∙ sym (ref-table (a .types .now) l (a .c) at) ∙ rest-ends (tableIn (a .types .now) l (a .c)) (a .chain .now) (a .t) at (c .before .before .loop .i) (c .before .before .loop .inv .1 l)
+    λ l. c .is-ref .ensures ∙ sym (ref-table (a .types .now) l (a .c) at)
+    ∙ rest-ends (tableIn (a .types .now) l (a .c)) (a .chain .now) (a .t) at (c .before .before .loop .i) (c .before .before .loop .inv .1 l)
     (c .before .loop-test .left)
 
 pub type-permits-spec : {M : Type 1} → statement M

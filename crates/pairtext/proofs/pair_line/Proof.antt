@@ -1,4 +1,4 @@
--- Rests on `fill-rest`, twice, and `line-is`; `line-short` says how long the line is at most.
+-- Two numbers and four answers, each written in the rest that the one before left (`fill-rest`), are the line (`line-is`), which is short enough to be counted.
 use Rattle.pairtext.proofs.Laws.{line-is, line-short}
 use Rattle.textwrite.proofs.Laws.{fill-rest, fill-is, ended}
 use native.Mathlib.Omega.{arith}
@@ -54,8 +54,20 @@ same-length c = search needs
 returns : tie.Need-returns
 returns c =
     let a = c .before .before .before .before .before .before .before .before .before .before .before .before .before .before .before .before .args in
-    let f = fill-is (line-is (a .t) (a .s) (a .code)) (fill-rest (fill-rest (c .before .before .before .before .before .before .before .before .before .before .before .before .before .put-decimal .ensures .0) (c .before .before .before .before .before .before .before .before .before .before .least .ensures .0) (c .before .before .before .before .before .before .before .put-number .ensures .0)) (c .before .before .before .before .least2 .ensures .0) (c .before .before .put-answers .ensures .0)) in
-    (ended f, omega (arith, f .said, line-short (a .t) (a .s) (a .code) (c .before .before .before .before .before .before .before .before .before .before .before .before .before .before .before .before .pre .0) (c .before .before .before .before .before .before .before .before .before .before .before .before .before .before .before .before .pre .1)))
+    let f =
+    fill-is (line-is (a .t) (a .s) (a .code))
+    (fill-rest
+    (fill-rest (c .before .before .before .before .before .before .before .before .before .before .before .before .before .put-decimal .ensures .0)
+    (c .before .before .before .before .before .before .before .before .before .before .least .ensures .0) (c .before .before .before .before .before .before .before .put-number .ensures .0))
+    (c .before .before .before .before .least2 .ensures .0) (c .before .before .put-answers .ensures .0)) in (
+      ended f,
+      omega (
+        arith,
+        f .said,
+        line-short (a .t) (a .s) (a .code) (c .before .before .before .before .before .before .before .before .before .before .before .before .before .before .before .before .pre .0)
+            (c .before .before .before .before .before .before .before .before .before .before .before .before .before .before .before .before .pre .1),
+      ),
+    )
 
 pub pair-line-spec : {M : Type 1} → statement M
 pair-line-spec =

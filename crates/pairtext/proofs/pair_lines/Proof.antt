@@ -1,4 +1,4 @@
--- Rests on `lines-rest` and `rows-next`: the loop has written the pairs of the first t types.
+-- The loop has written the pairs of the first t types, and those of one more go into the rest of the buffer (`lines-rest`, `rows-next`).
 use Rattle.pairtext.proofs.Laws.{rows-none, rows-next, rows-all}
 use Rattle.pairtext.specs.Parts.{codeLines}
 use Rattle.textwrite.proofs.Laws.{lines-none, lines-rest, lines-are}
@@ -34,7 +34,14 @@ row-lines-requires : tie.Need-row-lines-requires Inv-loop μ-loop
 row-lines-requires c κs = search needs
 
 add-at : tie.Need-add-at Inv-loop μ-loop
-add-at c = omega (arith, c .before .before .before .before .before .before .before .before .pre, c .before .before .before .before .before .before .loop .inv .0, c .before .before .before .before .before .before .loop .inv .1, c .before .before .row-lines .ensures .1)
+add-at c =
+    omega (
+      arith,
+      c .before .before .before .before .before .before .before .before .pre,
+      c .before .before .before .before .before .before .loop .inv .0,
+      c .before .before .before .before .before .before .loop .inv .1,
+      c .before .before .row-lines .ensures .1,
+    )
 
 add-t : tie.Need-add-t Inv-loop μ-loop
 add-t c = search needs
@@ -55,7 +62,11 @@ same-length : tie.Need-same-length Inv-loop μ-loop
 same-length c = c .before .loop .inv .2 .filled .size
 
 returns : tie.Need-returns Inv-loop μ-loop
-returns c = (lines-are (rows-all (c .before .before .before .args .pairs .now) (c .before .before .before .args .n) (c .before .loop .t) (c .before .loop .inv .0) (c .loop-test .left)) (c .before .loop .inv .2), omega (arith, c .before .before .before .pre, c .before .loop .inv .0, c .before .loop .inv .1))
+returns c = (
+  lines-are (rows-all (c .before .before .before .args .pairs .now) (c .before .before .before .args .n) (c .before .loop .t) (c .before .loop .inv .0) (c .loop-test .left))
+      (c .before .loop .inv .2),
+  omega (arith, c .before .before .before .pre, c .before .loop .inv .0, c .before .loop .inv .1),
+)
 
 pub pair-lines-spec : {M : Type 1} → statement M
 pair-lines-spec =

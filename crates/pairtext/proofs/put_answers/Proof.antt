@@ -1,4 +1,4 @@
--- Rests on `fill-rest`, three times, and `answers-are`.
+-- Four words of a bit each, written one behind the other in the rest of the buffer (`fill-rest`), are the answers' text (`answers-are`).
 use Rattle.pairtext.proofs.Laws.{answers-are}
 use Rattle.textwrite.proofs.Laws.{fill-rest, fill-is}
 use native.Mathlib.Omega.{arith}
@@ -79,10 +79,18 @@ same-length : tie.Need-same-length
 same-length c = search needs
 
 returns : tie.Need-returns
-returns c = (
-  fill-is (answers-are (c .before .before .before .before .before .before .before .before .before .before .before .before .before .before .before .before .before .before .before .before .before .before .before .before .args .code)) (fill-rest (fill-rest (fill-rest (c .before .before .before .before .before .before .before .before .before .before .before .before .before .before .before .before .before .before .before .before .put-number .ensures .0) (c .before .before .before .before .before .before .before .before .before .before .before .before .before .before .before .before .before .least .ensures .0) (c .before .before .before .before .before .before .before .before .before .before .before .before .before .before .put-number2 .ensures .0)) (c .before .before .before .before .before .before .before .before .before .before .before .least2 .ensures .0) (c .before .before .before .before .before .before .before .before .put-number3 .ensures .0)) (c .before .before .before .before .before .least3 .ensures .0) (c .before .before .write-number .ensures .0 .filled)),
-  omega (arith, c .before .before .before .before .before .before .before .before .before .before .before .before .before .before .before .before .before .before .before .before .put-number .ensures .1, c .before .before .before .before .before .before .before .before .before .before .before .before .before .before .put-number2 .ensures .1, c .before .before .before .before .before .before .before .before .put-number3 .ensures .1, c .before .before .write-number .ensures .1),
-)
+returns c =
+    let c2 = c .before .before in
+    let c5 = c2 .before .before .before in
+    let c8 = c5 .before .before .before in
+    let c11 = c8 .before .before .before in
+    let c14 = c11 .before .before .before in
+    let c17 = c14 .before .before .before in
+    let c20 = c17 .before .before .before in
+    let three = fill-rest (fill-rest (c20 .put-number .ensures .0) (c17 .least .ensures .0) (c14 .put-number2 .ensures .0)) (c11 .least2 .ensures .0) (c8 .put-number3 .ensures .0) in (
+      fill-is (answers-are (c20 .before .before .before .before .args .code)) (fill-rest three (c5 .least3 .ensures .0) (c2 .write-number .ensures .0 .filled)),
+      omega (arith, c20 .put-number .ensures .1, c14 .put-number2 .ensures .1, c8 .put-number3 .ensures .1, c2 .write-number .ensures .1),
+    )
 
 pub put-answers-spec : {M : Type 1} → statement M
 put-answers-spec =

@@ -1,4 +1,4 @@
--- Rests on `fill-rest`: the number, and the offset in the rest of the buffer.
+-- A refusal's line: the number, and the offset in the rest of the buffer (`fill-rest`).
 use Rattle.pairtext.specs.Output.{answerLines}
 use Rattle.pairtext.proofs.Laws.{refused-is}
 use Rattle.textwrite.proofs.Laws.{fill-rest, fill-is, ended}
@@ -40,7 +40,12 @@ same-length c = search needs
 returns : tie.Need-returns
 unfolding answerLines
 returns c = (
-  ended (fill-is (refused-is (c .before .before .before .before .before .before .before .before .before .before .before .before .args .refusal) (c .before .before .before .before .before .before .before .before .before .before .before .before .args .at)) (fill-rest (c .before .before .before .before .before .before .before .before .put-number .ensures .0) (c .before .before .before .before .before .least .ensures .0) (c .before .before .write-number .ensures .0 .filled))),
+  ended
+      (fill-is
+      (refused-is (c .before .before .before .before .before .before .before .before .before .before .before .before .args .refusal)
+      (c .before .before .before .before .before .before .before .before .before .before .before .before .args .at))
+      (fill-rest (c .before .before .before .before .before .before .before .before .put-number .ensures .0) (c .before .before .before .before .before .least .ensures .0)
+      (c .before .before .write-number .ensures .0 .filled))),
   omega (arith, c .before .before .before .before .before .before .before .before .put-number .ensures .1, c .before .before .write-number .ensures .1),
 )
 

@@ -1,4 +1,4 @@
--- Rests on `printed`: the text is in front of the buffer, which has room for it.
+-- The text stands in front of a buffer that has room for it, so its first bytes are the definition's output (`printed`).
 use Rattle.pairtext.proofs.Whole.{printed}
 use native.Mathlib.Omega.{arith}
 use borrow.Author.Needs.{needs}

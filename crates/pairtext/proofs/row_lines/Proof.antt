@@ -1,4 +1,4 @@
--- Rests on `lines-rest` and `row-next`: the loop has written the pairs of T with the first s types.
+-- The loop has written the pairs of T with the first s types, and one more goes into the rest of the buffer (`lines-rest`, `row-next`).
 use Rattle.pairtext.proofs.Laws.{row-none, row-next, row-all}
 use Rattle.pairtext.specs.Parts.{rowLines}
 use Rattle.textwrite.proofs.Laws.{lines-none, lines-rest, lines-are}
@@ -46,7 +46,14 @@ pair-line-requires : tie.Need-pair-line-requires Inv-loop μ-loop
 pair-line-requires c κs = search needs
 
 add-at : tie.Need-add-at Inv-loop μ-loop
-add-at c = omega (arith, c .before .before .before .before .before .before .before .before .before .before .pre .1, c .before .before .before .before .before .before .before .before .loop .inv .0, c .before .before .before .before .before .before .before .before .loop .inv .1, c .before .before .pair-line .ensures .1)
+add-at c =
+    omega (
+      arith,
+      c .before .before .before .before .before .before .before .before .before .before .pre .1,
+      c .before .before .before .before .before .before .before .before .loop .inv .0,
+      c .before .before .before .before .before .before .before .before .loop .inv .1,
+      c .before .before .pair-line .ensures .1,
+    )
 
 add-s : tie.Need-add-s Inv-loop μ-loop
 add-s c = search needs
@@ -60,14 +67,20 @@ loop-again c =
     let loop = c .before .before .before .before .before .before .before .before .loop in (
       omega arith,
       omega (arith, loop .inv .1, c .before .before .pair-line .ensures .1),
-      lines-are (row-next (a .pairs .now) (a .t) (loop .s) (c .before .before .before .before .before .wide .result) (c .before .before .before .before .before .wide .ensures .0)) (lines-rest (loop .inv .2) (c .before .before .before .before .least .ensures .0) (c .before .before .pair-line .ensures .0)),
+      lines-are (row-next (a .pairs .now) (a .t) (loop .s) (c .before .before .before .before .before .wide .result) (c .before .before .before .before .before .wide .ensures .0))
+          (lines-rest (loop .inv .2) (c .before .before .before .before .least .ensures .0) (c .before .before .pair-line .ensures .0)),
     )
 
 same-length : tie.Need-same-length Inv-loop μ-loop
 same-length c = c .before .loop .inv .2 .filled .size
 
 returns : tie.Need-returns Inv-loop μ-loop
-returns c = (lines-are (row-all (c .before .before .before .args .pairs .now) (c .before .before .before .args .t) (c .before .loop .s) (c .before .before .before .args .n) (c .before .loop .inv .0) (c .loop-test .left)) (c .before .loop .inv .2), omega (arith, c .before .before .before .pre .1, c .before .loop .inv .0, c .before .loop .inv .1))
+returns c = (
+  lines-are
+      (row-all (c .before .before .before .args .pairs .now) (c .before .before .before .args .t) (c .before .loop .s) (c .before .before .before .args .n) (c .before .loop .inv .0)
+      (c .loop-test .left)) (c .before .loop .inv .2),
+  omega (arith, c .before .before .before .pre .1, c .before .loop .inv .0, c .before .loop .inv .1),
+)
 
 pub row-lines-spec : {M : Type 1} → statement M
 row-lines-spec =

@@ -1,4 +1,4 @@
--- Rests on the laws of a pair that is added to the one array.
+-- A pair that is found is marked and joins the queue: two stores in the one array, which leave all other entries as they were.
 use mathlib.Core.Path.{refl}
 use native.Mathlib.Omega.{arith}
 use borrow.Author.Needs.{needs}

@@ -1,4 +1,4 @@
--- Rests on `related_at`, once for each answer.
+-- The four answers at a pair are those of the model, each by a search of its own (`related_at`).
 use borrow.Author.Needs.{needs}
 use Rattle.relation.proofs.answers_at.Statement.{statement}
 use Rattle.relation.proofs.answers_at.Tie as tie

@@ -1,4 +1,4 @@
--- Rests on the laws of one pair more; `room`: a pair that is not found yet leaves room in the queue.
+-- One pair more: it is found already, or joins, or breaks its rule. One that is not found yet leaves room in the queue, since each pair joins once (`room`).
 use mathlib.Core.Bool.{true, false}
 use Prim.Native.Nat.{_+_, _*_}
 use native.Mathlib.Omega.{arith}

@@ -1,4 +1,4 @@
--- Rests on `search`; a number outside the table is in no relation.
+-- The search from the pair says whether it is in the largest relation; a number outside the table is in none (R3).
 use borrow.Author.Needs.{needs}
 use Rattle.table.specs.Store.{tableIn}
 use Rattle.table.proofs.Tables.{size-is}

@@ -1,5 +1,5 @@
--- Rests on `slots-are`: a count above the slots uses all four.
-use mathlib.Core.Path.{ap, sym, _∙_}
+-- A count above the slots uses all four, so the arguments that are looked at are those that the record means (`slots-are`).
+use mathlib.Core.Path.{ap, _∙_}
 use Prim.Native.Nat.{ℕ, min}
 use borrow.Author.Needs.{needs}
 use Rattle.relation.proofs.Signatures.{slots-are}

@@ -1,4 +1,4 @@
--- Rests on `same-empty`, `end-code`, `end-count` and `end-dash`.
+-- Whether a line ends right behind its operands: by the word, with ` -` only behind the two of an answer (P8, P10).
 use mathlib.Core.Path.{_∙_}
 use lib.ListN.{drop}
 use Rattle.requestread.proofs.Laws.{same-empty, end-code, end-count, end-dash}

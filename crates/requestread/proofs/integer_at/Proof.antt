@@ -1,4 +1,4 @@
--- Rests on `integer-none`, `integer-minus` and `integer-plus`.
+-- A signed number at a place of a line: nothing there, a `-` first, or digits, one law for each case (P9).
 use Prim.Native.Nat.{_<_}
 use lib.ListN.{length}
 use Rattle.requestread.proofs.Laws.{integer-none, integer-minus, integer-plus}

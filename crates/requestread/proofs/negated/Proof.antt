@@ -1,4 +1,4 @@
--- Rests on `sign-wrong`, `sign-within`, `minus-zero`, `minus-past` and `minus-right`.
+-- A number behind a `-` is its opposite: not where the scan failed, not 0 and not past the least 64-bit number (P9).
 use mathlib.Core.Path.{_∙_}
 use mir.Facts.{toZ-ofZ}
 use mir.Syntax.{w64}

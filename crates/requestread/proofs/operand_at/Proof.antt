@@ -1,4 +1,4 @@
--- Rests on `operand-none`, `operand-other` and `operand-space`.
+-- An operand is one space and a signed number: nothing there, another byte, or the space, one law for each case (P10).
 use Prim.Native.Nat.{_<_}
 use lib.ListN.{length}
 use Rattle.requestread.proofs.Laws.{operand-none, operand-other, operand-space}

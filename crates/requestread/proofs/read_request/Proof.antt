@@ -1,4 +1,4 @@
--- Rests on the laws of the four words: `line-new`, `line-move`, `line-call`, `line-answer` and `line-other`.
+-- A line is a request by the word that it begins with: every return is the definition's case for that word, `line-other` for no word.
 use mathlib.Core.Path.{sym, _∙_}
 use Rattle.textread.proofs.Laws.{starts-length}
 use Rattle.requestread.specs.Asked.{word}

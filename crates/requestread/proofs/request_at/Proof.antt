@@ -13,7 +13,8 @@ use Rattle.requestread.proofs.request_at.Statement.{statement}
 use Rattle.requestread.proofs.request_at.Tie as tie
 
 abbrev Inv-loop : tie.InvT-loop
-Inv-loop l at code i₀ items₀ count₀ i items count = (i ≤ length l) × (count ≤ 7) × (length items ≡ 7) × (operands (7 - count) (take count items) (drop i l) ≡ operands 7 [] (drop at l))
+Inv-loop l at code i₀ items₀ count₀ i items count =
+    (i ≤ length l) × (count ≤ 7) × (length items ≡ 7) × (operands (7 - count) (take count items) (drop i l) ≡ operands 7 [] (drop at l))
 
 abbrev μ-loop : tie.MeasureT-loop
 μ-loop l at code i₀ items₀ count₀ i items count = 7 - count

@@ -22,7 +22,9 @@ returns-2 : tie.Need-returns-2
 returns-2 c =
     let c2 = c .before .before in
     let c4 = c2 .before .before in
-    let a = c4 .args in let e = c2 .ends in λ ws n. c .fits2 .ensures ∙ ap (λ (z : Bool). z && countFits (a .code) (a .count)) (sym (not-false (e .result) (c .before .if1 .left)) ∙ e .ensures ws n)
+    let a = c4 .args in
+    let e = c2 .ends in
+    λ ws n. c .fits2 .ensures ∙ ap (λ (z : Bool). z && countFits (a .code) (a .count)) (sym (not-false (e .result) (c .before .if1 .left)) ∙ e .ensures ws n)
 
 pub right-at-spec : {M : Type 1} → statement M
 right-at-spec = tie.close (tie.spec ends-requires returns fits-requires returns-2)

@@ -1,4 +1,4 @@
--- Rests on `sign-wrong`, `sign-within`, `plus-past` and `plus-right`.
+-- A number without a sign is itself: not where the scan failed and not past the largest 64-bit number (P9).
 use mathlib.Core.Path.{_∙_}
 use mir.Facts.{toZ-ofZ}
 use mir.Syntax.{w64}

@@ -201,7 +201,8 @@ sub-enum-told-4 t c = search needs
 sub-returns-3 : (t : ℕ) → sub-lts.Need-returns-3 (sub-calls t) (sub-at t) sub-reads.Post sub-Inv-loop sub-μ-loop
 sub-returns-3 t c = new-full (sub-started t (c .before .before .before .before .before .before .before .before .before .before .before .before))
     (c .before .before .before .before .before .before .before .before .before .before .loop .inv) (c .before .before .sub .ensures .keeps)
-    (answer-full (c .before .before .before .before .before .before .before .before .before .before .loop .inv) (c .before .before .before .before .before .before .before .before .before .loop-test .taken)
+    (answer-full (c .before .before .before .before .before .before .before .before .before .before .loop .inv)
+    (c .before .before .before .before .before .before .before .before .before .loop-test .taken)
     (sub-slot t (c .before .before .before .before .before .before .before)) (c .before .before .before .before .before .before .before .slot-at .ensures .1)
     (c .before .before .before .before .before .l2 .given .1) (c .before .before .sub .ensures) (c .enum-told4 .given .1))
 
@@ -405,7 +406,8 @@ sup-enum-told-4 t c = search needs
 sup-returns-3 : (t : ℕ) → sup-lts.Need-returns-3 (sup-calls t) (sup-at t) sup-reads.Post sup-Inv-loop sup-μ-loop
 sup-returns-3 t c = new-full (sup-started t (c .before .before .before .before .before .before .before .before .before .before .before .before))
     (c .before .before .before .before .before .before .before .before .before .before .loop .inv) (c .before .before .sup .ensures .keeps)
-    (answer-full (c .before .before .before .before .before .before .before .before .before .before .loop .inv) (c .before .before .before .before .before .before .before .before .before .loop-test .taken)
+    (answer-full (c .before .before .before .before .before .before .before .before .before .before .loop .inv)
+    (c .before .before .before .before .before .before .before .before .before .loop-test .taken)
     (sup-slot t (c .before .before .before .before .before .before .before)) (c .before .before .before .before .before .before .before .slot-at .ensures .1)
     (c .before .before .before .before .before .l2 .given .1) (c .before .before .sup .ensures) (c .enum-told4 .given .1))
 

@@ -1,4 +1,4 @@
--- Rests on the check of the table; a signed local is kept as 64 bits, from which `toZ-ofZ` reads it back.
+-- A derivation on any table: 2 exactly where the check fails; behind it the checked one answers, whose operands are read back from their 64 bits (`toZ-ofZ`).
 use mathlib.Core.Path.{refl, sym, _∙_}
 use mir.Facts.{toZ-ofZ}
 use Rattle.tablecheck.proofs.Accepted.{accepted-limits}

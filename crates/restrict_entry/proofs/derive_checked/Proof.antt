@@ -1,4 +1,4 @@
--- Rests on what the derivation answered, full or not.
+-- A full table is given back byte for byte from the copy (B23); else the bytes are those that the derivation left.
 use mathlib.Core.Path.{refl, sym, subst}
 use Rattle.model.specs.Restriction.{derived}
 use Rattle.model.specs.Check.{kindOf}
@@ -29,7 +29,8 @@ returns c = λ l.
     let a = c .before .before .before .before .before .before .args in
     let d = c .before .before .derive-kind in
     let full = full-is (a .b .now) (d .last .0) (a .c) (kindOf (a .kind)) (a .t) (a .s) (d .ensures) l (c .enum-told .given .1) in
-    subst (λ z. Answered (a .b .now) l (a .c) (derived (tableIn (a .b .now) l (a .c)) (kindOf (a .kind)) (a .t) (a .s)) (refusedWith 11 z (a .c))) (sym (c .before .before .before .before .copied .ensures .0))
+    subst (λ z. Answered (a .b .now) l (a .c) (derived (tableIn (a .b .now) l (a .c)) (kindOf (a .kind)) (a .t) (a .s)) (refusedWith 11 z (a .c)))
+    (sym (c .before .before .before .before .copied .ensures .0))
     (refused-answers (a .b .now) l (a .c) refl full)
 
 returns-2 : tie.Need-returns-2

@@ -1,4 +1,4 @@
--- Each kind by its function.
+-- Each kind is derived by its function, whose contract names the same kind.
 use mathlib.Core.Path.{sym, ap, subst}
 use mathlib.Core.Bool.{_&&_}
 use borrow.Author.Needs.{needs}

@@ -1,4 +1,4 @@
--- Each code by its definition.
+-- Whether a kind may be asked of these types, code by code as the definition has it.
 use mathlib.Core.Path.{sym, _∙_}
 use borrow.Author.Tests.{not-true, not-false}
 use borrow.Author.Needs.{needs}

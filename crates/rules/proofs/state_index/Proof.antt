@@ -1,7 +1,7 @@
 -- Rests on `state-high`: a code above the states is read as unavail.
 use native.Mathlib.Omega.{arith}
 use borrow.Author.Needs.{needs}
-use Rattle.rules.proofs.Squares.{state-high}
+use Rattle.table.proofs.Codes.{state-high}
 use Rattle.rules.proofs.state_index.Statement.{statement}
 use Rattle.rules.proofs.state_index.Tie as tie
 

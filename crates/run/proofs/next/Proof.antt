@@ -1,4 +1,4 @@
--- By the count of operands.
+-- Where the next request begins: behind as many operands as the words say, or at the end where fewer are left.
 use Rattle.run.proofs.Words.{next-none, next-is}
 use native.Mathlib.Omega.{arith}
 use borrow.Author.Needs.{needs}
@@ -15,7 +15,9 @@ operands-requires : tie.Need-operands-requires
 operands-requires c κs = search needs
 
 returns : tie.Need-returns
-returns c = let a = c .before .before .args in (next-none (a .words .now) (a .at) (c .before .before .pre) (c .before .operands .result) (c .before .operands .ensures) (c .if1 .taken), c .before .before .pre, omega arith)
+returns c =
+    let a = c .before .before .args in
+    (next-none (a .words .now) (a .at) (c .before .before .pre) (c .before .operands .result) (c .before .operands .ensures) (c .if1 .taken), c .before .before .pre, omega arith)
 
 add-result : tie.Need-add-result
 add-result c = search needs

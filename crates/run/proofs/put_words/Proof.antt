@@ -1,4 +1,4 @@
--- Four stores in a row (`four`).
+-- Four stores in a row are the four words of an answer (`four`).
 use native.Mathlib.Omega.{arith}
 use lib.IntN.{ℤ}
 use mir.Facts.{toZ-ofZ}

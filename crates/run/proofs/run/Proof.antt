@@ -17,7 +17,8 @@ same-length c = search needs
 
 returns : tie.Need-returns
 returns c = let a = c .before .before .before .before .before .args in
-    handed-fit (a .s) (a .words .now) (a .answers .now) _ (c .before .run-checked .result) (sym (c .before .before .before .before .state-fits .ensures) ∙ c .before .before .before .if1 .taken) (c .before .run-checked .ensures)
+    handed-fit (a .s) (a .words .now) (a .answers .now) _ (c .before .run-checked .result) (sym (c .before .before .before .before .state-fits .ensures) ∙ c .before .before .before .if1 .taken)
+    (c .before .run-checked .ensures)
 
 returns-2 : tie.Need-returns-2
 returns-2 c = let a = c .before .before .args in

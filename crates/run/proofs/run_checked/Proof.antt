@@ -44,8 +44,10 @@ loop-less c = search needs
 
 loop-again : tie.Need-loop-again Inv-loop μ-loop
 loop-again c = let a = c .before .before .before .before .before .before .before .before .before .args in let w = c .before .before .before .before .before .before .before .before .loop in
-    going-on (a .s) (a .words .now) (a .answers .now) (w .state) (w .answers) (w .served) (w .at) (w .inv) (c .before .before .before .before .before .before .before .loop-test .taken) (c .before .before .before .before .before .before .if1 .left)
-    (c .before .before .before .before .before .serve-at .result) (c .before .before .before .before .before .serve-at .ensures) _ (c .before .before .before .put-answer .ensures) (c .next .result) (c .next .ensures .0) (c .next .ensures .2)
+    going-on (a .s) (a .words .now) (a .answers .now) (w .state) (w .answers) (w .served) (w .at) (w .inv) (c .before .before .before .before .before .before .before .loop-test .taken)
+    (c .before .before .before .before .before .before .if1 .left)
+    (c .before .before .before .before .before .serve-at .result) (c .before .before .before .before .before .serve-at .ensures) _ (c .before .before .before .put-answer .ensures) (c .next .result)
+    (c .next .ensures .0) (c .next .ensures .2)
 
 same-length-2 : tie.Need-same-length-2 Inv-loop μ-loop
 same-length-2 c = search needs

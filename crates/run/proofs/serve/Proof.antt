@@ -1,5 +1,5 @@
 -- A word that names no code counts as the code of no request.
-use mathlib.Core.Path.{_≡_, ap, _∙_}
+use mathlib.Core.Path.{_≡_, ap, _∙_, sym}
 use mathlib.Core.List.{List}
 use Prim.Native.Nat.{ℕ}
 use lib.IntN.{ℤ}
@@ -8,12 +8,12 @@ use Rattle.operand.specs.Index.{indexOf}
 use Rattle.operand.specs.Coded.{byCode}
 use Rattle.state.specs.View.{systemIn}
 use Rattle.coded.specs.Coded.{serveAsked}
-use Rattle.coded.proofs.Laws.{step-as}
 use Rattle.run.specs.Requested.{request}
 use Rattle.run.proofs.Laws.{code-is}
 use borrow.Author.Needs.{needs}
 use Rattle.run.proofs.serve.Statement.{statement}
 use Rattle.run.proofs.serve.Tie as tie
+use Rattle.steps.proofs.Laws.{step-as}
 
 index-of-requires : tie.Need-index-of-requires
 index-of-requires c κs = search needs
@@ -26,7 +26,8 @@ coded code ws k e = ap (λ (m : ℕ). byCode m ws) e ∙ code-is code ws
 
 returns : tie.Need-returns
 returns c = let a = c .before .before .args in
-    step-as (ap (serveAsked (systemIn (a .s))) (coded (a .code) (a .ops .now) (c .before .index-of .result) (rw (toZ-ofZ (c .before .before .fits .code)) at (c .before .index-of .ensures)))) (c .serve-coded .ensures)
+    step-as (sym (ap (serveAsked (systemIn (a .s))) (coded (a .code) (a .ops .now) (c .before .index-of .result) (rw (toZ-ofZ (c .before .before .fits .code)) at (c .before .index-of .ensures)))))
+    (c .serve-coded .ensures)
 
 pub serve-spec : {M : Type 1} → statement M
 serve-spec = tie.close (tie.spec index-of-requires serve-coded-requires returns)

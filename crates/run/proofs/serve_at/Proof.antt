@@ -1,16 +1,17 @@
 -- A request with fewer words than it says, or one by its code and its operands, which are a part of the list.
 use Prim.Native.Nat.{_+_, _-_}
-use mathlib.Core.Path.{_≡_, refl, ap}
+use mathlib.Core.Path.{_≡_, refl, ap, sym}
 use Rattle.state.specs.View.{systemIn}
 use Rattle.coded.specs.Coded.{serveAsked}
 use Rattle.coded.proofs.Words.{is-read}
-use Rattle.coded.proofs.Laws.{refuses, step-as}
+use Rattle.coded.proofs.Laws.{refuses}
 use Rattle.run.specs.Ran.{askedAt}
 use Rattle.run.proofs.Words.{asked-none, asked-is}
 use native.Mathlib.Omega.{arith}
 use borrow.Author.Needs.{needs}
 use Rattle.run.proofs.serve_at.Statement.{statement}
 use Rattle.run.proofs.serve_at.Tie as tie
+use Rattle.steps.proofs.Laws.{step-as}
 
 sub-left : tie.Need-sub-left
 sub-left c = search needs
@@ -26,7 +27,8 @@ refused-requires c κs = search needs
 
 returns : tie.Need-returns
 returns c = let a = c .before .before .before .args in let w = a .words .now in
-    refuses (a .s) (askedAt w (a .at)) (c .refused .result) (c .before .before .before .pre .0) (asked-none w (a .at) (c .before .before .before .pre .1) (c .before .before .operands .result) (c .before .before .operands .ensures) (c .before .if1 .taken)) (c .refused .ensures)
+    refuses (a .s) (askedAt w (a .at)) (c .refused .result) (c .before .before .before .pre .0)
+    (asked-none w (a .at) (c .before .before .before .pre .1) (c .before .before .operands .result) (c .before .before .operands .ensures) (c .before .if1 .taken)) (c .refused .ensures)
 
 mul-code : tie.Need-mul-code
 mul-code c = search needs
@@ -58,7 +60,10 @@ serve-requires c κs = search needs
 returns-2 : tie.Need-returns-2
 returns-2 c = let a = c .before .before .before .before .before .args in let w = a .words .now in let n = c .before .before .before .before .operands .result in
     let e : a .at + 2 + n - (a .at + 2) ≡ n = omega arith in
-    step-as (ap (serveAsked (systemIn (a .s))) (asked-is w (a .at) (c .before .before .before .before .before .pre .1) n (c .before .before .before .before .operands .ensures) (c .before .before .before .if1 .left) _ (is-read w (a .at) (c .before .before .code .given)) (a .at + 2) (a .at + 2 + n - (a .at + 2)) refl e)) (c .serve .ensures)
+    step-as
+    (sym (ap (serveAsked (systemIn (a .s)))
+    (asked-is w (a .at) (c .before .before .before .before .before .pre .1) n (c .before .before .before .before .operands .ensures) (c .before .before .before .if1 .left) _
+    (is-read w (a .at) (c .before .before .code .given)) (a .at + 2) (a .at + 2 + n - (a .at + 2)) refl e))) (c .serve .ensures)
 
 pub serve-at-spec : {M : Type 1} → statement M
 serve-at-spec =

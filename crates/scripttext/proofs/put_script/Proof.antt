@@ -1,4 +1,4 @@
--- Rests on the three cases of an input: too long, refused, served (proofs/Whole).
+-- The output by the three cases of an input, too long, refused or served, as the definition has them (proofs/Whole).
 use lib.Seq.{length-take-le}
 use mathlib.Core.Path.{sym}
 use Rattle.textwrite.proofs.Laws.{fill-is}

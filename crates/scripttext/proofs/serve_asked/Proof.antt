@@ -1,3 +1,4 @@
+-- A line that asks is served as the run's words are; a malformed one is refused with 1 and changes nothing (P11).
 use native.Mathlib.Omega.{arith}
 use lib.Seq.{length-take-le}
 use mathlib.Core.Path.{_≡_, sym, ap}
@@ -7,11 +8,12 @@ use Rattle.requestread.specs.Read.{askedAs}
 use Rattle.operand.specs.Coded.{byCode}
 use Rattle.state.specs.View.{systemIn}
 use Rattle.coded.specs.Coded.{serveAsked}
-use Rattle.coded.proofs.Laws.{refuses, step-as}
+use Rattle.coded.proofs.Laws.{refuses}
 use borrow.Author.Tests.{not-true, not-false}
 use borrow.Author.Needs.{needs}
 use Rattle.scripttext.proofs.serve_asked.Statement.{statement}
 use Rattle.scripttext.proofs.serve_asked.Tie as tie
+use Rattle.steps.proofs.Laws.{step-as}
 
 refused-requires : tie.Need-refused-requires
 refused-requires c κs = search needs
@@ -36,7 +38,7 @@ returns-2 : tie.Need-returns-2
 returns-2 c =
     let a = c .before .before .before .before .before .args in
     let q : byCode (a .q .code) (take (a .q .count) (a .q .items)) ≡ askedAs (a .q) = rw (not-false (a .q .right) (c .before .before .before .if1 .left)) in
-    step-as (ap (serveAsked (systemIn (a .s))) q) (c .serve-coded .ensures)
+    step-as (sym (ap (serveAsked (systemIn (a .s))) q)) (c .serve-coded .ensures)
 
 pub serve-asked-spec : {M : Type 1} → statement M
 serve-asked-spec =

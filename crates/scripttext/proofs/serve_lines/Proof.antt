@@ -61,7 +61,8 @@ loop-less c =
     let k = c .before .before .before .before .before .before .before .before .before .before .before .loop-test .taken in
     let q = c .before .before .before .before .before .before .before .before .read-request in
     let r = c .before .before .before .before .before .before .before .serve-asked in
-    let n = c .behind .ensures ∙ passed-line rest (loop .at) _ h k (q .result) (q .ensures) _ (c .before .before .before .before .before .before .before .before .before .before .next-line .ensures) in
+    let n =
+    c .behind .ensures ∙ passed-line rest (loop .at) _ h k (q .result) (q .ensures) _ (c .before .before .before .before .before .before .before .before .before .before .next-line .ensures) in
     let u = next-behind (loop .state) rest (loop .at) _ h k (q .result) (q .ensures) (r .result) (r .ensures) (c .behind .result) n in
     omega (arith, u .0, u .1)
 
@@ -73,7 +74,8 @@ loop-again c =
     let k = c .before .before .before .before .before .before .before .before .before .before .before .loop-test .taken in
     let q = c .before .before .before .before .before .before .before .before .read-request in
     let r = c .before .before .before .before .before .before .before .serve-asked in
-    let n = c .behind .ensures ∙ passed-line (a .rest .now) (loop .at) _ h k (q .result) (q .ensures) _ (c .before .before .before .before .before .before .before .before .before .before .next-line .ensures) in
+    let n = c .behind .ensures ∙ passed-line (a .rest .now) (loop .at) _ h k (q .result) (q .ensures) _
+    (c .before .before .before .before .before .before .before .before .before .before .next-line .ensures) in
     let f = c .before .before .before .before .write-answer .ensures in
     going-on (a .s) (a .rest .now) (a .buf .now) (loop .state) (loop .buf) (loop .written) (loop .at) (loop .inv) _ h k (q .result) (q .ensures) (r .result) (r .ensures)
     (c .behind .result) n (c .before .before .before .before .before .before .least .ensures .0) (f .0) (f .1)

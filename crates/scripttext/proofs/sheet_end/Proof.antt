@@ -55,7 +55,9 @@ loop-less : tie.Need-loop-less Inv-loop μ-loop
 loop-less c =
     let s = c .before .before .before .before .before .before .before .before .before .args .s .now in
     let loop = c .before .before .before .before .before .before .before .loop in
-    let w = next-within s (loop .at) _ (c .before .before .before .between .ensures) (c .before .before .before .before .before .before .loop-test .taken) _ (c .before .before .before .before .before .next-line .ensures) (c .before .before .before .before .if1 .left) in omega (arith, w .0, w .1)
+    let w = next-within s (loop .at) _ (c .before .before .before .between .ensures) (c .before .before .before .before .before .before .loop-test .taken) _
+    (c .before .before .before .before .before .next-line .ensures) (c .before .before .before .before .if1 .left) in
+    omega (arith, w .0, w .1)
 
 loop-again : tie.Need-loop-again Inv-loop μ-loop
 loop-again c =

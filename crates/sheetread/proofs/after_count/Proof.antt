@@ -1,4 +1,4 @@
--- Rests on `types-to-length`, `done-no`, `done-ok`, `on-done`, `tableWith` and `types-no` and what stands beside them.
+-- Types, last line, table: each group is refused with the definition's number and offset, or goes on where it ended, with the bytes of the types stored so far.
 use mathlib.Core.Path.{refl, sym, ap, _∙_}
 use native.Mathlib.Omega.{arith}
 use lib.ListN.{drop}

@@ -1,4 +1,4 @@
--- Rests on `got-no`, `got-ok`, `got-at-most`, `done-no`, `done-ok` and `on-done` and what stands beside them.
+-- `under=` lines, the number of types and what follows it: each group is refused with the definition's number and offset, or goes on where it ended.
 use mathlib.Core.Path.{ap, _∙_}
 use lib.ListN.{drop}
 use borrow.Author.Needs.{needs}

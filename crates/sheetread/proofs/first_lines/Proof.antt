@@ -1,13 +1,14 @@
--- Rests on `got-no`, `got-ok`, `got-at-most`, `guide-no`, `subjects-no` and `methods-no` and what stands beside them.
+-- The first four lines in turn: a refusal of one is that of all (`step-no`), an accepted one hands on to the next (`step-ok`).
 use mathlib.Core.Path.{ap, _∙_}
 use Prim.Native.Nat.{ℕ}
 use lib.ListN.{drop}
 use borrow.Author.Needs.{needs}
 use Rattle.sheet.specs.Lines.{bytes, split, line}
 use Rattle.sheet.specs.Sheet.{numberLine}
-use Rattle.sheetread.proofs.Readings.{got-no, got-ok, got-at-most, guide-no, subjects-no, methods-no, cats-no, first-ok}
+use Rattle.sheetread.proofs.Readings.{got-no, got-ok, got-at-most, first-of, afterSubjectsLine, afterMethodsLine, afterCatsLine, step-no, step-ok}
 use Rattle.sheetread.proofs.first_lines.Statement.{statement}
 use Rattle.sheetread.proofs.first_lines.Tie as tie
+use Rattle.sheetread.specs.View.{first₁}
 
 start-requires : tie.Need-start-requires
 start-requires c κs = search needs
@@ -28,7 +29,7 @@ returns c =
     let c7 = c5 .before .before in
     let s = c7 .args .s .now in
     let g = c3 .next-number in (
-      guide-no 0 (split s) _ _ (got-no (λ n. n) s (c5 .start .result .at) (g .result) _ (g .ensures .0) _ (c .before .g .given .1)
+      step-no first₁ (first-of 0 (split s)) (got-no (λ n. n) s (c5 .start .result .at) (g .result) _ (g .ensures .0) _ (c .before .g .given .1)
           ∙ ap (λ (z : ℕ). line (numberLine (bytes "guide=") 1 1) z (split (drop z s))) (c5 .start .ensures)),
       tt,
     )
@@ -83,10 +84,9 @@ returns-2 c =
     let g = c8 .next-number in
     let gn = c6 .g2 .given .0 .0 in
     let gc = c6 .g2 .given .0 .1 .0 in
-    let gr = split (drop (gc .at) s) in
     let ge = got-ok (λ n. n) s (c10 .start .result .at) (g .result) _ (g .ensures .0) gn gc (c6 .g2 .given .1)
     ∙ ap (λ (z : ℕ). line (numberLine (bytes "guide=") 1 1) z (split (drop z s))) (c10 .start .ensures) in
-    (subjects-no 0 (split s) gn (gc .at) gr ge _ _ (got-no (λ n. n) s (gc .at) (c3 .next-number2 .result) _ (c3 .next-number2 .ensures .0) _ (c .before .u .given .1)), tt)
+    (step-no afterSubjectsLine (step-ok first₁ (first-of 0 (split s)) ge) (got-no (λ n. n) s (gc .at) (c3 .next-number2 .result) _ (c3 .next-number2 .ensures .0) _ (c .before .u .given .1)), tt)
 
 returns-3 : tie.Need-returns-3
 returns-3 c =
@@ -101,15 +101,16 @@ returns-3 c =
     let g = c13 .next-number in
     let gn = c11 .g2 .given .0 .0 in
     let gc = c11 .g2 .given .0 .1 .0 in
-    let gr = split (drop (gc .at) s) in
     let ge = got-ok (λ n. n) s (c15 .start .result .at) (g .result) _ (g .ensures .0) gn gc (c11 .g2 .given .1)
     ∙ ap (λ (z : ℕ). line (numberLine (bytes "guide=") 1 1) z (split (drop z s))) (c15 .start .ensures) in
     let u = c8 .next-number2 in
     let un = c6 .u2 .given .0 .0 in
     let uc = c6 .u2 .given .0 .1 .0 in
-    let ur = split (drop (uc .at) s) in
-    let ue = got-ok (λ n. n) s (gc .at) (u .result) _ (u .ensures .0) un uc (c6 .u2 .given .1) in
-    (methods-no 0 (split s) gn (gc .at) gr ge un (uc .at) ur ue _ _ (got-no (λ n. n) s (uc .at) (c3 .next-number3 .result) _ (c3 .next-number3 .ensures .0) _ (c .before .m .given .1)), tt)
+    let ue = got-ok (λ n. n) s (gc .at) (u .result) _ (u .ensures .0) un uc (c6 .u2 .given .1) in (
+      step-no (afterMethodsLine un) (step-ok afterSubjectsLine (step-ok first₁ (first-of 0 (split s)) ge) ue)
+          (got-no (λ n. n) s (uc .at) (c3 .next-number3 .result) _ (c3 .next-number3 .ensures .0) _ (c .before .m .given .1)),
+      tt,
+    )
 
 returns-4 : tie.Need-returns-4
 returns-4 c =
@@ -126,20 +127,17 @@ returns-4 c =
     let g = c18 .next-number in
     let gn = c16 .g2 .given .0 .0 in
     let gc = c16 .g2 .given .0 .1 .0 in
-    let gr = split (drop (gc .at) s) in
     let ge = got-ok (λ n. n) s (c20 .start .result .at) (g .result) _ (g .ensures .0) gn gc (c16 .g2 .given .1)
     ∙ ap (λ (z : ℕ). line (numberLine (bytes "guide=") 1 1) z (split (drop z s))) (c20 .start .ensures) in
     let u = c13 .next-number2 in
     let un = c11 .u2 .given .0 .0 in
     let uc = c11 .u2 .given .0 .1 .0 in
-    let ur = split (drop (uc .at) s) in
     let ue = got-ok (λ n. n) s (gc .at) (u .result) _ (u .ensures .0) un uc (c11 .u2 .given .1) in
     let m = c8 .next-number3 in
     let mn = c6 .m2 .given .0 .0 in
     let mc = c6 .m2 .given .0 .1 .0 in
-    let mr = split (drop (mc .at) s) in
     let me = got-ok (λ n. n) s (uc .at) (m .result) _ (m .ensures .0) mn mc (c6 .m2 .given .1) in (
-      cats-no 0 (split s) gn (gc .at) gr ge un (uc .at) ur ue mn (mc .at) mr me _ _
+      step-no (afterCatsLine un mn) (step-ok (afterMethodsLine un) (step-ok afterSubjectsLine (step-ok first₁ (first-of 0 (split s)) ge) ue) me)
           (got-no (λ n. n) s (mc .at) (c3 .next-number4 .result) _ (c3 .next-number4 .ensures .0) _ (c .before .y .given .1)),
       tt,
     )
@@ -159,25 +157,21 @@ returns-5 c =
     let g = c18 .next-number in
     let gn = c16 .g2 .given .0 .0 in
     let gc = c16 .g2 .given .0 .1 .0 in
-    let gr = split (drop (gc .at) s) in
     let ge = got-ok (λ n. n) s (c20 .start .result .at) (g .result) _ (g .ensures .0) gn gc (c16 .g2 .given .1)
     ∙ ap (λ (z : ℕ). line (numberLine (bytes "guide=") 1 1) z (split (drop z s))) (c20 .start .ensures) in
     let u = c13 .next-number2 in
     let un = c11 .u2 .given .0 .0 in
     let uc = c11 .u2 .given .0 .1 .0 in
-    let ur = split (drop (uc .at) s) in
     let ue = got-ok (λ n. n) s (gc .at) (u .result) _ (u .ensures .0) un uc (c11 .u2 .given .1) in
     let m = c8 .next-number3 in
     let mn = c6 .m2 .given .0 .0 in
     let mc = c6 .m2 .given .0 .1 .0 in
-    let mr = split (drop (mc .at) s) in
     let me = got-ok (λ n. n) s (uc .at) (m .result) _ (m .ensures .0) mn mc (c6 .m2 .given .1) in
     let y = c3 .next-number4 in
     let yn = c .before .y2 .given .0 .0 in
     let yc = c .before .y2 .given .0 .1 .0 in
-    let yr = split (drop (yc .at) s) in
     let ye = got-ok (λ n. n) s (mc .at) (y .result) _ (y .ensures .0) yn yc (c .before .y2 .given .1) in (
-      first-ok 0 (split s) gn (gc .at) gr ge un (uc .at) ur ue mn (mc .at) mr me yn (yc .at) yr ye,
+      step-ok (afterCatsLine un mn) (step-ok (afterMethodsLine un) (step-ok afterSubjectsLine (step-ok first₁ (first-of 0 (split s)) ge) ue) me) ye,
       (got-at-most 16 (m .result) mn mc (c6 .m2 .given .1) (m .ensures .1), got-at-most 31 (y .result) yn yc (c .before .y2 .given .1) (y .ensures .1)),
     )
 

@@ -1,4 +1,4 @@
--- Rests on `got-no`, `got-ok`, `ending-no`, `ending-more`, `ending-own` and `ending-good` and what stands beside them.
+-- The last line, the end of the input and only then the signatures: every return is the definition's case that the tests before it left (S6, S10, S13).
 use mathlib.Core.Path.{sym, _∙_}
 use borrow.Author.Needs.{needs}
 use borrow.Author.Tests.{not-true, not-false}

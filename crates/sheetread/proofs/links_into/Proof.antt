@@ -1,4 +1,4 @@
--- Rests on `links-length`, `links-put`, `under-no`, `under-ok`, `times-done` and `times-stop` and what stands beside them.
+-- The loop has read the lines of the first categories and stored their links; a refused line ends it, the others go on from its bytes (`times-stop`, `times-next`).
 use mathlib.Core.List.{[]}
 use mathlib.Core.Path.{_≡_, ap, sym, subst, _∙_}
 use Prim.Native.Nat.{ℕ, _≤_, _<_, _+_, _-_}

@@ -1,4 +1,4 @@
--- Rests on `read-no`, `read-ok`, `refused-is`, `times-done`, `times-stop` and `times-next` and what stands beside them.
+-- The loop has read j methods, each an exact record; a refused line ends it (`times-stop`), an accepted one is one method more (`times-next`).
 use mathlib.Core.List.{[], map}
 use mathlib.Core.Path.{_≡_, refl, ap, sym, subst, _∙_}
 use Prim.Native.Nat.{ℕ, _≤_, _<_, _+_, _-_}

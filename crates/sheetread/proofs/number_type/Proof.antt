@@ -1,4 +1,4 @@
--- Rests on `sheet-key`, `number-exact`, `number-means` and `methods-blank`.
+-- A number type's record holds head and nothing else, which means the definition's type and is exact (B15).
 use mathlib.Core.Path.{refl, ap}
 use native.Mathlib.Omega.{arith}
 use lib.ListN.{replicate}

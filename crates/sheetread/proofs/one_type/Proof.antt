@@ -1,4 +1,4 @@
--- Rests on `refused-is`, `got-no`, `got-ok`, `got-refusal`, `got-at-most` and `type-number-no` and what stands beside them.
+-- The three lines of a type in turn (`step-no`, `step-ok`), then the members by the representation: the record that is stored means the definition's type, exactly.
 use mathlib.Core.Path.{ap, sym, _∙_}
 use native.Mathlib.Omega.{arith}
 use lib.ListN.{drop}
@@ -6,7 +6,8 @@ use borrow.Author.Needs.{needs}
 use Rattle.model.specs.Check.{repOf}
 use Rattle.model.specs.Table.{Ty}
 use Rattle.sheet.specs.Lines.{split, got}
-use Rattle.sheetread.proofs.Readings.{refused-is, got-no, got-ok, got-refusal, got-at-most, type-number-no, type-rep-no, type-cat-no, type-members, members-ref, members-number}
+use Rattle.sheet.specs.Sheet.{members}
+use Rattle.sheetread.proofs.Readings.{refused-is, got-no, got-ok, got-refusal, got-at-most, type-of, afterNumber, afterRep, step-no, step-ok, members-ref, members-number}
 use Rattle.sheetread.proofs.one_type.Statement.{statement}
 use Rattle.sheetread.proofs.one_type.Tie as tie
 
@@ -32,7 +33,8 @@ returns c =
     let nz = got-refusal (a .i) (x .result) k (c .before .before .x .given .1) (x .ensures .1) in
     let r = c .no-type in (
       refused-is s (r .result .refusal) k (r .result .next .at) (a .c .at) _ _ nz (r .ensures .0) (r .ensures .1)
-          (type-number-no (a .m) (a .cats) (a .n) (a .i) (a .c .at) rs k (a .c .at) (got-no (λ n. n) s (a .c .at) (x .result) _ (x .ensures .0) k (c .before .before .x .given .1))),
+          (step-no (afterNumber (a .m) (a .cats) (a .n)) (type-of (a .m) (a .cats) (a .n) (a .i) (a .c .at) rs)
+          (got-no (λ n. n) s (a .c .at) (x .result) _ (x .ensures .0) k (c .before .before .x .given .1))),
       λ z. absurd (nz (sym (r .ensures .0) ∙ z)),
     )
 
@@ -96,12 +98,10 @@ returns-2 c =
     let x = c14 .next-number in
     let xn = c12 .x2 .given .0 .0 in
     let xc = c12 .x2 .given .0 .1 .0 in
-    let xr = split (drop (xc .at) s) in
     let xe = got-ok (λ n. n) s (a .c .at) (x .result) _ (x .ensures .0) xn xc (c12 .x2 .given .1) in
     let y = c10 .next-rep in
     let yn = c8 .r2 .given .0 .0 in
     let yc = c8 .r2 .given .0 .1 .0 in
-    let yr = split (drop (yc .at) s) in
     let ye = got-ok repOf s (xc .at) (y .result) _ (y .ensures .0) yn yc (c8 .r2 .given .1) in
     let z = c5 .next-number2 in
     let zn = c3 .y2 .given .0 .0 in
@@ -110,7 +110,8 @@ returns-2 c =
     let ze = got-ok (λ n. n) s (yc .at) (z .result) _ (z .ensures .0) zn zc (c3 .y2 .given .1) in
     let g = c .ref-type in (
       g .ensures .0 (a .i) (c17 .pre .0) ∙ members-ref (a .m) (a .n) yn zn (zc .at) zr (c .before .if1 .taken)
-          ∙ type-members (a .m) (a .cats) (a .n) (a .i) (a .c .at) rs xn (xc .at) xr xe (repOf yn) (yc .at) yr ye zn (zc .at) zr ze,
+          ∙ step-ok (members (a .m) (a .n) (repOf yn))
+          (step-ok (afterRep (a .m) (a .cats) (a .n)) (step-ok (afterNumber (a .m) (a .cats) (a .n)) (type-of (a .m) (a .cats) (a .n) (a .i) (a .c .at) rs) xe) ye) ze,
       g .ensures .1 (a .i) (c17 .pre .0),
     )
 
@@ -135,14 +136,14 @@ returns-3 c =
     let x = c .before .before .before .before .before .before .before .before .next-number in
     let xn = c .before .before .before .before .before .before .x2 .given .0 .0 in
     let xc = c .before .before .before .before .before .before .x2 .given .0 .1 .0 in
-    let xr = split (drop (xc .at) s) in
     let xe = got-ok (λ n. n) s (a .c .at) (x .result) _ (x .ensures .0) xn xc (c .before .before .before .before .before .before .x2 .given .1) in
     let y = c .before .before .before .before .next-rep in
     let k = c .before .before .r .given .0 .0 in
     let nz = got-refusal 2 (y .result) k (c .before .before .r .given .1) (y .ensures .1) in
     let r = c .no-type2 in (
       refused-is s (r .result .refusal) k (r .result .next .at) (xc .at) _ _ nz (r .ensures .0) (r .ensures .1)
-          (type-rep-no (a .m) (a .cats) (a .n) (a .i) (a .c .at) rs xn (xc .at) xr xe k (xc .at) (got-no repOf s (xc .at) (y .result) _ (y .ensures .0) k (c .before .before .r .given .1))),
+          (step-no (afterRep (a .m) (a .cats) (a .n)) (step-ok (afterNumber (a .m) (a .cats) (a .n)) (type-of (a .m) (a .cats) (a .n) (a .i) (a .c .at) rs) xe)
+          (got-no repOf s (xc .at) (y .result) _ (y .ensures .0) k (c .before .before .r .given .1))),
       λ z. absurd (nz (sym (r .ensures .0) ∙ z)),
     )
 
@@ -161,19 +162,18 @@ returns-4 c =
     let x = c13 .next-number in
     let xn = c11 .x2 .given .0 .0 in
     let xc = c11 .x2 .given .0 .1 .0 in
-    let xr = split (drop (xc .at) s) in
     let xe = got-ok (λ n. n) s (a .c .at) (x .result) _ (x .ensures .0) xn xc (c11 .x2 .given .1) in
     let y = c9 .next-rep in
     let yn = c7 .r2 .given .0 .0 in
     let yc = c7 .r2 .given .0 .1 .0 in
-    let yr = split (drop (yc .at) s) in
     let ye = got-ok repOf s (xc .at) (y .result) _ (y .ensures .0) yn yc (c7 .r2 .given .1) in
     let z = c4 .next-number2 in
     let k = c2 .y .given .0 .0 in
     let nz = got-refusal (a .cats) (z .result) k (c2 .y .given .1) (z .ensures .1) in
     let r = c .no-type3 in (
       refused-is s (r .result .refusal) k (r .result .next .at) (yc .at) _ _ nz (r .ensures .0) (r .ensures .1)
-          (type-cat-no (a .m) (a .cats) (a .n) (a .i) (a .c .at) rs xn (xc .at) xr xe (repOf yn) (yc .at) yr ye k (yc .at)
+          (step-no (members (a .m) (a .n) (repOf yn))
+          (step-ok (afterRep (a .m) (a .cats) (a .n)) (step-ok (afterNumber (a .m) (a .cats) (a .n)) (type-of (a .m) (a .cats) (a .n) (a .i) (a .c .at) rs) xe) ye)
           (got-no (λ n. n) s (yc .at) (z .result) _ (z .ensures .0) k (c2 .y .given .1))),
       λ z. absurd (nz (sym (r .ensures .0) ∙ z)),
     )
@@ -193,12 +193,10 @@ returns-5 c =
     let x = c14 .next-number in
     let xn = c12 .x2 .given .0 .0 in
     let xc = c12 .x2 .given .0 .1 .0 in
-    let xr = split (drop (xc .at) s) in
     let xe = got-ok (λ n. n) s (a .c .at) (x .result) _ (x .ensures .0) xn xc (c12 .x2 .given .1) in
     let y = c10 .next-rep in
     let yn = c8 .r2 .given .0 .0 in
     let yc = c8 .r2 .given .0 .1 .0 in
-    let yr = split (drop (yc .at) s) in
     let ye = got-ok repOf s (xc .at) (y .result) _ (y .ensures .0) yn yc (c8 .r2 .given .1) in
     let z = c5 .next-number2 in
     let zn = c3 .y2 .given .0 .0 in
@@ -208,7 +206,8 @@ returns-5 c =
     let g = c .number-type in (
       ap (λ (t : Ty). got t (zc .at) zr) (g .ensures .0 (a .m) (a .n) (a .i) (c17 .pre .0))
           ∙ members-number (a .m) (a .n) yn zn (zc .at) zr (c .before .if1 .left)
-          ∙ type-members (a .m) (a .cats) (a .n) (a .i) (a .c .at) rs xn (xc .at) xr xe (repOf yn) (yc .at) yr ye zn (zc .at) zr ze,
+          ∙ step-ok (members (a .m) (a .n) (repOf yn))
+          (step-ok (afterRep (a .m) (a .cats) (a .n)) (step-ok (afterNumber (a .m) (a .cats) (a .n)) (type-of (a .m) (a .cats) (a .n) (a .i) (a .c .at) rs) xe) ye) ze,
       λ z. g .ensures .1 (a .m) (a .n) (a .i) (c17 .pre .0),
     )
 

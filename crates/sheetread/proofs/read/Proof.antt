@@ -1,4 +1,4 @@
--- Rests on `sheet-of`.
+-- The whole sheet is its first lines and what follows them, put together again (`sheet-of`).
 use mathlib.Core.Path.{ap, sym, subst, _∙_}
 use borrow.Author.Needs.{needs}
 use Rattle.sheet.specs.Lines.{follow}

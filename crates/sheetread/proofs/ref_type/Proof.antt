@@ -1,4 +1,4 @@
--- Rests on `sheet-key`, `ref-exact`, `read-no`, `read-ok`, `refused-is` and `got-no` and what stands beside them.
+-- The own flag and the methods in turn (`step-no`, `step-ok`): the record made of them means the definition's type and is exact (B13).
 use mathlib.Core.List.{map}
 use mathlib.Core.Path.{sym, ap, _∙_}
 use Prim.Native.Nat.{_≤_}
@@ -11,7 +11,7 @@ use Rattle.table.specs.Store.{rawOf, rawMethod}
 use Rattle.table.specs.declared.Head.{Head}
 use Rattle.sheet.specs.Lines.{split, got}
 use Rattle.lineread.specs.View.{yesOf}
-use Rattle.sheetread.proofs.Readings.{read-no, read-ok, refused-is, got-no, got-ok, got-refusal, got-at-most, member-own-no, member-methods-no, member-ok}
+use Rattle.sheetread.proofs.Readings.{read-no, read-ok, refused-is, got-no, got-ok, got-refusal, got-at-most, members-of, afterOwn, afterMethods, step-no, step-ok}
 use Rattle.sheetread.proofs.Stored.{methods-all, ref-means}
 use Rattle.sheetread.specs.View.{methodIs}
 use Rattle.sheetread.proofs.ref_type.Statement.{statement}
@@ -46,8 +46,8 @@ returns c =
     let g = c .before .before .before .before .methods-at in
     let r = c .no-type2 in (
       λ i h. refused-is s (r .result .refusal) (g .result .refusal) (r .result .next .at) (g .result .next .at) _ _ (c .before .if1 .taken) (r .ensures .0) (r .ensures .1)
-          (member-methods-no (a .m) (a .n) (a .cat) (a .c .at) (split (drop (a .c .at) s)) (yesOf on) (oc .at) (split (drop (oc .at) s)) oe
-          (g .result .refusal) (g .result .next .at) (read-no s (g .result .refusal) (map methodIs (take (a .m) (g .result .list))) (g .result .next .at) _ (g .ensures .0) (c .before .if1 .taken))),
+          (step-no (afterMethods (a .cat) (yesOf on)) (step-ok (afterOwn (a .m) (a .n) (a .cat)) (members-of (a .m) (a .n) (a .cat) (a .c .at) (split (drop (a .c .at) s))) oe)
+          (read-no s (g .result .refusal) (map methodIs (take (a .m) (g .result .list))) (g .result .next .at) _ (g .ensures .0) (c .before .if1 .taken))),
       λ i h z. absurd (c .before .if1 .taken (sym (r .ensures .0) ∙ z)),
     )
 
@@ -67,7 +67,8 @@ returns-2 c =
     let r = c .no-type in
     let nz = got-refusal 1 (o .result) k (c .before .before .o .given .1) (o .ensures .1) in (
       λ i h. refused-is s (r .result .refusal) k (r .result .next .at) (a .c .at) _ _ nz (r .ensures .0) (r .ensures .1)
-          (member-own-no (a .m) (a .n) (a .cat) (a .c .at) (split (drop (a .c .at) s)) k (a .c .at) (got-no yesOf s (a .c .at) (o .result) _ (o .ensures .0) k (c .before .before .o .given .1))),
+          (step-no (afterOwn (a .m) (a .n) (a .cat)) (members-of (a .m) (a .n) (a .cat) (a .c .at) (split (drop (a .c .at) s)))
+          (got-no yesOf s (a .c .at) (o .result) _ (o .ensures .0) k (c .before .before .o .given .1))),
       λ i h z. absurd (nz (sym (r .ensures .0) ∙ z)),
     )
 
@@ -93,8 +94,7 @@ returns-3 c =
       λ i h. ap (λ (z : Ty). got z (g .result .next .at) (split (drop (g .result .next .at) s)))
           (ref-means (a .m) (a .n) i x h (a .cat) on (map methodIs (take (a .m) list)) (ap (λ (z : Head). z .rep) head) (ap (λ (z : Head). z .cat) head) (ap (λ (z : Head). z .own) head)
           (methods-all list (a .m) few))
-          ∙ member-ok (a .m) (a .n) (a .cat) (a .c .at) (split (drop (a .c .at) s)) (yesOf on) (oc .at) (split (drop (oc .at) s)) oe
-          (map methodIs (take (a .m) list)) (g .result .next .at) (split (drop (g .result .next .at) s))
+          ∙ step-ok (afterMethods (a .cat) (yesOf on)) (step-ok (afterOwn (a .m) (a .n) (a .cat)) (members-of (a .m) (a .n) (a .cat) (a .c .at) (split (drop (a .c .at) s))) oe)
           (read-ok s (g .result .refusal) (map methodIs (take (a .m) list)) (g .result .next .at) _ (g .ensures .0) (c2 .if1 .left)),
       λ i h z. ref-exact (a .m) (a .n) i x (length-map list rawMethod ∙ g .ensures .1 .1)
           (sheet-key (a .n) i x h (ap (λ (z : Head). z .kind) head) (ap (λ (z : Head). z .left) head) (ap (λ (z : Head). z .right) head))

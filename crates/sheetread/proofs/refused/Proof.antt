@@ -1,4 +1,4 @@
--- Rests on `sheet-malformed`.
+-- A refusal's answer holds its number, its offset and empty bytes, as the definition's does (`sheet-malformed`).
 use borrow.Author.Needs.{needs}
 use Rattle.sheetread.proofs.Stored.{sheet-malformed}
 use Rattle.sheetread.proofs.refused.Statement.{statement}

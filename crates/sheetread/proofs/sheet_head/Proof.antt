@@ -1,4 +1,4 @@
--- Rests on `head-eq`.
+-- The head of a sheet type is the parts handed in, with 0 for kind, left and right (B14).
 use borrow.Author.Needs.{needs}
 use Rattle.sheetread.proofs.Stored.{head-eq}
 use Rattle.sheetread.proofs.sheet_head.Statement.{statement}

@@ -1,4 +1,4 @@
--- Rests on `types-length`, `put-types`, `types-to-length`, `read-no`, `read-ok` and `times-done` and what stands beside them.
+-- The loop has read the first i types and stored their records; a refused one ends it, the others go on from its bytes (`times-stop`, `times-next`).
 use mathlib.Core.List.{[]}
 use mathlib.Core.Path.{_≡_, ap, sym, _∙_}
 use Prim.Native.Nat.{ℕ, _≤_, _<_, _+_, _-_}

@@ -1,4 +1,4 @@
--- Rests on `lines-rest` and `sheet-is`: the parts together are the sheet.
+-- The lines in front and those behind, written in the rest (`lines-rest`), are the sheet's text (`sheet-is`).
 use Rattle.sheetwrite.proofs.Whole.{sheet-is}
 use Rattle.textwrite.proofs.Laws.{lines-rest}
 use borrow.Author.Needs.{needs}

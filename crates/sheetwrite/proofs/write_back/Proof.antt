@@ -1,4 +1,4 @@
--- Rests on `lines-rest`.
+-- The types' lines, and the last line in the rest of the buffer (`lines-rest`).
 use Rattle.textwrite.proofs.Laws.{lines-rest}
 use Rattle.sheetwrite.specs.Parts.{backLines}
 use native.Mathlib.Omega.{arith}

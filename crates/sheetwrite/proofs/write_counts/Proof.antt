@@ -1,4 +1,4 @@
--- Rests on `lines-rest`, three times.
+-- Four lines of a count each, written one behind the other in the rest of the buffer (`lines-rest`).
 use Rattle.textwrite.proofs.Laws.{lines-rest}
 use native.Mathlib.Omega.{arith}
 use borrow.Author.Needs.{needs}

@@ -1,4 +1,4 @@
--- Rests on `lines-rest`, twice.
+-- The counts, the categories and the number of types, written one behind the other in the rest of the buffer (`lines-rest`).
 use Rattle.textwrite.proofs.Laws.{lines-rest, lines-are}
 use Rattle.sheetwrite.specs.Parts.{underLines, countLines, frontLines}
 use Rattle.sheet.specs.Text.{numberText}

@@ -1,4 +1,4 @@
--- Rests on `lines-rest`, twice.
+-- Number, representation and category of a type, written one behind the other in the rest of the buffer (`lines-rest`).
 use Rattle.textwrite.proofs.Laws.{lines-rest, lines-are}
 use Rattle.sheet.specs.Text.{numberText, repText}
 use Rattle.sheet.specs.Lines.{bytes}

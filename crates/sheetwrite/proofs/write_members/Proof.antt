@@ -1,4 +1,4 @@
--- Rests on `lines-rest`.
+-- The own line, and the methods' lines in the rest of the buffer (`lines-rest`).
 use Rattle.textwrite.proofs.Laws.{lines-rest}
 use native.Mathlib.Omega.{arith}
 use borrow.Author.Needs.{needs}

@@ -1,4 +1,4 @@
--- Rests on `lines-rest` and `method-next`: the loop has written the lines of the first j methods.
+-- The loop has written the lines of the first j methods, and one more goes into the rest of the buffer (`lines-rest`, `method-next`).
 use Rattle.sheetwrite.proofs.Laws.{method-next, methods-all, methods-none}
 use Rattle.textwrite.proofs.Laws.{lines-none, lines-rest, lines-are}
 use Rattle.sheetwrite.specs.Parts.{methodLines}

@@ -1,4 +1,4 @@
--- Rests on `unfit-is`, and on `write_checked` for a table that passed the check.
+-- Any table: 2 exactly where the check fails, and the buffer stays (`unfit-is`); else `write_checked` answers.
 use Rattle.sheetwrite.proofs.Whole.{unfit-is}
 use Rattle.table.specs.Store.{rawTable}
 use mathlib.Core.Path.{sym, _∙_}

@@ -1,4 +1,4 @@
--- Rests on `lines-rest` and on the lines of a type, by its representation.
+-- The lines of a type: the first three, and those of its members in the rest of the buffer where it is a reference type (`lines-rest`).
 use Rattle.sheetwrite.proofs.Laws.{ref-type, number-type}
 use Rattle.textwrite.proofs.Laws.{lines-rest, lines-are}
 use native.Mathlib.Omega.{arith}

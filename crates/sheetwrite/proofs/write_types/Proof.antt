@@ -1,4 +1,4 @@
--- Rests on `lines-rest` and `type-next`: the loop has written the lines of the first i types.
+-- The loop has written the lines of the first i types, and one more's go into the rest of the buffer (`lines-rest`, `type-next`).
 use Rattle.sheetwrite.proofs.Laws.{type-next, types-all, types-none}
 use Rattle.textwrite.proofs.Laws.{lines-none, lines-rest, lines-are}
 use Rattle.sheetwrite.specs.Parts.{typeLinesTo}

@@ -1,4 +1,4 @@
--- Rests on `lines-rest` and `under-next`: the loop has written the lines of the first i categories.
+-- The loop has written the lines of the first i categories, and one more goes into the rest of the buffer (`lines-rest`, `under-next`).
 use Rattle.sheetwrite.proofs.Laws.{under-next, unders-all, unders-none}
 use Rattle.textwrite.proofs.Laws.{lines-none, lines-rest, lines-are}
 use Rattle.sheetwrite.specs.Parts.{underLines}

@@ -1,4 +1,4 @@
--- Rests on `no-left-answer`, `no-right-answer` and `both-answer`.
+-- The answer slot asks for a type where both sides have an answer, by their codes: one law for each way one can be missing.
 use mathlib.Core.Path.{sym, ap, _∙_}
 use Prim.Native.Nat.{ℕ}
 use native.Mathlib.Omega.{arith}

@@ -1,4 +1,4 @@
--- Rests on `empty-left`, `empty-right` and `both-there`: whether each side has argument i.
+-- Slot i asks for a type where both sides have argument i, the right one's on the left (D5, D6): one law for each way one can be missing.
 use mathlib.Core.Path.{ap, _∙_}
 use Prim.Native.Nat.{ℕ}
 use native.Mathlib.Omega.{arith}

@@ -1,11 +1,11 @@
--- Rests on `bare-made` and `signed-made`: both sides have four argument places.
+-- A method of the new type from its slots' bytes: bare where it is not permitted, else with as many arguments as the shorter side, all in four places.
 use mathlib.Core.Path.{_≡_, sym, ap, _∙_, subst}
 use Prim.Native.Nat.{ℕ}
 use lib.ListN.{length}
 use borrow.Author.Tests.{not-true, not-false}
-use Rattle.model.specs.Check.{RawMethod, kindOf, methodOf}
+use Rattle.model.specs.Check.{kindOf}
 use Rattle.table.specs.Store.{rawMethod}
-use Rattle.slots.specs.Slots.{bareMethod, signedMethod}
+use Rattle.slots.specs.Slots.{signedMethod}
 use Rattle.slots.proofs.Laws.{Made, bare-made, signed-made}
 use borrow.Author.Needs.{needs}
 use Rattle.slots.proofs.filled.Statement.{statement}

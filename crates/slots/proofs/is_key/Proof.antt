@@ -1,4 +1,4 @@
--- Rests on `key-left`, `key-right` and `key-kind`: left, right and kind in order.
+-- A key is compared by left, right and kind in turn: the first that differs tells it apart.
 use mathlib.Core.Path.{sym, _∙_}
 use Rattle.model.specs.Check.{kindOf}
 use Rattle.slots.proofs.Laws.{key-left, key-right, key-kind}
@@ -26,7 +26,8 @@ same-kind-requires c κs = search needs
 
 returns-3 : tie.Need-returns-3
 returns-3 c = let a = c .before .before .before .before .before .before .before .args in let k = a .key in
-    c .same-kind .ensures ∙ key-kind (kindOf (k .kind)) (k .left) (k .right) (a .h) (c .before .before .before .before .if1 .left ∙ c .before .before .before .before .before .before .wide .ensures .0)
+    c .same-kind .ensures ∙ key-kind (kindOf (k .kind)) (k .left) (k .right) (a .h)
+    (c .before .before .before .before .if1 .left ∙ c .before .before .before .before .before .before .wide .ensures .0)
     (c .before .if2 .left ∙ c .before .before .before .wide2 .ensures .0)
 
 pub is-key-spec : {M : Type 1} → statement M

@@ -1,4 +1,4 @@
--- Rests on `kept-not`, `kept-both` and `kept-lost`: whether each side permits the method.
+-- The main side's state stays but where it alone permits the method: one law for each way two states permit.
 use mathlib.Core.Path.{sym, ap, _∙_}
 use borrow.Author.Tests.{not-true, not-false}
 use Rattle.model.specs.Table.{State}

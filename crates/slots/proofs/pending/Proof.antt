@@ -1,4 +1,4 @@
--- Every method is that of `TypeRec::empty`.
+-- A type under work has its head and no methods yet: every method is the one that holds nothing.
 use mathlib.Core.Path.{ap, _∙_}
 use mathlib.Core.List.{List, map}
 use Rattle.table.specs.declared.Method.{Method}

@@ -1,4 +1,4 @@
--- Each byte by `argument_byte`.
+-- A permitted method holds one byte for each of its slots, the ones behind its arguments 0.
 use Rattle.slots.proofs.Laws.{signed-bytes}
 use borrow.Author.Needs.{needs}
 use Rattle.slots.proofs.signed.Statement.{statement}

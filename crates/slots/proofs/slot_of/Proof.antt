@@ -1,4 +1,4 @@
--- Rests on `slot-off`, `slot-answer` and `slot-argument`.
+-- Slot i of a method: empty where the new type doesn't permit it (`slot-off`), an argument below 4, the answer at 4.
 use mathlib.Core.Path.{sym, ap, _∙_}
 use native.Mathlib.Omega.{arith}
 use borrow.Author.Tests.{not-true, not-false}

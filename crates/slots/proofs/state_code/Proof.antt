@@ -1,5 +1,5 @@
 -- Rests on `state-high`.
-use Rattle.slots.proofs.Laws.{state-high}
+use Rattle.table.proofs.Codes.{state-high}
 use native.Mathlib.Omega.{arith}
 use borrow.Author.Needs.{needs}
 use Rattle.slots.proofs.state_code.Statement.{statement}

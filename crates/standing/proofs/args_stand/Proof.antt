@@ -1,4 +1,4 @@
--- Rests on `args-end`, `args-broken`, `args-next` and `args-done`.
+-- The loop has found that the first i arguments may stand; one that may not ends it (`args-broken`), and past the count all may.
 use mathlib.Core.Path.{_≡_, ap, sym, _∙_}
 use Prim.Native.Nat.{_≤_, _<_, _-_}
 use native.Mathlib.Omega.{arith}

@@ -1,4 +1,4 @@
--- Rests on `method-unsigned`, `method-args`, `method-silent` and `method-answer`.
+-- Whether a signature's types may stand: not asked of an unsigned method, then the arguments, then the answer where there is one.
 use mathlib.Core.Path.{sym, _∙_}
 use borrow.Author.Needs.{needs}
 use borrow.Author.Tests.{not-true, not-false}
@@ -31,7 +31,8 @@ wide-requires c κs = search needs
 returns-3 : tie.Need-returns-3
 returns-3 c =
     let a = c .before .before .before .before .before .before .args in
-    let p = sym (c .before .before .before .before .before .permits .ensures) ∙ not-false (c .before .before .before .before .before .permits .result) (c .before .before .before .before .if1 .left) in
+    let p = sym (c .before .before .before .before .before .permits .ensures)
+    ∙ not-false (c .before .before .before .before .before .permits .result) (c .before .before .before .before .if1 .left) in
     let e = sym (c .before .before .before .args-stand .ensures) ∙ not-false (c .before .before .before .args-stand .result) (c .before .before .if2 .left) in
     method-silent (standsAt (typesIn (a .b .now)) (a .n)) (rawMethod (a .m)) p e (sym (c .before .wide .ensures .0) ∙ c .if3 .taken)
 

@@ -1,4 +1,4 @@
--- Rests on `stands-out` and `stands-in`.
+-- A type number that is none of n may stand, since it is refused elsewhere; one of them by its own flag.
 use mathlib.Core.Path.{_∙_}
 use borrow.Author.Needs.{needs}
 use Rattle.table.specs.Store.{typesIn}

@@ -1,4 +1,4 @@
--- Rests on `number-rep`, `length-from`, `from-first`, `all-broken`, `all-next` and `all-done` and what stands beside them.
+-- The loop has found that the first j methods' types may stand; one that may not ends it, and a number type has no methods.
 use mathlib.Core.Path.{_≡_, refl, ap, sym, _∙_}
 use Prim.Native.Nat.{ℕ, _≤_, _-_}
 use native.Mathlib.Omega.{arith}

@@ -1,4 +1,4 @@
--- Rests on `types-to-length`, `types-to-at`, `all-broken`, `all-next` and `all-done`.
+-- The loop has found that the first i types' signatures may stand; one that may not ends it.
 use mathlib.Core.Path.{_≡_, refl, ap, sym, _∙_}
 use Prim.Native.Nat.{_≤_, _-_}
 use native.Mathlib.Omega.{arith}

@@ -28,7 +28,9 @@ is-object-requires : tie.Need-is-object-requires Inv-loop μ-loop
 is-object-requires c κs = search needs
 
 place-at-requires-2 : tie.Need-place-at-requires-2 Inv-loop μ-loop
-place-at-requires-2 c κs = omega (arith, (c .before .before .before .loop .inv (c .before .before .before .before .pre .0) (c .before .before .before .before .pre .1)) .inside, c .before .before .before .before .pre .0 .count)
+place-at-requires-2 c κs =
+    omega
+    (arith, (c .before .before .before .loop .inv (c .before .before .before .before .pre .0) (c .before .before .before .before .pre .1)) .inside, c .before .before .before .before .pre .0 .count)
 
 place-type-requires : tie.Need-place-type-requires Inv-loop μ-loop
 place-type-requires c κs = search needs
@@ -37,10 +39,16 @@ narrow-requires : tie.Need-narrow-requires Inv-loop μ-loop
 narrow-requires c κs = c .place-type .ensures .1
 
 array-write-list : tie.Need-array-write-list Inv-loop μ-loop
-array-write-list c = let w = c .before .before .before .before .before .before .loop .inv (c .before .before .before .before .before .before .before .pre .0) (c .before .before .before .before .before .before .before .pre .1) in omega (arith, w .room, c .before .before .before .before .before .before .before .pre .1, c .before .before .before .before .before .before .before .pre .0 .count)
+array-write-list c =
+    let w = c .before .before .before .before .before .before .loop .inv (c .before .before .before .before .before .before .before .pre .0)
+    (c .before .before .before .before .before .before .before .pre .1) in
+    omega (arith, w .room, c .before .before .before .before .before .before .before .pre .1, c .before .before .before .before .before .before .before .pre .0 .count)
 
 add-count : tie.Need-add-count Inv-loop μ-loop
-add-count c = let w = c .before .before .before .before .before .before .loop .inv (c .before .before .before .before .before .before .before .pre .0) (c .before .before .before .before .before .before .before .pre .1) in omega (arith, w .room, c .before .before .before .before .before .before .before .pre .1, c .before .before .before .before .before .before .before .pre .0 .count)
+add-count c =
+    let w = c .before .before .before .before .before .before .loop .inv (c .before .before .before .before .before .before .before .pre .0)
+    (c .before .before .before .before .before .before .before .pre .1) in
+    omega (arith, w .room, c .before .before .before .before .before .before .before .pre .1, c .before .before .before .before .before .before .before .pre .0 .count)
 
 place-behind-requires : tie.Need-place-behind-requires Inv-loop μ-loop
 place-behind-requires c κs = search needs
@@ -73,7 +81,9 @@ loop-again c = λ h k. let a = c .before .before .before .before .before .before
     walk-goes (a .ps) h (a .p) k (l .list) (l .count) (l .at) w (placeOf (y .result .place)) ey _ t o _ b .1
 
 place-at-requires-3 : tie.Need-place-at-requires-3 Inv-loop μ-loop
-place-at-requires-3 c κs = omega (arith, (c .before .before .before .loop .inv (c .before .before .before .before .pre .0) (c .before .before .before .before .pre .1)) .inside, c .before .before .before .before .pre .0 .count)
+place-at-requires-3 c κs =
+    omega
+    (arith, (c .before .before .before .loop .inv (c .before .before .before .before .pre .0) (c .before .before .before .before .pre .1)) .inside, c .before .before .before .before .pre .0 .count)
 
 place-type-requires-2 : tie.Need-place-type-requires-2 Inv-loop μ-loop
 place-type-requires-2 c κs = search needs
@@ -82,10 +92,16 @@ narrow-requires-2 : tie.Need-narrow-requires-2 Inv-loop μ-loop
 narrow-requires-2 c κs = c .place-type2 .ensures .1
 
 array-write-list-2 : tie.Need-array-write-list-2 Inv-loop μ-loop
-array-write-list-2 c = let w = c .before .before .before .before .before .before .loop .inv (c .before .before .before .before .before .before .before .pre .0) (c .before .before .before .before .before .before .before .pre .1) in omega (arith, w .room, c .before .before .before .before .before .before .before .pre .1, c .before .before .before .before .before .before .before .pre .0 .count)
+array-write-list-2 c =
+    let w = c .before .before .before .before .before .before .loop .inv (c .before .before .before .before .before .before .before .pre .0)
+    (c .before .before .before .before .before .before .before .pre .1) in
+    omega (arith, w .room, c .before .before .before .before .before .before .before .pre .1, c .before .before .before .before .before .before .before .pre .0 .count)
 
 add-t15 : tie.Need-add-t15 Inv-loop μ-loop
-add-t15 c = let w = c .before .before .before .before .before .before .loop .inv (c .before .before .before .before .before .before .before .pre .0) (c .before .before .before .before .before .before .before .pre .1) in omega (arith, w .room, c .before .before .before .before .before .before .before .pre .1, c .before .before .before .before .before .before .before .pre .0 .count)
+add-t15 c =
+    let w = c .before .before .before .before .before .before .loop .inv (c .before .before .before .before .before .before .before .pre .0)
+    (c .before .before .before .before .before .before .before .pre .1) in
+    omega (arith, w .room, c .before .before .before .before .before .before .before .pre .1, c .before .before .before .before .before .before .before .pre .0 .count)
 
 returns : tie.Need-returns Inv-loop μ-loop
 returns c = let a = c .before .before .before .before .before .before .before .args in

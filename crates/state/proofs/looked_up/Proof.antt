@@ -95,7 +95,8 @@ module _ {M : Type 1} (𝓤 : URA M) (H : Heap 𝓤) (A : Atoms 𝓤) (W : Given
         nothing ! $ move ! (3 ∷ 0 ∷ []) $ join ! $ use2 W (raw (Lookup 𝓤 H A mem run .pre (to l₃ α γ))) (asked l₃ α γ) $
         calls-at ! fm (Lookup 𝓤 H A mem run) known (to l₃ α γ)
         (and-then ! (load ! (from ! (stop !)) (look ! 2 refl)) (and-then ! (load ! (from ! (stop !)) (look ! 7 refl)) (no-more !))) (λ u.
-        use1 W (later (some (λ (r : Cell). ((‵ (flft (α ∷ []) fullShare) ⊛ ‵ ftrue) ⊛ ‵ (R .own r (u ∷ []))) ⊛ raw (Promised l₃ α γ r)))) (id⊢ 𝓤 _) $ await ! tt $ pick ! (λ r.
+        use1 W (later (some (λ (r : Cell). ((‵ (flft (α ∷ []) fullShare) ⊛ ‵ ftrue) ⊛ ‵ (R .own r (u ∷ []))) ⊛ raw (Promised l₃ α γ r)))) (id⊢ 𝓤 _) $ await ! tt $ pick !
+        (λ r.
         split ! $ move ! (1 ∷ []) $ use1 W (raw (fact 𝓤 (r ≡ c))) (said l₃ α γ r) $ heard ! (r ≡ c) (λ e. split ! $ move ! (1 ∷ []) $
         -- [the result; the token; the lender's part; _5; …; _4; …; what frees _3; _2; …; _1; …; room for _0; …]
         peeks ! R (Is R) (shows 𝓤 H A R) r (u ∷ []) (λ got. land ! (from ! (stop !)) (init ! 12 refl (lawful 𝓤 H A W .typed r _ got .0)) $

@@ -18,7 +18,8 @@ is-ref-requires c κs = omega (arith, c .if2 .left, c .before .before .before .p
 
 returns-3 : tie.Need-returns-3
 returns-3 c = let a = c .before .before .before .before .args in
-    goes (ltb (a .behind) (a .p)) _ _ (lt-ltb (a .behind) (a .p) (c .before .before .before .if1 .left)) (goes (ltb (a .closed) (a .c .types)) _ _ (lt-ltb (a .closed) (a .c .types) (c .before .if2 .left)) (c .is-ref .ensures))
+    goes (ltb (a .behind) (a .p)) _ _ (lt-ltb (a .behind) (a .p) (c .before .before .before .if1 .left))
+    (goes (ltb (a .closed) (a .c .types)) _ _ (lt-ltb (a .closed) (a .c .types) (c .before .if2 .left)) (c .is-ref .ensures))
 
 pub adapter-fits-spec : {M : Type 1} → statement M
 adapter-fits-spec = tie.close (tie.spec returns returns-2 is-ref-requires returns-3)

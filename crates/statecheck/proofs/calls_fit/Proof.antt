@@ -32,7 +32,8 @@ call-fits-requires c κs = search needs
 returns : tie.Need-returns Inv-loop μ-loop
 returns c = let a = c .before .before .before .before .before .args in let l = c .before .before .before .before .loop in
     sym (l .inv .2 ∙ rest-broken (CallAt (a .c) (a .cells) (a .js)) (a .js .count) (l .j) (c .before .before .before .loop-test .taken)
-    (ap (λ (z : Call). callAccepted (a .c) (a .cells) (callOf z)) (sym (c .before .before .call-at .ensures .0)) ∙ refused (c .before .call-fits .result) _ (c .before .call-fits .ensures) (c .if1 .taken)))
+    (ap (λ (z : Call). callAccepted (a .c) (a .cells) (callOf z)) (sym (c .before .before .call-at .ensures .0))
+    ∙ refused (c .before .call-fits .result) _ (c .before .call-fits .ensures) (c .if1 .taken)))
 
 add-j : tie.Need-add-j Inv-loop μ-loop
 add-j c = search needs
@@ -45,7 +46,8 @@ loop-again c = let a = c .before .before .before .before .before .args in let l 
   omega arith,
   refl,
   l .inv .2 ∙ rest-next (CallAt (a .c) (a .cells) (a .js)) (a .js .count) (l .j) (c .before .before .before .loop-test .taken)
-      (ap (λ (z : Call). callAccepted (a .c) (a .cells) (callOf z)) (sym (c .before .before .call-at .ensures .0)) ∙ passed (c .before .call-fits .result) _ (c .before .call-fits .ensures) (c .if1 .left)),
+      (ap (λ (z : Call). callAccepted (a .c) (a .cells) (callOf z)) (sym (c .before .before .call-at .ensures .0))
+      ∙ passed (c .before .call-fits .result) _ (c .before .call-fits .ensures) (c .if1 .left)),
 )
 
 returns-2 : tie.Need-returns-2 Inv-loop μ-loop

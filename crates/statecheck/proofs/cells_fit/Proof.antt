@@ -33,7 +33,8 @@ cell-fits-requires c κs = c .before .before .before .pre .0
 returns : tie.Need-returns Inv-loop μ-loop
 returns c = let a = c .before .before .before .before .before .args in let l = c .before .before .before .before .loop in
     sym (l .inv .2 ∙ rest-broken (CellAt (a .b .now) (a .c) (a .places) (a .cs)) (a .cs .count) (l .k) (c .before .before .before .loop-test .taken)
-    (ap (λ (z : Cell). cellAccepted (typesIn (a .b .now)) (a .c) (a .places) (cellOf z)) (sym (c .before .before .cell-at .ensures .0)) ∙ refused (c .before .cell-fits .result) _ (c .before .cell-fits .ensures) (c .if1 .taken)))
+    (ap (λ (z : Cell). cellAccepted (typesIn (a .b .now)) (a .c) (a .places) (cellOf z)) (sym (c .before .before .cell-at .ensures .0))
+    ∙ refused (c .before .cell-fits .result) _ (c .before .cell-fits .ensures) (c .if1 .taken)))
 
 add-k : tie.Need-add-k Inv-loop μ-loop
 add-k c = search needs
@@ -46,7 +47,8 @@ loop-again c = let a = c .before .before .before .before .before .args in let l 
   omega arith,
   refl,
   l .inv .2 ∙ rest-next (CellAt (a .b .now) (a .c) (a .places) (a .cs)) (a .cs .count) (l .k) (c .before .before .before .loop-test .taken)
-      (ap (λ (z : Cell). cellAccepted (typesIn (a .b .now)) (a .c) (a .places) (cellOf z)) (sym (c .before .before .cell-at .ensures .0)) ∙ passed (c .before .cell-fits .result) _ (c .before .cell-fits .ensures) (c .if1 .left)),
+      (ap (λ (z : Cell). cellAccepted (typesIn (a .b .now)) (a .c) (a .places) (cellOf z)) (sym (c .before .before .cell-at .ensures .0))
+      ∙ passed (c .before .cell-fits .result) _ (c .before .cell-fits .ensures) (c .if1 .left)),
 )
 
 returns-2 : tie.Need-returns-2 Inv-loop μ-loop

@@ -27,8 +27,10 @@ settled-requires c κs = c .before .before .before .before .pre
 
 returns-3 : tie.Need-returns-3
 returns-3 c = let a = c .before .before .before .before .before .args in
-    goes (refAs (getD (typesIn (a .b .now)) (a .i) noRawType)) _ _ (passed (c .before .before .before .before .is-ref .result) _ (c .before .before .before .before .is-ref .ensures) (c .before .before .before .if1 .left))
-    (goes (mayStandAs (getD (typesIn (a .b .now)) (a .i) noRawType)) _ _ (passed (c .before .before .may-stand .result) _ (c .before .before .may-stand .ensures) (c .before .if2 .left)) (c .settled .ensures))
+    goes (refAs (getD (typesIn (a .b .now)) (a .i) noRawType)) _ _
+    (passed (c .before .before .before .before .is-ref .result) _ (c .before .before .before .before .is-ref .ensures) (c .before .before .before .if1 .left))
+    (goes (mayStandAs (getD (typesIn (a .b .now)) (a .i) noRawType)) _ _ (passed (c .before .before .may-stand .result) _ (c .before .before .may-stand .ensures) (c .before .if2 .left))
+    (c .settled .ensures))
 
 pub is-class-spec : {M : Type 1} → statement M
 is-class-spec =

@@ -1,10 +1,10 @@
--- The code of the representation (`ref-code`), by the head that was read.
+-- The code of the representation (`rep-code`), by the head that was read.
 use mathlib.Core.Path.{ap, _∙_}
 use borrow.Author.Needs.{needs}
 use Rattle.model.specs.Check.{repOf}
 use Rattle.model.specs.Table.{isRef}
 use Rattle.table.specs.declared.Head.{Head}
-use Rattle.statecheck.proofs.Steps.{ref-code}
+use Rattle.table.proofs.Codes.{rep-code}
 use Rattle.statecheck.proofs.is_ref.Statement.{statement}
 use Rattle.statecheck.proofs.is_ref.Tie as tie
 
@@ -12,7 +12,7 @@ get-head-requires : tie.Need-get-head-requires
 get-head-requires c κs = search needs
 
 returns : tie.Need-returns
-returns c = ref-code (c .before .get-head .result .rep) ∙ ap (λ (h : Head). isRef (repOf (h .rep))) (c .before .get-head .ensures)
+returns c = rep-code (c .before .get-head .result .rep) ∙ ap (λ (h : Head). isRef (repOf (h .rep))) (c .before .get-head .ensures)
 
 pub is-ref-spec : {M : Type 1} → statement M
 is-ref-spec = tie.close (tie.spec get-head-requires returns)

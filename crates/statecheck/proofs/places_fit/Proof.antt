@@ -33,7 +33,8 @@ place-fits-requires c κs = c .before .before .before .pre .0
 returns : tie.Need-returns Inv-loop μ-loop
 returns c = let a = c .before .before .before .before .before .args in let l = c .before .before .before .before .loop in
     sym (l .inv .2 ∙ rest-broken (PlaceAt (a .b .now) (a .c) (a .ps)) (a .ps .count) (l .p) (c .before .before .before .loop-test .taken)
-    (ap (λ (z : PlaceRec). placeAccepted (typesIn (a .b .now)) (a .c) (l .p) (placeOf (z .place))) (sym (c .before .before .place-at .ensures .0)) ∙ refused (c .before .place-fits .result) _ (c .before .place-fits .ensures) (c .if1 .taken)))
+    (ap (λ (z : PlaceRec). placeAccepted (typesIn (a .b .now)) (a .c) (l .p) (placeOf (z .place))) (sym (c .before .before .place-at .ensures .0))
+    ∙ refused (c .before .place-fits .result) _ (c .before .place-fits .ensures) (c .if1 .taken)))
 
 add-p : tie.Need-add-p Inv-loop μ-loop
 add-p c = search needs
@@ -46,7 +47,8 @@ loop-again c = let a = c .before .before .before .before .before .args in let l 
   omega arith,
   refl,
   l .inv .2 ∙ rest-next (PlaceAt (a .b .now) (a .c) (a .ps)) (a .ps .count) (l .p) (c .before .before .before .loop-test .taken)
-      (ap (λ (z : PlaceRec). placeAccepted (typesIn (a .b .now)) (a .c) (l .p) (placeOf (z .place))) (sym (c .before .before .place-at .ensures .0)) ∙ passed (c .before .place-fits .result) _ (c .before .place-fits .ensures) (c .if1 .left)),
+      (ap (λ (z : PlaceRec). placeAccepted (typesIn (a .b .now)) (a .c) (l .p) (placeOf (z .place))) (sym (c .before .before .place-at .ensures .0))
+      ∙ passed (c .before .place-fits .result) _ (c .before .place-fits .ensures) (c .if1 .left)),
 )
 
 returns-2 : tie.Need-returns-2 Inv-loop μ-loop

@@ -22,18 +22,33 @@ table-fits-requires c κs = search needs
 
 returns-2 : tie.Need-returns-2
 returns-2 c = let s = c .before .before .before .before .before .before .before .before .before .before .before .before .args .t1 in
-    goes (sizesAccepted (s .cells .count) (s .places .count) (s .calls .count)) _ _ (passed (c .before .before .before .before .before .before .before .before .sizes-fit .result) _ (c .before .before .before .before .before .before .before .before .sizes-fit .ensures) (c .before .before .before .before .before .before .before .if1 .left))
+    goes (sizesAccepted (s .cells .count) (s .places .count) (s .calls .count)) _ _
+    (passed (c .before .before .before .before .before .before .before .before .sizes-fit .result) _ (c .before .before .before .before .before .before .before .before .sizes-fit .ensures)
+    (c .before .before .before .before .before .before .before .if1 .left))
     (ends (tableAccepted (rawTable (s .types) (s .links) (s .counts))) _ (refused (c .before .table-fits .result) _ (c .before .table-fits .ensures) (c .if2 .taken))) ∙ sym (accepted-is s)
 
 records-fit-requires : tie.Need-records-fit-requires
 records-fit-requires c κs = let s = c .before .before .before .before .before .before .before .before .before .before .before .before .before .before .args .t1 in
-    let z = sizes-are (s .cells .count) (s .places .count) (s .calls .count) (passed (c .before .before .before .before .before .before .before .before .before .before .sizes-fit .result) _ (c .before .before .before .before .before .before .before .before .before .before .sizes-fit .ensures) (c .before .before .before .before .before .before .before .before .before .if1 .left)) in
-    (accepted-limits (s .types) (s .links) (s .counts) (passed (c .before .before .before .table-fits .result) _ (c .before .before .before .table-fits .ensures) (c .before .before .if2 .left)), z .0, z .1, z .2)
+    let z =
+    sizes-are (s .cells .count) (s .places .count) (s .calls .count)
+    (passed (c .before .before .before .before .before .before .before .before .before .before .sizes-fit .result) _
+    (c .before .before .before .before .before .before .before .before .before .before .sizes-fit .ensures)
+    (c .before .before .before .before .before .before .before .before .before .if1 .left)) in (
+      accepted-limits (s .types) (s .links) (s .counts) (passed (c .before .before .before .table-fits .result) _ (c .before .before .before .table-fits .ensures) (c .before .before .if2 .left)),
+      z .0,
+      z .1,
+      z .2,
+    )
 
 returns-3 : tie.Need-returns-3
 returns-3 c = let s = c .before .before .before .before .before .before .before .before .before .before .before .before .before .before .before .args .t1 in
-    goes (sizesAccepted (s .cells .count) (s .places .count) (s .calls .count)) _ _ (passed (c .before .before .before .before .before .before .before .before .before .before .before .sizes-fit .result) _ (c .before .before .before .before .before .before .before .before .before .before .before .sizes-fit .ensures) (c .before .before .before .before .before .before .before .before .before .before .if1 .left))
-    (goes (tableAccepted (rawTable (s .types) (s .links) (s .counts))) _ _ (passed (c .before .before .before .before .table-fits .result) _ (c .before .before .before .before .table-fits .ensures) (c .before .before .before .if2 .left)) (c .records-fit .ensures)) ∙ sym (accepted-is s)
+    goes (sizesAccepted (s .cells .count) (s .places .count) (s .calls .count)) _ _
+    (passed (c .before .before .before .before .before .before .before .before .before .before .before .sizes-fit .result) _
+    (c .before .before .before .before .before .before .before .before .before .before .before .sizes-fit .ensures)
+    (c .before .before .before .before .before .before .before .before .before .before .if1 .left))
+    (goes (tableAccepted (rawTable (s .types) (s .links) (s .counts))) _ _
+    (passed (c .before .before .before .before .table-fits .result) _ (c .before .before .before .before .table-fits .ensures) (c .before .before .before .if2 .left)) (c .records-fit .ensures))
+    ∙ sym (accepted-is s)
 
 pub state-fits-spec : {M : Type 1} → statement M
 state-fits-spec =

@@ -44,7 +44,11 @@ element-copy-out-t26 : tie.Need-element-copy-out-t26
 element-copy-out-t26 c = search needs
 
 returns : tie.Need-returns
-returns c = ap headOf (sym (type-in (c .before .before .before .before .before .before .args .b .now) (c .before .before .before .before .before .before .args .i) noRawType (c .before .before .before .before .before .before .pre)))
+returns c =
+    ap headOf
+    (sym
+    (type-in (c .before .before .before .before .before .before .args .b .now) (c .before .before .before .before .before .before .args .i) noRawType
+    (c .before .before .before .before .before .before .pre)))
 
 pub get-head-spec : {M : Type 1} → statement M
 get-head-spec =

@@ -57,7 +57,11 @@ element-copy-out-t17-2 : tie.Need-element-copy-out-t17-2
 element-copy-out-t17-2 c = search needs
 
 returns : tie.Need-returns
-returns c = sym (method-in (c .before .before .before .before .before .before .before .args .b .now) (c .before .before .before .before .before .before .before .args .i) (c .before .before .before .before .before .before .before .args .j) (c .before .before .before .before .before .before .before .pre .0) (c .before .before .before .before .before .before .before .pre .1))
+returns c =
+    sym
+    (method-in (c .before .before .before .before .before .before .before .args .b .now) (c .before .before .before .before .before .before .before .args .i)
+    (c .before .before .before .before .before .before .before .args .j) (c .before .before .before .before .before .before .before .pre .0)
+    (c .before .before .before .before .before .before .before .pre .1))
 
 pub get-method-spec : {M : Type 1} → statement M
 get-method-spec =

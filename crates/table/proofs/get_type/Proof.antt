@@ -49,7 +49,8 @@ loop-again c = let l = c .before .before .loop in
     let h : l .j < length (l .methods) = omega arith in (
       omega arith,
       length-set (l .methods) (l .j) (c .get-method .result) ∙ l .inv .1,
-      set-next (λ k m. rawMethod m ≡ getD (getD (typesIn (a .b .now)) (a .i) noRawType .methods) k noRawMethod) (l .methods) (l .j) (c .get-method .result) absent h (l .inv .2) (c .get-method .ensures),
+      set-next (λ k m. rawMethod m ≡ getD (getD (typesIn (a .b .now)) (a .i) noRawType .methods) k noRawMethod) (l .methods) (l .j) (c .get-method .result) absent h (l .inv .2)
+          (c .get-method .ensures),
     )
 
 returns : tie.Need-returns Inv-loop μ-loop

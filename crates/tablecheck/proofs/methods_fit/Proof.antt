@@ -57,7 +57,9 @@ loop-again c = let a = c .before .before .before .before .before .args in
 returns-2 : tie.Need-returns-2 Inv-loop μ-loop
 returns-2 c = let a = c .before .before .args in
     let l = c .before .loop in
-    sym (l .inv .1 ∙ rest-end (λ k. methodAccepted (typesIn (a .b .now)) (a .n) (getD (getD (typesIn (a .b .now)) (a .i) noRawType .methods) k noRawMethod)) (a .methods) (l .j) (c .loop-test .left))
+    sym
+    (l .inv .1 ∙ rest-end (λ k. methodAccepted (typesIn (a .b .now)) (a .n) (getD (getD (typesIn (a .b .now)) (a .i) noRawType .methods) k noRawMethod)) (a .methods) (l .j)
+    (c .loop-test .left))
 
 pub methods-fit-spec : {M : Type 1} → statement M
 methods-fit-spec =

@@ -8,7 +8,7 @@ use lib.Seq.{sets, take-all}
 use lib.ListN.{length, getD, take, length-map, List·getD-map}
 use borrow.Author.Count.{below-more}
 use borrow.Author.Needs.{needs}
-use Rattle.model.specs.Check.{RawMethod, noRawMethod}
+use Rattle.model.specs.Check.{RawMethod}
 use Rattle.table.specs.Store.{rawMethod, rawOf, spareBytes, methodBytes, methodsBytes}
 use Rattle.table.proofs.Laws.{absent, run-more, record-parts}
 use Rattle.tablestore.proofs.put_type.Statement.{statement}
@@ -84,7 +84,8 @@ returns c = let l = c .before .loop in
     record {
       bytes = l .inv .3
           ∙ ap (λ (ms : List RawMethod). sets (s .put-spare .last .0) (a .i * 128 + 16) (methodsBytes ms)) whole
-          ∙ ap (λ (x : List ℕ). sets x (a .i * 128 + 16) (methodsBytes (map rawMethod (t .methods)))) (s .put-spare .ensures ∙ ap (λ (x : List ℕ). sets x (a .i * 128 + 6) spareBytes) (s .before .before .put-head .ensures))
+          ∙ ap (λ (x : List ℕ). sets x (a .i * 128 + 16) (methodsBytes (map rawMethod (t .methods))))
+          (s .put-spare .ensures ∙ ap (λ (x : List ℕ). sets x (a .i * 128 + 6) spareBytes) (s .before .before .put-head .ensures))
           ∙ record-parts (a .b .now) (a .i * 128) (rawOf t);
       shaped = record { methods = n; slots = λ k h. ap (λ (m : RawMethod). length (m .args)) (List·getD-map rawMethod (t .methods) k absent) ∙ l .inv .4 k (omega arith) };
     }

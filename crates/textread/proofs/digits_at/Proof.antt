@@ -1,4 +1,4 @@
--- Rests on `digits-low`, `digits-high`, `digits-more` and `digits-end`.
+-- The loop has read the digits so far as one number; it stops at the top of the range, at a byte that is no digit, or at the end, as the definition does.
 use mathlib.Core.Path.{_≡_, _∙_}
 use Prim.Native.Nat.{_≤_, _-_}
 use native.Mathlib.Omega.{arith}

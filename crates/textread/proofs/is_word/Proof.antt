@@ -1,4 +1,4 @@
--- Rests on `same-long` and `same-other`.
+-- A line is a word if it is as long and begins with it (`same-long`, `same-other`).
 use borrow.Author.Needs.{needs}
 use Rattle.textread.proofs.Laws.{same-long, same-other}
 use Rattle.textread.proofs.is_word.Statement.{statement}

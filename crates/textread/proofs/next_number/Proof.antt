@@ -1,4 +1,4 @@
--- Rests on `number-empty`, `line-read` and `passed-at-most`.
+-- The cursor goes past a line of one number as the definition does: the one law of a line (`line-read`), since this kind too refuses an empty line (`number-empty`).
 use borrow.Author.Needs.{needs}
 use Rattle.sheet.specs.Sheet.{numberLine}
 use Rattle.textread.proofs.Laws.{number-empty, line-read, passed-at-most}

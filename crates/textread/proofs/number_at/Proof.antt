@@ -1,4 +1,4 @@
--- Rests on `number-none`, `number-zero`, `number-low`, `number-high` and `number-more`.
+-- A number by its first byte: none, a 0, which is whole (S3), or a digit, behind which the others are read.
 use mathlib.Core.Path.{_∙_}
 use Prim.Native.Nat.{_<_}
 use native.Mathlib.Omega.{arith}

@@ -1,18 +1,19 @@
--- Rests on `clash`, `scan-none`, `number-scan-wrong`, `number-scan-right`, `right-within` and `numbers-many` and what stands beside them.
+-- The loop has read numbers with commas between; a comma calls for one more, which too many or a malformed one ends: each return is the definition's case.
 use mathlib.Core.List.{[]}
-use mathlib.Core.Path.{_≡_, refl, ap, sym, _∙_}
+use mathlib.Core.Path.{_≡_, refl, ap, _∙_, sym}
 use Prim.Native.Nat.{_≤_, _<_, _-_}
 use native.Mathlib.Omega.{arith}
 use lib.ListN.{length, drop, take, length-set}
 use borrow.Author.Needs.{needs}
-use Rattle.sheet.proofs.Steps.{clash}
 use Rattle.sheet.specs.Numbers.{numbers}
 use Rattle.textread.proofs.Laws.{scan-none, number-scan-wrong, number-scan-right, right-within, numbers-many, numbers-fail, numbers-end, numbers-other, numbers-comma}
 use Rattle.textread.proofs.numbers_at.Statement.{statement}
 use Rattle.textread.proofs.numbers_at.Tie as tie
+use Rattle.model.proofs.Rules.{never}
 
 abbrev Inv-loop : tie.InvT-loop
-Inv-loop l at max i₀ items₀ count₀ i items count = (i ≤ length l) × (count ≤ max) × (length items ≡ 4) × (numbers (max - count) (take count items) (drop i l) ≡ numbers max [] (drop at l))
+Inv-loop l at max i₀ items₀ count₀ i items count =
+    (i ≤ length l) × (count ≤ max) × (length items ≡ 4) × (numbers (max - count) (take count items) (drop i l) ≡ numbers max [] (drop at l))
 
 abbrev μ-loop : tie.MeasureT-loop
 μ-loop l at max i₀ items₀ count₀ i items count = max - count
@@ -42,7 +43,7 @@ returns c =
       scan-none (a .l .now) (n .result .right) (take (n .result .count) (n .result .items)) (n .result .next) _ (n .ensures .0)
           (numbers-fail (a .l .now) (p .items) (a .max) (p .count) (p .i) _ (p .inv .3) (c4 .loop-test .taken)
           (number-scan-wrong (λ n. n) (a .l .now) (t .result) _ (t .ensures .0) (c .before .enum-told .given .1))),
-      (omega arith, omega arith, n .ensures .3, λ h. clash (sym h ∙ n .ensures .0)),
+      (omega arith, omega arith, n .ensures .3, λ h. never (sym (n .ensures .0) ∙ h)),
     )
 
 mul-items : tie.Need-mul-items Inv-loop μ-loop
@@ -128,7 +129,7 @@ returns-4 c =
     let a = c4 .args in let p = c2 .loop in let n = c .no-numbers2 in (
       scan-none (a .l .now) (n .result .right) (take (n .result .count) (n .result .items)) (n .result .next) _ (n .ensures .0)
           (numbers-many (a .l .now) (p .items) (a .max) (p .count) (p .i) _ (p .inv .3) (c .before .loop-test .left)),
-      (omega arith, omega arith, n .ensures .3, λ h. clash (sym h ∙ n .ensures .0)),
+      (omega arith, omega arith, n .ensures .3, λ h. never (sym (n .ensures .0) ∙ h)),
     )
 
 pub numbers-at-spec : {M : Type 1} → statement M

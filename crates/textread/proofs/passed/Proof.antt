@@ -1,4 +1,4 @@
--- By the answer's case.
+-- The answer of a line with the cursor behind it, in both cases of the answer.
 use mathlib.Core.Path.{sym, ap}
 use borrow.Author.Needs.{needs}
 use Rattle.textread.specs.View.{passedBy}

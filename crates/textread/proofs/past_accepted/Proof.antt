@@ -1,4 +1,4 @@
--- By whether the line is refused.
+-- A refused line isn't passed, an accepted one is: the test of the number is the definition's.
 use mathlib.Core.Path.{sym, ap}
 use mathlib.Core.Bool.{cond}
 use borrow.Author.Tests.{eq-eqb, ne-eqb}

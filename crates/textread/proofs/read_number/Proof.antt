@@ -1,4 +1,4 @@
--- Rests on `starts-length`, `number-scan-wrong`, `number-scan-right`, `number-key`, `number-wrong` and `number-behind` and what stands beside them.
+-- Key, number and nothing behind it (1), then the range (2): every return is the definition's next case.
 use mathlib.Core.Path.{sym, _∙_}
 use native.Mathlib.Omega.{arith}
 use borrow.Author.Needs.{needs}

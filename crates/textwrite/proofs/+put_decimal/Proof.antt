@@ -1,4 +1,4 @@
--- Rests on `fill-rest` and on the digits of a decimal (`decimal-one`, `decimal-more`). The number falls.
+-- A decimal is the digits of a tenth of the number, and the last one in the rest of the buffer (`fill-rest`, `decimal-more`). The number falls, so this ends.
 use Prim.Native.Nat.{_+_, _*_, _/_, _%_, ℕ, _<_}
 use mathlib.Core.Path.{_≡_, ap, _∙_, sym}
 use mathlib.Core.List.{[], _∷_, _++_}

@@ -1,4 +1,4 @@
--- Rests on `fill-byte`, and on `fill-short` where there is no room.
+-- One byte is written where there is room (`fill-byte`); elsewhere only the length is told (`fill-short`).
 use mathlib.Core.List.{[], _∷_}
 use mathlib.Core.Path.{_≡_}
 use lib.ListN.{length}

@@ -1,4 +1,4 @@
--- Rests on `copy-next` and `copy-all`: the loop has copied the first i bytes, and the rest of the buffer is as it was.
+-- The loop has copied the first i bytes, and the rest of the buffer is as it was (`copy-next`, `copy-all`).
 use lib.ListN.{set, getD, length, take, drop, length-set}
 use mathlib.Core.Path.{_≡_, refl, ap, _∙_}
 use mathlib.Core.List.{_++_}

@@ -1,4 +1,4 @@
--- Rests on `fill-rest`: the key, and the decimal in the rest of the buffer.
+-- The key, and the decimal in the rest of the buffer (`fill-rest`).
 use Rattle.textwrite.proofs.Laws.{fill-rest}
 use Rattle.sheet.specs.Text.{numberText}
 use native.Mathlib.Omega.{arith}

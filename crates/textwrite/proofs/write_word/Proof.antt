@@ -1,4 +1,4 @@
--- Rests on `fill-rest`: the text, and LF in the rest of the buffer.
+-- The fixed bytes, and LF in the rest of the buffer (`fill-rest`), are the line.
 use Rattle.textwrite.proofs.Laws.{fill-rest, ended}
 use native.Mathlib.Omega.{arith}
 use borrow.Author.Needs.{needs}

@@ -20,7 +20,9 @@ element-set-from-c : tie.Need-element-set-from-c
 element-set-from-c c = search needs
 
 returns : tie.Need-returns
-returns c = let n : length (c .before .args .self .list) ≡ 256 = simp length-map at (c .before .good .0 .1 .1 .0 .1 .0 .1) in (refl, calls-answered (c .before .args .self) (c .before .args .j) (c .before .pre .0) (omega arith))
+returns c =
+    let n : length (c .before .args .self .list) ≡ 256 = simp length-map at (c .before .good .0 .1 .1 .0 .1 .0 .1) in
+    (refl, calls-answered (c .before .args .self) (c .before .args .j) (c .before .pre .0) (omega arith))
 
 pub answered-spec : {M : Type 1} → statement M
 answered-spec = tie.close (tie.spec mul-old element-copy-out-old mul-c element-set-from-c returns)
