@@ -51,7 +51,7 @@ pub fn chain(walk: usize, seed: u64) -> RawTable {
 }
 
 /// How deep the types from `first` on were nested when they were derived, the one with that number first: a type that a
-/// signature names for the first time was derived for it, methods in order, arguments before answer.
+/// signature names for the first time was derived for it (D17).
 pub fn nesting(table: &RawTable, first: usize) -> usize {
     let mut met = vec![false; table.types as usize];
     depth(table, first, first, &mut met)

@@ -130,7 +130,7 @@ pub fn on_loaded(core: &impl Core, seed: u64, profile: Profile, seen: &mut Seen)
     difference(core, &loaded(seed, profile)?.1, seen)
 }
 
-/// Demand 3 on what runs: the book is fed the requests and which were accepted, and a cell has to offer exactly the chains that its
+/// Demand 3 on what runs: the book learns each request and whether it was accepted (L1), and a cell has to offer exactly the chains that its
 /// page permits. Every chain of one or two methods, and longer ones that go on where the page does.
 pub fn watch(core: &impl Core, seed: u64, profile: Profile) -> Option<String> {
     let (table, mut list) = loaded(seed, profile)?;

@@ -2,101 +2,22 @@
 //! the C functions take them.
 
 use crate::requests::Core;
-use reference::raw::{
-    RawState, BROADER_LENGTH, CALLS_LENGTH, CELLS_LENGTH, PLACES_LENGTH, TYPES_LENGTH,
-};
+use pilgonca::raw::{self, StateMut, StateRef};
+pub use pilgonca::raw::{StateCounts, Values};
+use reference::raw::RawState;
 use reference::refusal::Refusal;
 use reference::requests::{Got, Request};
 
-/// How many subjects, methods, categories, sheet types, types, cells, places and calls.
-pub type StateCounts = [usize; 8];
-
-/// How many values an accepted request gives, and those.
-pub type Values = [i64; 3];
-
-/// Requests: what is lent of a state comes first, then the operands, and last where values are stored. Each has a function on a
-/// `RawState` beside it.
-macro_rules! requests {
-    ($($name:ident, $on_state:ident($($operand:ident: $number:ty),*);)*) => {
-        extern "C" {
-            $(fn $name(
-                types: *mut [u8; TYPES_LENGTH],
-                links: *const [u8; BROADER_LENGTH],
-                cells: *mut [u8; CELLS_LENGTH],
-                places: *mut [u8; PLACES_LENGTH],
-                calls: *mut [u8; CALLS_LENGTH],
-                counts: *mut StateCounts,
-                $($operand: $number,)*
-                values: *mut Values,
-            ) -> usize;)*
-        }
-
-        $(unsafe fn $on_state(
-            state: &mut RawState,
-            counts: &mut StateCounts,
-            ($($operand,)*): ($($number,)*),
-            values: &mut Values,
-        ) -> usize {
-            $name(
-                &mut state.table.type_bytes,
-                &state.table.broader,
-                &mut state.cell_bytes,
-                &mut state.place_bytes,
-                &mut state.call_bytes,
-                counts,
-                $($operand,)*
-                values,
-            )
-        })*
-    };
-}
-
-requests! {
-    pilgonca_new, new(subject: i64, class: i64, to: i64);
-    pilgonca_move, moved(subject: i64, cell: i64, receiver: i64, to: i64);
-    pilgonca_call, call(subject: i64, cell: i64, method: i64, arguments: *const i64, arguments_len: usize);
-    pilgonca_answer, answer(subject: i64, call: i64, given: usize, value: i64);
-}
-
-extern "C" {
-    fn pilgonca_offers(
-        types: *const [u8; TYPES_LENGTH],
-        links: *const [u8; BROADER_LENGTH],
-        cells: *const [u8; CELLS_LENGTH],
-        places: *const [u8; PLACES_LENGTH],
-        calls: *const [u8; CALLS_LENGTH],
-        counts: *const StateCounts,
-        cell: i64,
-        chain: *const i64,
-        chain_len: usize,
-        offered: *mut usize,
-    ) -> usize;
-
-    fn pilgonca_load(
-        sheet: *const u8,
-        sheet_len: usize,
-        types: *mut [u8; TYPES_LENGTH],
-        links: *mut [u8; BROADER_LENGTH],
-        cells: *mut [u8; CELLS_LENGTH],
-        places: *mut [u8; PLACES_LENGTH],
-        calls: *mut [u8; CALLS_LENGTH],
-        counts: *mut StateCounts,
-        at: *mut usize,
-    ) -> usize;
-
-    fn pilgonca_run(
-        types: *mut [u8; TYPES_LENGTH],
-        links: *const [u8; BROADER_LENGTH],
-        cells: *mut [u8; CELLS_LENGTH],
-        places: *mut [u8; PLACES_LENGTH],
-        calls: *mut [u8; CALLS_LENGTH],
-        counts: *mut StateCounts,
-        words: *const i64,
-        words_len: usize,
-        answers: *mut i64,
-        answers_len: usize,
-        served: *mut usize,
-    ) -> usize;
+/// A state lent with these counts.
+fn lent<'a>(state: &'a mut RawState, counts: &'a mut StateCounts) -> StateMut<'a> {
+    StateMut {
+        types: &mut state.table.type_bytes,
+        links: &mut state.table.broader,
+        cells: &mut state.cell_bytes,
+        places: &mut state.place_bytes,
+        calls: &mut state.call_bytes,
+        counts,
+    }
 }
 
 /// The counts that a state comes with.
@@ -142,43 +63,33 @@ pub fn request(
     request: &Request,
     values: &mut Values,
 ) -> usize {
-    // SAFETY: the functions read the links and as many arguments as the slice has, and read and write the other arrays, which
-    // have the lengths they take; all are apart.
-    unsafe {
-        match request {
-            Request::New {
-                subject,
-                class,
-                cell_type,
-            } => new(state, counts, (*subject, *class, *cell_type), values),
-            Request::Move {
-                subject,
-                cell,
-                receiver,
-                cell_type,
-            } => {
-                let operands = (*subject, *cell, *receiver, *cell_type);
-                moved(state, counts, operands, values)
-            }
-            Request::Call {
-                subject,
-                cell,
-                method,
-                arguments,
-            } => {
-                let (first, length) = (arguments.as_ptr(), arguments.len());
-                let operands = (*subject, *cell, *method, first, length);
-                call(state, counts, operands, values)
-            }
-            Request::Answer {
-                subject,
-                call,
-                value,
-            } => {
-                let given = usize::from(value.is_some());
-                let operands = (*subject, *call, given, value.unwrap_or(NOT_GIVEN));
-                answer(state, counts, operands, values)
-            }
+    let lent = lent(state, counts);
+    match request {
+        Request::New {
+            subject,
+            class,
+            cell_type,
+        } => raw::new_object(lent, *subject, *class, *cell_type, values),
+        Request::Move {
+            subject,
+            cell,
+            receiver,
+            cell_type,
+        } => raw::move_reference(lent, *subject, *cell, *receiver, *cell_type, values),
+        Request::Call {
+            subject,
+            cell,
+            method,
+            arguments,
+        } => raw::call(lent, *subject, *cell, *method, arguments, values),
+        Request::Answer {
+            subject,
+            call,
+            value,
+        } => {
+            let given = usize::from(value.is_some());
+            let value = value.unwrap_or(NOT_GIVEN);
+            raw::answer(lent, *subject, *call, given, value, values)
         }
     }
 }
@@ -191,41 +102,20 @@ pub fn offers(
     chain: &[i64],
     offered: &mut usize,
 ) -> usize {
-    // SAFETY: the function reads six arrays, which have the lengths it takes, and `chain_len` numbers, all of the slice, and
-    // writes `offered`, which is apart.
-    unsafe {
-        pilgonca_offers(
-            &state.table.type_bytes,
-            &state.table.broader,
-            &state.cell_bytes,
-            &state.place_bytes,
-            &state.call_bytes,
-            &counts,
-            cell,
-            chain.as_ptr(),
-            chain.len(),
-            offered,
-        )
-    }
+    let lent = StateRef {
+        types: &state.table.type_bytes,
+        links: &state.table.broader,
+        cells: &state.cell_bytes,
+        places: &state.place_bytes,
+        calls: &state.call_bytes,
+        counts: &counts,
+    };
+    raw::offers(lent, cell, chain, offered)
 }
 
 /// The state of a sheet: 0 with state and counts stored, or the refusal's number with the offset in `at`.
 pub fn load(sheet: &[u8], state: &mut RawState, counts: &mut StateCounts, at: &mut usize) -> usize {
-    // SAFETY: the function reads `sheet_len` bytes, all of the slice, and writes five arrays of the lengths it takes, the counts
-    // and the offset; all are apart.
-    unsafe {
-        pilgonca_load(
-            sheet.as_ptr(),
-            sheet.len(),
-            &mut state.table.type_bytes,
-            &mut state.table.broader,
-            &mut state.cell_bytes,
-            &mut state.place_bytes,
-            &mut state.call_bytes,
-            counts,
-            at,
-        )
-    }
+    raw::load(sheet, lent(state, counts), at)
 }
 
 /// A run of the requests in `words`, in the bytes of `state` with these counts: 0 with state, counts, answers and how many were
@@ -237,23 +127,7 @@ pub fn run(
     answers: &mut [i64],
     served: &mut usize,
 ) -> usize {
-    // SAFETY: the function reads the links and `words_len` numbers, all of that slice, and reads and writes the other arrays, which
-    // have the lengths it takes, `answers_len` numbers, all of that slice, and `served`; all are apart.
-    unsafe {
-        pilgonca_run(
-            &mut state.table.type_bytes,
-            &state.table.broader,
-            &mut state.cell_bytes,
-            &mut state.place_bytes,
-            &mut state.call_bytes,
-            counts,
-            words.as_ptr(),
-            words.len(),
-            answers.as_mut_ptr(),
-            answers.len(),
-            served,
-        )
-    }
+    raw::run(lent(state, counts), words, answers, served)
 }
 
 /// The proved core.

@@ -161,7 +161,7 @@ fn sequence(table: &mut RawTable, steps: usize, random: &mut Random, seen: &mut 
     }
 }
 
-/// Pairs of different ref types of a sheet where loose holds: what a crossing asks for, where 01 says all of the result.
+/// Pairs of different ref types of a sheet where loose holds: what a crossing asks for (D20).
 fn crossing_pairs(table: &Table) -> Vec<(usize, usize)> {
     let relations = Relations::of(table);
     let types = 0..table.sheet_types;

@@ -81,7 +81,7 @@ fn generated_sheets() {
         }
     }
     println!("pairs with each combination of bits: {met:?}");
-    // subtype implies strict implies loose implies free, so there are five combinations
+    // each of the four relations lies within the next, so there are five combinations
     for (bits, count) in met.into_iter().enumerate() {
         let possible = [0, 8, 12, 14, 15].contains(&bits);
         assert_eq!(count > 500, possible, "{count} pairs with bits {bits}");

@@ -114,7 +114,7 @@ fn padded(length: usize) -> Vec<u8> {
     input
 }
 
-/// P1. A sheet cannot be that long, but an input can: behind it 1, in a long number 2.
+/// 32,768 bytes are read, one more is `no=2` alone (P1). A sheet cannot be that long, but an input can: behind it 1, in a long number 2.
 #[test]
 fn longest_inputs() {
     let number = |length: usize| {

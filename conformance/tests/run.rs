@@ -9,6 +9,9 @@ use reference::gen::Profile;
 use reference::hostile;
 use reference::raw::RawState;
 use reference::refusal::Refusal;
+use reference::sheet;
+use reference::state::State;
+use reference::table::{Key, Kind};
 
 /// Lists of both kinds.
 fn lists(handed_in: u64, sheets: [(Profile, u64); 4]) -> impl Iterator<Item = List> {
@@ -51,6 +54,36 @@ fn runs_as_the_reference() {
 #[ignore = "long"]
 fn hundreds_of_thousands_of_runs() {
     compare(lists(300_000, sheets(40_000, 10_000, 500, 1000)));
+}
+
+/// A state with two known types that have own (Q19): the first request takes them into signatures, and an argument of a later call
+/// in the same run meets 9 there (C13).
+#[test]
+fn a_call_meets_9() {
+    let denies = "rep=ref\ncat=0\nown=no\nm=denied\nm=denied\n";
+    let sheet = format!(
+        "guide=1\nsubjects=2\nmethods=2\ncats=0\ntypes=4\n\
+        type=0\nrep=ref\ncat=0\nown=no\nm=avail(1)-\nm=avail()-\ntype=1\n{denies}\
+        type=2\nrep=ref\ncat=0\nown=no\nm=avail(3)-\nm=unavail\ntype=3\n{denies}end=sheet\n"
+    );
+    let mut table = sheet::read(sheet.as_bytes()).expect("a right sheet");
+    for (left, right) in [(1, 3), (1, 4)] {
+        let mut known = table.types[1].clone();
+        known.own = true;
+        table.types.push(known);
+        let kind = Kind::Sup;
+        table.keys.push(Key { kind, left, right });
+    }
+    let state = RawState::of(&State::of_sheet(table));
+    // new 0 0 2, move 0 0 1 2, new 1 0 0, call 1 1 0 2
+    let words = [
+        0, 3, 0, 0, 2, 1, 4, 0, 0, 1, 2, 0, 3, 1, 0, 0, 2, 4, 1, 1, 0, 2,
+    ];
+    for run in [runs::run, Proved::run] {
+        let (mut state, mut answers) = (state.clone(), [7; 16]);
+        assert_eq!(run(&mut state, &words, &mut answers), Ok(4));
+        assert_eq!(answers[12..], [9, 0, 0, 0]);
+    }
 }
 
 /// The encoder's words are read as the requests they are of.

@@ -33,7 +33,7 @@ fn last(output: &str) -> &str {
     output.lines().last().unwrap_or("nothing")
 }
 
-/// 01's six lines (K2 to K7).
+/// The six lines of Case P (K2 to K7).
 #[test]
 fn case_p() {
     let requests = "do=new 0 1 4\ndo=move 0 0 1 2\ndo=move 1 1 2 3\ndo=move 1 1 2 5\ndo=move 2 2 1 4\ndo=move 2 2 0 4\n";

@@ -1,8 +1,9 @@
 //! What `script` prints, by its C function: the reference's outputs and the program's, in buffers of every length that matters.
 
-use conformance::script_function::{printed, script};
 use conformance::scripts::{damaged, deepest, proved, Met, LONGER};
 use conformance::worst_scripts::layered;
+use pilgonca::raw::script;
+use pilgonca::script as printed;
 use reference::gen::{generate, Profile, PROFILES};
 use reference::script::{self as ours, MAX_INPUT};
 

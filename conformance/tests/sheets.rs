@@ -243,7 +243,7 @@ fn refusals_by_hand() {
     let text = String::from_utf8(case()).unwrap();
     let long = "9".repeat(100_000);
     let cases = [
-        // S1 to S3, S29
+        // form, and the ranges of the counts (S1 to S3, S23)
         ("guide=1", "guide=2", 2, "guide=2"),
         ("guide=1", "guide=01", 1, "guide=01"),
         ("subjects=3", "subjects=17", 2, "subjects="),
@@ -263,7 +263,7 @@ fn refusals_by_hand() {
         ("cats=2", "cats=32", 2, "cats="),
         ("types=6", "types=49", 2, "types="),
         ("types=6", "types=0", 2, "types="),
-        // S30, and above the last category (S12)
+        // a type out of turn (S30), and a broader category above the last (S12)
         (
             "type=3",
             "type=4",
@@ -272,12 +272,12 @@ fn refusals_by_hand() {
         ),
         ("under=0\n", "under=3\n", 2, "under=3"),
         ("under=1,0", "under=0,3", 2, "under=0,3"),
-        // not below (S12)
+        // a broader category that is not below its own (S12)
         ("under=0\n", "under=1\n", 3, "under=1\n"),
         ("under=0\n", "under=2\n", 3, "under=2"),
         ("under=1,0", "under=1,2", 3, "under=1,2"),
         ("under=1,0", "under=2", 3, "under=2"),
-        // over the whole line 1 before 2 before 3
+        // in a line the form before ranges, and these before 3 (S5)
         ("under=1,0", "under=9,2", 2, "under=9,2"),
         ("under=1,0", "under=2,9", 2, "under=2,9"),
         ("under=1,0", "under=9,0,0", 1, "under=9,0,0"),
@@ -290,7 +290,7 @@ fn refusals_by_hand() {
         ("rep=w32", "rep=w16", 1, "rep=w16"),
         ("cat=0", "cat=3", 2, "cat=3"),
         ("own=no", "own=maybe", 1, "own=maybe"),
-        // S7 to S10
+        // lines that are missing, too many, or without LF (S7 to S10)
         ("own=no\n", "", 1, "m=avail()0"),
         ("end=sheet\n", "end=sheet", 1, "end=sheet"),
         ("end=sheet\n", "", 1, ""),
@@ -303,7 +303,7 @@ fn refusals_by_hand() {
             1,
             "m=denied\ntype=2",
         ),
-        // S13
+        // own in a signature, where every line is right (S6, S13)
         ("m=avail()0", "m=avail()4", 3, "end=sheet\n"),
         ("m=optional(0)-", "m=optional(0,4)-", 3, "end=sheet\n"),
     ];

@@ -237,7 +237,7 @@ fn script_forms() {
     assert_eq!(p("do=new 0 1 4"), "no=1\n");
     assert_eq!(p(""), "");
     assert_eq!(run("", ""), "no=1\n");
-    // S16: three or four arguments are right in form.
+    // P14: three or four arguments are right in form.
     assert_eq!(last(&p("do=new 0 1 4\ndo=call 0 0 0 1 2 3 4\n")), "no=15");
 }
 

@@ -1,4 +1,4 @@
-// The line that `script` prints for what a request came to (P12, P13). Each piece is written in the rest of the same lent buffer (crate `textwrite`).
+// The line that `script` prints for what a request came to (P12, P13). Each piece is written behind the one before it, in one lent buffer (F2).
 use numbers::least;
 use steps::Answer;
 use textwrite::put_byte;
@@ -41,7 +41,7 @@ fn put_integer(buf: &mut [u8], v: i64) -> usize
     put_decimal(buf, n)
 }
 
-// Two numbers: cell and place, or call and adapters.
+// A result of two numbers (P12).
 fn write_pair(buf: &mut [u8], first: usize, second: usize) -> usize
     ensures is { λ r. ⌜ Lined (now (buf .entry)) (now (buf .exit)) (outcomeText (got (pair first second)) ∷ []) r ⌝ }
     ensures few { λ r. ⌜ r ≤ 73 ⌝ }

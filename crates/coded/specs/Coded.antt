@@ -3,7 +3,7 @@ use mathlib.Core.Option.{Option, none, some}
 use Rattle.model.specs.Basics.{Res, refuse}
 use Rattle.model.specs.Requests.{System, Request, Result, serve}
 
--- What is no request is refused with 1.
+-- What is no request is refused with 1 (U6, P11).
 unfoldable pub serveAsked : System → Option Request → Res (System × Result)
 unfolding serve
 serveAsked s none = refuse 1

@@ -148,7 +148,7 @@ fn restrict_to(
     }
 }
 
-// X6: whether V is a subtype of R, own not compared.
+// X6: whether the place has all that R asks for, own aside.
 fn conforms(
     types: &[u8; TYPE_BYTES],
     links: &[u8; LINK_BYTES],
@@ -162,7 +162,7 @@ fn conforms(
     asked(types, links, c, Relation::Conforms, right, v)
 }
 
-// X6 to X9: R meets V, the type of place p. The place passes, or an adapter of type Closed(R,V) is due in front of it.
+// X6 to X9: R meets V, the type of place p. The place passes, or an adapter is due in front of it, of type Closed(R,V).
 fn meet(
     types: &mut [u8; TYPE_BYTES],
     links: &[u8; LINK_BYTES],

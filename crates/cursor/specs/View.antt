@@ -1,4 +1,4 @@
--- How a line lies in a text, in the words of crate `sheet`: the rows from a byte offset on.
+-- How a line lies in a text, in the words of crate `sheet`: the rows from a byte offset on (S20).
 use mathlib.Core.Path.{_≡_}
 use mathlib.Core.Bool.{Bool, true, false, So, cond}
 use mathlib.Core.List.{List, [], _∷_}

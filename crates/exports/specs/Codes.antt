@@ -1,4 +1,4 @@
--- Numbers at the C boundary, and what they stand for.
+-- Numbers at the C boundary, and what they stand for (E12).
 use mathlib.Core.Path.{_≡_}
 use mathlib.Core.Bool.{So}
 use mathlib.Core.List.{List}
@@ -14,7 +14,7 @@ use Rattle.restrict.specs.Link.{Writes}
 use Rattle.restrict_entry.specs.Answer.{Derivation, derivationOf}
 use Rattle.sheet.specs.Text.{Written}
 
--- 16 and the answers, as in the pair table
+-- 16 and the answers, as in the pair table (B24)
 abbrev pub answersCode : Answers → ℕ
 answersCode a = 16 + pairCode a
 

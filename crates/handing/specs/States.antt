@@ -58,7 +58,7 @@ pub record Handed (q : Request) (n : ℕ) (old new : LentState) : Type 0 where
   -- number and values are the definition's
   pub number : n ≡ outcomeNumber (outcomeOn (old .state) q)
   pub values : new .values ≡ outcomeValues (old .values) (outcomeOn (old .state) q)
-  -- all counts, and every counted record of table, cells, places and calls, are the definition's (Q14, Q15)
+  -- what is counted of table, cells, places and calls is the definition's: how many, and each record (Q14, Q15)
   pub returns : Returns (rawFlat (old .state)) q (outcomeOn (old .state) q) (rawFlat (new .state))
   -- refused, 2 included, all that was lent is as it was, every byte (Q14)
   pub refused : (e : ℕ) → outcomeOn (old .state) q ≡ refused e → new ≡ old

@@ -29,7 +29,7 @@ abbrev pub underRead : List ℕ → ℕ → UnderGot → Reading (List ℕ)
 underRead s at (Refused k) = refused k at
 underRead s at (At x c) = got (linksOf (rawLinks x)) (c .at) (split (drop (c .at) s))
 
--- The record is the one that stands for the categories read: a missing second one is 0.
+-- The record is the one that stands for the categories read: a missing second one is 0 (B20).
 abbrev pub LinksExact : RawLinks → Type 0
 LinksExact x = linksRecord (linksOf x) ≡ x
 

@@ -154,7 +154,7 @@ fn pack(items: [usize; NUMBERS], count: usize, n: usize) -> Packed
     }
 }
 
-// An `under=` line, of category k (S24): a broader category above the last is 2, another that is not below k is 3 (S12).
+// An `under=` line, of category k (S24): 2 where a number names no category, else 3 where one is not below k (S12).
 fn read_under(l: &[u8], cats: usize, k: usize) -> Under
     requires { ⌜ (cats ≤ 31) × (k ≤ 31) ⌝ }
     ensures is { λ r. ⌜ underBy r ≡ underLine cats k (now (l .entry)) ⌝ }

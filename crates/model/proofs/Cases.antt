@@ -1,4 +1,4 @@
--- The proved cases of document 01, worked derivations, and demand 3 evaluated on lists. Everything here is computed from the definitions.
+-- The proved cases (K), worked derivations, and demand 3 evaluated on lists. Everything here is computed from the definitions.
 use mathlib.Core.Path.{_≡_, refl}
 use mathlib.Core.Bool.{Bool, true, false, _&&_}
 use mathlib.Core.List.{List, [], _∷_, _++_, map}
@@ -14,7 +14,7 @@ use Rattle.model.specs.Book.{Book, pageAt, enter}
 use Rattle.model.specs.Claim.{follow, reached}
 use Rattle.model.proofs.CasesWords.{type, owned, derivedAs, sheetOf, new′, move′, call′, answer′}
 
--- ---- "Case P. Three subjects, methods 0 read, 1 mark, 2 erase."
+-- ---- Case P (K1)
 abbrev pub caseP : Table
 caseP = sheetOf 3 3 (noType
     ∷ type (signed avail [] (some 0) ∷ signed avail (0 ∷ []) none ∷ bare avail ∷ [])
@@ -132,7 +132,7 @@ AllHold (r ∷ rs) = Holds r × AllHold rs
 
 abbrev pub provedCases : List Row
 provedCases =
-    -- "these six (the third adds types 6 and 7)"
+    -- K2 to K4: two types are derived
     record { table = caseP; requests = three; gives = got (pair 0 0) ∷ got (pair 1 0) ∷ got (pair 2 1) ∷ []; types = 8 }
     ∷ record {
       table = caseP;
@@ -140,11 +140,11 @@ provedCases =
       gives = got (pair 0 0) ∷ got (pair 1 0) ∷ got (pair 2 1) ∷ refused 8 ∷ refused 9 ∷ got (pair 3 0) ∷ [];
       types = 8;
     }
-    -- "move 2 2 2 5 after the third: 10, types back to 8"
+    -- K8: what was derived on the way is gone
     ∷ record { table = caseP; requests = three ++ (move′ 2 2 2 5 ∷ []); gives = got (pair 0 0) ∷ got (pair 1 0) ∷ got (pair 2 1) ∷ refused 10 ∷ []; types = 8 }
-    -- "new 0 2 2: 7"
+    -- K9
     ∷ record { table = caseP; requests = new′ 0 2 2 ∷ []; gives = refused 7 ∷ []; types = 6 }
-    -- "erase called on cell 1: 14; mark on cell 2: 14", which is only optional in type 3
+    -- K10 and K11: erase is denied in type 2, mark only optional in type 3
     ∷ record { table = caseP; requests = two ++ (call′ 1 1 2 [] ∷ []); gives = got (pair 0 0) ∷ got (pair 1 0) ∷ refused 14 ∷ []; types = 6 }
     ∷ record { table = caseP; requests = three ++ (call′ 2 2 1 (pos 7 ∷ []) ∷ []); gives = got (pair 0 0) ∷ got (pair 1 0) ∷ got (pair 2 1) ∷ refused 14 ∷ []; types = 8 }
     -- further: a number answered through an adapter, one too large for w32, and numbers that are negative
@@ -174,7 +174,7 @@ pub proved-cases : AllHold provedCases
 unfolding run
 proved-cases = (refl, (refl, (refl, (refl, (refl, (refl, (refl, (refl, (refl, tt)))))))))
 
--- ---- Worked derivations: every derived type with its number, key and methods. Methods in order, arguments before answer, each to its end; 9 is used again in
+-- ---- Worked derivations: every derived type with its number, key and methods. They show the order (D17); 9 is used again in
 -- method 1 of type 6, and the second request derives nothing.
 abbrev derivedTypes : Table → List Request → List Ty
 derivedTypes t qs = drop (t .sheet) (run (loaded t) qs .1 .table .types)

@@ -1,4 +1,4 @@
--- Worked cases on states that are handed in: layers that do not fit the value on its way (8 at its first crossing, 19 later), codes that name nothing (2), and what is
+-- Worked cases on states that are handed in: layers that do not fit the value on its way (C15), codes that name nothing (2), and what is
 -- stored. No loaded sheet leads to these states; they pass the check all the same (H16). Everything is computed from the definitions.
 use mathlib.Core.Path.{_≡_, refl}
 use mathlib.Core.Bool.{false, true}

@@ -75,7 +75,7 @@ references =
       cells = cell 0 3 1 ∷ cell 1 3 1 ∷ cell 1 0 2 ∷ cell 1 0 3 ∷ cell 0 1 4 ∷ cell 0 2 5 ∷ [];
       places = object 0 0 ∷ adapter 0 7 ∷ object 0 1 ∷ object 0 1 ∷ adapter 2 11 ∷ adapter 3 13 ∷ [];
     }
-    -- An answer through two adapters (A7, A8, A10): the caller holds the new cell, of the cell type's answer type.
+    -- An answer through two adapters (A7, A8, A10): the caller holds the new cell, by the type that is due.
     ∷ record {
       state = loaded answeringTwice;
       requests = new′ 0 0 1 ∷ move′ 0 0 1 2 ∷ move′ 1 1 1 3 ∷ call′ 1 2 0 [] ∷ new′ 0 0 0 ∷ answer′ 0 0 (some (pos 3)) ∷ [];

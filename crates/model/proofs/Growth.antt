@@ -118,6 +118,6 @@ module _ (t u : Table) (x : Grown t u) (sigs : SignaturesIn t) where
                 };
           }
 
-  -- "old pairs keep their answers when derived types are added"
+  -- R15: a pair that was there keeps its answers as the table grows
   pub related-same : (k : Relation) (a b : ℕ) → a < size t → b < size t → related k u a b ≡ related k t a b
   related-same k a b p q = so-both (related k u a b) (related k t a b) (related-old k a b p q) (related-grow t u x k a b)

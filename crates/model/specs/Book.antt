@@ -1,5 +1,5 @@
--- Document 01, "Trails and chains": the book. It is written on its own: it is fed only the requests and which were accepted, reads T's own flag itself, and
--- shares with the state machine only the relations and the derivation (and the reading of the table and of a request's numbers).
+-- Rules L1 to L14: the book, a second account of a run beside the state. All that it is told are requests, and for each whether it was taken. With the state it has in common
+-- no more than relations and derivation, and how the table and the numbers of a request are read; whether a type is own it looks up by itself: one slip in unwrapping would have to be made twice.
 use mathlib.Core.Bool.{true, false}
 use mathlib.Core.List.{List, [], _∷_, _++_, map, reverse}
 use mathlib.Core.Option.{Option, none, some}
@@ -12,19 +12,19 @@ use Rattle.model.specs.Relations.{subtype, conforms, related}
 use Rattle.model.specs.Restriction.{derive}
 use Rattle.model.specs.Requests.{Request, new, move, call, answer}
 
--- "A page holds a class and two lists, closed types and trail": what a reference has crossed since its object was made or last unwrapped. The latest entry
--- of a list comes first.
+-- A page is the book's entry for one cell. Its trail has the types that the reference crossed since the thing was made or last unwrapped, beside it the types of the adapters that came
+-- of them (L3). The latest entry of a list comes first.
 pub record Page : Type 0 where
   pub class : ℕ
   pub closed : List ℕ
   pub trail : List ℕ
 
--- "A call notes page and method."
+-- what the book keeps of a call (L12)
 pub record Note : Type 0 where
   pub page : ℕ
   pub method : ℕ
 
--- "It starts from the sheet's table and derives types as above. .. Pages and calls are numbered from 0."
+-- A page's number, and a note's, is where it stands (L2).
 pub record Book : Type 0 where
   pub table : Table
   pub pages : List Page
@@ -37,7 +37,7 @@ abbrev pub lastOr : List ℕ → ℕ → ℕ
 lastOr [] c = c
 lastOr (x ∷ xs) c = x
 
--- "S is its last trail type and V its last closed type, each being the class where that list is empty."
+-- what S and V are for a page: the latest entry of its list, and the class before there is one (L4)
 abbrev pub lastType : Page → ℕ
 lastType g = lastOr (g .trail) (g .class)
 
@@ -47,14 +47,14 @@ lastClosed g = lastOr (g .closed) (g .class)
 abbrev pub emptyPage : ℕ → Page
 emptyPage c = record { class = c; closed = []; trail = [] }
 
--- "T then joins the trail"
+-- the end of every crossing of a page (L8)
 abbrev pub joins : ℕ → Page → Page
 joins to g = record { class = g .class; closed = g .closed; trail = to ∷ g .trail }
 
 abbrev pub addClosed : ℕ → Page → Page
 addClosed c g = record { class = g .class; closed = c ∷ g .closed; trail = g .trail }
 
--- step 3 on a page: "a new adapter adds its closed type". Refusals aside, a derivation never fails here.
+-- L7. The request was taken, so a derivation never fails here.
 unfoldable pub pageAdapt : Table → Page → ℕ → ℕ → Table × Page
 unfolding related derive
 pageAdapt t g to r = elim (related conforms t r (lastClosed g)) [
@@ -62,7 +62,7 @@ pageAdapt t g to r = elim (related conforms t r (lastClosed g)) [
   | false ↦ elim (derive maxTypes t closed r (lastClosed g)) [ none ↦ (t, g) | some x ↦ (x .0, joins to (addClosed (x .1) g)) ]
 ]
 
--- "A page crosses to T as under Crossing, refusals aside .. Unwrapping empties both lists"
+-- L5 and L6: the crossing of X, without its tests. After unwrapping the page is as good as new.
 unfoldable pub pageCross : Table → Page → ℕ → Table × Page
 unfolding related derive pageAdapt
 pageCross t g to = elim (typeAt t to .own) [
@@ -83,11 +83,11 @@ pageCrossAll t g (some to ∷ ts) = let x = pageCross t g to in pageCrossAll (x 
 abbrev pub pageAt : Book → ℕ → Page
 pageAt b k = getD (b .pages) k (emptyPage 0)
 
--- "Each is the next page."
+-- L14
 abbrev pub addPage : Book → Table × Page → Book
 addPage b x = record { table = x .0; pages = b .pages ++ (x .1 ∷ []); calls = b .calls }
 
--- "the called page's last trail type, closed types from the last back, and class"
+-- what a value meets on its way, by the page: as the layers of a call (L11)
 abbrev pub pageWay : Page → List ℕ
 pageWay g = lastType g ∷ (g .closed ++ (g .class ∷ []))
 
@@ -96,7 +96,7 @@ unfoldable pub copyPage : Book → ℕ → List (Option ℕ) → Book
 unfolding pageCrossAll
 copyPage b k ts = addPage b (pageCrossAll (b .table) (pageAt b k) ts)
 
--- "Call: the page of each argument that is a reference, copied in order, crosses to the argument types": argument i and those after it
+-- L11: argument i and those after it; a number leaves no page
 unfoldable pub copyArguments : Book → List ℕ → ℕ → ℕ → List ℕ → List ℤ → Book
 unfolding copyPage
 copyArguments b way m i [] vs = b
@@ -109,7 +109,7 @@ copyArguments b way m i (a ∷ xs) (v ∷ vs) = elim (isRef (typeAt (b .table) a
 abbrev pub addNote : Book → Note → Book
 addNote b n = record { table = b .table; pages = b .pages; calls = b .calls ++ (n ∷ []) }
 
--- "Answer: a reference's page, copied, crosses to the answer types of the call's page in reverse."
+-- L13: the same way outward
 unfoldable pub copyAnswer : Book → Note → Option ℕ → Option ℤ → Book
 unfolding copyPage
 copyAnswer b n none v = b
@@ -122,12 +122,12 @@ copyAnswer b n (some a) (some v) = elim (isRef (typeAt (b .table) a .rep)) [
 abbrev pub noteAt : Book → ℕ → Note
 noteAt b j = getD (b .calls) j (record { page = 0; method = 0 })
 
--- An accepted request goes into the book.
+-- An accepted request goes into the book (L9 to L13).
 unfoldable pub enter : Book → Request → Book
 unfolding pageCross copyPage copyArguments copyAnswer
--- "New: an empty page of the class crosses to the cell type."
+-- L9
 enter b (new subject class to) = addPage b (pageCross (b .table) (emptyPage (named class)) (named to))
--- "Move: the cell's page, copied, crosses to T."
+-- L10
 enter b (move subject k receiver to) = copyPage b (named k) (some (named to) ∷ [])
 enter b (call subject k m vs) = let g = pageAt b (named k) in
     addNote (copyArguments b (pageWay g) (named m) 0 (methodAt (b .table) (lastType g) (named m) .args) vs) (record { page = named k; method = named m })

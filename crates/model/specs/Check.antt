@@ -1,6 +1,4 @@
--- Document 01: "A state or table handed in gets 2 before all else if a count is outside its limits, a record names a number not below that number's count
--- (a category above the last), the table breaks a rule of the first section, a cell's type isn't a sheet ref type, an object's class isn't a sheet class,
--- an adapter's type isn't ref, or an adapter's place behind isn't below it."
+-- Rules H: what somebody else gives as a table or a state, what it means, and the check that it gets before all else (2).
 -- What is handed in is a record of numbers: counts, and codes in arrays. Its meaning and the check are both total, so that any numbers have an answer.
 use mathlib.Core.Bool.{Bool, _&&_, _||_, cond}
 use mathlib.Core.List.{List, [], _∷_}
@@ -15,7 +13,7 @@ use Rattle.model.specs.Relations.{Answers, compare}
 use Rattle.model.specs.Crossing.{Place, object, adapter, maxPlaces}
 use Rattle.model.specs.Requests.{Cell, Call, System, maxCells, maxCalls, noCell}
 
--- A state: every number below its count, and what cells, objects and adapters must be besides.
+-- A state: every number names something, and what cells, objects and adapters must be besides (H9 to H11).
 abbrev pub cellFits : System → Cell → Bool
 cellFits s c = ltb (c .holder) (s .table .subjects) && (ltb (c .place) (length (s .places)) && (ltb (c .type) (s .table .sheet) && isRef (typeAt (s .table) (c .type) .rep)))
 
@@ -172,7 +170,7 @@ systemOf r = record {
   calls = from (r .calls) 0 (λ k. callOf (getD (r .callRecords) k noRawCall));
 }
 
--- Every counted code names something: a state, a representation, yes or no, a number of arguments or of broader categories, a kind.
+-- every code that counts names something (H2, H3)
 abbrev pub rawMethodFits : RawMethod → Bool
 rawMethodFits m = ltb (m .state) 4 && (permit (stateOf (m .state)) ⇒ leb (m .count) maxArguments)
 

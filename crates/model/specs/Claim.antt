@@ -1,4 +1,4 @@
--- Demand 3 as one statement over lists of requests.
+-- L19 to L23: demand 3 as one statement over lists of requests.
 use mathlib.Core.Path.{_≡_}
 use mathlib.Core.Logic.{_↔_}
 use mathlib.Core.Bool.{Bool, true, false, So}
@@ -16,7 +16,7 @@ abbrev pub accepted : Res (System × Result) → Bool
 accepted (refuse e) = false
 accepted (ok x) = true
 
--- "Its book is fed only the requests and which were accepted. .. A refusal changes nothing."
+-- one request and whether it was accepted: all that the book is told (L1)
 abbrev pub feed : Book → Request → Bool → Book
 feed b q true = enter b q
 feed b q false = b
@@ -30,19 +30,19 @@ follow s b (q ∷ qs) = let a = serve s q in follow (after s a) (feed b q (accep
 abbrev pub reached : Table → List Request → System × Book
 reached t qs = follow (loaded t) (opened t) qs
 
--- "Cell k has page k, whose trail is what the cell crossed and whose class is the object's": its class is that of the base, its closed types are the adapters',
--- outermost (latest) first, and the latest type of its trail is the cell's.
+-- Page k is that of cell k (L20): its class is that of the base, its closed types are those of the adapters in front, the outermost (latest) first, and the latest type of its trail is the
+-- cell's own.
 pub record PageOf (s : System) (k : ℕ) (g : Page) : Type 0 where
   pub class : g .class ≡ placeType (placeAt (s .places) (baseOf (s .places) (cellAt s k .place)))
   pub closed : layersOf (s .places) (cellAt s k .place) ≡ g .closed ++ (g .class ∷ [])
   pub before : List ℕ
   pub trail : g .trail ≡ cellAt s k .type ∷ before
 
--- "A call notes page and method."
+-- what the book should have of a call (L22)
 abbrev pub noteOf : Call → Note
 noteOf c = record { page = c .cell; method = c .method }
 
--- The book's table and calls are the state's, there are as many pages as cells, and each cell offers a chain exactly when its page permits it.
+-- Book and state agree (L19, L20, L22), and each cell offers a chain exactly when its page permits it (L21).
 pub record Claim (s : System) (b : Book) : Type 0 where
   pub table : b .table ≡ s .table
   pub calls : b .calls ≡ map noteOf (s .calls)

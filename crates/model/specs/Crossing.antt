@@ -1,4 +1,4 @@
--- Document 01, "Crossing from S to T, receiver r".
+-- Rules X, with Q1 to Q3: places, and what becomes of a reference that is seen by another type from here on.
 use mathlib.Core.Bool.{true, false}
 use mathlib.Core.List.{List, [], _∷_, _++_}
 use Prim.Native.Nat.{ℕ, zero, suc}
@@ -9,7 +9,7 @@ use Rattle.model.specs.Table.{sub, closed, Table, typeAt}
 use Rattle.model.specs.Relations.{subtype, conforms, strict, loose, free, related}
 use Rattle.model.specs.Restriction.{derived}
 
--- "A place is an object (class, owner) or an adapter (the place behind it, closed type)." It is what a reference refers to.
+-- A place is what a reference leads to: the thing itself, or an adapter in front of another place (Q1).
 pub data Place : Type 0 where
   object : (class owner : ℕ) → Place
   adapter : (behind closed : ℕ) → Place
@@ -23,7 +23,7 @@ noPlace = object 0 0
 abbrev pub placeAt : List Place → ℕ → Place
 placeAt ps p = getD ps p noPlace
 
--- a place's type: the class of an object, the closed type of an adapter
+-- Q3
 abbrev pub placeType : Place → ℕ
 placeType (object c o) = c
 placeType (adapter b c) = c
@@ -32,7 +32,7 @@ abbrev pub ownerOf : Place → ℕ
 ownerOf (object c o) = o
 ownerOf (adapter b c) = 0
 
--- "Its base is the object at the end." What is behind lies below, so as many steps as there are places are enough.
+-- The base of a place is the thing that is left when all adapters are taken off (Q2). What is behind lies below, so as many steps as there are places are enough.
 unfoldable pub base : ℕ → List Place → ℕ → ℕ
 base zero ps p = p
 base (suc f) ps p = elim (placeAt ps p) [ object c o ↦ p | adapter b c ↦ base f ps b ]
@@ -50,8 +50,7 @@ pub record Reference : Type 0 where
   pub type : ℕ
   pub place : ℕ
 
--- Step 3. "V is the place's type. V a subtype of R, own not compared: it passes. Else strict (R from V) must hold (10), and a new adapter of type
--- Closed(R,V) is made (11, then 12)." The reference then has type `to`.
+-- X6 to X10: what the place has is enough as it is, or an adapter has to take something away. `r` is what is left of the type asked for, `to` the type that the reference has then.
 unfoldable pub adapt : Table → List Place → ℕ → ℕ → ℕ → Res Reference
 unfolding related derived
 adapt t ps to r p = elim (related conforms t r (placeType (placeAt ps p))) [
@@ -62,8 +61,7 @@ adapt t ps to r p = elim (related conforms t r (placeType (placeAt ps p))) [
       ok (record { table = x .0; places = ps ++ (adapter p (x .1) ∷ []); type = to; place = length ps })
 ]
 
--- Steps 1 and 2. "T own: free must hold, otherwise loose. If not, 8. T own: r must own the base (9). The base replaces the place (unwrapping); R is T.
--- Otherwise, if S is a subtype of T, the place passes as it is and the crossing ends. Otherwise R is Sub(T,S) (11)."
+-- X1 to X5: an own type is for the owner alone and takes every adapter off; any other type can only take away from what the reference was seen by.
 unfoldable pub cross : Reference → ℕ → ℕ → Res Reference
 unfolding related derived base adapt
 cross f to r = elim (typeAt (f .table) to .own) [

@@ -1,5 +1,5 @@
 -- The record that stands for a type of the model, and the one for a category's broader ones: what they have no use for is 0, so that a stored record is determined.
--- Kind, left and right of a sheet type are 0; a number type has no own and no methods; a method that isn't permitted has no signature; unused slots are 0.
+-- A sheet type has 0 for its key; a number type has no own and no methods; a method that isn't permitted has no signature; unused slots are 0.
 use mathlib.Core.List.{List}
 use mathlib.Core.Option.{Option, none, some}
 use Prim.Native.Nat.{ℕ, suc}

@@ -1,4 +1,4 @@
--- Document 01, "State order" and "Relations over all pairs": what it is to keep the rules of a relation, and the largest relation that does.
+-- Rules R: the order of states, what it is to keep the rules of a relation, and the largest relation that does.
 use mathlib.Core.Bool.{Bool, true, false, _&&_, _||_, So, Bool·beq}
 use mathlib.Core.List.{List, [], _∷_}
 use mathlib.Core.Option.{Option, none, some}
@@ -9,7 +9,7 @@ use lib.ListN.{getD}
 use Rattle.model.specs.Basics.{Res, ok, need, _⇒_, any, from, names, named}
 use Rattle.model.specs.Table.{State, denied, optional, avail, unavail, Rep, ref, w32, w64, Method, Ty, Table, noMethod, size, typeAt, methodAt, isRef, permit, isAvail}
 
--- "denied ≤ every state; optional ≤ optional, avail, unavail; avail ≤ avail; unavail ≤ unavail; no others"
+-- the order of states (R1)
 abbrev pub stateLe : State → State → Bool
 stateLe denied s = true
 stateLe optional denied = false
@@ -25,7 +25,7 @@ stateLe unavail optional = false
 stateLe unavail avail = false
 stateLe unavail unavail = true
 
--- "a ≤ b if a is 0, a = b, or a is reached from b by broader links": `links` at b are b's broader categories, and the fuel bounds the way
+-- the order of categories (T7): `links` at b are those that b names, and the fuel bounds the way
 unfoldable pub reaches : ℕ → List (List ℕ) → ℕ → ℕ → Bool
 reaches zero links a b = eqb a 0 || eqb a b
 reaches (suc f) links a b = eqb a 0 || (eqb a b || any (λ c. reaches f links a c) (getD links b []))
@@ -39,7 +39,7 @@ unfoldable pub catLe : Table → ℕ → ℕ → Bool
 unfolding reaches
 catLe t a b = reaches 32 (broader t) a b
 
--- The four relations, and `conforms`: subtype with own not compared. A pair (T, S) is in subtype if S is a subtype of T, in the others "(T from S)".
+-- The four relations, and `conforms`, which is subtype but for own (R12). All are written with T first: the type that is wanted, then S, the one that is there (R2).
 pub data Relation : Type 0 where
   subtype conforms strict loose free : Relation
 
@@ -54,42 +54,42 @@ sameRep w64 ref = false
 sameRep w64 w32 = false
 sameRep w64 w64 = true
 
--- "both ref or both numbers"
+-- a reference never stands for a number, but the widths are not told apart (R9 to R11)
 abbrev pub sameSort : Rep → Rep → Bool
 sameSort a b = Bool·beq (isRef a) (isRef b)
 
 -- What a relation asks of the representation, category and own flag of T and S
 unfoldable pub outerRule : Relation → Table → Ty → Ty → Bool
 unfolding catLe
--- "same representation, category of T ≤ that of S, .. and T own only if S own"
+-- R8, R12
 outerRule subtype t x y = sameRep (x .rep) (y .rep) && (catLe t (x .cat) (y .cat) && (x .own ⇒ y .own))
 outerRule conforms t x y = sameRep (x .rep) (y .rep) && catLe t (x .cat) (y .cat)
--- "both ref or both numbers; category of T ≤ that of S"
+-- R9
 outerRule strict t x y = sameSort (x .rep) (y .rep) && catLe t (x .cat) (y .cat)
--- "as strict without the category rule"
+-- R10, R11
 outerRule loose t x y = sameSort (x .rep) (y .rep)
 outerRule free t x y = sameSort (x .rep) (y .rep)
 
 -- What a relation asks of a method's states in T and in S
 abbrev pub stateRule : Relation → State → State → Bool
--- "each state of T ≤ that of S"
+-- R8
 stateRule subtype a b = stateLe a b
 stateRule conforms a b = stateLe a b
--- "avail in T only where avail in S"
+-- R9
 stateRule strict a b = isAvail a ⇒ isAvail b
--- "avail in T only where S permits"
+-- R10
 stateRule loose a b = isAvail a ⇒ permit b
--- "as loose without the state rule"
+-- R11
 stateRule free a b = true
 
--- "the argument counts are equal, .. arguments with sides exchanged"
+-- as many arguments on both sides; what goes in is asked the other way round (R4, R6)
 abbrev pub ArgsBy : (ℕ → ℕ → Type 0) → List ℕ → List ℕ → Type 0
 ArgsBy R [] [] = Unit
 ArgsBy R [] (y ∷ ys) = ⊥
 ArgsBy R (x ∷ xs) [] = ⊥
 ArgsBy R (x ∷ xs) (y ∷ ys) = R y x × ArgsBy R xs ys
 
--- "answers are both present or both missing, answers are related in the same direction"
+-- an answer on both sides or on none; what comes out is asked the same way round (R4, R5)
 abbrev pub AnswerBy : (ℕ → ℕ → Type 0) → Option ℕ → Option ℕ → Type 0
 AnswerBy R none none = Unit
 AnswerBy R none (some y) = ⊥
@@ -100,7 +100,7 @@ pub record SignatureBy (R : ℕ → ℕ → Type 0) (x y : Method) : Type 0 wher
   pub args : ArgsBy R (x .args) (y .args)
   pub answer : AnswerBy R (x .answer) (y .answer)
 
--- "where both types permit a method", its signatures are related
+-- Signatures count only for a method that both sides permit (R7).
 pub record MethodBy (k : Relation) (R : ℕ → ℕ → Type 0) (x y : Method) : Type 0 where
   pub state : So (stateRule k (x .state) (y .state))
   pub signature : So (permit (x .state)) → So (permit (y .state)) → SignatureBy R x y
@@ -116,7 +116,7 @@ pub record Rule (k : Relation) (t : Table) (R : ℕ → ℕ → Type 0) (a b : �
 abbrev pub Keeps : Relation → Table → (ℕ → ℕ → Type 0) → Type 0
 Keeps k t R = (a b : ℕ) → R a b → Rule k t R a b
 
--- "Each is the largest relation that keeps its rules": M keeps them, and every relation that keeps them lies within it.
+-- R3: M keeps the rules, and whatever keeps them lies within M.
 pub record Largest (k : Relation) (t : Table) (M : ℕ → ℕ → Bool) : Type 1 where
   pub keeps : Keeps k t (λ a b. So (M a b))
   pub above : (R : ℕ → ℕ → Type 0) → Keeps k t R → (a b : ℕ) → R a b → So (M a b)
@@ -186,12 +186,12 @@ unfoldable pub allPairs : Table → Square
 unfolding square
 allPairs t = square (size t) (λ a b. true)
 
--- "Each is the largest relation that keeps its rules": a round that goes on takes a pair, so as many rounds as pairs are enough
+-- what R3 asks for, computed: a round that goes on takes a pair, so as many rounds as pairs are enough
 unfoldable pub related : Relation → Table → ℕ → ℕ → Bool
 unfolding rounds allPairs
 related k t a b = look (rounds (size t * size t) k t (allPairs t)) a b
 
--- "Compare (T, S): 7 if either number isn't in the table, else the four answers."
+-- Compare (R14)
 pub record Answers : Type 0 where
   pub subtype : Bool
   pub strict : Bool

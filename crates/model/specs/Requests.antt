@@ -1,4 +1,4 @@
--- Document 01, "The four requests": new, move, call and answer.
+-- Rules Q, N, M, C and A: new, move, call and answer.
 use mathlib.Core.Bool.{Bool, true, false, not, _&&_, _||_, cond}
 use mathlib.Core.List.{List, [], _∷_, _++_, map, reverse}
 use mathlib.Core.Option.{Option, none, some}
@@ -10,45 +10,45 @@ use Rattle.model.specs.Basics.{Res, refuse, ok, try, need, names, named}
 use Rattle.model.specs.Table.{ref, w32, w64, Table, typeAt, methodAt, argumentAt, answerAt, isRef, isAvail, isClass}
 use Rattle.model.specs.Crossing.{Place, object, adapter, maxPlaces, placeAt, baseOwner, base, Reference, cross}
 
--- "A cell is a holder, a sheet type and a place": a reference as a subject holds it.
+-- A cell is one reference in the hands of a subject: who holds it, as what, and where it leads (Q4).
 pub record Cell : Type 0 where
   pub holder : ℕ
   pub type : ℕ
   pub place : ℕ
 
--- "a call is a caller, a cell, a method and whether it is answered"
+-- A call that was made, until it is answered and after (Q5).
 pub record Call : Type 0 where
   pub caller : ℕ
   pub cell : ℕ
   pub method : ℕ
   pub answered : Bool
 
--- "Cells, places and calls are numbered in order and never reused."
+-- The state. A thing's number is where it stands in its list, and lists only grow (Q6, Q10).
 pub record System : Type 0 where
   pub table : Table
   pub cells : List Cell
   pub places : List Place
   pub calls : List Call
 
--- "At most 256 cells, 128 places, 256 calls."
+-- the most of each (Q7, Q9; places: Crossing)
 abbrev pub maxCells : ℕ
 maxCells = 256
 
 abbrev pub maxCalls : ℕ
 maxCalls = 256
 
--- the state of a loaded sheet
+-- the state of a loaded sheet (Q10)
 abbrev pub loaded : Table → System
 loaded t = record { table = t; cells = []; places = []; calls = [] }
 
--- The requests with their operands in order, each a signed number; an answer gives a value or nothing.
+-- The requests with their operands in order, each a signed number (Q11, Q12); an answer gives a value or nothing.
 pub data Request : Type 0 where
   new : (subject class type : ℤ) → Request
   move : (subject cell receiver type : ℤ) → Request
   call : (subject cell method : ℤ) → List ℤ → Request
   answer : (subject call : ℤ) → Option ℤ → Request
 
--- What an accepted request gives: cell and place, or call and adapters; the number answered; or nothing.
+-- What an accepted request gives: two numbers (Q18, C19), the value answered, or nothing (A12).
 pub data Result : Type 0 where
   pair : (first second : ℕ) → Result
   number : ℤ → Result
@@ -82,12 +82,11 @@ leaving s k = record { table = s .table; places = s .places; type = cellAt s k .
 abbrev pub withCell : System → ℕ → Reference → System
 withCell s r f = record { table = f .table; cells = s .cells ++ (record { holder = r; type = f .type; place = f .place } ∷ []); places = f .places; calls = s .calls }
 
--- The reference that arrived becomes a cell of r; 13 cells full.
+-- The reference that arrived becomes a cell of r, if there is one left (N7, M5, C17, A10).
 unfoldable pub addCell : System → ℕ → Reference → Res (System × Result)
 addCell s r f = need (ltb (length (s .cells)) maxCells) 13 λ _. ok (withCell s r f, pair (length (s .cells)) (f .place))
 
--- "New (subject, class, cell type): 5 subject unknown; 7 class number not a sheet class, or cell type not a sheet ref type; 12 places full; the crossing
--- from class to cell type; 13 cells full."
+-- New: a thing is made, and its maker holds it by the type asked for (N1 to N8).
 unfoldable pub newRequest : System → ℤ → ℤ → ℤ → Res (System × Result)
 unfolding cross addCell
 newRequest s subject class to =
@@ -98,7 +97,7 @@ newRequest s subject class to =
     try (cross (record { table = s .table; places = s .places ++ (object (named class) (named subject) ∷ []); type = named class; place = length (s .places) }) (named to) (named subject)) λ f.
     addCell s (named subject) f
 
--- "Move (subject, cell, receiver, type): 5 for either subject; 6 cell unknown or another's; 7; the crossing; 13."
+-- Move: the receiver gets what the cell leads to, seen by the type asked for (M1 to M6).
 unfoldable pub moveRequest : System → ℤ → ℤ → ℤ → ℤ → Res (System × Result)
 unfolding cross addCell
 moveRequest s subject k receiver to =
@@ -108,7 +107,7 @@ moveRequest s subject k receiver to =
     try (cross (leaving s (named k)) (named to) (named receiver)) λ f.
     addCell s (named receiver) f
 
--- The layers of a place: "each place's type from the outermost adapter down, and .. the class's"
+-- the types of a place and of all that is behind it, in that order: the class comes last (C9)
 unfoldable pub layers : ℕ → List Place → ℕ → List ℕ
 layers zero ps p = []
 layers (suc f) ps p = elim (placeAt ps p) [ object c o ↦ c ∷ [] | adapter b c ↦ c ∷ layers f ps b ]
@@ -116,15 +115,15 @@ layers (suc f) ps p = elim (placeAt ps p) [ object c o ↦ c ∷ [] | adapter b 
 abbrev pub layersOf : List Place → ℕ → List ℕ
 layersOf ps p = layers (length ps) ps p
 
--- "the adapters behind the cell, counted"
+-- how many of them are adapters (C19)
 abbrev pub adapterCount : List Place → ℕ → ℕ
 adapterCount ps p = length (layersOf ps p) - 1
 
--- what a value meets on its way: the cell's type, then the layers of its place
+-- what a value meets on its way: the cell's type, then the layers of its place (C9)
 abbrev pub wayOf : System → Cell → List ℕ
 wayOf s c = c .type ∷ layersOf (s .places) (c .place)
 
--- "8 or 10 at its first crossing, 19 for either at a later one, 11, 12"
+-- the number of a refusal at the first layer, or at one further in (C13)
 abbrev pub atLayer : Bool → ℕ → ℕ
 atLayer true e = e
 atLayer false e = cond (eqb e 8 || eqb e 10) 19 e
@@ -133,8 +132,7 @@ abbrev pub renumber {ℓ} : {A : Type ℓ} → Bool → Res A → Res A
 renumber first (refuse e) = refuse (atLayer first e)
 renumber first (ok a) = ok a
 
--- A reference crosses to each type in turn. "where a handed-in state has a layer without that argument or answer, or with a number for a reference ..,
--- the value meets 8 there at its first crossing, 19 later": a number type is refused by the crossing itself.
+-- A reference crosses to each type in turn (C11). A layer that has no type there is unfit (C15); where it has a number type the crossing itself refuses.
 unfoldable pub crossLayers : Bool → Reference → ℕ → List (Option ℕ) → Res Reference
 unfolding cross
 crossLayers first f r [] = ok f
@@ -146,8 +144,7 @@ abbrev pub within : ℕ → ℤ → Bool
 within h (pos n) = ltb n h
 within h (negsuc n) = ltb n h
 
--- "A number meets 16 at a w32 type unless in -2147483648 to 2147483647, and no other refusal but this": every value is one of 64 bits
-
+-- A number has to fit each width that it meets (C14); every value fits 64 bits. A layer without a type there, or with a reference, is unfit (C15).
 unfoldable pub passLayers : Bool → Table → ℤ → List (Option ℕ) → Res (Unit {0})
 passLayers first t v [] = ok tt
 passLayers first t v (none ∷ ts) = refuse (atLayer first 8)
@@ -157,20 +154,19 @@ passLayers first t v (some a ∷ ts) = elim (typeAt t a .rep) [
   | w64 ↦ passLayers false t v ts
 ]
 
--- The reference in cell k crosses to each of the types and becomes a cell of r.
+-- The reference in cell k crosses to each of the types and becomes a cell of r (C17, A10).
 unfoldable pub send : System → ℕ → ℕ → List (Option ℕ) → Res (System × Result)
 unfolding crossLayers addCell
 send s r k ts = try (crossLayers true (leaving s k) r ts) λ f. addCell s r f
 
--- "15 wrong argument count, or an argument cell unknown or another's"
+-- as many arguments as the signature has, and each that is to be a reference a cell of the subject's (C4, C5)
 abbrev pub argumentsHeld : System → ℤ → List ℕ → List ℤ → Bool
 argumentsHeld s subject [] [] = true
 argumentsHeld s subject [] (v ∷ vs) = false
 argumentsHeld s subject (a ∷ xs) [] = false
 argumentsHeld s subject (a ∷ xs) (v ∷ vs) = (not (isRef (typeAt (s .table) a .rep)) || held s subject v) && argumentsHeld s subject xs vs
 
--- "Each argument in order then crosses ..": argument i and those after it, whose types in the cell type's signature are `xs`. "Each reference becomes a cell
--- of the owner, of the class's argument type (13), before the next argument is taken."
+-- Argument i and those after it, whose types in the cell type's signature are `xs`: each passes all layers, and a reference has become a cell of r, before the next begins (C10, C17).
 unfoldable pub sendArguments : System → ℕ → List ℕ → ℕ → ℕ → List ℕ → List ℤ → Res System
 unfolding send passLayers
 sendArguments s r way m i [] vs = ok s
@@ -186,8 +182,7 @@ withCalls s cs = record { table = s .table; cells = s .cells; places = s .places
 abbrev pub withCall : System → Call → System
 withCall s c = withCalls s (s .calls ++ (c ∷ []))
 
--- "Call (subject, cell, method, arguments): 5; 6; 14 method unknown or not avail in the cell's type (optional isn't enough); 15 ..; 18 calls full. ..
--- The result is the call number and the adapters behind the cell, counted."
+-- Call: a method through a cell; its arguments go to the owner of the thing (C1 to C20).
 unfoldable pub callRequest : System → ℤ → ℤ → ℤ → List ℤ → Res (System × Result)
 unfolding sendArguments base layers
 callRequest s subject k m vs =
@@ -201,15 +196,14 @@ callRequest s subject k m vs =
     try (sendArguments s (baseOwner (s .places) (c .place)) (wayOf s c) (named m) 0 xs vs) λ x.
     ok (withCall x (record { caller = named subject; cell = named k; method = named m; answered = false }), pair (length (s .calls)) (adapterCount (s .places) (c .place)))
 
--- a call with its flag, and the state with call j answered
+-- a call with its flag, and the state with call j answered (A11)
 abbrev pub flagged : Call → Bool → Call
 flagged c b = record { caller = c .caller; cell = c .cell; method = c .method; answered = b }
 
 abbrev pub withAnswer : System → ℕ → System
 withAnswer s j = withCalls s (set (s .calls) j (flagged (callAt s j) true))
 
--- What is due and what is given. "15 a cell not held, or nothing where something is due or the reverse .. The value crosses the answer types from the class's
--- outward to the cell type's, the caller receiving, refusals as for arguments; a reference becomes the caller's cell, of the cell type's answer type (13)."
+-- What is due and what is given must match (A5, A6). A value passes the layers from the thing outward to the caller, who gets a reference as a cell (A7 to A13).
 unfoldable pub give : System → ℤ → ℕ → Option ℕ → Option ℤ → Res (System × Result)
 unfolding send passLayers layers
 give s subject j none none = ok (withAnswer s j, nothing)
@@ -222,8 +216,7 @@ give s subject j (some a) (some v) =
       | false ↦ try (passLayers true (s .table) v ts) λ _. ok (withAnswer s j, number v)
     ]
 
--- "Answer (subject, call, value): 5; 6 call unknown or subject not the base's owner; 17 already answered; 15 .. (due is the answer in the cell type's
--- signature; without one, nothing)."
+-- Answer: the owner of the thing answers a call once, with what the caller's view of the method promises (A1 to A4).
 unfoldable pub answerRequest : System → ℤ → ℤ → Option ℤ → Res (System × Result)
 unfolding give base
 answerRequest s subject j v =
@@ -240,7 +233,7 @@ serve s (move subject k receiver to) = moveRequest s subject k receiver to
 serve s (call subject k m vs) = callRequest s subject k m vs
 serve s (answer subject j v) = answerRequest s subject j v
 
--- "A refusal returns its number alone; all counts and every counted record are as before."
+-- a refused request leaves the state alone (Q14)
 abbrev pub after : System → Res (System × Result) → System
 after s (refuse e) = s
 after s (ok x) = x .0

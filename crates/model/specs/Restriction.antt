@@ -1,4 +1,4 @@
--- Document 01, "Restriction": Sub, Sup and Closed, over a table that grows.
+-- Rules D: Sub, Sup and Closed, over a table that grows.
 use mathlib.Core.Bool.{Bool, true, false, not, _&&_, cond}
 use mathlib.Core.List.{List, [], _∷_, _++_}
 use mathlib.Core.Option.{Option, none, some}
@@ -8,7 +8,7 @@ use lib.ListN.{set}
 use Rattle.model.specs.Basics.{Res, refuse, ok, then, from}
 use Rattle.model.specs.Table.{State, denied, optional, avail, unavail, Kind, sub, sup, closed, Key, Method, Ty, Table, noMethod, maxTypes, size, typeAt, withTypes, isRef, permit, isAvail, signed, bare}
 
--- "optional made avail and denied made unavail"
+-- what a state becomes on something that is settled: an adapter is, as a class is (D8)
 abbrev pub shut : State → State
 shut denied = unavail
 shut optional = avail
@@ -17,15 +17,14 @@ shut unavail = unavail
 
 -- A method's state in the derived type, from its states on the left and on the right
 abbrev pub restricted : Kind → State → State → State
--- "T's .. states, except that a method T permits and S doesn't becomes unavail"
+-- what the left side alone permits is gone (D2)
 restricted sub a b = cond (permit a && not (permit b)) unavail a
--- "S's .. states, except that a method S permits and T doesn't becomes denied"
+-- what the right side alone permits is not to be asked for (D4)
 restricted sup a b = cond (permit b && not (permit a)) denied b
--- "Sub(R,V) with optional made avail and denied made unavail on the outside; a method not avail in V is unavail"
+-- there is only what the thing behind really has and the left side lets through (D8)
 restricted closed a b = cond (isAvail b) (shut (cond (permit a && not (permit b)) unavail a)) unavail
 
--- "Sub has arguments Sup(S argument, T argument) and answer Sub(T answer, S answer). Sup has arguments Sub(S argument, T argument) and answer Sup(T answer, S answer)."
--- Closed has the signatures of Sub.
+-- by which kind the types in a signature are derived: answers by the same kind, arguments by the other (D5, D6); Closed has the signatures of Sub (D9)
 abbrev pub argKind : Kind → Kind
 argKind sub = sup
 argKind sup = sub
@@ -36,7 +35,7 @@ answerKind sub = sub
 answerKind sup = sup
 answerKind closed = sub
 
--- the side whose category (and representation) the derived type has: "T's category", "S's category"
+-- the side whose category and representation the derived type has (D1, D3, D7)
 abbrev pub mainSide : Kind → ℕ → ℕ → ℕ
 mainSide sub l r = l
 mainSide sup l r = r
@@ -57,23 +56,23 @@ abbrev pub isKey : Kind → ℕ → ℕ → Option Key → Bool
 isKey d l r none = false
 isKey d l r (some k) = sameKind d (k .kind) && (eqb l (k .left) && eqb r (k .right))
 
--- "The lowest known one is used again."
+-- the lowest type with that key (D14)
 unfoldable pub find : Kind → ℕ → ℕ → ℕ → List Ty → Option ℕ
 find d l r i [] = none
 find d l r i (x ∷ xs) = elim (isKey d l r (x .key)) [ true ↦ some i | false ↦ find d l r (suc i) xs ]
 
--- What needs no new type. "Sub and Sup of a type with itself are that type; of numbers, Sub is T and Sup is S."
+-- What needs no new type: the same type twice, numbers, and what is known already (D12 to D14).
 unfoldable pub withoutNew : Table → Kind → ℕ → ℕ → Option ℕ
 unfolding find
 withoutNew t sub l r = elim (eqb l r) [ true ↦ some l | false ↦ elim (isRef (typeAt t l .rep) && isRef (typeAt t r .rep)) [ true ↦ find sub l r 0 (t .types) | false ↦ some l ] ]
 withoutNew t sup l r = elim (eqb l r) [ true ↦ some l | false ↦ elim (isRef (typeAt t l .rep) && isRef (typeAt t r .rep)) [ true ↦ find sup l r 0 (t .types) | false ↦ some r ] ]
 withoutNew t closed l r = find closed l r 0 (t .types)
 
--- A derived type with these methods. "Derived types have own=no."
+-- a derived type with these methods (D11)
 abbrev pub entry : Table → Kind → ℕ → ℕ → List Method → Ty
 entry t d l r ms = record { rep = typeAt t (mainSide d l r) .rep; cat = typeAt t (mainSide d l r) .cat; own = false; methods = ms; key = some (record { kind = d; left = l; right = r }) }
 
--- "A new one takes the next number before its signatures are derived": until then it stands in the table with every method denied, which nothing reads.
+-- A new type has its number and key from the start, so that its own signatures can lead back to it (D16); until they are there every method is denied, which nothing reads.
 abbrev pub pending : Table → Kind → ℕ → ℕ → Ty
 pending t d l r = entry t d l r (from (t .methods) 0 (λ _. noMethod))
 
@@ -81,7 +80,7 @@ pending t d l r = entry t d l r (from (t .methods) 0 (λ _. noMethod))
 abbrev pub Derivation : Type 0
 Derivation = Table → Kind → ℕ → ℕ → Option (Table × ℕ)
 
--- "methods in order, arguments before answer, each to its end"; `rec` derives the types in signatures
+-- one after the other, each on the table that the one before left (D17); `rec` derives the types in signatures
 unfoldable pub deriveArgs : Derivation → Kind → Table → List ℕ → List ℕ → Option (Table × List ℕ)
 deriveArgs rec d t [] ys = some (t, [])
 deriveArgs rec d t (x ∷ xs) [] = some (t, [])
@@ -105,7 +104,7 @@ deriveMethods rec d t [] ys = some (t, [])
 deriveMethods rec d t (x ∷ xs) [] = some (t, [])
 deriveMethods rec d t (x ∷ xs) (y ∷ ys) = then (deriveMethod rec d t x y) λ p. then (deriveMethods rec d (p .0) xs ys) λ q. some (q .0, p .1 ∷ q .1)
 
--- one type, `rec` deriving those of its signatures
+-- one type, `rec` deriving those of its signatures (D15 to D17)
 unfoldable pub make : Derivation → Derivation
 unfolding withoutNew deriveMethods
 make rec t d l r = elim (withoutNew t d l r) [
@@ -118,13 +117,13 @@ make rec t d l r = elim (withoutNew t d l r) [
   ]
 ]
 
--- "Sub and Sup call for each other; each new type lessens what is left of the 128": fuel of 128 is at least what is left, and more changes nothing.
+-- Every turn that calls for another has taken a number, and there are 128 (D18): fuel of 128 is at least what is left, and more changes nothing.
 unfoldable pub derive : ℕ → Derivation
 unfolding make
 derive zero t d l r = elim (withoutNew t d l r) [ some i ↦ some (t, i) | none ↦ none ]
 derive (suc f) t d l r = make (derive f) t d l r
 
--- A full table is refused with 11.
+-- no number is free: 11 (D15)
 unfoldable pub derived : Table → Kind → ℕ → ℕ → Res (Table × ℕ)
 unfolding derive
 derived t d l r = elim (derive maxTypes t d l r) [ none ↦ refuse 11 | some p ↦ ok p ]

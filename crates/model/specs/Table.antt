@@ -1,4 +1,4 @@
--- Document 01, "The table": types, categories, and what a table must keep to.
+-- Rules T: types, categories, and what a table must keep to.
 use mathlib.Core.Bool.{Bool, true, false, not, _&&_, cond}
 use mathlib.Core.List.{List, [], _∷_}
 use mathlib.Core.Option.{Option, none, some}
@@ -7,7 +7,7 @@ use lib.Dec.{eqb, ltb, leb}
 use lib.ListN.{length, getD, getElem?}
 use Rattle.model.specs.Basics.{_⇒_, all, every, unlessMissing}
 
--- "1 to 16 subjects (modules), 1 to 16 methods, 0 to 31 categories, 1 to 48 sheet types"
+-- the most of each that a table may have (T1 to T4)
 abbrev pub maxSubjects : ℕ
 maxSubjects = 16
 
@@ -20,19 +20,19 @@ maxCategories = 31
 abbrev pub maxSheetTypes : ℕ
 maxSheetTypes = 48
 
--- "Derived types bring the table to at most 128."
+-- sheet types and derived ones together (T5)
 abbrev pub maxTypes : ℕ
 maxTypes = 128
 
--- "0 to 2 argument types"
+-- of one signature (T13)
 abbrev pub maxArguments : ℕ
 maxArguments = 2
 
--- "A type has a representation: ref, w32 or w64 (signed whole numbers of 32 or 64 bits)"
+-- what values of a type are: references, or signed numbers of a width (T8)
 pub data Rep : Type 0 where
   ref w32 w64 : Rep
 
--- "for each method, a state: denied, optional, avail or unavail"
+-- what a type says of a method (T10)
 pub data State : Type 0 where
   denied optional avail unavail : State
 
@@ -40,7 +40,7 @@ pub data State : Type 0 where
 pub data Kind : Type 0 where
   sub sup closed : Kind
 
--- "A derived type is known by kind, left and right number."
+-- what a derived type was derived from, and how: by this it is found again (T17, D14)
 pub record Key : Type 0 where
   pub kind : Kind
   pub left : ℕ
@@ -52,7 +52,7 @@ pub record Method : Type 0 where
   pub args : List ℕ
   pub answer : Option ℕ
 
--- A type. A number type has no methods and own=no; a sheet type has no key.
+-- A type. A number type has no methods and own=no (T11); a sheet type has no key (T17).
 pub record Ty : Type 0 where
   pub rep : Rep
   pub cat : ℕ
@@ -75,7 +75,7 @@ signed s xs a = record { state = s; args = xs; answer = a }
 abbrev pub bare : State → Method
 bare s = signed s [] none
 
--- what is read where there is no such method, or no such type
+-- what is read where there is no such method (T19), or no such type
 abbrev pub noMethod : Method
 noMethod = bare denied
 
@@ -106,7 +106,7 @@ isRef ref = true
 isRef w32 = false
 isRef w64 = false
 
--- "Optional and avail carry a signature ..; they permit the method, the other two don't."
+-- the states by which a method may be used or handed on; they alone have a signature (T12)
 abbrev pub permit : State → Bool
 permit denied = false
 permit optional = true
@@ -126,7 +126,7 @@ isSettled optional = false
 isSettled avail = true
 isSettled unavail = true
 
--- "A class is a ref type without own whose every state is avail or unavail."
+-- a type that objects can be made of: nothing about it is left open (T16)
 abbrev pub isClass : Ty → Bool
 isClass x = isRef (x .rep) && (not (x .own) && all (λ m. isSettled (m .state)) (x .methods))
 
@@ -138,11 +138,11 @@ abbrev pub countsFit : Table → Bool
 countsFit t = between 1 maxSubjects (t .subjects) && (between 1 maxMethods (t .methods) && (leb (length (t .cats)) maxCategories
     && (between 1 maxSheetTypes (t .sheet) && (leb (t .sheet) (size t) && leb (size t) maxTypes))))
 
--- "Category k, from 1, names one or two broader categories below k, 0 allowed."
+-- what category k may name: links only fall (T6)
 abbrev pub linksFit : ℕ → List ℕ → Bool
 linksFit k links = between 1 2 (length links) && all (λ c. ltb c k) links
 
--- What may stand in a signature: a type without own.
+-- What may stand in a signature: a type without own (T14).
 abbrev pub mayStand : Ty → Bool
 mayStand x = not (x .own)
 
@@ -158,25 +158,25 @@ abbrev pub isNil {ℓ} : {A : Type ℓ} → List A → Bool
 isNil [] = true
 isNil (x ∷ xs) = false
 
--- "Optional and avail carry a signature, 0 to 2 argument types and one answer type or none"; the other two carry none.
+-- A method that is permitted has a signature within T13 to T15, any other has none (T12).
 abbrev pub signatureFits : Table → ℕ → Method → Bool
 signatureFits t n m = elim (permit (m .state)) [
   | true ↦ leb (length (m .args)) maxArguments && (all (standsIn t n) (m .args) && unlessMissing (m .answer) (standsIn t n))
   | false ↦ isNil (m .args) && isNone (m .answer)
 ]
 
--- "A ref type also has an own flag and, for each method, a state"; a number type has neither.
+-- a reference type says something of every method, a number type of none (T10, T11)
 abbrev pub methodCount : Rep → ℕ → ℕ
 methodCount ref n = n
 methodCount w32 n = 0
 methodCount w64 n = 0
 
--- Only a derived type, from the number of sheet types on, has a key, of types in the table.
+-- Only a derived type, from the number of sheet types on, has a key, of types in the table (T17).
 abbrev pub keyFits : Table → ℕ → Option Key → Bool
 keyFits t i none = ltb i (t .sheet)
 keyFits t i (some k) = leb (t .sheet) i && (ltb (k .left) (size t) && ltb (k .right) (size t))
 
--- "a derived type [stands] in none of a sheet type": the types that may stand in the signatures of type i are the first so many
+-- the types that the signatures of type i may name are the first so many: a sheet type names sheet types only (T15)
 abbrev pub signatureBound : Table → ℕ → ℕ
 signatureBound t i = cond (ltb i (t .sheet)) (t .sheet) (size t)
 
@@ -184,11 +184,11 @@ abbrev pub typeFits : Table → ℕ → Ty → Bool
 typeFits t i x = leb (x .cat) (length (t .cats)) && ((x .own ⇒ isRef (x .rep)) && (eqb (length (x .methods)) (methodCount (x .rep) (t .methods))
     && (all (signatureFits t (signatureBound t i)) (x .methods) && keyFits t i (x .key))))
 
--- A table within its limits that keeps every rule of the section.
+-- A table that keeps T1 to T17.
 unfoldable pub tableFits : Table → Bool
 tableFits t = countsFit t && (every linksFit 1 (t .cats) && every (typeFits t) 0 (t .types))
 
--- What a sheet describes: such a table with sheet types only.
+-- What a sheet describes: such a table with sheet types only (T18).
 unfoldable pub validSheet : Table → Bool
 unfolding tableFits
 validSheet t = tableFits t && eqb (t .sheet) (size t)

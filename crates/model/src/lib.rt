@@ -1,1 +1,1 @@
-// The model of document 01: definitions in specs/, cases computed from them and the laws of relations in proofs/ (the rest of what is proved: crate modellaws). No code.
+// The model of docs/SPEC.md: definitions in specs/, cases computed from them and the laws of relations in proofs/ (the rest of what is proved: crate modellaws). No code.

@@ -40,7 +40,7 @@ sound-derives t g d l r h = derived-of _ t d l r (go (derive maxTypes t d l r) (
     go none w = tt
     go (some x) w = (w .0, w .1, w .2, λ u. u)
 
--- Within limits, every number below its count.
+-- Counts within their limits, and numbers that name something.
 abbrev pub Bounded : System → Type 0
 Bounded = SystemIn Sound (λ t i. Unit {0}) (λ t i h. tt) (λ t u i g l h. tt) (λ t g. sheet-within t (g .counts)) (λ t g. g .sheetSigs) (λ t g. g .sigs) sound-derives
 

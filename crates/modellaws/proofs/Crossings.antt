@@ -21,7 +21,7 @@ use Rattle.model.proofs.Rules.{never}
 use Rattle.modellaws.proofs.Deriving.{IfSome}
 use Rattle.modellaws.proofs.Steps.{IfOk}
 
--- "T own: r must own the base (9)": an accepted crossing to an own type is received by the owner of the base.
+-- X2: an accepted crossing to an own type is received by the owner of the base.
 pub own-received : (f : Reference) (to r : ℕ) → typeAt (f .table) to .own ≡ true → IfOk (cross f to r) (λ g. r ≡ baseOwner (f .places) (f .place))
 unfolding cross
 own-received f to r e = go (typeAt (f .table) to .own) e (related free (f .table) to (f .type)) (eqb r (baseOwner (f .places) (f .place))) refl (adapt (f .table) (f .places) to to (baseOf (f .places) (f .place))) _
@@ -37,7 +37,7 @@ own-received f to r e = go (typeAt (f .table) to .own) e (related free (f .table
     go true e false ow q m n = tt
     go false e fr ow q m n = never e
 
--- step 3 on a page leaves its trail, with T joined or as it was
+-- L7 leaves a page its trail, with T joined or as it was
 adapt-trail : (t : Table) (g : Page) (to r : ℕ) → (pageAdapt t g to r .1 .trail ≡ to ∷ g .trail) ⊎ (pageAdapt t g to r .1 .trail ≡ g .trail)
 unfolding pageAdapt
 adapt-trail t g to r = go (related conforms t r (lastClosed g)) (derive maxTypes t closed r (lastClosed g))
@@ -48,7 +48,7 @@ adapt-trail t g to r = go (related conforms t r (lastClosed g)) (derive maxTypes
     go false none = inr refl
     go false (some x) = inl refl
 
--- "Unwrapping empties both lists": no crossing to a type without own empties a trail. (It stays as it was only where a derivation fails, which no accepted request meets.)
+-- Only unwrapping empties a trail (L5, L6). (It stays as it was only where a derivation fails, which no accepted request meets.)
 pub trail-kept : (t : Table) (g : Page) (to : ℕ) → typeAt t to .own ≡ false → (pageCross t g to .1 .trail ≡ to ∷ g .trail) ⊎ (pageCross t g to .1 .trail ≡ g .trail)
 unfolding pageCross
 trail-kept t g to e = go (typeAt t to .own) e (related subtype t to (lastType g)) (derive maxTypes t sub to (lastType g))
@@ -61,7 +61,7 @@ trail-kept t g to e = go (typeAt t to .own) e (related subtype t to (lastType g)
     go false e false none = inr refl
     go false e false (some x) = adapt-trail (x .0) g to (x .1)
 
--- ---- "The lowest known one is used again."
+-- ---- D14
 pub record Lowest (d : Kind) (l r i : ℕ) (xs : List Ty) (j : ℕ) : Type 0 where
   pub off : ℕ
   pub place : j ≡ i + off
@@ -101,7 +101,7 @@ known-again (suc f) t d l r i e = ap (λ o. elim o as (λ _. Option (Table × �
   ]
 ]) e
 
--- "A new one takes the next number": the count before it.
+-- D15: a new type's number is the count before it
 pub new-number : (f : ℕ) (t : Table) (d : Kind) (l r : ℕ) → withoutNew t d l r ≡ none → IfSome (derive f t d l r) (λ x. x .1 ≡ size t)
 unfolding derive make
 new-number zero t d l r e = go (withoutNew t d l r) e
@@ -124,6 +124,6 @@ new-number (suc f) t d l r e = go (withoutNew t d l r) e (ltb (size t) maxTypes)
     go none e true (some p) = refl
     go (some i) e b m = let z : _≡_ {A = ℕ} 0 1 = cc in absurd (omega arith)
 
--- "A refusal returns its number alone": the state, its table with it, is as before.
+-- Q14: a refusal leaves the state, its table with it, as it was
 pub refused-unchanged : (s : System) (q : Request) (n : ℕ) → serve s q ≡ refuse n → after s (serve s q) ≡ s
 refused-unchanged s q n e = ap (after s) e

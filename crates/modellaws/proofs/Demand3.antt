@@ -1,4 +1,4 @@
--- Demand 3: after any list of requests, what a cell offers is what its page's class and its whole trail permit.
+-- Demand 3: after any list of requests, what a cell offers is what all of its page permits.
 -- Each request keeps state and book joined: the same table, the same calls, and for each cell the page that tracks its reference.
 use mathlib.Core.Path.{_≡_, refl, ap, sym, subst, _∙_}
 use mathlib.Core.Bool.{Bool, true, false, not, _&&_, _||_, So}

@@ -133,7 +133,7 @@ pub derive-roomy : (f : ℕ) (t : Table) (d : Kind) (l r : ℕ) → IfSome (deri
 derive-roomy = derive-kept Roomy (λ t h. h) (λ t u v p q h. q (p h)) λ t u e e′ h p k.
     let m = p (omega (arith, pushed-size t e)) in omega (arith, stored-size u (size t) e′)
 
--- and keeps every type that there was: "a complete derived type never changes".
+-- and keeps every type that there was (D19)
 pub derive-grown : (f : ℕ) (t : Table) (d : Kind) (l r : ℕ) → IfSome (derive f t d l r) (λ x. Grown t (x .0))
 derive-grown = derive-kept Grown grown-refl (λ t u v. grown-trans) λ t u e e′ h q.
     let m = grown-trans (pushed-grown t e) q in

@@ -74,7 +74,7 @@ full f t d l r h = go (ltb (size t) 128) refl _
     go true e m = let p : size t < 128 = ltb-so e in absurd (omega arith)
     go false e m = refl
 
--- "128 fuel is enough": any two amounts that cover the free type numbers give the same
+-- 128 is enough (D18): any two amounts that cover the free type numbers give the same
 pub derive-fuel : (f g : ℕ) (t : Table) (d : Kind) (l r : ℕ) → 128 ≤ f + size t → 128 ≤ g + size t → derive f t d l r ≡ derive g t d l r
 unfolding derive
 derive-fuel zero zero t d l r p q = refl

@@ -21,7 +21,7 @@ use Rattle.modellaws.proofs.Unowned.{AllUnowned, AnswerUnowned, Unowned
 use Rattle.modellaws.proofs.Deriving.{derive-roomy, IfSome}
 use Rattle.modellaws.proofs.Completes.{Inv, Got, signature-below-more, grown-keys, method-keys, Fresh, main-in, EvenMethods, derive-ok}
 
--- Every type has as many methods as 01 says: a ref type one for each method, a number type none.
+-- Every type has as many methods as T10 and T11 say: a ref type one for each method, a number type none.
 abbrev pub MethodCounts : Table → Type 0
 MethodCounts t = (i : ℕ) → i < size t → length (typeAt t i .methods) ≡ methodCount (typeAt t i .rep) (t .methods)
 
@@ -39,7 +39,7 @@ count-sort w64 w64 n e = refl
 pub even-methods : (t : Table) → MethodCounts t → EvenMethods t
 even-methods t c i j a b e = c i a ∙ count-sort (typeAt t i .rep) (typeAt t j .rep) (t .methods) e ∙ sym (c j b)
 
--- no signature has more arguments than 01 allows
+-- no signature has more arguments than T13 allows
 abbrev pub ShortSignatures : Table → Type 0
 ShortSignatures t = (a m : ℕ) → length (methodAt t a m .args) ≤ maxArguments
 

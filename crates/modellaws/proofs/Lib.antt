@@ -16,5 +16,6 @@ pub mod Reached
 pub mod Crossings
 pub mod Records
 pub mod Onward
+pub mod Layers
 pub mod Returned
 pub mod Loaded

@@ -211,7 +211,7 @@ module _ (t₀ : Table) (valid : So (validSheet t₀)) where
     calls = λ j l. absurd (omega arith);
   }
 
--- "Every state reached from a loaded sheet passes the check of 2."
+-- Q19: every state reached from a loaded sheet passes the check.
 pub reached-fits : (t : Table) → So (validSheet t) → (qs : List Request) → So (systemFits (reached t qs .0))
 reached-fits t h qs = inside-fits t h (reached t qs .0) (inside-follow t h qs (loaded t) _ (inside-start t h))
 

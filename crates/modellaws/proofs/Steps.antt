@@ -37,7 +37,7 @@ pub ok-need : {B : Type 0} (Q : B → Type 0) (b : Bool) (e : ℕ) (k : Unit {0}
 ok-need Q true e k h = h refl
 ok-need Q false e k h = tt
 
--- Step 3: nothing where the place passes, else the closed type of the new adapter
+-- X6 to X8: nothing where the place passes, else the closed type of the new adapter
 unfoldable pub finish : Table → ℕ → ℕ → Res (Table × Option ℕ)
 unfolding related derived
 finish t r v = elim (related conforms t r v) [

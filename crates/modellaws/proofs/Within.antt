@@ -126,7 +126,7 @@ module _ (TP : Table → Type 0) (RF : Table → ℕ → Type 0)
     pub more : length (f .places) ≤ length (g .places)
     pub type : g .type ≡ to
 
-  -- step 3: the reference f has reached the table t
+  -- X6 to X10: the reference f has reached the table t
   adapt-in : (f : Reference) → TP (f .table) → (t : Table) → Grown (f .table) t → TP t → PlacesIn t (f .places) → (to r p : ℕ) → So (isRef (typeAt t to .rep)) → to < size t → RF t r → p < length (f .places)
       → IfOk (adapt t (f .places) to r p) (Arrived f to)
   unfolding adapt

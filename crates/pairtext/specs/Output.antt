@@ -1,4 +1,4 @@
--- The program `pairs`: the bytes that it prints, for every input.
+-- The program `pairs`: the bytes that it prints, for every input (P1, P16, P17).
 use mathlib.Core.Bool.{cond}
 use mathlib.Core.List.{List, [], _∷_, _++_, flatten}
 use Prim.Native.Nat.{ℕ}
@@ -13,7 +13,7 @@ use Rattle.sheet.specs.Numbers.{decimal, decimalIn}
 use Rattle.sheet.specs.Text.{numberText}
 use Rattle.sheet.specs.Sheet.{SheetAnswer, malformed, loaded, read}
 
--- a sheet of at most so many bytes
+-- a sheet of at most so many bytes (P1)
 abbrev pub maxInput : ℕ
 maxInput = 32768
 
@@ -34,18 +34,18 @@ unfoldable pub pairLine : Table → ℕ → ℕ → List ℕ
 unfolding related numberText decimalIn
 pairLine x t s = spaced (t ∷ s ∷ answerBits (answersAt x t s))
 
--- a line for every pair of sheet types, T rising and within it S rising
+-- a line for every pair of sheet types, T rising and within it S rising (P17)
 unfoldable pub pairLines : Table → List (List ℕ)
 unfolding pairLine from flatten
 pairLines x = flatten (from (x .sheet) 0 (λ t. from (x .sheet) 0 (λ s. pairLine x t s)))
 
--- `no=N at=OFFSET` for a refused sheet
+-- `no=N at=OFFSET` for a refused sheet (P16)
 unfoldable pub answerLines : SheetAnswer → List (List ℕ)
 unfolding pairLines numberText
 answerLines (malformed n at) = (numberText (bytes "no=") n ++ numberText (bytes " at=") at) ∷ []
 answerLines (loaded x) = pairLines x
 
--- "(longer: only `no=2`)"
+-- longer input: `no=2` alone (P1)
 unfoldable pub pairsOutput : List ℕ → List ℕ
 unfolding answerLines join read
 pairsOutput s = join (cond (ltb maxInput (length s)) (bytes "no=2" ∷ []) (answerLines (read s)))

@@ -7,11 +7,11 @@ use Rattle.sheet.specs.Text.{numberText}
 use Rattle.sheet.specs.Numbers.{decimalIn}
 use Rattle.pairtext.specs.Output.{spaces, spaced}
 
--- The four answers in a pair's byte: subtype counts 1, strict 2, loose 4 and free 8.
+-- the four answers in a pair's byte (B24)
 abbrev pub answersIn : ℕ → List ℕ
 answersIn c = c % 2 ∷ c / 2 % 2 ∷ c / 4 % 2 ∷ c / 8 % 2 ∷ []
 
--- the answers, each behind a space, and the end of the line
+-- the answers, each behind a space, and the end of the line (P17)
 unfoldable pub answersText : ℕ → List ℕ
 unfolding numberText
 answersText c = spaces (answersIn c) ++ 10 ∷ []

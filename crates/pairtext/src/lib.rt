@@ -1,5 +1,5 @@
 // The program `pairs`: a sheet's text in, the four relations of every pair of its types out (P16, P17). `report` takes any bytes and says what is printed
-// (specs/Output.antt). Each line is written in the rest of the same lent buffer.
+// (specs/Output.antt). Each line is written behind the one before it, in one lent buffer (F2).
 use compare::PAIR_BYTES;
 use numbers::least;
 use numbers::wide;

@@ -137,7 +137,7 @@ main-other zero t s h = refl
 main-other (suc zero) t s h = absurd (h refl)
 main-other (suc (suc kind)) t s h = refl
 
--- Sub and Sup of a type with itself, and of numbers.
+-- D12 and D13: the same type twice, and numbers.
 module _ (kind t s : ℕ) (l : kind < 2) where
   abbrev Plain : Table → Bool → Bool → ℕ → Option ℕ
   Plain T same refs k = elim same [ true ↦ some t | false ↦ elim refs [ true ↦ find (kindOf k) t s 0 (T .types) | false ↦ some (mainSide (kindOf k) t s) ] ]

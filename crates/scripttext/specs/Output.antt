@@ -18,7 +18,7 @@ abbrev pub maxInput : ℕ
 maxInput = 32768
 
 -- ---- The sheet and what is behind it (P2)
--- Where the sheet ends, of which the rows from `at` on are left: behind the first `end=sheet` line, or at the end of the input.
+-- Where the sheet ends, of which the rows from `at` on are left: behind the first line that is `end=sheet`; where there is none, at the end.
 unfoldable pub endFrom : ℕ → List Row → ℕ
 unfolding starts
 endFrom at [] = at

@@ -1,4 +1,4 @@
--- The lines as the code prints them, one after the other, each on the state that those before it left. That they are those of the definition is proved in proofs/Whole.antt.
+-- The lines as the code prints them, one after the other, each on the state that those before it left (P4). That they are those of the definition is proved in proofs/Whole.antt.
 use mathlib.Core.List.{List, [], _∷_}
 use mathlib.Core.Option.{Option, none, some}
 use Prim.Native.Nat.{ℕ}

@@ -1,5 +1,5 @@
 // The program `script`: a sheet and request lines in, a line for each request out (P1 to P15). `script` takes any bytes and says what is printed (specs/Output.antt).
-// Each line is written in the rest of the same lent buffer.
+// Each line is written behind the one before it, in one lent buffer (F2).
 use answerwrite::write_answer;
 use cursor::Cursor;
 use cursor::between;

@@ -26,7 +26,7 @@ leaves s q = after (systemIn s) (defined s q)
 -- It follows (proofs/Laws) that the state left means the definition's (`serves-means`), and that every record counted before is stored as it was but for the flag of an
 -- answered call (`serves-before`, Q15).
 pub record Serves (s : State) (q : Request) (r : Served) : Type 0 where
-  -- the answer is the definition's, and so are all counts and every counted record of table, cells, places and calls (Q14, Q15)
+  -- the answer is the definition's, and so is what is counted of table, cells, places and calls: how many, and each record (Q14, Q15)
   pub returns : Returns (rawState s) q (outcomeOf (r .answer)) (rawState (r .state))
   -- refused, 2 included, the state that comes back is the one handed in, every byte of it (Q14)
   pub stays : (e : ℕ) → r .answer ≡ Refused e → r .state ≡ s

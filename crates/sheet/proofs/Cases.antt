@@ -1,4 +1,4 @@
--- Concrete sheets: Case P is read with its table and written as it was read; refusals with their numbers and offsets, one or more for each of the readings S1 to S13 of docs/DECISIONS.md (S4 speaks of `do=` operands; its like in a sheet is S3).
+-- Concrete sheets: Case P is read with its table and written as it was read; refusals with their numbers and offsets, one or more for each of the rules S1 to S13, S29 and S30.
 use mathlib.Core.Path.{_≡_, refl}
 use mathlib.Core.Bool.{true, false, So}
 use mathlib.Core.List.{List, [], _∷_, _++_}
@@ -20,8 +20,7 @@ asks = record { state = avail; args = []; answer = some 0 }
 takes : State → Method
 takes s = record { state = s; args = 0 ∷ []; answer = none }
 
--- "Case P. Three subjects, methods 0 read, 1 mark, 2 erase. Type 0 is w32; type 1 is `avail()0`, `avail(0)-`, `avail()-`; 2 is `avail()0`, denied, denied; 3 is `avail()0`,
--- `optional(0)-`, denied; 4 is as 1 with own=yes; 5 is denied, `avail(0)-`, denied; own=no elsewhere, cat 0."
+-- Case P (K1)
 unfoldable pub caseP : Table
 unfolding bare asks takes
 caseP = record {
@@ -60,7 +59,7 @@ pub case-p-valid : So (validSheet caseP)
 unfolding validSheet caseP
 case-p-valid = refl
 
--- "Derived types aren't written."
+-- a type behind the sheet's six is left out (W5)
 pub derived-not-written : text (withTypes caseP (caseP .types ++ (sheetType w32 0 false [] ∷ []))) ≡ sheetP
 unfolding text sheetP caseP
 derived-not-written = refl
@@ -89,7 +88,7 @@ pub mixed-text : text mixed ≡ mixedSheet
 unfolding text mixedSheet mixed
 mixed-text = refl
 
--- "4 if the buffer is short, buffer unchanged; else the length, with the bytes behind it unchanged"
+-- a buffer with too little room, and one with room to spare (W2 to W4)
 pub short-buffer : writeText (bytes "abc") (bytes "..") ≡ record { answer = refuse 4; buffer = bytes ".." }
 unfolding writeText
 short-buffer = refl
@@ -98,7 +97,7 @@ pub long-buffer : writeText (bytes "abc") (bytes ".....") ≡ record { answer = 
 unfolding writeText
 long-buffer = refl
 
--- 2 before 4: no counts, and a buffer that is short for any sheet
+-- 2 before 4 (W1): no counts, and a buffer that is short for any sheet
 pub two-before-four : write (record { subjects = 0; methods = 0; cats = 0; sheet = 0; types = 0; links = []; records = [] }) (bytes "..") ≡ record { answer = refuse 2; buffer = bytes ".." }
 unfolding write from
 two-before-four = refl
@@ -121,12 +120,12 @@ pub s1-unknown-form : read (bytes "guide=2\nsubjects=3\n") ≡ malformed 2 0
 unfolding read
 s1-unknown-form = refl
 
--- S2: a decimal too long for any word
+-- S2: more digits than 64 bits hold
 pub s2-too-long : read (bytes "guide=1\nsubjects=99999999999999999999999\n") ≡ malformed 2 8
 unfolding read
 s2-too-long = refl
 
--- 2, number outside its range
+-- S29: a count one above its range
 pub s2-outside : read (bytes "guide=1\nsubjects=17\n") ≡ malformed 2 8
 unfolding read
 s2-outside = refl
@@ -146,7 +145,7 @@ pub s3-empty : read (bytes "guide=1\nsubjects=\n") ≡ malformed 1 8
 unfolding read
 s3-empty = refl
 
--- S3 in a signature; S4 is its like for the operands of `do=`
+-- S3: in a signature
 pub s3-in-signature : read (one ++ bytes "m=avail(00)-\n") ≡ malformed 1 72
 unfolding read one
 s3-in-signature = refl
@@ -176,7 +175,7 @@ pub s6-extra-line : read (own ++ bytes "end=sheet\nend=sheet\n") ≡ malformed 1
 unfolding read own
 s6-extra-line = refl
 
--- S7: a line missing in the middle, 1 at the line in its place
+-- S7: `methods=` where `subjects=` is due
 pub s7-missing-line : read (bytes "guide=1\nmethods=1\ncats=0\n") ≡ malformed 1 8
 unfolding read
 s7-missing-line = refl
@@ -196,7 +195,7 @@ pub s9-empty : read (bytes "") ≡ malformed 1 0
 unfolding read
 s9-empty = refl
 
--- S9: lines missing at the end, 1 at the input's length
+-- S9: no last line
 pub s9-missing-end : read (one ++ bytes "m=denied\n") ≡ malformed 1 81
 unfolding read one
 s9-missing-end = refl
@@ -221,7 +220,7 @@ pub s11-three-arguments : read (one ++ bytes "m=avail(0,0,0)-\n") ≡ malformed 
 unfolding read one
 s11-three-arguments = refl
 
--- S12: a broader category from k up to the last
+-- S12: category 3 names itself
 pub s12-not-below : read (two ++ bytes "under=3\n") ≡ malformed 3 54
 unfolding read two
 s12-not-below = refl
@@ -236,7 +235,7 @@ pub s12-above : read (two ++ bytes "under=7\n") ≡ malformed 2 54
 unfolding read two
 s12-above = refl
 
--- S13: own in a signature, 3 at the last line
+-- S13: own as an argument
 pub s13-own : read (own ++ bytes "end=sheet\n") ≡ malformed 3 85
 unfolding read own
 s13-own = refl
@@ -246,12 +245,12 @@ pub s13-own-answer : read (ownAnswer ++ bytes "end=sheet\n") ≡ malformed 3 84
 unfolding read ownAnswer
 s13-own-answer = refl
 
--- "A type number out of turn .. is 2"
+-- S30: type 1 where type 0 is due
 pub out-of-turn : read (bytes "guide=1\nsubjects=3\nmethods=1\ncats=0\ntypes=2\ntype=1\n") ≡ malformed 2 44
 unfolding read
 out-of-turn = refl
 
--- 2, a type number in a signature
+-- S29: a type number in a signature
 pub signature-range : read (one ++ bytes "m=avail()1\n") ≡ malformed 2 72
 unfolding read one
 signature-range = refl

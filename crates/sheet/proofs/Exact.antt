@@ -104,7 +104,7 @@ same-table bs t u h k = loaded-table (sym h ∙ k)
 pub same-text : (bs cs : List ℕ) (t : Table) → read bs ≡ loaded t → read cs ≡ loaded t → bs ≡ cs
 same-text bs cs t h k = sym (text-of-read bs t h) ∙ text-of-read cs t k
 
--- The text of a table that keeps the rules, derived types or not, is read back as the table without them (docs/DECISIONS.md S17).
+-- The text of a table that keeps the rules, derived types or not, is read back as the table without them (W8).
 pub read-of-fitting : (t : Table) → So (tableFits t) → read (text t) ≡ loaded (withoutDerived t)
 unfolding text
 read-of-fitting t h =
@@ -180,7 +180,7 @@ write-ok r old n = go (tableAccepted r) refl
         record { accepted = e; length-of = i .length-of; size = i .size; front = i .front; behind = i .behind; read-back = ap read (i .front) ∙ read-of-fitting (tableOf r) (accepted-fits r e) }
     go false e h = refuse-ok h
 
--- "buffer unchanged"
+-- a refusal leaves every byte of the buffer (W3)
 pub write-refused : (r : RawTable) (old : List ℕ) (n : ℕ) → write r old .answer ≡ refuse n → write r old .buffer ≡ old
 unfolding write
 write-refused r old n = go (tableAccepted r)

@@ -1,4 +1,4 @@
--- "It returns number and byte offset of that line": a refusal's offset is behind a number of whole lines, and within the input.
+-- Where a refusal stands (S31): its offset is behind a number of whole lines, and within the input.
 use mathlib.Core.Path.{_≡_, refl, sym, ap, _∙_}
 use mathlib.Core.Bool.{Bool, true, false, cond}
 use mathlib.Core.List.{List, [], _∷_, _++_, append-assoc}

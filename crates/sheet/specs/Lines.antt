@@ -1,4 +1,4 @@
--- Document 01, "Sheet text": "ASCII lines ended by LF". Bytes as rows, and readers of rows put together, so that the sheet is written as its list of lines.
+-- Bytes as rows (S20), and readers of rows put together, so that the sheet is written as its list of lines.
 use mathlib.Core.Bool.{Bool, true, false, _&&_, cond}
 use mathlib.Core.List.{List, [], _∷_, _++_}
 use Prim.Native.Nat.{ℕ, zero, suc, _+_}
@@ -33,7 +33,7 @@ unfoldable pub join : List (List ℕ) → List ℕ
 join [] = []
 join (l ∷ ls) = l ++ code "\n" ∷ join ls
 
--- What reading gives. "It returns number and byte offset of that line"; or a value, the offset behind what was read, and the rows that are left.
+-- What reading gives: the number of a refusal and where its line begins (S31); or a value, the offset behind what was read, and the rows that are left.
 pub data Reading (A : Type 0) : Type 0 where
   refused : ℕ → ℕ → Reading A
   got : A → ℕ → List Row → Reading A
@@ -52,7 +52,7 @@ abbrev pub lineAt : {A : Type 0} → Res A → ℕ → List ℕ → List Row →
 lineAt (refuse n) at l rs = refused n at
 lineAt (ok x) at l rs = got x (at + (length l + 1)) rs
 
--- The next line, read by f. "a missing or extra line, one without LF .. is 1"; "the input's length if lines are missing at the end".
+-- The next line, read by f. None left is 1 at the end of the input (S9), and one that no LF ends is 1 where it begins (S8).
 abbrev pub line : {A : Type 0} → (List ℕ → Res A) → Reader A
 line f at [] = refused 1 at
 line f at (cut l ∷ rs) = refused 1 at
@@ -78,7 +78,7 @@ unfoldable pub times : {A : Type 0} → (ℕ → Reader A) → ℕ → ℕ → L
 times p zero i acc at rs = got acc at rs
 times p (suc n) i acc at rs = follow (p i at rs) (λ x. times p n (suc i) (acc ++ x ∷ []))
 
--- "nothing after": "a missing or extra line .. is 1", an extra one with or without LF
+-- anything that is left, ended by LF or not, is 1 where it begins (S10)
 abbrev pub endOfInput : Reader (Unit {0})
 endOfInput at [] = got tt at []
 endOfInput at (r ∷ rs) = refused 1 at

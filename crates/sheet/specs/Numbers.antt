@@ -1,4 +1,4 @@
--- Document 01, "Sheet text": "decimal without leading zeros". Decimals read from the left of what is left of a line, and written.
+-- Decimals (S21), read from the left of what is left of a line, and written.
 use mathlib.Core.Bool.{Bool, _&&_, cond}
 use mathlib.Core.List.{List, [], _∷_, _++_}
 use Prim.Native.Nat.{ℕ, zero, suc, _+_, _-_, _*_, _/_, _%_, min}
@@ -15,7 +15,7 @@ abbrev pub bindScan : {A B : Type 0} → Scan A → (A → List ℕ → Scan B) 
 bindScan fail k = fail
 bindScan (took x r) k = k x r
 
--- "each line by 1 (form)": the scan must have gone right, to the line's end
+-- A line has the right form if its scan went right and nothing is left behind it; else 1 (S28).
 abbrev pub whole : {A : Type 0} → Scan A → Res A
 whole fail = refuse 1
 whole (took x []) = ok x
@@ -29,7 +29,7 @@ isDigit b = leb 48 b && leb b 57
 abbrev pub top : ℕ
 top = 9223372036854775809
 
--- A larger number counts as `top`, so its form is right and its value outside of every range: 2 (docs/DECISIONS.md S2).
+-- A larger number counts as `top`, so its form is right and its value outside of every range: 2 (S2).
 abbrev pub limit : ℕ → ℕ
 limit n = min n top
 

@@ -1,5 +1,4 @@
--- Document 01, "Sheet read" and "Sheet text": the reader's answer for every string of bytes.
--- "Sheet read: each line by 1 (form), 2 (number outside its range), 3 (broader category not below)": in each line kind the tests stand in this order, over the whole line (docs/DECISIONS.md S5).
+-- The reader's answer for every string of bytes (S). In each kind of line the tests for 1 come first, then those for 2, then those for 3, each over the whole line (S5).
 use mathlib.Core.Bool.{Bool, true, false, _&&_, cond}
 use mathlib.Core.List.{List, [], _∷_}
 use mathlib.Core.Option.{Option, none, some}
@@ -13,32 +12,32 @@ use Rattle.sheet.specs.Lines.{bytes, split, Reading, refused, got, Reade
 use Rattle.sheet.specs.Numbers.{Scan, fail, took, bindScan, whole, number, numbers}
 use Rattle.sheet.specs.Text.{newestForm, repText, ownText, stateText, endText}
 
--- a line of a key and one number; "2 (number outside its range)". A `guide=` number that isn't known is 2 as well (S1).
+-- A line of a key and one number, which has a range (S29). A `guide=` number that isn't known is outside of it too (S1).
 unfoldable pub numberLine : List ℕ → ℕ → ℕ → List ℕ → Res ℕ
 unfolding keyed number
 numberLine key low high l = try (keyed key l) λ r. try (whole (number r)) λ n. need (between low high n) 2 λ _. ok n
 
--- The line of category k of cats. "one `under=` line (one or two numbers, comma) for each category"; "a broader category above the last, is 2", else "3 (broader category not below)" (S12).
+-- The line of category k of cats (S24): a number above the last category is 2, one that is not below k is 3 (S12).
 unfoldable pub underLine : ℕ → ℕ → List ℕ → Res (List ℕ)
 unfolding keyed numbers
 underLine cats k l = try (keyed (bytes "under=") l) λ r. try (whole (numbers 2 [] r)) λ links. need (all (λ n. leb n cats) links) 2 λ _. need (all (λ n. ltb n k) links) 3 λ _. ok links
 
--- "A type has a representation: ref, w32 or w64"; another word is 1
+-- one of three words (S25); another is 1 (S28)
 unfoldable pub repLine : List ℕ → Res Rep
 unfolding choice
 repLine = choice repText (ref ∷ w32 ∷ w64 ∷ [])
 
--- "`own=`(yes or no)"
+-- one of two words (S25)
 unfoldable pub ownLine : List ℕ → Res Bool
 unfolding choice
 ownLine = choice ownText (true ∷ false ∷ [])
 
--- "`end=sheet`, nothing after"
+-- the last line (S22)
 unfoldable pub endLine : List ℕ → Res (Unit {0})
 unfolding choice
 endLine = choice (λ u. endText) (tt ∷ [])
 
--- "A state with signature is written `avail(0,3)2`": the arguments to the bracket that closes them. "more than two arguments is 1"
+-- The arguments of a signature, up to the bracket that closes them (S26). A third one is a fault of form (S11).
 abbrev pub closing : List ℕ → List ℕ → Scan (List ℕ)
 closing xs [] = fail
 closing xs (b ∷ r) = cond (eqb b (code ")")) (took xs r) fail
@@ -48,7 +47,7 @@ unfolding numbers
 arguments [] = fail
 arguments (b ∷ bs) = cond (eqb b (code ")")) (took [] bs) (bindScan (numbers maxArguments [] (b ∷ bs)) closing)
 
--- "a missing answer `-`"
+-- the answer: a number, or the mark for none (S26)
 unfoldable pub answer : List ℕ → Scan (Option ℕ)
 unfolding number
 answer [] = fail
@@ -58,7 +57,7 @@ answer (b ∷ bs) = cond (eqb b (code "-")) (took none bs) (bindScan (number (b 
 abbrev pub below : ℕ → ℕ → Bool
 below n a = ltb a n
 
--- a signature behind its state; a type number that isn't below n is 2
+-- a signature behind its state; a type number that isn't below n is 2 (S27, S29)
 unfoldable pub signature : ℕ → State → List ℕ → Res Method
 unfolding arguments answer
 signature n s l = try (whole (bindScan (arguments l) λ xs r. bindScan (answer r) λ o q. took (record { state = s; args = xs; answer = o }) q))
@@ -68,7 +67,7 @@ signature n s l = try (whole (bindScan (arguments l) λ xs r. bindScan (answer r
 abbrev pub unsigned : State → Method
 unsigned s = record { state = s; args = []; answer = none }
 
--- "an `m=` line for each method"
+-- the line of one method (S26)
 unfoldable pub methodLine : ℕ → List ℕ → Res Method
 unfolding signature starts
 methodLine n l = cond (starts (stateText avail) l) (signature n avail (drop (length (stateText avail)) l))
@@ -76,23 +75,23 @@ methodLine n l = cond (starts (stateText avail) l) (signature n avail (drop (len
     (cond (same (stateText denied) l) (ok (unsigned denied))
     (cond (same (stateText unavail) l) (ok (unsigned unavail)) (refuse 1))))
 
--- a type of the sheet: "A derived type is known by kind, left and right number", this one has none
+-- a type of the sheet, which has no key (T17)
 abbrev pub sheetType : Rep → ℕ → Bool → List Method → Ty
 sheetType r k o ms = record { rep = r; cat = k; own = o; methods = ms; key = none }
 
--- "and for ref `own=`(yes or no) and an `m=` line for each method"; a number type has neither. m methods, n types.
+-- What stands behind the `cat=` line (S25); for a number type nothing does. m methods, n types.
 unfoldable pub members : ℕ → ℕ → Rep → ℕ → Reader Ty
 unfolding times ownLine methodLine
 members m n ref k = bind (line ownLine) λ o. bind (times (λ j. line (methodLine n)) m 0 []) λ ms. pure (sheetType ref k o ms)
 members m n w32 k = pure (sheetType w32 k false [])
 members m n w64 k = pure (sheetType w64 k false [])
 
--- "for each type `type=`, `rep=`, `cat=`"; "A type number out of turn .. is 2". m methods, cats categories, n types; this one is number i.
+-- The block of type i (S25), which has its own number in front (S30). m methods, cats categories, n types.
 unfoldable pub oneType : ℕ → ℕ → ℕ → ℕ → Reader Ty
 unfolding numberLine repLine members
 oneType m cats n i = bind (line (numberLine (bytes "type=") i i)) λ x. bind (line repLine) λ r. bind (line (numberLine (bytes "cat=") 0 cats)) λ k. members m n r k
 
--- "Fixed order: `guide=1`, `subjects=`, `methods=`, `cats=`, one `under=` line .. for each category, `types=`; for each type ..": all lines but the last
+-- all lines but the last, in their order (S22), with the ranges of their counts (S23)
 unfoldable pub body : Reader Table
 unfolding numberLine underLine times oneType
 body = bind (line (numberLine (bytes "guide=") 1 newestForm)) λ g.
@@ -108,11 +107,11 @@ body = bind (line (numberLine (bytes "guide=") 1 newestForm)) λ g.
 abbrev pub stands : (ℕ → Bool) → Method → Bool
 stands may m = all may (m .args) && unlessMissing (m .answer) may
 
--- every type in a signature of the table may stand in one (the model's `mayStand`, docs/SPEC.md T14)
+-- every type in a signature of the table may stand in one (the model's `mayStand`, T14)
 unfoldable pub signaturesStand : Table → Bool
 signaturesStand t = all (λ (x : Ty). all (stands (λ a. mayStand (typeAt t a))) (x .methods)) (t .types)
 
--- the last line, and nothing behind it; then, every line being right, 3 at its offset where a type stands in a signature that may not (docs/SPEC.md S6, S10, S13)
+-- The last line, and nothing behind it (S10). Only where no line is wrong are the signatures tested: 3 at the last line where a type stands in one that may not (S6, S13).
 unfoldable pub ending : Table → Reader Table
 unfolding endLine signaturesStand
 ending t last = bind (line endLine) (λ u. bind endOfInput λ u at rs. cond (signaturesStand t) (got t at rs) (refused 3 last)) last
@@ -131,7 +130,7 @@ abbrev pub sheetAnswer : Reading Table → SheetAnswer
 sheetAnswer (refused n at) = malformed n at
 sheetAnswer (got t at rs) = loaded t
 
--- "Sheet read", for every string of bytes
+-- sheet read, for every string of bytes
 unfoldable pub read : List ℕ → SheetAnswer
 unfolding sheet split
 read bs = sheetAnswer (sheet 0 (split bs))

@@ -1,4 +1,4 @@
--- Document 01, "Sheet text" and "Sheet write": the text of a table, line by line, and the writer's answer.
+-- The text of a table, line by line (S20 to S26), and the writer's answer (W).
 use mathlib.Core.Bool.{Bool, true, false, cond}
 use mathlib.Core.List.{List, [], _∷_, _++_}
 use mathlib.Core.Option.{Option, none, some}
@@ -12,7 +12,7 @@ use Rattle.model.specs.Check.{RawTable, tableOf, tableAccepted}
 use Rattle.sheet.specs.Lines.{bytes, join}
 use Rattle.sheet.specs.Numbers.{decimal, decimalIn, commas}
 
--- "Fixed order: `guide=1`": the newest form of a sheet
+-- the newest form of a sheet that there is (S22)
 abbrev pub newestForm : ℕ
 newestForm = 1
 
@@ -21,23 +21,22 @@ unfoldable pub numberText : List ℕ → ℕ → List ℕ
 unfolding decimalIn
 numberText key n = key ++ decimal n
 
--- "one `under=` line (one or two numbers, comma) for each category"
+-- the broader categories of one category (S24, W7)
 unfoldable pub underText : List ℕ → List ℕ
 unfolding decimalIn
 underText links = bytes "under=" ++ commas links
 
--- "`rep=`": "ref, w32 or w64"
+-- the words of the `rep=` and `own=` lines (S25)
 abbrev pub repText : Rep → List ℕ
 repText ref = bytes "rep=ref"
 repText w32 = bytes "rep=w32"
 repText w64 = bytes "rep=w64"
 
--- "`own=`(yes or no)"
 abbrev pub ownText : Bool → List ℕ
 ownText true = bytes "own=yes"
 ownText false = bytes "own=no"
 
--- "A state with signature is written `avail(0,3)2`, a missing answer `-`."
+-- a state that carries a signature opens its bracket (S26)
 abbrev pub stateText : State → List ℕ
 stateText denied = bytes "m=denied"
 stateText optional = bytes "m=optional("
@@ -51,7 +50,7 @@ answerText (some n) = decimal n
 abbrev pub signatureText : Method → List ℕ
 signatureText m = commas (m .args) ++ code ")" ∷ answerText (m .answer)
 
--- "an `m=` line for each method"
+-- the line of one method (S26)
 abbrev pub methodTextBy : State → Method → List ℕ
 methodTextBy s m = stateText s ++ cond (permit s) (signatureText m) []
 
@@ -59,7 +58,7 @@ unfoldable pub methodText : Method → List ℕ
 unfolding decimalIn
 methodText m = methodTextBy (m .state) m
 
--- "`end=sheet`, nothing after"
+-- the last line (S22)
 abbrev pub endText : List ℕ
 endText = bytes "end=sheet"
 
@@ -68,26 +67,26 @@ unfoldable pub each : {A : Type 0} → (ℕ → A → List (List ℕ)) → ℕ �
 each f i [] = []
 each f i (x ∷ xs) = f i x ++ each f (suc i) xs
 
--- "and for ref `own=`(yes or no) and an `m=` line for each method"
+-- what only a reference type has (S25)
 unfoldable pub memberLines : Rep → Ty → List (List ℕ)
 unfolding each methodText
 memberLines ref x = ownText (x .own) ∷ each (λ j m. methodText m ∷ []) 0 (x .methods)
 memberLines w32 x = []
 memberLines w64 x = []
 
--- "for each type `type=`, `rep=`, `cat=`"
+-- the block of type i (S25)
 unfoldable pub typeLines : ℕ → Ty → List (List ℕ)
 unfolding memberLines numberText
 typeLines i x = numberText (bytes "type=") i ∷ repText (x .rep) ∷ numberText (bytes "cat=") (x .cat) ∷ memberLines (x .rep) x
 
--- "Fixed order: `guide=1`, `subjects=`, `methods=`, `cats=`, one `under=` line .. for each category, `types=`; for each type .."
+-- all lines but the last, in their order (S22)
 unfoldable pub sheetLines : Table → List (List ℕ)
 unfolding each typeLines numberText underText
 sheetLines t = numberText (bytes "guide=") newestForm ∷ numberText (bytes "subjects=") (t .subjects) ∷ numberText (bytes "methods=") (t .methods)
     ∷ numberText (bytes "cats=") (length (t .cats)) ∷ (each (λ k links. underText links ∷ []) 1 (t .cats)
     ++ (numberText (bytes "types=") (t .sheet) ∷ each typeLines 0 (t .types)))
 
--- "Derived types aren't written."
+-- the sheet's own types alone (W5)
 abbrev pub withoutDerived : Table → Table
 withoutDerived t = withTypes t (take (t .sheet) (t .types))
 
@@ -101,11 +100,11 @@ pub record Written : Type 0 where
   pub answer : Res ℕ
   pub buffer : List ℕ
 
--- "Sheet write: 4 if the buffer is short, buffer unchanged; else the length, with the bytes behind it unchanged."
+-- A text that fits stands in front, and what is behind it stays; one that does not is refused with 4, and every byte stays (W2 to W4).
 unfoldable pub writeText : List ℕ → List ℕ → Written
 writeText xs buffer = cond (leb (length xs) (length buffer)) (record { answer = ok (length xs); buffer = xs ++ drop (length xs) buffer }) (record { answer = refuse 4; buffer = buffer })
 
--- "A .. table handed in gets 2 before all else"
+-- the writer, on any table: its check comes first (W1)
 unfoldable pub write : RawTable → List ℕ → Written
 unfolding writeText text tableAccepted tableOf
 write r buffer = cond (tableAccepted r) (writeText (text (tableOf r)) buffer) (record { answer = refuse 2; buffer = buffer })

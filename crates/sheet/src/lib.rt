@@ -1,1 +1,1 @@
-// The sheet text of document 01: definitions in specs/, what is proved of them in proofs/. No code.
+// The sheet text (S, W): definitions in specs/, what is proved of them in proofs/. No code.

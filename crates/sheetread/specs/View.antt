@@ -47,7 +47,7 @@ linksTo n ls = from n 1 (λ k. linksOf (getD ls k noRawLinks))
 abbrev pub methodIs : Method → Methodᵐ
 methodIs m = methodOf (rawMethod m)
 
--- a method that isn't there: every byte of it is 0
+-- a method that isn't there: every byte of it is 0 (B18)
 abbrev pub blankMethod : RawMethod
 blankMethod = record { state = 0; count = 0; args = 0 ∷ 0 ∷ 0 ∷ 0 ∷ []; answer = 0 }
 
@@ -68,7 +68,7 @@ unfoldable pub membersRead : ℕ → ℕ → ℕ → Reader Ty
 unfolding times ownLine methodLine
 membersRead m n k = bind (line ownLine) λ o. bind (times (eachMethod n) m 0 []) λ ms. pure (sheetType ref k o ms)
 
--- The lines of `body` in groups: the first four, the `under=` lines, the number of types, and the rest.
+-- The lines of `body` (S22) in groups: the first four, the `under=` lines, the number of types, and the rest.
 abbrev pub first₁ : ℕ → Reader Front
 first₁ g = bind (line (numberLine (bytes "subjects=") 1 maxSubjects)) λ s. bind (line (numberLine (bytes "methods=") 1 maxMethods)) λ m. bind
     (line (numberLine (bytes "cats=") 0 maxCategories)) λ cats.
@@ -91,7 +91,7 @@ unfoldable pub afterFirst : Front → Reader Table
 unfolding times underLine afterCats
 afterFirst h = bind (times (eachUnder (h .cats)) (h .cats) 1 []) (afterCats h)
 
--- The reader's answer for the definition's, every byte of it: the bytes that stand for the table; or number and offset of the refusal, with a table that holds nothing (docs/SPEC.md B21).
+-- The reader's answer for the definition's, every byte of it: the bytes that stand for the table; or number and offset of the refusal, with a table that holds nothing (B21).
 abbrev pub answered : SheetAnswer → Sheet
 answered (malformed n at) = record { refusal = n; at = at; types = emptyTypes; links = emptyLinks; counts = emptyCounts }
 answered (loaded t) = record { refusal = 0; at = 0; types = typeBytes (t .types); links = linkBytes (t .cats); counts = countsOf t }

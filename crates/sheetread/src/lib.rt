@@ -250,7 +250,7 @@ fn types_into(
     Done::At(Cursor { at })
 }
 
-// The last line, and nothing behind it (S10); then, every line being right, 3 at its offset where a type stands in a signature that may not (S13).
+// The last line, and nothing behind it (S10). Only then are the signatures tested: 3 at the last line where a type stands in one that may not (S6, S13).
 fn last_line(s: &[u8], c: Cursor, b: &[u8; TYPE_BYTES], n: usize, m: usize) -> Done
     requires { ⌜ (n ≤ 128) × (m ≤ 16) ⌝ }
     ensures { λ r. ⌜ ((t : Table) → t .types ≡ typesTo m n n (typesIn (now (b .entry))) → doneBy (now (s .entry)) t r ≡ ending t (c .at) (split (drop (c .at) (now (s .entry))))) ⌝ }

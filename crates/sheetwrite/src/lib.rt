@@ -1,4 +1,4 @@
-// Sheet write (W): the sheet of a table. Every function lends the buffer's tail, from the end of the last line, on to the next line's writer (F2). Writers are
+// Sheet write (W): the sheet of a table. Each writer is lent what the ones before it left free of the buffer (F2). Writers are
 // total (crate `textwrite`), so that the same functions count first, on an empty part of the buffer, and a short buffer stays as it is.
 use linewrite::write_method;
 use linewrite::write_own;

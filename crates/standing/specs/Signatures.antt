@@ -1,4 +1,4 @@
--- Signatures of the types that the bytes hold: what stands in them, and whether it may.
+-- Signatures of the types that the bytes hold: what stands in them, and whether it may (T14, S13).
 use mathlib.Core.Bool.{Bool, true, cond}
 use mathlib.Core.List.{List, []}
 use Prim.Native.Nat.{ℕ}

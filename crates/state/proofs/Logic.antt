@@ -1,6 +1,6 @@
 -- Proofs by hand of the four functions over cells that make or take a reference to a record: why, how, and what they cite of the logic.
 --
--- Why: document 01 wants the cells as a lent slice of records (F6), and the checker proves by itself no function that has a reference to a struct. So the function's operations are
+-- Why: the cells are to be a lent slice of records (F6), and the checker proves by itself no function that has a reference to a struct. So the function's operations are
 -- walked one by one in the logic below the checker. What is walked is kept thin: `lookup` and `append` read and store one record; `looked_up` and `appended` take the array by
 -- value, lend it to these two, and hand it back. Whoever calls the latter has no reference to a record, and is proved as everything else: `cell_at` and `Cells::add`, and so
 -- all requests. Tests (is the number in use, is there room) stay in such code, since a branch would have each of its arms walked to the exit.

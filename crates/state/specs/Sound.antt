@@ -16,7 +16,7 @@ use Rattle.state.specs.declared.Layers.{Layers}
 use Rattle.state.specs.declared.State.{State}
 use Rattle.state.specs.View.{cellsIn, placesIn, callsIn, isObject, behindOf}
 
--- at most 128 places, and what is behind lies below
+-- at most 128 places (Q8), and what is behind lies below (Q2)
 pub record Falling (ps : Places) : Type 0 where
   pub count : ps .count ≤ maxPlaces
   pub behind : (p : ℕ) → p < ps .count → isObject (placeAt (placesIn ps) p) ≡ false → behindOf (placeAt (placesIn ps) p) < p
@@ -27,7 +27,7 @@ pub record BaseAt (ps : Places) (p r : ℕ) : Type 0 where
   pub below : r < ps .count
   pub object : isObject (placeAt (placesIn ps) r) ≡ true
 
--- the layers that a place's walk gives, outermost first
+-- the layers that a place's walk gives, outermost first (C9)
 abbrev pub layersIn : Layers → List ℕ
 layersIn l = take (l .count) (l .list)
 

@@ -1,4 +1,4 @@
--- What the records of the code mean: the model's cells, places and calls, and a state as it is handed in.
+-- What the records of the code mean: the model's cells, places and calls (Q1, Q4, Q5), and a state as it is handed in.
 use mathlib.Core.Bool.{Bool, true, false}
 use mathlib.Core.List.{List, map}
 use Prim.Native.Nat.{ℕ, _+_}
@@ -59,7 +59,7 @@ abbrev pub behindOf : Placeᵐ → ℕ
 behindOf (object class owner) = 0
 behindOf (adapter behind closed) = behind
 
--- One record more, and a call with its flag: every other stored record as it was.
+-- One record more (Q6), and a call with its flag (A11): every other stored record as it was.
 abbrev pub cellAdded : Cells → Cell → Cells
 cellAdded cs c = record { list = set (cs .list) (cs .count) c; count = cs .count + 1 }
 
@@ -91,7 +91,7 @@ unfoldable pub systemIn : State → System
 unfolding systemOf
 systemIn s = systemOf (rawState s)
 
--- nothing held, made or called yet
+-- nothing held, made or called yet (Q10)
 abbrev pub noCells : Cells
 noCells = record { list = replicate 256 blankCell; count = 0 }
 

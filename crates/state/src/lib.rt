@@ -30,7 +30,7 @@ pub struct PlaceRec {
     pub place: Place,
 }
 
-// A call: who made it, on which cell, of which method, and whether it is answered.
+// A call (Q5): by whom, through which cell, of which method; and its answered flag.
 pub struct Call {
     pub caller: u8,
     pub cell: u8,
@@ -68,7 +68,7 @@ pub struct Layers {
     pub count: usize,
 }
 
-// The cells as a lent slice of records (F6): lookup reads a record, append stores one. They decide nothing: whether a number is in use, who holds the cell and whether
+// F6, the cells lent as a slice: lookup reads a record, append stores one. They decide nothing: whether a number is in use, who holds the cell and whether
 // there is room is asked above them.
 fn lookup(cells: &[Cell], k: usize) -> Cell
     requires { ⌜ k < length (now cells) ⌝ }

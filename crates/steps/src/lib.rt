@@ -18,7 +18,7 @@ use state::State;
 use table::Counts;
 use table::TYPE_BYTES;
 
-// What a request answers: the number of its refusal; two numbers (cell and place, or call and adapters); the number answered; or nothing.
+// What a request answers: the number of its refusal; two numbers (Q18, C19); the number answered; or nothing.
 pub enum Answer {
     Refused(usize),
     Pair { first: usize, second: usize },

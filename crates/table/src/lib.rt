@@ -1,4 +1,4 @@
-// Document 01, "The table", as it is stored: flat bytes for the types, flat bytes for the broader links of the categories, and the counts.
+// The table (T) as it is stored (B1 to B12): flat bytes for the types, flat bytes for the broader links of the categories, and the counts.
 // Only this crate knows where in the bytes a record stands. Its contracts speak of the list of records that the bytes hold (specs/Store.antt).
 ghost use mathlib.Core.Path.{_≡_};
 ghost use Prim.Native.Nat.{_+_, _*_, _≤_, _<_};

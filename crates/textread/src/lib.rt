@@ -44,7 +44,7 @@ pub enum Got {
     At(usize, Cursor),
 }
 
-// A larger number counts as this one, so that digits of any length are read without overflow.
+// A larger number counts as this one, so that digits of any length are read without overflow (S2).
 const LIMIT: usize = 9223372036854775809;
 
 // Ten times this number and nine more is the limit.
@@ -110,7 +110,7 @@ fn digits_at(l: &[u8], at: usize, a: usize) -> Number
     Number::Right(n, i)
 }
 
-// The number that stands at `at`. A 0 is the whole number: what follows it is not its digit.
+// The number that stands at `at`. A 0 is the whole number: what follows it is not its digit (S3).
 pub fn number_at(l: &[u8], at: usize) -> Number
     requires { ⌜ at ≤ length (now l) ⌝ }
     ensures is { λ r. ⌜ scanBy (λ n. n) (now (l .entry)) r ≡ number (drop at (now (l .entry))) ⌝ }
@@ -144,7 +144,7 @@ pub fn no_numbers(next: usize) -> Numbers
     }
 }
 
-// One number or more with commas between, at most max: one too many is a fault of form.
+// One number or more with commas between, at most max: one too many is a fault of form (S11).
 pub fn numbers_at(l: &[u8], at: usize, max: usize) -> Numbers
     requires { ⌜ (at ≤ length (now l)) × (max ≤ 4) ⌝ }
     ensures is { λ r. ⌜ scanned (now (l .entry)) (r .right) (take (r .count) (r .items)) (r .next) ≡ numbers max [] (drop at (now (l .entry))) ⌝ }
@@ -191,7 +191,7 @@ pub fn past_accepted(refusal: usize, c: Cursor, d: Cursor) -> Cursor
     d
 }
 
-// A line's answer with the cursor behind the line: a line that is refused isn't passed.
+// A line's answer with the cursor behind the line: a line that is refused isn't passed (S31).
 pub fn passed(v: Value, d: Cursor) -> Got
     ensures { λ r. ⌜ r ≡ passedBy v d ⌝ }
 {
@@ -201,7 +201,7 @@ pub fn passed(v: Value, d: Cursor) -> Got
     }
 }
 
-// A line of a key and one number from low to high.
+// A line of a key and one number from low to high (S29).
 pub fn read_number(l: &[u8], key: &[u8], low: usize, high: usize) -> Value
     ensures is { λ r. ⌜ valueBy (λ n. n) r ≡ numberLine (now (key .entry)) low high (now (l .entry)) ⌝ }
     ensures within { λ r. ⌜ AtMost high r ⌝ }

@@ -5,7 +5,7 @@ use mathlib.Core.List.{List, _++_}
 use lib.ListN.{length, drop}
 use Rattle.sheet.specs.Lines.{join}
 
--- The text xs was due: the result is its length, and where there is room for it, it stands in front, with the bytes behind it unchanged.
+-- The text xs was due: the result is its length, and where there is room for it, it stands in front and the rest stays.
 pub record Filled (old new xs : List ℕ) (r : ℕ) : Type 0 where
   pub said : r ≡ length xs
   pub size : length new ≡ length old

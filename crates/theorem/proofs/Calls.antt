@@ -102,7 +102,7 @@ answer-tested s subject j v =
     go p (refuse n) = tt
     go p (ok x) = p
 
--- the cell's type and its place's permit the method, and so do the page's class and trail
+-- what a call is tested for is permitted: by the cell's type and the place's, so by the page's class and trail (L21)
 pub tested-permitted : (t : Table) → So (validSheet t) → (qs : List Request) (k m : ℤ) → Tested (reached t qs .0) k m → Permitted (reached t qs .1) k m
 tested-permitted t v qs k m h =
     let s = reached t qs .0 in let n = named k in

@@ -67,7 +67,7 @@ pub record Served (input : List ℕ) (t : Table) : Type 0 where
   pub prints : (k : ℕ) (q : Request) → getElem? (requestsOf input) k ≡ some q → lineOf (scriptOutput input) k ≡ outcomeText (outcome (serve (stateAfter input t k) q))
   -- behind these lines stands `no=1` for a malformed line, and nothing else
   pub ends : drop (length (requestsOf input)) (split (scriptOutput input)) ≡ cond (endsMalformed input) (row (bytes "no=1") ∷ []) []
-  -- Demand 3 after every request, and before the first: each cell offers exactly the chains that its page's class and its whole trail permit.
+  -- Demand 3 after every request, and before the first: each cell offers exactly the chains that all of its page permits (L21).
   pub claim : (k : ℕ) → Claim (stateAfter input t k) (bookAfter input t k)
   -- The referee's question: where request k is a call and line k of the output begins with `got=`, the class and every type of the trail of the page of the called cell permit
   -- the method.

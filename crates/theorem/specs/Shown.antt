@@ -91,7 +91,7 @@ NotePermitted b j = Permitted b (pos (noteAt b j .page)) (pos (noteAt b j .metho
 pub record Holds (r : RawSystem) (b : Book) : Type 0 where
   -- no request is refused with 2 (Q19)
   pub passes : So (systemAccepted r)
-  -- demand 3: each cell offers exactly the chains that its page's class and its whole trail permit
+  -- demand 3: each cell offers exactly the chains that all of its page permits (L21)
   pub claim : Claim (systemOf r) b
   -- The referee's question: the page of a cell permits the method of every call of it that is accepted now. So a mark is written only through a reference all of whose
   -- types permit it.

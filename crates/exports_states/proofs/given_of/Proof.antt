@@ -1,6 +1,6 @@
 -- By whether a value is given; it is kept as 64 bits, from which `toZ-ofZ` reads it back.
 use mir.Facts.{toZ-ofZ}
-use Rattle.exports_states.proofs.Offering.{given-some}
+use Rattle.exports_states.proofs.Giving.{given-some}
 use borrow.Author.Needs.{needs}
 use Rattle.exports_states.proofs.given_of.Statement.{statement}
 use Rattle.exports_states.proofs.given_of.Tie as tie

@@ -1,0 +1,74 @@
+-- What a run leaves of what was lent to it, from what it promises of the state that was read out of it.
+use mathlib.Core.Path.{_≡_, refl, ap, sym, subst, _∙_}
+use mathlib.Core.Bool.{Bool, true, false, So}
+use mathlib.Core.List.{List}
+use Prim.Native.Nat.{ℕ}
+use native.Mathlib.Omega.{arith}
+use lib.IntN.{ℤ}
+use Rattle.model.specs.Basics.{Res, refuse, ok, need}
+use Rattle.model.specs.Requests.{System, Outcome}
+use Rattle.model.specs.Check.{systemOf, systemAccepted, stateCodesFit}
+use Rattle.returned.proofs.Counted.{means-same, accepted-same}
+use Rattle.table.specs.declared.Counts.{Counts}
+use Rattle.table.specs.Store.{withCount}
+use Rattle.restrict.specs.Link.{Kept}
+use Rattle.cross.specs.Crossed.{Grew}
+use Rattle.state.specs.View.{rawState, systemIn}
+use Rattle.statecheck.proofs.Laws.{codes-hold}
+use Rattle.flat.specs.Flat.{Flat, countsIn, rawFlat, stateFrom}
+use Rattle.flat.proofs.Laws.{codesIn, read-counted, codes-refused, written-is}
+use Rattle.handing.specs.States.{Stored}
+use Rattle.run.specs.declared.Ran.{Ran}
+use Rattle.run.specs.Requested.{requests, runAsked, runHanded}
+use Rattle.run.specs.Ran.{Runs, RanAs}
+use Rattle.exports_runs.specs.Results.{LentRun, lentRun, RanOut, RunsOut}
+
+module _ (f : Flat) (k : ℕ) (ws : List ℤ) where
+  abbrev from : Bool → System → Res (List Outcome × System)
+  from b s = need b 2 λ _. ok (runAsked s (requests k ws))
+
+  -- a code that names nothing
+  pub run-unfit : (l : LentRun) → codesIn f ≡ false → RunsOut (runHanded (rawFlat f) k ws) 2 l l
+  unfolding runHanded
+  run-unfit l h = subst (λ (b : Bool). RunsOut (from b (systemOf (rawFlat f))) 2 l l) (sym (codes-refused f h)) (refl, refl)
+
+  same : codesIn f ≡ true → runHanded (rawState (stateFrom f)) k ws ≡ runHanded (rawFlat f) k ws
+  unfolding runHanded
+  same h = let e = read-counted f h in
+      ap (λ (b : Bool). from b (systemOf (rawState (stateFrom f)))) (accepted-same (rawState (stateFrom f)) (rawFlat f) e) ∙ ap (from (systemAccepted (rawFlat f))) (means-same (rawState (stateFrom f)) (rawFlat f) e)
+
+  module _ (fits : codesIn f ≡ true) (old new : List ℤ) (r : Ran) (w : Runs (stateFrom f) old new (runHanded (rawState (stateFrom f)) k ws) r) (served : ℕ) where
+    -- refused with 2: the answers are as they were
+    pub run-refused : (r .refusal ≡ 0 → ⊥) → RunsOut (runHanded (rawFlat f) k ws) (r .refusal) (lentRun f old served) (lentRun f new served)
+    run-refused h = subst (λ x. RunsOut x (r .refusal) (lentRun f old served) (lentRun f new served)) (same fits) (go (runHanded (rawState (stateFrom f)) k ws) w)
+      where
+        go : (x : Res (List Outcome × System)) → Runs (stateFrom f) old new x r → RunsOut x (r .refusal) (lentRun f old served) (lentRun f new served)
+        go (refuse e) v = (ap (λ (z : Ran). z .refusal) (v .0), ap (λ (z : List ℤ). lentRun f z served) (v .1))
+        go (ok x) v = absurd (h (v .refusal))
+
+    -- taken: the state is stored in the arrays, g
+    module _ (g : Flat) (links : g .links ≡ f .links) (z : Stored (r .state) (g .types) (g .cells) (g .places) (g .calls) (g .counts)) where
+      taken-as : (os : List Outcome) (m : System) → RanAs (stateFrom f) old new os m r → RanOut os m 0 (lentRun f old served) (lentRun g new (r .served))
+      unfolding systemIn
+      taken-as os m v =
+          let e : rawFlat g ≡ rawState (r .state) = written-is (r .state) g (z .types) (links ∙ sym (v .stored .links)) (z .counts) (z .cellNumber, z .placeNumber, z .callNumber) (z .cells) (z .places) (z .calls) in
+          let n : countsIn (g .counts) .types ≡ r .state .counts .types = ap (λ (c : Counts). c .types) (z .counts) in
+          record {
+            number = refl;
+            served = v .served;
+            answers = v .answers;
+            means = ap systemOf e ∙ v .is;
+            codes = subst (λ x. So (stateCodesFit x)) (sym e) (codes-hold (r .state));
+            links = links;
+            counts = z .counts ∙ v .stored .counts ∙ ap (withCount (countsIn (f .counts))) (sym n);
+            kept = subst (λ (b : List ℕ). Kept (countsIn (f .counts) .types) (f .types) b) (sym (z .types)) (v .stored .kept);
+            grew = subst (λ (b : List ℕ). Grew (countsIn (f .counts)) (countsIn (g .counts) .types) b) (sym (z .types)) (subst (λ (k : ℕ). Grew (countsIn (f .counts)) k (r .state .types)) (sym n) (v .stored .grew));
+          }
+
+      pub run-taken : r .refusal ≡ 0 → RunsOut (runHanded (rawFlat f) k ws) 0 (lentRun f old served) (lentRun g new (r .served))
+      unfolding runHanded
+      run-taken h = subst (λ x. RunsOut x 0 (lentRun f old served) (lentRun g new (r .served))) (same fits) (go (systemAccepted (rawState (stateFrom f))) w)
+        where
+          go : (b : Bool) → Runs (stateFrom f) old new (from b (systemOf (rawState (stateFrom f)))) r → RunsOut (from b (systemOf (rawState (stateFrom f)))) 0 (lentRun f old served) (lentRun g new (r .served))
+          go true v = taken-as _ _ v
+          go false v = let e : 2 ≡ r .refusal = sym (ap (λ (x : Ran). x .refusal) (v .0)) in absurd (omega (arith, e, h))

@@ -1,0 +1,11 @@
+pub mod Derivation
+pub mod Turns
+pub mod Asked
+pub mod Again
+pub mod Trails
+pub mod Numbering
+pub mod Made
+pub mod Arguments
+pub mod Refusals
+pub mod Readers
+pub mod Sheets

@@ -1,0 +1,1 @@
+// Laws of the definitions (crates model and sheet) that each say a rule of docs/SPEC.md. No code.

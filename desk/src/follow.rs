@@ -1,0 +1,159 @@
+//! A script's requests put to the core one by one.
+
+use crate::reader::{Flaw, NO_LF};
+use crate::requests::{read, split, Request};
+use crate::trails::Trails;
+use pilgonca::{
+    Answered, Call, Called, Cell, Held, Method, Refusal, SheetRefused, Subject, Type, Visit,
+};
+use std::ops::Range;
+
+/// What an accepted request came to.
+#[derive(Clone, Copy, PartialEq, Eq, Debug)]
+pub enum Got {
+    Held(Held),
+    Called(Called),
+    Answered(Answered),
+}
+
+/// A request with what it came to.
+#[derive(Debug)]
+pub struct Step<'a> {
+    pub line_number: usize,
+    /// Without its LF.
+    pub line: &'a [u8],
+    pub request: Request,
+    pub outcome: Result<Got, Refusal>,
+    /// The cells that it made.
+    pub cells: Range<usize>,
+}
+
+/// A line that is no request, which ends the run (P11).
+#[derive(Debug)]
+pub struct Malformed<'a> {
+    pub line_number: usize,
+    /// Without its LF.
+    pub line: &'a [u8],
+    pub flaw: Flaw,
+}
+
+/// A script that was run.
+pub struct Run<'a> {
+    pub visit: Visit,
+    pub steps: Vec<Step<'a>>,
+    pub malformed: Option<Malformed<'a>>,
+    pub trails: Trails,
+}
+
+/// Runs the requests of a script up to the first line that is none.
+pub fn follow(input: &[u8]) -> Result<Run<'_>, SheetRefused> {
+    let (sheet, requests) = split(input);
+    let mut run = Run {
+        visit: Visit::load(sheet)?,
+        steps: Vec::new(),
+        malformed: None,
+        trails: Trails::default(),
+    };
+    let first = sheet.iter().filter(|byte| **byte == b'\n').count() + 1;
+    for (index, whole) in requests.split_inclusive(|byte| *byte == b'\n').enumerate() {
+        let line_number = first + index;
+        let line = whole.strip_suffix(b"\n").unwrap_or(whole);
+        match request(whole) {
+            Ok(request) => run.step(line_number, line, request),
+            Err(flaw) => {
+                run.malformed = Some(Malformed {
+                    line_number,
+                    line,
+                    flaw,
+                });
+                break;
+            }
+        }
+    }
+    Ok(run)
+}
+
+/// A line with its LF as a request.
+fn request(whole: &[u8]) -> Result<Request, Flaw> {
+    let Some(line) = whole.strip_suffix(b"\n") else {
+        return Err(Flaw {
+            mark: whole.len()..whole.len(),
+            wrong: NO_LF.to_string(),
+        });
+    };
+    read(line)
+}
+
+impl<'a> Run<'a> {
+    fn step(&mut self, line_number: usize, line: &'a [u8], request: Request) {
+        let before = self.trails.count();
+        let outcome = self.put(&request);
+        if outcome.is_ok() {
+            self.trails.note(&self.visit, &request);
+        }
+        self.steps.push(Step {
+            line_number,
+            line,
+            request,
+            outcome,
+            cells: before..self.trails.count(),
+        });
+    }
+
+    fn put(&mut self, request: &Request) -> Result<Got, Refusal> {
+        let visit = &mut self.visit;
+        match request {
+            Request::New { subject, class, to } => visit
+                .new_object(Subject(*subject), Type(*class), Type(*to))
+                .map(Got::Held),
+            Request::Move {
+                subject,
+                cell,
+                receiver,
+                to,
+            } => visit
+                .move_reference(
+                    Subject(*subject),
+                    Cell(*cell),
+                    Subject(*receiver),
+                    Type(*to),
+                )
+                .map(Got::Held),
+            Request::Call {
+                subject,
+                cell,
+                method,
+                arguments,
+            } => visit
+                .call(Subject(*subject), Cell(*cell), Method(*method), arguments)
+                .map(Got::Called),
+            Request::Answer {
+                subject,
+                call,
+                value,
+            } => visit
+                .answer(Subject(*subject), Call(*call), *value)
+                .map(Got::Answered),
+        }
+    }
+}
+
+/// What the program `script` prints for a request (P12, P13), without LF.
+pub fn printed(outcome: &Result<Got, Refusal>) -> String {
+    match outcome {
+        Err(refusal) => format!("no={}", refusal.number()),
+        Ok(Got::Held(held) | Got::Answered(Answered::Reference(held))) => {
+            format!("got={} {}", held.cell, held.place)
+        }
+        Ok(Got::Called(called)) => format!("got={} {}", called.call, called.adapters),
+        Ok(Got::Answered(Answered::Number(number))) => format!("got={number}"),
+        Ok(Got::Answered(Answered::Nothing)) => "got=-".to_string(),
+    }
+}
+
+/// All that the program would print for the run.
+pub fn output(run: &Run) -> String {
+    let steps = run.steps.iter().map(|step| printed(&step.outcome) + "\n");
+    let end = run.malformed.iter().map(|_| "no=1\n".to_string());
+    steps.chain(end).collect()
+}

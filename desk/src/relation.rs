@@ -1,0 +1,145 @@
+//! The relations of a pair of types in words, and the strongest of them: each of the four holds where the one before it does (R8 to R11).
+
+use crate::names::{Kind, Names};
+use crate::paint::{Paint, Tone};
+use pilgonca::{Answers, Representation, Type, TypeInfo};
+
+/// The strongest relation between a type T and a type S that is to become T.
+#[derive(Clone, Copy, PartialEq, Eq, Debug)]
+pub enum Strongest {
+    Subtype,
+    Strict,
+    Loose,
+    Free,
+    None,
+}
+
+pub const ALL: [Strongest; 5] = [
+    Strongest::Subtype,
+    Strongest::Strict,
+    Strongest::Loose,
+    Strongest::Free,
+    Strongest::None,
+];
+
+impl Strongest {
+    pub fn of(answers: &Answers) -> Strongest {
+        match answers {
+            Answers { subtype: true, .. } => Strongest::Subtype,
+            Answers { strict: true, .. } => Strongest::Strict,
+            Answers { loose: true, .. } => Strongest::Loose,
+            Answers { free: true, .. } => Strongest::Free,
+            _ => Strongest::None,
+        }
+    }
+
+    pub fn mark(self) -> char {
+        match self {
+            Strongest::Subtype => '#',
+            Strongest::Strict => '+',
+            Strongest::Loose => 'o',
+            Strongest::Free => '-',
+            Strongest::None => '.',
+        }
+    }
+
+    pub fn name(self) -> &'static str {
+        match self {
+            Strongest::Subtype => "subtype",
+            Strongest::Strict => "strict",
+            Strongest::Loose => "loose",
+            Strongest::Free => "free",
+            Strongest::None => "none",
+        }
+    }
+
+    /// For a reference of type S that is to become a T without own.
+    pub fn words(self) -> &'static str {
+        match self {
+            Strongest::Subtype => "S passes as T as it is, without an adapter",
+            Strongest::Strict => "S has every method that T calls, and its category fits; an adapter may come between",
+            Strongest::Loose => {
+                "S shows every method that T calls, optional at least: what it leads to decides"
+            }
+            Strongest::Free => {
+                "signatures agree, but S does not show what T calls: S cannot become T"
+            }
+            Strongest::None => "S cannot become T",
+        }
+    }
+}
+
+pub const HEADING: &str = "The strongest relation of a type T (row) from a type S (column):";
+pub const OWN: &str =
+    "A T with own can be had from every S but one with none, by the owner of an object that has what T calls.";
+
+/// The four answers for T and S in words, and what they come to.
+pub fn compared(
+    t: &TypeInfo,
+    s: &TypeInfo,
+    answers: &Answers,
+    names: &Names,
+    paint: Paint,
+) -> String {
+    let words = |info: &TypeInfo| names.words(Kind::Type, info.number.0);
+    let rows = [
+        ("subtype", answers.subtype, SUBTYPE),
+        ("strict", answers.strict, STRICT),
+        ("loose", answers.loose, LOOSE),
+        ("free", answers.free, FREE),
+    ];
+    let mut text = format!("T is {}, S is {}\n\n", words(t), words(s));
+    for (name, answer, [yes, no]) in rows {
+        let (answer, meaning) = match answer {
+            true => (paint.of(Tone::Good, "yes"), yes),
+            false => (paint.of(Tone::Bad, "no "), no),
+        };
+        text += &format!("  {name:7}  {answer}  {meaning}\n");
+    }
+    format!("{text}\n{}\n", conclusion(t, s, answers, names))
+}
+
+/// What the answers mean, yes and no (R8 to R11).
+const SUBTYPE: [&str; 2] = ["S passes as T as it is", "S does not pass as T as it is"];
+const STRICT: [&str; 2] = [
+    "S has every method that T calls, and T's category is S's or a broader one",
+    "T calls a method that S may not have, or T's category is neither S's nor broader, or signatures differ",
+];
+const LOOSE: [&str; 2] = [
+    "S shows every method that T calls, optional at least",
+    "T calls a method that S does not show, or signatures differ",
+];
+const FREE: [&str; 2] = [
+    "the methods that both show have signatures that agree",
+    "a method that both show has signatures that differ, or one of the two is a number",
+];
+
+/// What becomes of a value of type S where T is due.
+fn conclusion(t: &TypeInfo, s: &TypeInfo, answers: &Answers, names: &Names) -> String {
+    let words = |number: Type| names.words(Kind::Type, number.0);
+    let (to, from) = (words(t.number), words(s.number));
+    if t.representation != Representation::Ref || s.representation != Representation::Ref {
+        return match answers.free {
+            true => format!("Both are numbers: one of {from} is taken as {to} if it fits."),
+            false => {
+                format!("One is a number and the other a reference: {from} never becomes {to}.")
+            }
+        };
+    }
+    let becomes = format!("A reference of {from} becomes {to}");
+    match (t.own, Strongest::of(answers)) {
+        (_, Strongest::None) | (false, Strongest::Free) => {
+            format!("A reference of {from} cannot become {to}: refused with 8.")
+        }
+        (true, _) => {
+            format!("{becomes} for the owner of its object alone, if that has what {to} calls.")
+        }
+        (false, Strongest::Subtype) => format!("{becomes} without an adapter."),
+        (false, Strongest::Strict) => format!("{becomes}; an adapter may come between."),
+        (false, Strongest::Loose) => {
+            format!(
+                "{becomes} if what it leads to has what {to} calls; an adapter may come between."
+            )
+        }
+    }
+}

@@ -1,0 +1,62 @@
+//! Small helpers for text that people read.
+
+/// Lines of text are broken here.
+const WIDTH: usize = 110;
+
+/// So many of something.
+pub fn plural(count: usize, one: &str) -> String {
+    let many = match one {
+        "category" => "categories".to_string(),
+        "class" => "classes".to_string(),
+        _ => format!("{one}s"),
+    };
+    match count {
+        1 => format!("1 {one}"),
+        _ => format!("{count} {many}"),
+    }
+}
+
+/// A text behind a heading, broken between words; further lines stand under its first word.
+pub fn under(heading: &str, text: &str) -> String {
+    let margin = heading.chars().count();
+    let mut lines = heading.to_string();
+    let mut column = margin;
+    for (index, word) in text.split(' ').enumerate() {
+        let length = word.chars().count();
+        if index > 0 && column + 1 + length > WIDTH {
+            lines += &format!("\n{}", " ".repeat(margin));
+            column = margin;
+        } else if index > 0 {
+            lines.push(' ');
+            column += 1;
+        }
+        lines += word;
+        column += length;
+    }
+    lines.push('\n');
+    lines
+}
+
+#[cfg(test)]
+mod tests {
+    use super::*;
+
+    #[test]
+    fn counts_are_in_words() {
+        let counts = [plural(1, "class"), plural(2, "class"), plural(0, "cell")];
+        assert_eq!(counts, ["1 class", "2 classes", "0 cells"]);
+    }
+
+    #[test]
+    fn long_text_is_broken_between_words() {
+        let text = "word ".repeat(50);
+        let broken = under("head: ", text.trim_end());
+        assert!(broken.lines().count() > 2);
+        assert!(broken.lines().all(|line| line.len() <= WIDTH));
+        assert!(broken
+            .lines()
+            .skip(1)
+            .all(|line| line.starts_with("      word")));
+        assert_eq!(broken.matches("word").count(), 50);
+    }
+}

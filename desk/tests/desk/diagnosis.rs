@@ -1,0 +1,138 @@
+//! What is said of a refused sheet fits the core's number and offset, for every small damage to examples and for generated sheets.
+
+use crate::damage::damaged;
+use crate::files::read;
+use desk::diagnosis::diagnose;
+use desk::names::Names;
+use desk::requests::split;
+use pilgonca::{Sheet, SheetRefused};
+use reference::gen::{generate, Profile};
+
+/// How often each number was met; 0 stands for accepted.
+type Counts = [usize; 4];
+
+/// The line at an offset, without its LF, and its number from 1 on.
+fn line_at(text: &[u8], offset: usize) -> (&[u8], usize) {
+    let rest = &text[offset..];
+    let length = rest.iter().position(|byte| *byte == b'\n');
+    let number = text[..offset].iter().filter(|byte| **byte == b'\n').count() + 1;
+    (&rest[..length.unwrap_or(rest.len())], number)
+}
+
+fn fits(text: &[u8], counts: &mut Counts) {
+    let Err(SheetRefused { refusal, offset }) = Sheet::read(text) else {
+        counts[0] += 1;
+        return;
+    };
+    let number = refusal.number();
+    counts[usize::from(number)] += 1;
+    let shown = String::from_utf8_lossy(text);
+    let found = diagnose(text, number, offset, &Names::default());
+    let found = found.unwrap_or_else(|| panic!("{number} at {offset} has no words: {shown}"));
+    let (line, line_number) = line_at(text, offset);
+    if line == b"end=sheet" && number == 3 {
+        // an own type in a signature, which stands on a line further up
+        assert!(found.line_number < line_number, "{shown}");
+        assert!(found.line.starts_with(b"m="), "{shown}");
+    } else {
+        assert_eq!(
+            (found.line, found.line_number),
+            (line, line_number),
+            "{shown}"
+        );
+    }
+    let mark = &found.flaw.mark;
+    assert!(
+        mark.start <= mark.end && mark.end <= found.line.len(),
+        "{mark:?}: {shown}"
+    );
+    assert!(!found.flaw.wrong.is_empty() && !found.right.is_empty());
+}
+
+/// Every number is met, and damage that leaves a sheet right is rare.
+fn enough(counts: &Counts, least: usize) {
+    println!("accepted, 1, 2, 3: {counts:?}");
+    assert!(counts.iter().all(|count| *count >= least), "{counts:?}");
+}
+
+#[test]
+fn every_small_damage_has_words() {
+    let mut counts = [0; 4];
+    for name in [
+        "examples/case-p.sheet",
+        "examples/categories.sheet",
+        "examples/refused-own-in-signature.sheet",
+    ] {
+        let text = read(name);
+        damaged(&text).for_each(|text| fits(&text, &mut counts));
+    }
+    enough(&counts, 50);
+}
+
+#[test]
+fn generated_sheets_have_words() {
+    let mut counts = [0; 4];
+    for seed in 0..3000 {
+        let input = generate(seed, Profile::Damaged);
+        fits(&input, &mut counts);
+        fits(split(&input).0, &mut counts);
+    }
+    enough(&counts, 20);
+}
+
+/// Line 7 of a sheet with three categories is `under=1,2`, line 15 `own=no`, line 16 an m= line; what each is changed to, the part of it that is
+/// marked, and words that are said.
+const WORDS: [(usize, &str, &str, &str); 17] = [
+    (1, "guide=2", "2", "only 1 is"),
+    (2, "subjects=007", "007", "no leading zeros"),
+    (3, "methods=+1", "+", "no sign"),
+    (4, "cats=3 ", " ", "no space stands at the end"),
+    (7, "under=0,1,2", ",2", "two broader ones at most"),
+    (7, "under=0,3", "3", "a lower number than its own"),
+    (7, "under=9,3", "9", "0 to 3 are"),
+    (15, "own=yes\r", "\r", "carriage return"),
+    (15, "own=maybe", "maybe", "yes, no"),
+    (
+        15,
+        "end=sheet",
+        "end=sheet",
+        "where the own= line of type 1 is due",
+    ),
+    (16, "m=avail(0,0,0)0", ",0", "two arguments at most"),
+    (16, "m=avail(0;0)0", ";0", "a ) is due here"),
+    (16, "m=avail()", "", "the answer is missing"),
+    (16, "m=optional", "", "the signature is missing"),
+    (16, "m=denied()-", "()-", "have no signature"),
+    (16, "m=avail(0)99", "99", "0 to 4 are"),
+    (
+        18,
+        "m=denied",
+        "m=denied",
+        "an m= line for each method already",
+    ),
+];
+
+#[test]
+fn the_words_are_those_for_the_fault() {
+    let text = read("examples/categories.sheet");
+    for (number, line, marked, said) in WORDS {
+        let mut lines: Vec<&[u8]> = text.split_inclusive(|byte| *byte == b'\n').collect();
+        let changed = format!("{line}\n");
+        lines[number - 1] = changed.as_bytes();
+        let text = lines.concat();
+        let refused = Sheet::read(&text).expect_err("it is refused");
+        let found = diagnose(&text, refused.number(), refused.offset, &Names::default());
+        let found = found.expect("it has words");
+        let mark = &found.line[found.flaw.mark.clone()];
+        assert_eq!(
+            (found.line_number, mark),
+            (number, marked.as_bytes()),
+            "{line}"
+        );
+        assert!(
+            found.flaw.wrong.contains(said),
+            "{line}: {}",
+            found.flaw.wrong
+        );
+    }
+}

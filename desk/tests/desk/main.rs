@@ -1,0 +1,10 @@
+//! The program `desk` against the core, against damaged and generated files, and against what README and the guide show.
+
+mod damage;
+mod diagnosis;
+mod files;
+mod naming;
+mod pictures;
+mod program;
+mod quoted;
+mod scripts;

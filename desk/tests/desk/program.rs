@@ -1,0 +1,263 @@
+//! The program itself: what it prints, its exit status, and that nothing makes it panic.
+
+use crate::files::{accepted, desk, read, refused, run, told, with_file, NAMES, SCRIPT, SHEET};
+use reference::gen::{generate, Profile};
+use std::fs::File;
+use std::io::Write;
+use std::process::Stdio;
+
+#[test]
+fn wrong_words_are_told_apart_from_bad_input() {
+    let wrong: [&[&str]; 12] = [
+        &["chek"],
+        &["check"],
+        &["check", "a", "b"],
+        &["compare", SHEET, "1"],
+        &["check", SHEET, "--svg", "x"],
+        &["run", SCRIPT, "--plain"],
+        &["pairs", SHEET, "--svg"],
+        &["pairs", SHEET, "--plan"],
+        &["check", SHEET, "--names"],
+        &["check", "--names", NAMES, "--names", NAMES, SHEET],
+        &["explain"],
+        &["audit"],
+    ];
+    for words in wrong {
+        let (status, out, error) = run(words);
+        assert_eq!((status, out.as_str()), (2, ""), "{words:?}");
+        assert!(error.contains("desk check SHEET"), "{words:?}: {error}");
+    }
+    for words in [&[][..], &["help"], &["--help"], &["check", "--help"]] {
+        assert!(accepted(words).contains("desk explain N"), "{words:?}");
+    }
+}
+
+#[test]
+fn files_that_cannot_be_read() {
+    for command in ["check", "pairs", "run", "audit"] {
+        for path in ["no/such/file", "examples", "/"] {
+            let error = refused(&[command, path]);
+            assert!(error.contains(path), "{error}");
+            refused(&[command, SHEET, "--names", path]);
+        }
+        refused(&[command, "/dev/zero"]);
+        assert!(refused(&[command, "/dev/null"]).contains("the file ends here"));
+    }
+    for words in [["pairs", SHEET], ["run", SCRIPT]] {
+        let words = [&words[..], &["--svg", "no/such/folder/x.svg"]].concat();
+        assert!(refused(&words).contains("cannot write"));
+    }
+}
+
+#[test]
+fn any_bytes_get_an_answer() {
+    let mut texts: Vec<Vec<u8>> = (0..40)
+        .map(|seed| generate(seed, Profile::Damaged))
+        .collect();
+    let odd: [&[u8]; 6] = [
+        b"",
+        b"\n",
+        b"\xff\xfe\0",
+        b"guide=1\r\n",
+        b"guide=1\nsubjects=\xc3\xa9\n",
+        &[b'9'; 40_000],
+    ];
+    texts.extend(odd.map(<[u8]>::to_vec));
+    for text in texts {
+        with_file("any", &text, |path| {
+            let with_names = ["check", SHEET, "--names", path];
+            for words in [
+                &["check", path][..],
+                &["pairs", path],
+                &["compare", path, "0", "1"],
+                &["run", path],
+                &["audit", path],
+                &with_names,
+            ] {
+                let (status, _, error) = run(words);
+                assert_eq!(
+                    status == 1,
+                    error.starts_with("desk: "),
+                    "{words:?}: {error}"
+                );
+                assert!(
+                    status < 2 && !error.contains("panicked"),
+                    "{words:?}: {error}"
+                );
+            }
+        });
+    }
+}
+
+/// Runs desk with a standard output that nobody reads.
+fn unread(words: &[&str]) -> (i32, String, String) {
+    let mut command = desk(words);
+    command.stdout(Stdio::piped()).stderr(Stdio::piped());
+    let mut child = command.spawn().expect("desk runs");
+    drop(child.stdout.take());
+    told(child.wait_with_output().expect("it ends"))
+}
+
+#[test]
+fn a_reader_may_go_away() {
+    for words in [
+        &["pairs", "examples/types-48.sheet", "--plain"][..],
+        &["explain", "1"],
+    ] {
+        assert_eq!(
+            unread(words),
+            (0, String::new(), String::new()),
+            "{words:?}"
+        );
+    }
+    let (status, _, error) = unread(&["run", "examples/refused-01.script"]);
+    assert_eq!(status, 1);
+    assert!(
+        error.contains("0 has no sign") && !error.contains("cannot print"),
+        "{error}"
+    );
+    let mut child = desk(&["check", "no/such/file"])
+        .stderr(Stdio::piped())
+        .spawn()
+        .expect("desk runs");
+    drop(child.stderr.take());
+    assert_eq!(child.wait().expect("it ends").code(), Some(1));
+}
+
+#[test]
+fn what_cannot_be_printed_is_told() {
+    let full = File::options()
+        .write(true)
+        .open("/dev/full")
+        .expect("a device");
+    let output = desk(&["help"]).stdout(full).output().expect("desk runs");
+    let (status, _, error) = told(output);
+    assert_eq!(status, 1);
+    assert!(error.contains("cannot print"), "{error}");
+}
+
+#[test]
+fn standard_input_is_a_file() {
+    let mut child = desk(&["run", "-"])
+        .stdin(Stdio::piped())
+        .stdout(Stdio::piped())
+        .spawn()
+        .expect("desk runs");
+    let mut input = child.stdin.take().expect("a pipe");
+    input.write_all(&read(SCRIPT)).expect("it reads");
+    drop(input);
+    let (status, out, _) = told(child.wait_with_output().expect("it ends"));
+    assert_eq!((status, out), (0, accepted(&["run", SCRIPT])));
+}
+
+#[test]
+fn no_colours_in_a_pipe() {
+    for words in [
+        &["check", SHEET][..],
+        &["pairs", SHEET],
+        &["run", SCRIPT],
+        &["audit", SCRIPT],
+        &["run", "examples/refused-01.script"],
+    ] {
+        let (_, out, error) = run(words);
+        assert!(
+            !out.contains('\x1b') && !error.contains('\x1b'),
+            "{words:?}"
+        );
+    }
+}
+
+#[test]
+fn plain_pairs_are_those_of_the_program() {
+    let mut texts = vec![
+        read(SHEET),
+        read("examples/types-48.sheet"),
+        vec![b'x'; 32_769],
+    ];
+    texts.extend((0..30).map(|seed| generate(seed, Profile::Damaged)));
+    for text in texts {
+        with_file("plain", &text, |path| {
+            let (status, out, _) = run(&["pairs", "--plain", path]);
+            assert_eq!(out.as_bytes(), reference::pairs::run(&text));
+            assert_eq!(status == 1, out.starts_with("no="));
+        });
+    }
+}
+
+#[test]
+fn the_matrix_and_a_comparison() {
+    let matrix = accepted(&["pairs", SHEET, "--names", NAMES]);
+    for row in [
+        "3 forwarder (ref)  . # + # # -",
+        "5 marker (ref)     . # - o # #",
+        "4 whole log (own)  . + - - # -",
+    ] {
+        assert!(matrix.contains(row), "{row}: {matrix}");
+    }
+    let numbers = accepted(&["compare", SHEET, "3", "2"]);
+    assert!(
+        numbers.contains("subtype  no") && numbers.contains("strict   yes"),
+        "{numbers}"
+    );
+    let names = accepted(&["compare", SHEET, "forwarder", "2", "--names", NAMES]);
+    assert!(
+        names.starts_with("T is type 3 (forwarder), S is type 2 (reader)"),
+        "{names}"
+    );
+    let own = accepted(&["compare", SHEET, "4", "2"]);
+    assert!(own.contains("for the owner of its object alone"), "{own}");
+    let mixed = accepted(&["compare", SHEET, "0", "2"]);
+    assert!(mixed.contains("never becomes"), "{mixed}");
+    assert!(refused(&["compare", SHEET, "6", "0"]).contains("refused with 7"));
+    assert!(refused(&["compare", SHEET, "-1", "0"]).contains("refused with 7"));
+    assert!(refused(&["compare", SHEET, "log", "0"]).contains("no type is named \"log\""));
+}
+
+#[test]
+fn every_refusal_is_explained() {
+    for number in 1..=19 {
+        let text = accepted(&["explain", &number.to_string()]);
+        assert!(text.starts_with(&format!("{number}: ")), "{text}");
+        assert!(
+            text.contains("When: ") && text.contains("To do: "),
+            "{text}"
+        );
+    }
+    for number in ["0", "20", "-1", "four", "99999999999999999999"] {
+        assert!(refused(&["explain", number]).contains("1 to 19"));
+    }
+}
+
+#[test]
+fn a_script_that_is_too_long() {
+    let long = [read(SCRIPT), b"do=new 0 1 4\n".repeat(3000)].concat();
+    with_file("long", &long, |path| {
+        for command in ["run", "audit"] {
+            assert!(refused(&[command, path]).contains("refused with 2"));
+        }
+    });
+}
+
+#[test]
+fn a_run_and_its_audit() {
+    let out = accepted(&["run", SCRIPT, "--names", NAMES]);
+    for part in [
+        "do=move 1 1 2 3  ->  got=2 1",
+        "subject 2 (printer) holds cell 2 as type 3 (forwarder): it leads to place 1, an adapter in front of place 0",
+        "refused with 8: the types do not go together",
+        "6 requests: 4 accepted, 2 refused. At the end: 4 cells, 1 object, 1 adapter, 0 calls.",
+    ] {
+        assert!(out.contains(part), "{part}: {out}");
+    }
+    let audit = accepted(&["audit", "examples/two-adapters.script"]);
+    assert!(
+        audit.contains("subject 2  cell 4    can call     1 > 2 > 3 > 4 > 5"),
+        "{audit}"
+    );
+    let ended = run(&["run", "examples/refused-01.script"]);
+    assert_eq!(ended.0, 1);
+    assert!(
+        ended.1.contains("got=1 0") && ended.2.contains("0 has no sign"),
+        "{ended:?}"
+    );
+}

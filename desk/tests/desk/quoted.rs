@@ -1,0 +1,55 @@
+//! README.md and docs/GUIDE.md quote commands, each behind `$`, with what they print: it is what they print.
+
+use crate::files::{read, run, SCRIPT};
+
+/// The quoted commands of a text, each with the lines under it, in blocks that are set in by four spaces.
+fn quoted(text: &str) -> Vec<(String, String)> {
+    let mut found: Vec<(String, String)> = Vec::new();
+    let mut inside = false;
+    for line in text.lines() {
+        let set_in = line.strip_prefix("    ");
+        match set_in.and_then(|line| line.strip_prefix("$ ")) {
+            Some(command) => {
+                found.push((command.to_string(), String::new()));
+                inside = true;
+            }
+            None => inside &= line.is_empty() || set_in.is_some(),
+        }
+        if let (true, Some((_, output)), None) =
+            (inside, found.last_mut(), line.strip_prefix("    $ "))
+        {
+            output.push_str(set_in.unwrap_or(""));
+            output.push('\n');
+        }
+    }
+    found
+}
+
+/// What a quoted command prints. `./run` alone is the program `script` on Case P.
+fn printed(command: &str) -> String {
+    let words: Vec<&str> = command.split(' ').collect();
+    match &words[..] {
+        ["./run"] => String::from_utf8(pilgonca::script(&read(SCRIPT))).expect("ASCII"),
+        ["./run", "desk", words @ ..] => {
+            let (_, out, error) = run(words);
+            out + &error
+        }
+        _ => panic!("{command} is no command that is tested here"),
+    }
+}
+
+#[test]
+fn what_is_quoted_is_printed() {
+    for (file, least) in [("README.md", 2), ("docs/GUIDE.md", 2)] {
+        let text = String::from_utf8(read(file)).expect("UTF-8");
+        let commands = quoted(&text);
+        assert!(commands.len() >= least, "{file}: {}", commands.len());
+        for (command, output) in commands {
+            assert_eq!(
+                output.trim_end(),
+                printed(&command).trim_end(),
+                "{file}: {command}"
+            );
+        }
+    }
+}

@@ -1,0 +1,271 @@
+/*
+ * pilgonca.h: the C functions of the proved permission core. docs/SPEC.md has the rules that comments name (as H or B26), docs/GUIDE.md a page for integrators.
+ *
+ * Linking. Link every target/staticlib/libexports*.a (tools/libraries writes them). They need memcpy, memmove and memset, and nothing else.
+ *
+ * Calling. A function returns 0, or the number of a refusal (enum pilgonca_refusal); pilgonca_compare alone differs. Any bytes, counts and numbers may be handed in: what is
+ * wrong is refused. A refusal stores nothing, so that everything lent is as it was, every byte of it; pilgonca_read and pilgonca_load alone store always (S32).
+ *
+ * Memory. The caller owns every array and lends it for the time of the call; no pointer is kept, there is no heap and no variable behind a call's end. So calls from
+ * several threads are fine on arrays of their own. What a function cannot see is the caller's part:
+ *   - a pointer is valid, also where its length is 0, and an array has at least the length in its brackets;
+ *   - a slice passes as pointer and length (text, text_len), the length in elements;
+ *   - arrays of one call do not overlap, but for two of which both are only read;
+ *   - a size_t has 64 bits.
+ *
+ * Stack. The deepest request takes less than 512 KB; load 76, offers 100 (docs/MEASURED.md).
+ */
+#ifndef PILGONCA_H
+#define PILGONCA_H
+
+#include <stddef.h>
+#include <stdint.h>
+
+#ifdef __cplusplus
+extern "C" {
+#endif
+
+/* Limits (T1 to T5, Q7 to Q9). Categories are numbered from 1, since 0 is for none; everything else from 0. */
+#define PILGONCA_SUBJECTS 16
+#define PILGONCA_METHODS 16
+#define PILGONCA_CATEGORIES 31
+#define PILGONCA_SHEET_TYPES 48
+#define PILGONCA_TYPES 128
+#define PILGONCA_CELLS 256
+#define PILGONCA_PLACES 128
+#define PILGONCA_CALLS 256
+
+/* Bytes of the arrays of a table or a state, and of a pair table. */
+#define PILGONCA_TYPE_BYTES 16384
+#define PILGONCA_LINK_BYTES 96
+#define PILGONCA_CELL_BYTES 768
+#define PILGONCA_PLACE_BYTES 384
+#define PILGONCA_CALL_BYTES 1024
+#define PILGONCA_PAIR_BYTES 2304
+
+/* Counts of a table and of a state; values of a request; numbers that a run stores for each request (U8). */
+#define PILGONCA_TABLE_COUNTS 5
+#define PILGONCA_STATE_COUNTS 8
+#define PILGONCA_VALUES 3
+#define PILGONCA_ANSWER_WORDS 4
+
+/* The longest input that pilgonca_script serves (P1), and a buffer that holds the output of every input (P18). */
+#define PILGONCA_INPUT_BYTES 32768
+#define PILGONCA_PRINTED_BYTES 32773
+
+/* What a function returns. The last section of docs/SPEC.md says where each is met, docs/GUIDE.md what to do. */
+enum pilgonca_refusal {
+    PILGONCA_OK = 0,
+    PILGONCA_FORM = 1,              /* a line is not of the form due; a request in a run is none */
+    PILGONCA_OUT_OF_RANGE = 2,      /* a number in a sheet is outside its range; a table or state handed in does not pass the check (H) */
+    PILGONCA_NOT_BELOW = 3,         /* a broader category is not below its own; an own type stands in a signature */
+    PILGONCA_SHORT_BUFFER = 4,      /* the buffer is too short */
+    PILGONCA_UNKNOWN_SUBJECT = 5,   /* no such subject */
+    PILGONCA_NOT_HELD = 6,          /* the subject does not hold the cell; there is no such call, or the subject does not own what was called */
+    PILGONCA_UNKNOWN_TYPE = 7,      /* no such type, or it is not of the kind needed */
+    PILGONCA_UNRELATED = 8,         /* the types do not go together */
+    PILGONCA_NOT_OWNER = 9,         /* the type is own and the receiver does not own the object */
+    PILGONCA_NOT_STRICT = 10,       /* what the reference leads to lacks a method or is of another category */
+    PILGONCA_TYPES_FULL = 11,       /* no type number is free */
+    PILGONCA_PLACES_FULL = 12,      /* no place is free */
+    PILGONCA_CELLS_FULL = 13,       /* no cell is free */
+    PILGONCA_NOT_CALLABLE = 14,     /* the method is none, or not avail in the type of the cell */
+    PILGONCA_WRONG_VALUES = 15,     /* arguments or answer are not what the signature asks for */
+    PILGONCA_TOO_WIDE = 16,         /* the number does not fit 32 bits */
+    PILGONCA_ANSWERED_ALREADY = 17, /* the call is answered already */
+    PILGONCA_CALLS_FULL = 18,       /* no call is free */
+    PILGONCA_LATER_LAYER = 19       /* a value fails behind the first layer of the call */
+};
+
+/*
+ * Layout (B1 to B29). A number in a record is one byte.
+ *   type i    128 bytes from 128*i: representation (0 ref, 1 w32, 2 w64), category, own (0, 1), of a derived type kind (0 Sub, 1 Sup, 2 Closed), left, right; ten spare
+ *             bytes; then from byte 16 on seven bytes for each method: state (0 denied, 1 optional, 2 avail, 3 unavail), how many arguments, four slots of which the
+ *             first two are used, and 0 for no answer or the answer's type plus 1
+ *   link k    3 bytes from 3*k, category k: how many broader ones (1 or 2), first, second
+ *   cell k    3 bytes from 3*k: holder, type, place
+ *   place p   3 bytes from 3*p: 0, class and owner of an object; or 1, place behind and closed type of an adapter
+ *   call j    4 bytes from 4*j: caller, cell, method, answered (0, 1)
+ *   counts    subjects, methods, categories, sheet types, types; of a state also cells, places, calls
+ * What is behind a count may hold anything.
+ */
+
+/* A table and a state in one piece. The functions take the arrays one by one, so they may stand apart as well; the two macros pass those of a struct, in order. */
+struct pilgonca_table {
+    uint8_t types[PILGONCA_TYPE_BYTES];
+    uint8_t links[PILGONCA_LINK_BYTES];
+    size_t counts[PILGONCA_TABLE_COUNTS];
+};
+
+struct pilgonca_state {
+    uint8_t types[PILGONCA_TYPE_BYTES];
+    uint8_t links[PILGONCA_LINK_BYTES];
+    uint8_t cells[PILGONCA_CELL_BYTES];
+    uint8_t places[PILGONCA_PLACE_BYTES];
+    uint8_t calls[PILGONCA_CALL_BYTES];
+    size_t counts[PILGONCA_STATE_COUNTS];
+};
+
+#define PILGONCA_TABLE_OF(table) (table)->types, (table)->links, (table)->counts
+#define PILGONCA_STATE_OF(state) (state)->types, (state)->links, (state)->cells, (state)->places, (state)->calls, (state)->counts
+
+/* ---- a table ---- */
+
+/* Compare (R14): 2 or 7; else 16 plus the sum of 1 for subtype, 2 strict, 4 loose and 8 free. */
+size_t pilgonca_compare(
+    const uint8_t types[PILGONCA_TYPE_BYTES],
+    const uint8_t links[PILGONCA_LINK_BYTES],
+    const size_t counts[PILGONCA_TABLE_COUNTS],
+    int64_t t,
+    int64_t s);
+
+/* Sheet read (S): a table, and 0 in at; refused (1, 2, 3), an empty table, and in at the offset of the first byte of the line at fault. */
+size_t pilgonca_read(
+    const uint8_t *text,
+    size_t text_len,
+    uint8_t types[PILGONCA_TYPE_BYTES],
+    uint8_t links[PILGONCA_LINK_BYTES],
+    size_t counts[PILGONCA_TABLE_COUNTS],
+    size_t *at);
+
+/* Sheet write (W): the sheet's text in front of the buffer, and its length. 2, 4. */
+size_t pilgonca_write(
+    uint8_t *buffer,
+    size_t buffer_len,
+    const uint8_t types[PILGONCA_TYPE_BYTES],
+    const uint8_t links[PILGONCA_LINK_BYTES],
+    const size_t counts[PILGONCA_TABLE_COUNTS],
+    size_t *length);
+
+/* The pair table (E9): byte 48*T + S has the sum of pilgonca_compare, without the 16, for each pair of sheet types. 2. */
+size_t pilgonca_pairs(
+    const uint8_t types[PILGONCA_TYPE_BYTES],
+    const uint8_t links[PILGONCA_LINK_BYTES],
+    const size_t counts[PILGONCA_TABLE_COUNTS],
+    uint8_t out[PILGONCA_PAIR_BYTES]);
+
+/* A derivation (E10), for tests and tools: kind 0 Sub, 1 Sup, 2 Closed; the types that there are now, and the number of the one asked for. 2, 7, 11. */
+size_t pilgonca_derive(
+    uint8_t types[PILGONCA_TYPE_BYTES],
+    const uint8_t links[PILGONCA_LINK_BYTES],
+    size_t counts[PILGONCA_TABLE_COUNTS],
+    size_t kind,
+    int64_t t,
+    int64_t s,
+    size_t *number);
+
+/* ---- a state ----
+ *
+ * A request that is accepted stores the new state in the arrays lent, and three values: how many there are of it (0, 1 or 2), the first and the second, 0 where there is none.
+ */
+
+/* The state of a sheet (Q10): as pilgonca_read, with no cells, places or calls. */
+size_t pilgonca_load(
+    const uint8_t *text,
+    size_t text_len,
+    uint8_t types[PILGONCA_TYPE_BYTES],
+    uint8_t links[PILGONCA_LINK_BYTES],
+    uint8_t cells[PILGONCA_CELL_BYTES],
+    uint8_t places[PILGONCA_PLACE_BYTES],
+    uint8_t calls[PILGONCA_CALL_BYTES],
+    size_t counts[PILGONCA_STATE_COUNTS],
+    size_t *at);
+
+/* New (N): the subject makes an object of the class and holds it as the type. Values: cell, place. */
+size_t pilgonca_new(
+    uint8_t types[PILGONCA_TYPE_BYTES],
+    const uint8_t links[PILGONCA_LINK_BYTES],
+    uint8_t cells[PILGONCA_CELL_BYTES],
+    uint8_t places[PILGONCA_PLACE_BYTES],
+    uint8_t calls[PILGONCA_CALL_BYTES],
+    size_t counts[PILGONCA_STATE_COUNTS],
+    int64_t subject,
+    int64_t class_,
+    int64_t to,
+    int64_t values[PILGONCA_VALUES]);
+
+/* Move (M): the subject hands what its cell leads to on to the receiver, as the type. Values: cell, place. */
+size_t pilgonca_move(
+    uint8_t types[PILGONCA_TYPE_BYTES],
+    const uint8_t links[PILGONCA_LINK_BYTES],
+    uint8_t cells[PILGONCA_CELL_BYTES],
+    uint8_t places[PILGONCA_PLACE_BYTES],
+    uint8_t calls[PILGONCA_CALL_BYTES],
+    size_t counts[PILGONCA_STATE_COUNTS],
+    int64_t subject,
+    int64_t cell,
+    int64_t receiver,
+    int64_t to,
+    int64_t values[PILGONCA_VALUES]);
+
+/* Call (C): an argument is a number, or the number of a cell where the signature has a reference. Values: call, how many adapters it goes through. */
+size_t pilgonca_call(
+    uint8_t types[PILGONCA_TYPE_BYTES],
+    const uint8_t links[PILGONCA_LINK_BYTES],
+    uint8_t cells[PILGONCA_CELL_BYTES],
+    uint8_t places[PILGONCA_PLACE_BYTES],
+    uint8_t calls[PILGONCA_CALL_BYTES],
+    size_t counts[PILGONCA_STATE_COUNTS],
+    int64_t subject,
+    int64_t cell,
+    int64_t method,
+    const int64_t *arguments,
+    size_t arguments_len,
+    int64_t values[PILGONCA_VALUES]);
+
+/* Answer (A): given is 0 for no value, which is then not looked at. Values: cell and place of a reference, the number, or none. */
+size_t pilgonca_answer(
+    uint8_t types[PILGONCA_TYPE_BYTES],
+    const uint8_t links[PILGONCA_LINK_BYTES],
+    uint8_t cells[PILGONCA_CELL_BYTES],
+    uint8_t places[PILGONCA_PLACE_BYTES],
+    uint8_t calls[PILGONCA_CALL_BYTES],
+    size_t counts[PILGONCA_STATE_COUNTS],
+    int64_t subject,
+    int64_t call,
+    size_t given,
+    int64_t value,
+    int64_t values[PILGONCA_VALUES]);
+
+/* Offers (E11): 1 or 0, whether the cell offers the chain of methods, each called on what the one before answered. 2: so it is also the check of a state handed in. */
+size_t pilgonca_offers(
+    const uint8_t types[PILGONCA_TYPE_BYTES],
+    const uint8_t links[PILGONCA_LINK_BYTES],
+    const uint8_t cells[PILGONCA_CELL_BYTES],
+    const uint8_t places[PILGONCA_PLACE_BYTES],
+    const uint8_t calls[PILGONCA_CALL_BYTES],
+    const size_t counts[PILGONCA_STATE_COUNTS],
+    int64_t cell,
+    const int64_t *chain,
+    size_t chain_len,
+    size_t *offered);
+
+/* A run (U): requests as words (code 0 new, 1 move, 2 call, 3 answer; how many operands; those), and four numbers for each that is served. The state is checked once. 2. */
+size_t pilgonca_run(
+    uint8_t types[PILGONCA_TYPE_BYTES],
+    const uint8_t links[PILGONCA_LINK_BYTES],
+    uint8_t cells[PILGONCA_CELL_BYTES],
+    uint8_t places[PILGONCA_PLACE_BYTES],
+    uint8_t calls[PILGONCA_CALL_BYTES],
+    size_t counts[PILGONCA_STATE_COUNTS],
+    const int64_t *words,
+    size_t words_len,
+    int64_t *answers,
+    size_t answers_len,
+    size_t *served);
+
+/* ---- a script ---- */
+
+/* What the program script prints for an input (P19): the output in front of the buffer, and its length. 4. */
+size_t pilgonca_script(
+    const uint8_t *input,
+    size_t input_len,
+    uint8_t *buffer,
+    size_t buffer_len,
+    size_t *length);
+
+#ifdef __cplusplus
+}
+#endif
+
+#endif

@@ -1,0 +1,218 @@
+//! The records of a table or a state, told in Rust's types. They are read from bytes that the core has accepted, so every code names something (H2).
+
+use crate::numbers::{Call, Cell, Method, Place, Subject, Type};
+use crate::raw::{CALL_RECORD, CELL_RECORD, PLACE_RECORD, TYPE_RECORD};
+
+/// What values of a type are (T8).
+#[derive(Clone, Copy, PartialEq, Eq, Debug)]
+pub enum Representation {
+    Ref,
+    W32,
+    W64,
+}
+
+/// How a type was derived (T17).
+#[derive(Clone, Copy, PartialEq, Eq, Debug)]
+pub enum Kind {
+    Sub,
+    Sup,
+    Closed,
+}
+
+/// What a type was derived by.
+#[derive(Clone, Copy, PartialEq, Eq, Debug)]
+pub struct Key {
+    pub kind: Kind,
+    pub left: Type,
+    pub right: Type,
+}
+
+/// The types of a method's arguments, and of its answer if it has one.
+#[derive(Clone, PartialEq, Eq, Debug)]
+pub struct Signature {
+    pub arguments: Vec<Type>,
+    pub answer: Option<Type>,
+}
+
+/// What a type says of a method (T10, T12).
+#[derive(Clone, PartialEq, Eq, Debug)]
+pub enum MethodInfo {
+    Denied,
+    Unavail,
+    Optional(Signature),
+    Avail(Signature),
+}
+
+/// A type: of the sheet, or derived, and then it has a key. A number type has no methods.
+#[derive(Clone, PartialEq, Eq, Debug)]
+pub struct TypeInfo {
+    pub number: Type,
+    pub representation: Representation,
+    pub category: usize,
+    pub own: bool,
+    pub methods: Vec<MethodInfo>,
+    pub key: Option<Key>,
+}
+
+impl TypeInfo {
+    /// Whether everything about it is settled (T16): objects can be made of such a type of the sheet.
+    ///
+    /// ```
+    /// use pilgonca::{Sheet, Type, EXAMPLE};
+    /// let sheet = Sheet::read(EXAMPLE).unwrap();
+    /// let classes: Vec<Type> = sheet.types().filter(|one| one.is_class()).map(|one| one.number).collect();
+    /// assert_eq!(classes, [Type(1)]);
+    /// ```
+    pub fn is_class(&self) -> bool {
+        let settled =
+            |method: &MethodInfo| matches!(method, MethodInfo::Avail(_) | MethodInfo::Unavail);
+        self.representation == Representation::Ref && !self.own && self.methods.iter().all(settled)
+    }
+}
+
+/// A cell: who holds it, by which type, and to which place it leads (Q4).
+#[derive(Clone, Copy, PartialEq, Eq, Debug)]
+pub struct CellInfo {
+    pub number: Cell,
+    pub holder: Subject,
+    pub type_: Type,
+    pub place: Place,
+}
+
+/// What stands at a place (Q1).
+#[derive(Clone, Copy, PartialEq, Eq, Debug)]
+pub enum PlaceKind {
+    Object { class: Type, owner: Subject },
+    Adapter { behind: Place, closed: Type },
+}
+
+/// A place.
+#[derive(Clone, Copy, PartialEq, Eq, Debug)]
+pub struct PlaceInfo {
+    pub number: Place,
+    pub kind: PlaceKind,
+}
+
+/// A call (Q5).
+#[derive(Clone, Copy, PartialEq, Eq, Debug)]
+pub struct CallInfo {
+    pub number: Call,
+    pub caller: Subject,
+    pub cell: Cell,
+    pub method: Method,
+    pub answered: bool,
+}
+
+/// Where in a type's record its methods begin, and the bytes of each (B7).
+const METHODS_AT: usize = 16;
+const METHOD_RECORD: usize = 7;
+
+/// The record with this index.
+fn record<const LENGTH: usize>(bytes: &[u8], index: usize) -> [u8; LENGTH] {
+    let at = index * LENGTH;
+    bytes[at..at + LENGTH].try_into().expect("as long as asked")
+}
+
+/// The number of a record: of none there are more than 256.
+fn numbered<Number: From<u8>>(index: usize) -> Number {
+    Number::from(u8::try_from(index).expect("an index below 256"))
+}
+
+/// The type with this index (B1 to B10) in a table of so many methods and sheet types.
+pub(crate) fn type_info(
+    types: &[u8],
+    methods: usize,
+    sheet_types: usize,
+    index: usize,
+) -> TypeInfo {
+    let bytes: [u8; TYPE_RECORD] = record(types, index);
+    let representation = match bytes[0] {
+        0 => Representation::Ref,
+        1 => Representation::W32,
+        _ => Representation::W64,
+    };
+    let is_ref = representation == Representation::Ref;
+    let methods = if is_ref { methods } else { 0 };
+    TypeInfo {
+        number: numbered(index),
+        representation,
+        category: usize::from(bytes[1]),
+        own: is_ref && bytes[2] == 1,
+        methods: (0..methods)
+            .map(|method| method_info(record(&bytes[METHODS_AT..], method)))
+            .collect(),
+        key: (index >= sheet_types).then(|| key([bytes[3], bytes[4], bytes[5]])),
+    }
+}
+
+fn key([kind, left, right]: [u8; 3]) -> Key {
+    let kind = match kind {
+        0 => Kind::Sub,
+        1 => Kind::Sup,
+        _ => Kind::Closed,
+    };
+    Key {
+        kind,
+        left: Type::from(left),
+        right: Type::from(right),
+    }
+}
+
+fn method_info([state, arguments, slots @ .., answer]: [u8; METHOD_RECORD]) -> MethodInfo {
+    let signature = || Signature {
+        arguments: slots
+            .iter()
+            .take(usize::from(arguments))
+            .map(|slot| Type::from(*slot))
+            .collect(),
+        answer: answer.checked_sub(1).map(Type::from),
+    };
+    match state {
+        0 => MethodInfo::Denied,
+        1 => MethodInfo::Optional(signature()),
+        2 => MethodInfo::Avail(signature()),
+        _ => MethodInfo::Unavail,
+    }
+}
+
+/// The cell with this index (B26).
+pub(crate) fn cell_info(cells: &[u8], index: usize) -> CellInfo {
+    let [holder, type_, place]: [u8; CELL_RECORD] = record(cells, index);
+    CellInfo {
+        number: numbered(index),
+        holder: Subject::from(holder),
+        type_: Type::from(type_),
+        place: Place::from(place),
+    }
+}
+
+/// The place with this index (B27).
+pub(crate) fn place_info(places: &[u8], index: usize) -> PlaceInfo {
+    let [code, first, second]: [u8; PLACE_RECORD] = record(places, index);
+    let kind = match code {
+        0 => PlaceKind::Object {
+            class: Type::from(first),
+            owner: Subject::from(second),
+        },
+        _ => PlaceKind::Adapter {
+            behind: Place::from(first),
+            closed: Type::from(second),
+        },
+    };
+    PlaceInfo {
+        number: numbered(index),
+        kind,
+    }
+}
+
+/// The call with this index (B28).
+pub(crate) fn call_info(calls: &[u8], index: usize) -> CallInfo {
+    let [caller, cell, method, answered]: [u8; CALL_RECORD] = record(calls, index);
+    CallInfo {
+        number: numbered(index),
+        caller: Subject::from(caller),
+        cell: Cell::from(cell),
+        method: Method::from(method),
+        answered: answered == 1,
+    }
+}

@@ -1,0 +1,324 @@
+//! A state, and the requests that are put to it.
+
+use crate::numbers::{Call, Cell, Method, Place, Subject, Type, below};
+use crate::raw::{self, State, StateMut, Table, Values};
+use crate::records::{
+    CallInfo, CellInfo, PlaceInfo, PlaceKind, TypeInfo, call_info, cell_info, place_info, type_info,
+};
+use crate::refusal::{Refusal, SheetRefused};
+use crate::sheet::Sheet;
+use std::fmt;
+
+/// A state: a table with the cells, places and calls made since it was loaded. A request that is refused changes nothing of it (Q14).
+#[derive(Clone)]
+pub struct Visit {
+    state: Box<State>,
+}
+
+/// A reference that was made: its cell, and the place that it leads to.
+#[derive(Clone, Copy, PartialEq, Eq, Debug)]
+pub struct Held {
+    pub cell: Cell,
+    pub place: Place,
+}
+
+impl Held {
+    fn of([_, cell, place]: Values) -> Held {
+        Held {
+            cell: Cell(cell),
+            place: Place(place),
+        }
+    }
+}
+
+/// A call that was made, and how many adapters it goes through.
+#[derive(Clone, Copy, PartialEq, Eq, Debug)]
+pub struct Called {
+    pub call: Call,
+    pub adapters: usize,
+}
+
+/// What a caller gets for an answer.
+#[derive(Clone, Copy, PartialEq, Eq, Debug)]
+pub enum Answered {
+    Reference(Held),
+    Number(i64),
+    Nothing,
+}
+
+impl Visit {
+    /// The state of a sheet's text (Q10).
+    ///
+    /// ```
+    /// use pilgonca::{Visit, EXAMPLE};
+    /// assert_eq!(Visit::load(EXAMPLE).unwrap().cells().count(), 0);
+    /// assert_eq!(Visit::load(b"").unwrap_err().number(), 1);
+    /// ```
+    pub fn load(text: &[u8]) -> Result<Visit, SheetRefused> {
+        let (mut state, mut offset) = (Box::<State>::default(), 0);
+        let code = raw::load(text, state.lend_mut(), &mut offset);
+        Refusal::check(code).map_err(|refusal| SheetRefused { refusal, offset })?;
+        Ok(Visit { state })
+    }
+
+    /// A state that was kept as bytes: refused with [`Refusal::OutOfRange`] where it does not pass the check of H.
+    ///
+    /// ```
+    /// use pilgonca::{Subject, Refusal, Type, Visit, EXAMPLE};
+    /// let mut visit = Visit::load(EXAMPLE).unwrap();
+    /// visit.new_object(Subject(0), Type(1), Type(4)).unwrap();
+    /// let mut kept = visit.state().clone();
+    /// assert_eq!(Visit::from_state(kept.clone()).unwrap().cells().count(), 1);
+    /// kept.cells[0] = 9;
+    /// assert_eq!(Visit::from_state(kept).unwrap_err(), Refusal::OutOfRange);
+    /// ```
+    pub fn from_state(state: State) -> Result<Visit, Refusal> {
+        let visit = Visit {
+            state: Box::new(state),
+        };
+        // asked of any cell, the answer begins with the check (E11)
+        visit.offers(Cell(0), &[])?;
+        Ok(visit)
+    }
+
+    /// The bytes of the state, to be kept.
+    ///
+    /// ```
+    /// use pilgonca::{Visit, EXAMPLE};
+    /// assert_eq!(Visit::load(EXAMPLE).unwrap().state().counts, [2, 2, 0, 6, 6, 0, 0, 0]);
+    /// ```
+    pub fn state(&self) -> &State {
+        &self.state
+    }
+
+    /// Puts a request to the state, and gives its values.
+    fn request(
+        &mut self,
+        ask: impl FnOnce(StateMut, &mut Values) -> usize,
+    ) -> Result<Values, Refusal> {
+        let mut values = [0; 3];
+        Refusal::check(ask(self.state.lend_mut(), &mut values))?;
+        Ok(values)
+    }
+
+    /// The subject makes an object of the class, which it owns, and holds it as the type (N).
+    ///
+    /// ```
+    /// use pilgonca::{Refusal, Subject, Type, Visit, EXAMPLE};
+    /// let mut visit = Visit::load(EXAMPLE).unwrap();
+    /// let held = visit.new_object(Subject(0), Type(1), Type(4)).unwrap();
+    /// assert_eq!((held.cell.0, held.place.0), (0, 0));
+    /// assert_eq!(visit.new_object(Subject(0), Type(2), Type(2)), Err(Refusal::UnknownType));
+    /// ```
+    pub fn new_object(&mut self, subject: Subject, class: Type, to: Type) -> Result<Held, Refusal> {
+        self.request(|state, values| raw::new_object(state, subject.0, class.0, to.0, values))
+            .map(Held::of)
+    }
+
+    /// The subject hands what its cell leads to on to the receiver, as the type (M); it keeps its own cell.
+    ///
+    /// ```
+    /// use pilgonca::{Place, Refusal, Subject, Type, Visit, EXAMPLE};
+    /// let mut visit = Visit::load(EXAMPLE).unwrap();
+    /// let held = visit.new_object(Subject(0), Type(1), Type(4)).unwrap();
+    /// let lent = visit.move_reference(Subject(0), held.cell, Subject(1), Type(2)).unwrap();
+    /// assert_eq!(lent.place, held.place);
+    /// let adapted = visit.move_reference(Subject(1), lent.cell, Subject(1), Type(3)).unwrap();
+    /// assert_eq!(adapted.place, Place(1));
+    /// let refused = visit.move_reference(Subject(1), adapted.cell, Subject(1), Type(4));
+    /// assert_eq!(refused, Err(Refusal::NotOwner));
+    /// ```
+    pub fn move_reference(
+        &mut self,
+        subject: Subject,
+        cell: Cell,
+        receiver: Subject,
+        to: Type,
+    ) -> Result<Held, Refusal> {
+        let ask = |state: StateMut, values: &mut Values| {
+            raw::move_reference(state, subject.0, cell.0, receiver.0, to.0, values)
+        };
+        self.request(ask).map(Held::of)
+    }
+
+    /// The subject calls the method through its cell (C). Where the signature has a reference, the argument is the number of a cell that the subject holds.
+    ///
+    /// ```
+    /// use pilgonca::{Call, Method, Subject, Type, Visit, EXAMPLE};
+    /// let mut visit = Visit::load(EXAMPLE).unwrap();
+    /// let held = visit.new_object(Subject(0), Type(1), Type(1)).unwrap();
+    /// let called = visit.call(Subject(0), held.cell, Method(1), &[5]).unwrap();
+    /// assert_eq!((called.call, called.adapters), (Call(0), 0));
+    /// ```
+    pub fn call(
+        &mut self,
+        subject: Subject,
+        cell: Cell,
+        method: Method,
+        arguments: &[i64],
+    ) -> Result<Called, Refusal> {
+        let ask = |state: StateMut, values: &mut Values| {
+            raw::call(state, subject.0, cell.0, method.0, arguments, values)
+        };
+        let [_, call, adapters] = self.request(ask)?;
+        Ok(Called {
+            call: Call(call),
+            adapters: usize::try_from(adapters).expect("adapters are counted from 0"),
+        })
+    }
+
+    /// The owner of what was called answers (A): the number, the number of a cell that it holds, or nothing, as the signature asks.
+    ///
+    /// ```
+    /// use pilgonca::{Answered, Method, Refusal, Subject, Type, Visit, EXAMPLE};
+    /// let mut visit = Visit::load(EXAMPLE).unwrap();
+    /// let held = visit.new_object(Subject(0), Type(1), Type(1)).unwrap();
+    /// let read = visit.call(Subject(0), held.cell, Method(0), &[]).unwrap().call;
+    /// assert_eq!(visit.answer(Subject(0), read, Some(12)), Ok(Answered::Number(12)));
+    /// assert_eq!(visit.answer(Subject(0), read, Some(12)), Err(Refusal::AnsweredAlready));
+    /// let mark = visit.call(Subject(0), held.cell, Method(1), &[5]).unwrap().call;
+    /// assert_eq!(visit.answer(Subject(0), mark, None), Ok(Answered::Nothing));
+    /// ```
+    pub fn answer(
+        &mut self,
+        subject: Subject,
+        call: Call,
+        value: Option<i64>,
+    ) -> Result<Answered, Refusal> {
+        let given = usize::from(value.is_some());
+        let value = value.unwrap_or(0);
+        let ask = |state: StateMut, values: &mut Values| {
+            raw::answer(state, subject.0, call.0, given, value, values)
+        };
+        let values = self.request(ask)?;
+        Ok(match values[0] {
+            0 => Answered::Nothing,
+            1 => Answered::Number(values[1]),
+            _ => Answered::Reference(Held::of(values)),
+        })
+    }
+
+    /// Whether a cell offers a chain of methods, each called on what the one before answered (L18). A number that names no cell offers none.
+    ///
+    /// ```
+    /// use pilgonca::{Method, Subject, Type, Visit, EXAMPLE};
+    /// let mut visit = Visit::load(EXAMPLE).unwrap();
+    /// let held = visit.new_object(Subject(0), Type(1), Type(2)).unwrap();
+    /// assert_eq!(visit.offers(held.cell, &[Method(0)]), Ok(true));
+    /// assert_eq!(visit.offers(held.cell, &[Method(1)]), Ok(false));
+    /// ```
+    pub fn offers(&self, cell: Cell, chain: &[Method]) -> Result<bool, Refusal> {
+        let chain: Vec<i64> = chain.iter().map(|method| method.0).collect();
+        let mut offered = 0;
+        let code = raw::offers(self.state.lend(), cell.0, &chain, &mut offered);
+        Refusal::check(code)?;
+        Ok(offered == 1)
+    }
+
+    /// The table as it stands, derived types included.
+    ///
+    /// ```
+    /// use pilgonca::{Visit, EXAMPLE};
+    /// assert_eq!(Visit::load(EXAMPLE).unwrap().sheet().write(), EXAMPLE);
+    /// ```
+    pub fn sheet(&self) -> Sheet {
+        let [subjects, methods, categories, sheet_types, types, ..] = self.state.counts;
+        let table = Table {
+            types: self.state.types,
+            links: self.state.links,
+            counts: [subjects, methods, categories, sheet_types, types],
+        };
+        Sheet {
+            table: Box::new(table),
+        }
+    }
+
+    /// All cells.
+    ///
+    /// ```
+    /// use pilgonca::{Subject, Type, Visit, EXAMPLE};
+    /// let mut visit = Visit::load(EXAMPLE).unwrap();
+    /// let held = visit.new_object(Subject(1), Type(1), Type(2)).unwrap();
+    /// let cell = visit.cells().next().unwrap();
+    /// assert_eq!((cell.number, cell.place), (held.cell, held.place));
+    /// assert_eq!((cell.holder, cell.type_), (Subject(1), Type(2)));
+    /// ```
+    pub fn cells(&self) -> impl Iterator<Item = CellInfo> {
+        (0..self.state.counts[5]).map(|index| cell_info(&self.state.cells, index))
+    }
+
+    /// All places.
+    ///
+    /// ```
+    /// use pilgonca::{PlaceKind, Subject, Type, Visit, EXAMPLE};
+    /// let mut visit = Visit::load(EXAMPLE).unwrap();
+    /// visit.new_object(Subject(1), Type(1), Type(2)).unwrap();
+    /// let kind = PlaceKind::Object { class: Type(1), owner: Subject(1) };
+    /// assert_eq!(visit.places().next().unwrap().kind, kind);
+    /// ```
+    pub fn places(&self) -> impl Iterator<Item = PlaceInfo> {
+        (0..self.state.counts[6]).map(|index| place_info(&self.state.places, index))
+    }
+
+    /// All calls.
+    ///
+    /// ```
+    /// use pilgonca::{Method, Subject, Type, Visit, EXAMPLE};
+    /// let mut visit = Visit::load(EXAMPLE).unwrap();
+    /// let held = visit.new_object(Subject(1), Type(1), Type(2)).unwrap();
+    /// visit.call(Subject(1), held.cell, Method(0), &[]).unwrap();
+    /// let call = visit.calls().next().unwrap();
+    /// assert_eq!((call.caller, call.cell, call.method), (Subject(1), held.cell, Method(0)));
+    /// assert!(!call.answered);
+    /// ```
+    pub fn calls(&self) -> impl Iterator<Item = CallInfo> {
+        (0..self.state.counts[7]).map(|index| call_info(&self.state.calls, index))
+    }
+
+    /// All types: those of the sheet, then the derived ones.
+    ///
+    /// ```
+    /// use pilgonca::{Kind, Subject, Type, Visit, EXAMPLE};
+    /// let mut visit = Visit::load(EXAMPLE).unwrap();
+    /// let held = visit.new_object(Subject(0), Type(1), Type(2)).unwrap();
+    /// visit.move_reference(Subject(0), held.cell, Subject(1), Type(3)).unwrap();
+    /// let derived: Vec<Kind> = visit.types().filter_map(|one| one.key).map(|key| key.kind).collect();
+    /// assert_eq!(derived, [Kind::Sub, Kind::Closed]);
+    /// ```
+    pub fn types(&self) -> impl Iterator<Item = TypeInfo> {
+        let [_, methods, _, sheet_types, types, ..] = self.state.counts;
+        (0..types).map(move |index| type_info(&self.state.types, methods, sheet_types, index))
+    }
+
+    /// The object behind every adapter of a place (Q2); none where the number names no place.
+    ///
+    /// ```
+    /// use pilgonca::{Place, Subject, Type, Visit, EXAMPLE};
+    /// let mut visit = Visit::load(EXAMPLE).unwrap();
+    /// let held = visit.new_object(Subject(0), Type(1), Type(2)).unwrap();
+    /// let adapted = visit.move_reference(Subject(0), held.cell, Subject(1), Type(3)).unwrap();
+    /// assert_eq!(adapted.place, Place(1));
+    /// assert_eq!(visit.base_of(adapted.place), Some(Place(0)));
+    /// assert_eq!(visit.base_of(Place(2)), None);
+    /// ```
+    pub fn base_of(&self, place: Place) -> Option<Place> {
+        let mut place = place;
+        loop {
+            let index = below(place.0, self.state.counts[6])?;
+            match place_info(&self.state.places, index).kind {
+                PlaceKind::Object { .. } => return Some(place),
+                // which has a lower number
+                PlaceKind::Adapter { behind, .. } => place = behind,
+            }
+        }
+    }
+}
+
+impl fmt::Debug for Visit {
+    fn fmt(&self, out: &mut fmt::Formatter) -> fmt::Result {
+        let counts = &self.state.counts;
+        out.debug_struct("Visit")
+            .field("counts", counts)
+            .finish_non_exhaustive()
+    }
+}

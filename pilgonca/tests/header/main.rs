@@ -1,0 +1,188 @@
+//! include/pilgonca.h and the declarations of the crate say what the Rattle source says: names, parameters in order, widths, constness, lengths of arrays, numbers.
+
+mod declarations;
+
+use declarations::{Functions, Header, Passed, between, rust_functions};
+use pilgonca::Refusal;
+use pilgonca::raw;
+use std::path::{Path, PathBuf};
+
+fn root() -> PathBuf {
+    Path::new(env!("CARGO_MANIFEST_DIR")).join("..")
+}
+
+fn read(path: &Path) -> String {
+    std::fs::read_to_string(path).unwrap_or_else(|error| panic!("{}: {error}", path.display()))
+}
+
+fn header() -> Header {
+    Header::of(&read(&root().join("include/pilgonca.h")))
+}
+
+/// The Rattle source of a crate, all files of it.
+fn source(name: &str) -> String {
+    let folder = root().join("crates").join(name).join("src");
+    let files = std::fs::read_dir(&folder).unwrap_or_else(|error| panic!("{name}: {error}"));
+    let paths = files.map(|entry| entry.expect("an entry").path());
+    let rattle = paths.filter(|path| path.extension().is_some_and(|end| end == "rt"));
+    rattle.map(|path| read(&path)).collect()
+}
+
+/// The value of a constant of a crate.
+fn constant(name: &str, constant: &str) -> usize {
+    let source = source(name);
+    let found = between(&source, &format!("pub const {constant}: usize = "), ";");
+    let (value, _) = found.unwrap_or_else(|| panic!("{name} has no {constant}"));
+    value.parse().expect("a number")
+}
+
+/// The crates of C functions: those of crates.txt that build.rs links.
+fn exporting() -> Vec<String> {
+    let files = env!("PILGONCA_LIBRARIES").split(':').map(Path::new);
+    let stems = files.map(|file| file.file_stem().expect("a name").to_string_lossy());
+    let names = stems.map(|stem| stem.strip_prefix("lib").expect("lib").to_string());
+    names.collect()
+}
+
+/// Every C function of the Rattle source.
+fn exported() -> Functions {
+    let mut functions = Functions::new();
+    for name in exporting() {
+        let source = source(&name);
+        // a length is a number, or a constant of the crate that is used for it
+        let length = |word: &str| {
+            word.parse().unwrap_or_else(|_| {
+                let ending = format!("::{word};");
+                let mut lines = source.lines().filter_map(|line| line.strip_prefix("use "));
+                let from = lines.find_map(|line| line.strip_suffix(&ending));
+                constant(from.unwrap_or_else(|| panic!("{word} in {name}")), word)
+            })
+        };
+        let mark = "#[no_mangle]\npub extern \"C\" fn ";
+        let found = rust_functions(&source, mark, &length, &|_| None);
+        assert!(!found.is_empty(), "{name} exports nothing");
+        for word in ["extern \"C\"", "#[no_mangle]"] {
+            assert_eq!(source.matches(word).count(), found.len(), "{name}: {word}");
+        }
+        for (function, declared) in found {
+            let known = functions.insert(function.clone(), declared);
+            assert!(known.is_none(), "{function} is exported twice");
+        }
+    }
+    functions
+}
+
+/// The functions that the crate declares.
+fn declared() -> Functions {
+    let text = include_str!("../../src/raw/functions.rs");
+    let (block, behind) = between(text, "extern \"C\" {", "\n}\n").expect("the declarations");
+    assert!(!behind.contains("extern"), "declarations elsewhere");
+    let arrays = |name: &str| match name {
+        "Types" => Some(("u8", size_of::<raw::Types>())),
+        "Links" => Some(("u8", size_of::<raw::Links>())),
+        "Cells" => Some(("u8", size_of::<raw::Cells>())),
+        "Places" => Some(("u8", size_of::<raw::Places>())),
+        "Calls" => Some(("u8", size_of::<raw::Calls>())),
+        "PairTable" => Some(("u8", size_of::<raw::PairTable>())),
+        "TableCounts" => Some(("usize", size_of::<raw::TableCounts>() / size_of::<usize>())),
+        "StateCounts" => Some(("usize", size_of::<raw::StateCounts>() / size_of::<usize>())),
+        "Values" => Some(("i64", size_of::<raw::Values>() / size_of::<i64>())),
+        _ => None,
+    };
+    rust_functions(block, "fn ", &|word| panic!("{word}"), &arrays)
+}
+
+fn same(theirs: &Functions, exported: &Functions, whose: &str) {
+    for (name, function) in exported {
+        assert_eq!(theirs.get(name), Some(function), "{whose}: {name}");
+    }
+    let names = |functions: &Functions| functions.keys().cloned().collect::<Vec<_>>();
+    assert_eq!(names(theirs), names(exported), "{whose}");
+}
+
+#[test]
+fn every_function_is_declared_as_it_is() {
+    let exported = exported();
+    println!("{} functions", exported.len());
+    same(&header().functions(), &exported, "the header");
+    same(&declared(), &exported, "the crate");
+}
+
+/// The numbers of the header by the crate that has each, and those of this crate.
+#[test]
+fn every_number_is_the_sources() {
+    let sources = [
+        ("table", "SUBJECTS", raw::MAX_SUBJECTS),
+        ("table", "METHODS", raw::MAX_METHODS),
+        ("table", "CATEGORIES", raw::MAX_CATEGORIES),
+        ("table", "SHEET_TYPES", raw::MAX_SHEET_TYPES),
+        ("table", "TYPES", raw::MAX_TYPES),
+        ("state", "CELLS", raw::MAX_CELLS),
+        ("state", "PLACES", raw::MAX_PLACES),
+        ("state", "CALLS", raw::MAX_CALLS),
+        ("table", "TYPE_BYTES", size_of::<raw::Types>()),
+        ("table", "LINK_BYTES", size_of::<raw::Links>()),
+        ("flat", "CELL_BYTES", size_of::<raw::Cells>()),
+        ("flat", "PLACE_BYTES", size_of::<raw::Places>()),
+        ("flat", "CALL_BYTES", size_of::<raw::Calls>()),
+        ("compare", "PAIR_BYTES", size_of::<raw::PairTable>()),
+        ("scripttext", "INPUT_BYTES", raw::MAX_SCRIPT),
+        (
+            "scripttext",
+            "PRINTED_BYTES",
+            raw::MAX_SCRIPT + raw::SCRIPT_LONGER,
+        ),
+    ];
+    let mut numbers = header().numbers;
+    for (name, word, ours) in sources {
+        let found = numbers.remove(&format!("PILGONCA_{word}"));
+        assert_eq!(found, Some(constant(name, word)), "{word}");
+        assert_eq!(found, Some(ours), "{word}");
+    }
+    let words = numbers.remove("PILGONCA_ANSWER_WORDS");
+    assert_eq!(words, Some(constant("run", "WORDS")));
+    // the rest are lengths of arrays, which are held against the functions
+    let lengths = ["STATE_COUNTS", "TABLE_COUNTS", "VALUES"].map(|word| format!("PILGONCA_{word}"));
+    assert_eq!(numbers.into_keys().collect::<Vec<_>>(), lengths);
+}
+
+#[test]
+fn the_structs_have_the_arrays() {
+    let header = header();
+    let functions = header.functions();
+    for (name, function) in [
+        ("pilgonca_table", "pilgonca_compare"),
+        ("pilgonca_state", "pilgonca_offers"),
+    ] {
+        let members = header.members(name);
+        let mut arrays = functions[function].parameters[..members.len()].to_vec();
+        for (_, passed) in &mut arrays {
+            if let Passed::Pointer { stored, .. } = passed {
+                *stored = true;
+            }
+        }
+        assert_eq!(members, arrays, "{name}");
+        let behind = &functions[function].parameters[members.len()].1;
+        assert!(matches!(behind, Passed::Number(_)), "{name}: {behind:?}");
+    }
+}
+
+/// `NotHeld` as `PILGONCA_NOT_HELD`.
+fn in_capitals(refusal: Refusal) -> String {
+    let mut name = String::from("PILGONCA");
+    for letter in format!("{refusal:?}").chars() {
+        if letter.is_uppercase() {
+            name.push('_');
+        }
+        name.push(letter.to_ascii_uppercase());
+    }
+    name
+}
+
+#[test]
+fn the_refusals_are_the_crates() {
+    let refusals = Refusal::ALL.map(|one| (in_capitals(one), usize::from(one.number())));
+    let named = [("PILGONCA_OK".to_string(), 0)].into_iter().chain(refusals);
+    let named: Vec<(String, usize)> = named.collect();
+    assert_eq!(header().constants("pilgonca_refusal"), named);
+}

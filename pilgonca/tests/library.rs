@@ -1,0 +1,167 @@
+//! What the doc tests have no room for: the guide's sheet, the longest text, full states, references as answers, bytes that were kept.
+
+use pilgonca::{
+    Answered, Call, Cell, EXAMPLE, Method, MethodInfo, PlaceKind, Refusal, Sheet, Subject, Type,
+    Visit, raw,
+};
+use std::error::Error;
+use std::fmt::Write;
+
+const DESK: Subject = Subject(0);
+
+/// The example is the first sheet of the guide.
+#[test]
+fn the_example_is_the_guides() {
+    let guide = include_str!("../../docs/GUIDE.md");
+    let (_, behind) = guide.split_once("```sheet\n").expect("a sheet");
+    let (sheet, _) = behind.split_once("```\n").expect("its end");
+    assert_eq!(sheet.as_bytes(), EXAMPLE);
+}
+
+/// What the guide says of memory.
+#[test]
+fn the_guide_has_the_sizes() {
+    let guide = include_str!("../../docs/GUIDE.md");
+    assert_eq!(size_of::<raw::State>(), 18_720);
+    assert_eq!(size_of::<raw::Table>(), 16_520);
+    assert!(guide.contains("| 18,720:") && guide.contains("| 16,520 |"));
+}
+
+/// A sheet with every limit reached and the longest lines that there can be.
+fn longest() -> String {
+    let mut text = String::from("guide=1\nsubjects=16\nmethods=16\ncats=31\n");
+    for category in 1..=31 {
+        let broader: i32 = category - 1;
+        writeln!(text, "under={},{broader}", broader.max(1) - 1).expect("a string");
+    }
+    text.push_str("types=48\n");
+    for number in 0..48 {
+        let method = "m=optional(46,46)46\n".repeat(16);
+        let own = if number == 46 { "no" } else { "yes" };
+        write!(text, "type={number}\nrep=ref\ncat=31\nown={own}\n{method}").expect("a string");
+    }
+    text + "end=sheet\n"
+}
+
+#[test]
+fn the_longest_text_is_written() {
+    let text = longest();
+    let sheet = Sheet::read(text.as_bytes()).expect("a sheet");
+    assert!(sheet.write() == text.as_bytes());
+    // what the bound counts too much: numbers of one digit (of 10 types, of 11 first and 10 second broader categories), and a byte of own=no
+    assert_eq!(text.len() + 10 + 11 + 10 + 1, raw::MAX_TEXT);
+    assert_eq!((sheet.subjects(), sheet.methods()), (16, 16));
+    assert_eq!((sheet.categories(), sheet.sheet_types()), (31, 48));
+    assert_eq!(sheet.broader(31), [29, 30]);
+    assert_eq!(sheet.types().count(), 48);
+    let last = sheet.types().last().expect("a type");
+    assert!((last.number, last.category, last.own) == (Type(47), 31, true));
+    assert!(matches!(&last.methods[15], MethodInfo::Optional(s) if s.arguments.len() == 2));
+}
+
+/// Requests until they are refused; the last refusal.
+fn until_refused<Got>(mut request: impl FnMut() -> Result<Got, Refusal>) -> (usize, Refusal) {
+    let mut accepted = 0;
+    loop {
+        match request() {
+            Ok(_) => accepted += 1,
+            Err(refusal) => return (accepted, refusal),
+        }
+    }
+}
+
+#[test]
+fn a_full_state_is_told_to_its_end() {
+    let mut visit = Visit::load(EXAMPLE).expect("a sheet");
+    let made = until_refused(|| visit.new_object(DESK, Type(1), Type(1)));
+    assert_eq!(made, (128, Refusal::PlacesFull));
+    let moved = until_refused(|| visit.move_reference(DESK, Cell(127), Subject(1), Type(2)));
+    assert_eq!(moved, (128, Refusal::CellsFull));
+    let called = until_refused(|| visit.call(Subject(1), Cell(255), Method(0), &[]));
+    assert_eq!(called, (256, Refusal::CallsFull));
+    visit.answer(DESK, Call(255), Some(-7)).expect("answered");
+
+    let cell = visit.cells().last().expect("a cell");
+    assert_eq!((cell.number, cell.holder), (Cell(255), Subject(1)));
+    assert_eq!((cell.type_, cell.place.0), (Type(2), 127));
+    let place = visit.places().last().expect("a place");
+    let (class, owner) = (Type(1), DESK);
+    assert_eq!(place.kind, PlaceKind::Object { class, owner });
+    assert_eq!(visit.base_of(place.number), Some(place.number));
+    let call = visit.calls().last().expect("a call");
+    assert_eq!((call.number, call.cell), (Call(255), Cell(255)));
+    let answered = visit.calls().filter(|call| call.answered).count();
+    assert!(call.answered && answered == 1);
+}
+
+/// Method 0 answers with a reference of type 1, which passes as it is.
+const GIVER: &[u8] =
+    b"guide=1\nsubjects=2\nmethods=1\ncats=0\ntypes=1\ntype=0\nrep=ref\ncat=0\nown=no\nm=avail()0\nend=sheet\n";
+
+#[test]
+fn an_answer_may_be_a_reference() {
+    let mut visit = Visit::load(GIVER).expect("a sheet");
+    let held = visit.new_object(DESK, Type(0), Type(0)).expect("made");
+    let lent = visit.move_reference(DESK, held.cell, Subject(1), Type(0));
+    let called = visit.call(Subject(1), lent.expect("lent").cell, Method(0), &[]);
+    let answered = visit.answer(DESK, called.expect("called").call, Some(held.cell.0));
+    let Ok(Answered::Reference(got)) = answered else {
+        panic!("{answered:?}")
+    };
+    assert_eq!((got.cell, got.place), (Cell(2), held.place));
+    assert_eq!(visit.offers(got.cell, &[Method(0); 9]), Ok(true));
+    assert_eq!(visit.offers(Cell(-1), &[]), Ok(false));
+}
+
+/// A request that is refused leaves every byte; one on a state that is unsound is refused.
+#[test]
+fn kept_bytes_come_back() {
+    let mut visit = Visit::load(EXAMPLE).expect("a sheet");
+    visit.new_object(DESK, Type(1), Type(2)).expect("made");
+    let before = visit.state().clone();
+    let refused = visit.move_reference(DESK, Cell(0), Subject(1), Type(5));
+    assert_eq!(refused, Err(Refusal::Unrelated));
+    assert!(*visit.state() == before);
+    visit
+        .move_reference(DESK, Cell(0), Subject(1), Type(3))
+        .expect("adapted");
+
+    let mut again = Visit::from_state(visit.state().clone()).expect("sound");
+    assert_eq!(again.sheet().types().count(), 8);
+    assert!(again.sheet().compare(Type(7), Type(6)).is_ok());
+    let closed = again.places().last().expect("an adapter").kind;
+    assert!(matches!(closed, PlaceKind::Adapter { closed, .. } if closed == Type(7)));
+    assert_eq!(
+        again.move_reference(Subject(1), Cell(1), DESK, Type(5)),
+        Err(Refusal::NotStrict)
+    );
+
+    let mut damaged = visit.state().clone();
+    damaged.counts[5] = usize::MAX;
+    assert_eq!(Visit::from_state(damaged).err(), Some(Refusal::OutOfRange));
+}
+
+#[test]
+fn refusals_have_words() {
+    let words: Vec<String> = Refusal::ALL.iter().map(Refusal::to_string).collect();
+    let apart: std::collections::BTreeSet<&String> = words.iter().collect();
+    assert_eq!(apart.len(), 19);
+    let refused = Sheet::read(b"guide=1\nsubjects=17\n").expect_err("17 are too many");
+    assert_eq!((refused.number(), refused.offset), (2, 8));
+    let cause = refused.source().expect("a refusal").to_string();
+    assert!(refused.to_string().ends_with(&cause));
+}
+
+/// An input of any length has room for its output.
+#[test]
+fn scripts_of_any_length_are_answered() {
+    let request = b"do=new 0 1 1\n";
+    let fits = (raw::MAX_SCRIPT - EXAMPLE.len()) / request.len();
+    let input = [EXAMPLE, &request.repeat(fits)].concat();
+    let lines = pilgonca::script(&input);
+    assert_eq!(lines.iter().filter(|byte| **byte == b'\n').count(), fits);
+    for longer in [vec![b'x'; raw::MAX_SCRIPT + 1], vec![0; 100_000]] {
+        assert_eq!(pilgonca::script(&longer), b"no=2\n");
+    }
+    assert_eq!(pilgonca::script(b""), b"no=1\n");
+}

@@ -1,0 +1,46 @@
+//! examples/visit.c, compiled without a warning by the system's C compiler, prints what examples/visit.out has.
+
+use std::path::{Path, PathBuf};
+use std::process::Command;
+
+fn root() -> PathBuf {
+    Path::new(env!("CARGO_MANIFEST_DIR")).join("..")
+}
+
+/// Compiles the example; the path of the program.
+fn compiled() -> PathBuf {
+    let program = Path::new(env!("CARGO_TARGET_TMPDIR")).join("visit");
+    let output = Command::new("cc")
+        .args(["-std=c99", "-Wall", "-Wextra", "-Werror", "-pedantic"])
+        .arg("-I")
+        .arg(root().join("include"))
+        .arg(root().join("examples/visit.c"))
+        .args(env!("PILGONCA_LIBRARIES").split(':'))
+        .arg("-o")
+        .arg(&program)
+        .output()
+        .expect("a C compiler, cc");
+    let said = String::from_utf8_lossy(&output.stderr);
+    assert!(output.status.success() && said.is_empty(), "cc: {said}");
+    program
+}
+
+#[test]
+fn the_c_example_prints_its_week() {
+    let program = compiled();
+    let run = |sheet: &str| {
+        let output = Command::new(&program)
+            .arg(root().join("examples").join(sheet))
+            .output();
+        output.expect("the program runs")
+    };
+    let output = run("case-p.sheet");
+    let expected = std::fs::read_to_string(root().join("examples/visit.out")).expect("visit.out");
+    assert_eq!(String::from_utf8_lossy(&output.stdout), expected);
+    assert!(output.status.success() && output.stderr.is_empty());
+
+    let output = run("refused-leading-zero.sheet");
+    let said = String::from_utf8_lossy(&output.stderr).into_owned();
+    assert!(said.contains("refused with 1 at byte"), "{said}");
+    assert!(!output.status.success() && output.stdout.is_empty());
+}
