@@ -50,7 +50,8 @@ pub later-number : (ts : List (Option ℕ)) (f : Reference) (r : ℕ) → IfRefu
 unfolding crossLayers
 later-number [] f r = tt
 later-number (none ∷ ts) f r = later-of 8
-later-number (some to ∷ ts) f r = refused-try Later (λ _. Unit {0}) (renumber false (cross f to r)) _ (renumber-later (cross f to r)) (any-ok (renumber false (cross f to r))) λ g _. later-number ts g r
+later-number (some to ∷ ts) f r = let m = renumber false (cross f to r) in
+    refused-try Later (λ _. Unit {0}) m _ (renumber-later (cross f to r)) (any-ok m) λ g _. later-number ts g r
 
 -- What the first crossing is refused with, the reference is refused with.
 pub first-number : (f : Reference) (to r e : ℕ) (ts : List (Option ℕ)) → cross f to r ≡ refuse e → crossLayers true f r (some to ∷ ts) ≡ refuse e
