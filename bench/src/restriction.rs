@@ -1,4 +1,4 @@
-//! Sub, Sup and Closed in safe Rust, by the algorithm of crates/restrict: two functions that call each other over the bytes of
+//! Sub, Sup and Closed in safe Rust, by the algorithm of crates/deriving, restrict and closed: two functions that call each other over the bytes of
 //! the table. A derivation works on a copy, so that a refusal leaves the table as it was.
 
 use crate::fits;

@@ -82,8 +82,7 @@ impl Auditor<'_> {
         let subjects = 0..self.run.visit.sheet().subjects();
         let widths = subjects.map(|number| subject(number as i64).chars().count());
         let width = widths.max().unwrap_or(0);
-        let trail = self.run.trails.get(cell.number.0 as usize);
-        let trail = trail.into_iter().flatten();
+        let trail = self.run.trails.of(cell.number).iter();
         let trail: Vec<String> = trail
             .map(|one| self.names.label(Kind::Type, one.0))
             .collect();

@@ -1,9 +1,10 @@
 //! A refused sheet in words. Number and offset are the core's; the line there is looked at once more to say what is wrong with it.
 
 use crate::due::{Due, Walk};
-use crate::line::{fault, Fault, Flaw, NO_LF};
+use crate::line::{fault, Fault};
 use crate::names::{Kind, Names};
 use crate::paint::{Paint, Tone};
+use crate::reader::{Flaw, NO_LF};
 use crate::shown::marked;
 use crate::words::under;
 use pilgonca::SheetRefused;

@@ -21,8 +21,8 @@ pub fn explain(refusal: Refusal, paint: Paint) -> String {
 /// What the guide says, without its backquotes. A test holds that it has a whole row for every refusal.
 fn row(number: u8) -> [String; 3] {
     let start = format!("| {number} | ");
-    let rows = GUIDE.lines().filter_map(|line| line.strip_prefix(&start));
-    let row = rows.last().unwrap_or_default().trim_end_matches(" |");
+    let mut rows = GUIDE.lines().filter_map(|line| line.strip_prefix(&start));
+    let row = rows.next().unwrap_or_default().trim_end_matches(" |");
     let mut columns = row.split(" | ").map(|column| column.replace('`', ""));
     [(); 3].map(|()| columns.next().unwrap_or_default())
 }

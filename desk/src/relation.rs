@@ -57,7 +57,7 @@ impl Strongest {
     pub fn words(self) -> &'static str {
         match self {
             Strongest::Subtype => "S passes as T as it is, without an adapter",
-            Strongest::Strict => "S has every method that T calls; an adapter may come between",
+            Strongest::Strict => "S has every method that T calls, and its category fits; an adapter may come between",
             Strongest::Loose => {
                 "S shows every method that T calls, optional at least: what it leads to decides"
             }
@@ -71,7 +71,7 @@ impl Strongest {
 
 pub const HEADING: &str = "The strongest relation of a type T (row) from a type S (column):";
 pub const OWN: &str =
-    "A T with own can be had from every S but those with none, by the owner of the object alone.";
+    "A T with own can be had from every S but one with none, by the owner of an object that has what T calls.";
 
 /// The four answers for T and S in words, and what they come to.
 pub fn compared(
@@ -126,16 +126,20 @@ fn conclusion(t: &TypeInfo, s: &TypeInfo, answers: &Answers, names: &Names) -> S
             }
         };
     }
-    match (t.own, answers) {
-        (true, Answers { free: true, .. }) => format!(
-            "A reference of {from} becomes {to} for the owner of its object, and for nobody else."
-        ),
-        (false, Answers { subtype: true, .. }) => {
-            format!("A reference of {from} becomes {to} without an adapter.")
+    let becomes = format!("A reference of {from} becomes {to}");
+    match (t.own, Strongest::of(answers)) {
+        (_, Strongest::None) | (false, Strongest::Free) => {
+            format!("A reference of {from} cannot become {to}: refused with 8.")
         }
-        (false, Answers { loose: true, .. }) => {
-            format!("A reference of {from} becomes {to} if what it leads to has what {to} calls; an adapter may come between.")
+        (true, _) => {
+            format!("{becomes} for the owner of its object alone, if that has what {to} calls.")
         }
-        _ => format!("A reference of {from} cannot become {to}: refused with 8."),
+        (false, Strongest::Subtype) => format!("{becomes} without an adapter."),
+        (false, Strongest::Strict) => format!("{becomes}; an adapter may come between."),
+        (false, Strongest::Loose) => {
+            format!(
+                "{becomes} if what it leads to has what {to} calls; an adapter may come between."
+            )
+        }
     }
 }

@@ -1,6 +1,6 @@
 //! The requests of a script, read as the core reads them (P2, P5 to P11); `follow` holds what came of them against the core's own run.
 
-use crate::line::{Flaw, Reader};
+use crate::reader::{Flaw, Reader};
 
 /// A request with its operands.
 #[derive(Clone, PartialEq, Eq, Debug)]

@@ -1,5 +1,5 @@
-//! One test for each choice that 01 leaves open; names go by the older S and C
-//! numbers of these choices.
+//! The choices that 01 leaves open, and the rules that are easily got wrong,
+//! one test for each; the rule is named beside it.
 
 use reference::check::{self, Reason};
 use reference::entry;
@@ -199,6 +199,7 @@ fn s7_to_s10_missing_and_extra_lines() {
     }
 }
 
+/// S25.
 #[test]
 fn number_types_have_no_own_and_no_methods() {
     assert_eq!(refused(PLAIN, "rep=w32\n", "rep=w64\n"), None);
@@ -207,8 +208,9 @@ fn number_types_have_no_own_and_no_methods() {
     assert_eq!(refused(PLAIN, "rep=w32\n", "rep=w16\n"), Some((1, 9)));
 }
 
+/// P2, P3.
 #[test]
-fn s14_early_and_unended_sheets_in_scripts() {
+fn early_and_unended_sheets_in_scripts() {
     assert_eq!(run("guide=1\nend=sheet\n", "do=new 0 0 0\n"), "no=1\n");
     assert_eq!(run(HEAD, ""), "no=1\n");
     assert_eq!(run(PLAIN.strip_suffix('\n').unwrap(), ""), "no=1\n");
@@ -216,8 +218,9 @@ fn s14_early_and_unended_sheets_in_scripts() {
     assert_eq!(run("guide=2\nend=sheet\n", ""), "no=2\n");
 }
 
+/// W1, W5.
 #[test]
-fn s17_write_of_a_handed_in_table() {
+fn write_of_a_handed_in_table() {
     let mut table = table_of(1, &[&["no", "avail()0"], &["no", "optional()1"]]);
     let text = sheet::text(&table);
     sub(&mut table, 1, 0).unwrap();
@@ -232,8 +235,9 @@ fn s17_write_of_a_handed_in_table() {
     assert_eq!(short, [7; 3]);
 }
 
+/// Q17.
 #[test]
-fn c1_types_of_an_accepted_crossing_stay() {
+fn types_of_an_accepted_crossing_stay() {
     // Sub(1,2) is derived; the class 0 is a subtype of it, so nothing is made.
     let sheet = sheet_of(
         2,
@@ -251,8 +255,9 @@ fn c1_types_of_an_accepted_crossing_stay() {
     assert_eq!(state.places.len(), 1);
 }
 
+/// X3.
 #[test]
-fn c2_own_target_unwraps_though_s_is_a_subtype() {
+fn own_target_unwraps_though_s_is_a_subtype() {
     let sheet = sheet_of(
         1,
         &[
@@ -267,8 +272,9 @@ fn c2_own_target_unwraps_though_s_is_a_subtype() {
     assert_eq!(output, "got=0 1\ngot=1 2\ngot=2 0\n");
 }
 
+/// D10.
 #[test]
-fn c3_c4_closed_and_an_inner_sub_are_two_types() {
+fn closed_and_an_inner_sub_are_two_types() {
     let mut table = table_of(
         2,
         &[
@@ -286,8 +292,9 @@ fn c3_c4_closed_and_an_inner_sub_are_two_types() {
     assert_eq!(closed(&mut table, 1, 0), Ok(2));
 }
 
+/// D8, D9.
 #[test]
-fn c5_a_method_not_avail_in_v_derives_nothing() {
+fn a_method_not_avail_in_v_derives_nothing() {
     let mut table = table_of(
         2,
         &[
@@ -300,8 +307,9 @@ fn c5_a_method_not_avail_in_v_derives_nothing() {
     assert!(table.types[adapter].methods[1].is_avail());
 }
 
+/// D1, D3, D7.
 #[test]
-fn c6_categories_of_derived_types() {
+fn categories_of_derived_types() {
     let text = sheet_of(1, &[&["no", "avail()-"], &["no", "denied"]])
         .replace("cats=0", "cats=2\nunder=0\nunder=0")
         .replacen("cat=0", "cat=1", 1);
@@ -315,6 +323,7 @@ fn c6_categories_of_derived_types() {
     assert_eq!(table.types[shut].category, 1);
 }
 
+/// D2, D4.
 #[test]
 fn restriction_of_states() {
     // T: denied optional avail unavail, S: avail denied unavail optional.
@@ -338,6 +347,7 @@ fn restriction_of_states() {
     );
 }
 
+/// D12, D13.
 #[test]
 fn restriction_of_itself_and_of_numbers() {
     let mut table = table_of(1, &[&["w32"], &["w64"], &["no", "avail(2)2"]]);
@@ -348,6 +358,7 @@ fn restriction_of_itself_and_of_numbers() {
     assert_eq!(table.types.len(), 3);
 }
 
+/// D5, D6, D16, D17.
 #[test]
 fn restriction_takes_numbers_in_order() {
     // Sub(1,0): method 0's argument Sup(2,3), its answer Sub(3,2), each to its
@@ -381,8 +392,9 @@ fn restriction_takes_numbers_in_order() {
     assert_eq!(table.types[6].permits(0), Some(&signature(5, 6)));
 }
 
+/// C6.
 #[test]
-fn c8_arguments_are_looked_up_first() {
+fn arguments_are_looked_up_first() {
     let sheet = sheet_of(1, &[&["no", "avail(0,0)-"]]);
     // Cell 1 would be made by the first argument: unknown, 15.
     assert_eq!(
@@ -398,8 +410,9 @@ fn c8_arguments_are_looked_up_first() {
     );
 }
 
+/// C14, A9.
 #[test]
-fn c9_numbers_meet_16_at_any_w32_layer() {
+fn numbers_meet_16_at_any_w32_layer() {
     // The cell's type takes w64, the class w32.
     let sheet = sheet_of(
         1,
@@ -424,8 +437,9 @@ fn c9_numbers_meet_16_at_any_w32_layer() {
     );
 }
 
+/// A4, A5, A13.
 #[test]
-fn c11_c12_nothing_due() {
+fn nothing_due() {
     let sheet = sheet_of(1, &[&["no", "avail()-"]]);
     let list = "do=new 0 0 0\ndo=call 0 0 0\ndo=answer 0 0 0\ndo=answer 0 0 -\ndo=answer 0 0 -\n";
     assert_eq!(run(&sheet, list), "got=0 0\ngot=0 0\nno=15\ngot=-\nno=17\n");
@@ -488,6 +502,7 @@ fn handed_in(table: Table, adapter: usize, cell_type: usize) -> RawState {
     raw
 }
 
+/// C15, C16, A9.
 #[test]
 fn unfit_layers_of_handed_in_states() {
     // 0 class takes a reference, 1 w32, 2 takes a number, 3 takes nothing,
@@ -544,8 +559,9 @@ fn unfit_layers_of_handed_in_states() {
     assert_eq!(entry::request(&mut with_call(2, 6), &answer(9)), Err(15));
 }
 
+/// H15.
 #[test]
-fn c13_bytes_that_do_not_exist() {
+fn bytes_that_are_not_looked_at() {
     let table = table_of(2, &[&["w32"], &["no", "denied", "unavail"]]);
     let mut raw = RawTable::of(&table);
     let right = raw.clone();
@@ -560,8 +576,9 @@ fn c13_bytes_that_do_not_exist() {
     assert_eq!(entry::compare(&raw, 1, 1), entry::compare(&right, 1, 1));
 }
 
+/// H14, D12, D14.
 #[test]
-fn c14_derived_types_are_taken_at_their_word() {
+fn derived_types_are_taken_at_their_word() {
     let mut table = table_of(1, &[&["no", "avail()0"], &["no", "unavail"]]);
     // A known Sub(1,0) that says something else, twice, and a Sub(1,1).
     for (kind, left, right) in [(Kind::Sub, 1, 1), (Kind::Sub, 1, 0), (Kind::Sub, 1, 0)] {
@@ -587,8 +604,9 @@ fn c14_derived_types_are_taken_at_their_word() {
     );
 }
 
+/// H14, X7.
 #[test]
-fn c14_known_number_for_r_is_10() {
+fn known_number_for_r_is_10() {
     let mut table = table_of(1, &[&["no", "avail()0"], &["no", "unavail"]]);
     table.types.push(Type::number(Representation::W64, 0));
     table.keys.push(Key {
@@ -600,8 +618,9 @@ fn c14_known_number_for_r_is_10() {
     assert_eq!(entry::request(&mut raw, &new(0, 0, 1)), Err(10));
 }
 
+/// Q12, C4.
 #[test]
-fn c16_operands_of_any_size() {
+fn operands_of_any_size() {
     let sheet = sheet_of(1, &[&["no", "avail()-"]]);
     for operand in [i64::MIN, -1, 3, 256, 1 << 32, i64::MAX] {
         assert_eq!(run(&sheet, &format!("do=new {operand} 0 0\n")), "no=5\n");
@@ -615,6 +634,7 @@ fn c16_operands_of_any_size() {
     assert_eq!(model.request(&call(0, &[0; 300])), Err(15));
 }
 
+/// R13, R14, H1.
 #[test]
 fn compare_refuses() {
     let table = table_of(1, &[&["w32"], &["w64"]]);
@@ -627,6 +647,7 @@ fn compare_refuses() {
     assert_eq!(entry::compare(&raw, 0, 2), Err(2));
 }
 
+/// R3, R11.
 #[test]
 fn recursive_types_are_related_unless_refuted() {
     // 0 and 1 name each other and only differ in names; 2 denies deep inside.

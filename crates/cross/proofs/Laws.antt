@@ -23,9 +23,10 @@ use Rattle.table.specs.Store.{typesIn, tableIn, withCount, ownOf}
 use Rattle.table.specs.Limits.{Checked}
 use Rattle.table.proofs.Lists.{lt-or-ge}
 use Rattle.table.proofs.Tables.{size-is, type-is, type-out}
-use Rattle.restrict.specs.declared.Derived.{Derived}
-use Rattle.restrict.specs.declared.Derived.the-variants.{Full, At}
-use Rattle.restrict.specs.Link.{derivationIn, Kept, ExactAt, ExactTo, Sized, Alike, Derives}
+use Rattle.deriving.specs.declared.Derived.{Derived}
+use Rattle.deriving.specs.declared.Derived.the-variants.{Full, At}
+use Rattle.restrict.specs.Link.{derivationIn, Kept, ExactAt, ExactTo, Sized, Derives}
+use Rattle.closed.specs.Numbers.{Alike}
 use Rattle.restrict.specs.Link.{Leaves as Left, Ready as Derivable}
 use Rattle.restrict.proofs.Bytes.{exact-same}
 use Rattle.state.specs.declared.Places.{Places}

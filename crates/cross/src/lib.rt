@@ -11,8 +11,8 @@ ghost use Rattle.rules.specs.Asked.{relationOf};
 ghost use Rattle.state.specs.View.{placesIn};
 ghost use Rattle.state.specs.Sound.{Falling};
 ghost use Rattle.cross.specs.Crossed.{Ready, Stands, ownIn, reference, crossedOf, Leads, Leaves, Lands, Landing};
+use deriving::Derived;
 use numbers::narrow;
-use restrict::Derived;
 use rules::Relation;
 use state::Place;
 use state::PlaceRec;
@@ -186,7 +186,7 @@ fn meet(
     if !strict {
         return Crossed::Refused(10);
     }
-    let Derived::At(closed, count) = restrict::closed_any(types, c, right, v) else {
+    let Derived::At(closed, count) = closed::closed_any(types, c, right, v) else {
         return Crossed::Refused(11);
     };
     if State::PLACES <= ps.count {

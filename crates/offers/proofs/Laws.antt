@@ -21,7 +21,7 @@ use Rattle.table.specs.declared.Method.{Method}
 use Rattle.table.specs.Store.{typesIn, tableIn, rawMethod}
 use Rattle.model.specs.Check.{tableOf}
 use Rattle.model.proofs.Codes.{code-back}
-use Rattle.restrict.specs.Link.{refIn}
+use Rattle.deriving.specs.Begins.{refIn}
 use Rattle.restrict.proofs.Ends.{ref-table}
 use Rattle.state.specs.declared.State.{State}
 use Rattle.state.specs.View.{cellsIn, placesIn, rawState, systemIn}

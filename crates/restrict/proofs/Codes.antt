@@ -17,8 +17,8 @@ use Rattle.table.specs.Store.{rawMethod, emptyMethod, rawTable, typesIn, linksI
 use Rattle.table.proofs.Lists.{same-or}
 use Rattle.slots.specs.declared.Work.{Work}
 use Rattle.slots.specs.Slots.{newRecord}
-use Rattle.restrict.specs.declared.Derived.{Derived}
-use Rattle.restrict.specs.declared.Derived.the-variants.{Full, At}
+use Rattle.deriving.specs.declared.Derived.{Derived}
+use Rattle.deriving.specs.declared.Derived.the-variants.{Full, At}
 use Rattle.restrict.specs.Link.{Coded, CodedTo, CodesStay}
 
 -- a test of the values of a rule, by their numbers

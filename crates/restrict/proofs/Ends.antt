@@ -27,16 +27,17 @@ use Rattle.model.proofs.Lists.{from-same}
 use Rattle.table.proofs.Lists.{lt-or-ge, same-or}
 use Rattle.table.proofs.Laws.{types-length, methods-length, method-in, put-length, put-types}
 use Rattle.table.proofs.Tables.{types-to-length, types-to-at, types-add, types-put, types-of, size-is}
-use Rattle.restrict.specs.declared.Derived.{Derived}
-use Rattle.restrict.specs.declared.Derived.the-variants.{Full, At}
-use Rattle.restrict.specs.declared.Begun.{Begun}
-use Rattle.restrict.specs.declared.Begun.the-variants.{Settled, New}
+use Rattle.deriving.specs.declared.Derived.{Derived}
+use Rattle.deriving.specs.declared.Derived.the-variants.{Full, At}
+use Rattle.deriving.specs.declared.Begun.{Begun}
+use Rattle.deriving.specs.declared.Begun.the-variants.{Settled, New}
 use Rattle.slots.specs.declared.Work.{Work}
 use Rattle.slots.specs.declared.Slot.{Slot}
 use Rattle.slots.specs.Slots.{slotAt, shared, fillAt, leftIn, rightIn, methodIn, methodAt, kindIn, mainOf, newRecord, pendingRecord, Finished}
-use Rattle.restrict.specs.Link.{Ready, Writes, recordAt, Kept, ExactAt, Exact, ExactTo, Sized, Leaves, Coded, Derives, Gives, Begins, Opened, Stored, refIn, tabled, derivedIn, derivationIn}
+use Rattle.deriving.specs.Begins.{Begins, Opened, Stored, refIn, tabled}
+use Rattle.restrict.specs.Link.{Ready, Writes, recordAt, Kept, ExactAt, Exact, ExactTo, Sized, Leaves, Coded, Derives, Gives, derivedIn, derivationIn}
 use Rattle.slots.proofs.Runs.{Row, methods-run}
-use Rattle.restrict.proofs.Begins.{ref-below, ref-rep, ref-type}
+use Rattle.deriving.proofs.Begins.{ref-below, ref-rep, ref-type}
 use Rattle.restrict.proofs.Bytes.{record-same, exact-same, put-below, put-above, put-exact, kept-take, exact-take}
 use Rattle.restrict.proofs.Codes.{denied-coded, methods-coded, new-coded, codes-stay}
 use Rattle.restrict.proofs.Turns.{zeros, slotIn, Whole, Comes, Loop, loop-starts, loop-ends}

@@ -14,12 +14,13 @@ use Rattle.table.specs.declared.Counts.{Counts}
 use Rattle.table.specs.Store.{withCount}
 use Rattle.table.specs.Limits.{Limits}
 use Rattle.slots.specs.declared.Work.{Work}
-use Rattle.restrict.specs.declared.Derived.{Derived}
-use Rattle.restrict.specs.declared.Derived.the-variants.{Full, At}
+use Rattle.deriving.specs.declared.Derived.{Derived}
+use Rattle.deriving.specs.declared.Derived.the-variants.{Full, At}
 use Rattle.slots.specs.declared.Slot.{Slot}
 use Rattle.slots.specs.declared.Slot.the-variants.{Empty, Argument, Answer}
 use Rattle.slots.specs.Slots.{slotAt, Low, leftIn, rightIn, methodIn, kindIn}
-use Rattle.restrict.specs.Link.{Ready, Kept, Below, Sized, Exact, ExactTo, Coded, CodedTo, Gives, tabled, derivedIn}
+use Rattle.deriving.specs.Begins.{Below, tabled}
+use Rattle.restrict.specs.Link.{Ready, Kept, Sized, Exact, ExactTo, Coded, CodedTo, Gives, derivedIn}
 use Rattle.restrict.proofs.Bytes.{exact-same}
 use Rattle.table.proofs.Lists.{lt-or-ge}
 use Rattle.slots.proofs.Runs.{Row, step, runs}

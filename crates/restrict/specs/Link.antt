@@ -1,27 +1,21 @@
 -- What the code's answers and its bytes mean, in the words of the model.
 use mathlib.Core.Path.{_≡_}
-use mathlib.Core.Bool.{Bool, So, true, false, _&&_, cond}
+use mathlib.Core.Bool.{So}
 use mathlib.Core.List.{List, _++_, map, flatten}
 use mathlib.Core.Option.{Option, none, some}
 use Prim.Native.Nat.{ℕ, _+_, _*_, _≤_, _<_}
-use lib.Dec.{ltb}
 use lib.ListN.{length, getD, take, drop}
 use Rattle.model.specs.Basics.{Res, refuse, ok}
-use Rattle.model.specs.Table.{Kind, Table, size, withTypes, isRef}
+use Rattle.model.specs.Table.{Kind, Table, size}
 use Rattle.model.specs.Restriction.{derive, derived}
-use Rattle.model.specs.Check.{RawType, noRawType, repOf, typeOf, rawTypeFits, codesFit}
+use Rattle.model.specs.Check.{noRawType, typeOf, rawTypeFits, codesFit}
 use Rattle.table.specs.declared.Counts.{Counts}
-use Rattle.table.specs.declared.Head.{Head}
-use Rattle.table.specs.declared.TypeRec.{TypeRec}
-use Rattle.table.specs.Store.{rawMethod, rawOf, typesIn, typesTo, rawTable, tableIn, withCount, emptyType, Put}
+use Rattle.table.specs.Store.{typesIn, rawTable, tableIn, withCount}
 use Rattle.table.specs.Limits.{Limits}
 use Rattle.table.specs.Records.{bytesOf}
-use Rattle.slots.specs.declared.Work.{Work}
-use Rattle.slots.specs.Slots.{leftIn, rightIn, pendingRecord, Finished}
-use Rattle.restrict.specs.declared.Derived.{Derived}
-use Rattle.restrict.specs.declared.Derived.the-variants.{Full, At}
-use Rattle.restrict.specs.declared.Begun.{Begun}
-use Rattle.restrict.specs.declared.Begun.the-variants.{Settled, New}
+use Rattle.deriving.specs.declared.Derived.{Derived}
+use Rattle.deriving.specs.declared.Derived.the-variants.{Full, At}
+use Rattle.deriving.specs.Begins.{Below, tabled}
 
 -- The public answer: a full table is refused with 11; else the number, and the table with so many types.
 abbrev pub derivationIn : List ℕ → List ℕ → Counts → Derived → Res (Table × ℕ)
@@ -33,31 +27,6 @@ derivationIn b l c (At i m) = ok (tableIn b l (withCount c m), i)
 abbrev pub Writes : ℕ → List ℕ → List ℕ → Res (Table × ℕ) → Type 0
 Writes n b b′ (refuse e) = take (n * 128) b′ ≡ take (n * 128) b
 Writes n b b′ (ok p) = take (size (p .0) * 128) b′ ≡ take (n * 128) b ++ flatten (map bytesOf (drop n (p .0 .types)))
-
--- Type t is a reference type of the first n.
-abbrev pub refIn : ℕ → List ℕ → ℕ → Bool
-refIn n b t = ltb t n && isRef (repOf (getD (typesIn b) t noRawType .rep))
-
--- Type t is a number type of the first n.
-pub record NumberIn (n : ℕ) (b : List ℕ) (t : ℕ) : Type 0 where
-  pub below : t < n
-  pub number : isRef (repOf (getD (typesIn b) t noRawType .rep)) ≡ false
-
--- Two types of the first n, both references or both numbers, as a pair that a relation holds of.
-pub record Alike (n : ℕ) (b : List ℕ) (r v : ℕ) : Type 0 where
-  pub left : r < n
-  pub right : v < n
-  pub same : isRef (repOf (getD (typesIn b) r noRawType .rep)) ≡ isRef (repOf (getD (typesIn b) v noRawType .rep))
-
--- A number type's representation by its code, and Closed(R,V) of two number types as it is stored, h being R's head.
-pub record NumberRep (x r : ℕ) : Type 0 where
-  pub is : (x ≡ 0 → ⊥) → repOf r ≡ repOf x
-  pub some : 0 < r
-  pub code : r < 3
-
-pub record NumberType (h : Head) (r v : ℕ) (x : RawType) : Type 0 where
-  pub rep : NumberRep (h .rep) (x .rep)
-  pub is : x ≡ record { rep = x .rep; cat = h .cat; own = 0; kind = 2; left = r; right = v; methods = map rawMethod (emptyType .methods) }
 
 -- What a derivation asks: counts within their limits, n being the types so far, and numbers that a byte can hold.
 pub record Ready (c : Counts) (n t s : ℕ) (b : List ℕ) : Type 0 where
@@ -83,10 +52,6 @@ Exact c n m b = (i : ℕ) → n ≤ i → i < m → ExactAt c b i
 abbrev pub ExactTo : Counts → ℕ → List ℕ → Derived → Type 0
 ExactTo c n b Full = Unit {0}
 ExactTo c n b (At i m) = Exact c n m b
-
--- the number is one of the two or below the new count
-abbrev pub Below : ℕ → ℕ → ℕ → ℕ → Type 0
-Below t s m i = (z : ℕ) → m ≤ z → t < z → s < z → i < z
 
 -- the count grows, within its limit
 abbrev pub Sized : ℕ → ℕ → ℕ → Derived → Type 0
@@ -123,10 +88,7 @@ pub record Derives (d : Kind) (c : Counts) (t s : ℕ) (b b′ : List ℕ) (r : 
   pub exact : ExactTo c (c .types) b′ r
   pub codes : CodesStay c b b′ r
 
--- The table whose types are the first n of the bytes, and what the answer and the bytes left say of it.
-abbrev pub tabled : Table → Counts → ℕ → List ℕ → Table
-tabled t c n b = withTypes t (typesTo (c .methods) (c .sheet) n (typesIn b))
-
+-- What the answer and the bytes left say of the table whose types are the first n of the bytes.
 abbrev pub derivedIn : Table → Counts → Derived → List ℕ → Option (Table × ℕ)
 derivedIn t c Full b = none
 derivedIn t c (At i m) b = some (tabled t c m b, i)
@@ -137,26 +99,3 @@ pub record Gives (d : Kind) (c : Counts) (n t s : ℕ) (b b′ : List ℕ) (r : 
   pub is : (T : Table) → T .methods ≡ c .methods → (f : ℕ) → 128 ≤ n + f → derivedIn T c r b′ ≡ derive f (tabled T c n b) d t s
   pub exact : ExactTo c n b′ r
   pub coded : Coded c n b → CodedTo c b′ r
-
--- How a derivation begins, where `o` is what needs no new type: that type; or nothing is left; or a new one, of two reference types.
-abbrev pub Begins : (Table → Option ℕ) → ℕ → ℕ → ℕ → List ℕ → Begun → Type 0
-Begins o n t s b (Settled Full) = ((T : Table) → o T ≡ none) × (128 ≤ n)
-Begins o n t s b (Settled (At i m)) = ((T : Table) → o T ≡ some i) × (m ≡ n) × Below t s n i
-Begins o n t s b New = ((T : Table) → o T ≡ none) × (n < 128) × (refIn n b t ≡ true) × (refIn n b s ≡ true)
-
--- the first of n types that a search found, n being none
-abbrev pub foundOf : ℕ → ℕ → Option ℕ
-foundOf n i = cond (ltb i n) (some i) none
-
--- Both sides are read, and the type at work is stored.
-pub record Opened (kind t s n : ℕ) (w : Work) (b b′ : List ℕ) : Type 0 where
-  pub key : w .key ≡ record { kind = kind; left = t; right = s }
-  pub left : rawOf (leftIn w) ≡ getD (typesIn b) t noRawType
-  pub right : rawOf (rightIn w) ≡ getD (typesIn b) s noRawType
-  pub put : Put b n (pendingRecord w) b′
-
--- The finished type is stored.
-pub record Stored (w : Work) (ms n : ℕ) (ns b b′ : List ℕ) : Type 0 where
-  pub z : TypeRec
-  pub put : Put b n (rawOf z) b′
-  pub finished : Finished w ms ns z

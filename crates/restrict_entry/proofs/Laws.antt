@@ -18,9 +18,10 @@ use Rattle.table.specs.Limits.{Limits}
 use Rattle.table.proofs.Tables.{size-is}
 use Rattle.operand.specs.Index.{indexOf}
 use Rattle.operand.proofs.Laws.{index-unknown, index-known}
-use Rattle.restrict.specs.declared.Derived.{Derived}
-use Rattle.restrict.specs.declared.Derived.the-variants.{Full, At}
-use Rattle.restrict.specs.Link.{Ready, Derives, refIn, derivationIn, CodesIn}
+use Rattle.deriving.specs.declared.Derived.{Derived}
+use Rattle.deriving.specs.declared.Derived.the-variants.{Full, At}
+use Rattle.deriving.specs.Begins.{refIn}
+use Rattle.restrict.specs.Link.{Ready, Derives, derivationIn, CodesIn}
 use Rattle.restrict.proofs.Ends.{ref-table}
 use Rattle.restrict_entry.specs.Handed.{kindAsked, isRefType, deriveNamed, deriveHanded}
 use Rattle.restrict_entry.specs.Answer.{Derivation, refusedWith, Answered}

@@ -9,10 +9,11 @@ ghost use Rattle.model.specs.Restriction.{derived};
 ghost use Rattle.model.specs.Check.{kindOf};
 ghost use Rattle.table.specs.Store.{rawTable, tableIn};
 ghost use Rattle.table.specs.Limits.{Limits};
-ghost use Rattle.restrict.specs.Link.{Ready, Derives, refIn};
+ghost use Rattle.deriving.specs.Begins.{refIn};
+ghost use Rattle.restrict.specs.Link.{Ready, Derives};
 ghost use Rattle.restrict_entry.specs.Handed.{kindAsked, deriveNamed, deriveHanded};
 ghost use Rattle.restrict_entry.specs.Answer.{Answered, left};
-use restrict::Derived;
+use deriving::Derived;
 use table::Counts;
 use table::LINK_BYTES;
 use table::TYPE_BYTES;
@@ -37,10 +38,10 @@ fn is_asked(b: &[u8; TYPE_BYTES], n: usize, kind: usize, t: usize, s: usize) -> 
     if kind != 2 {
         return false;
     }
-    if !restrict::is_ref(b, n, t) {
+    if !deriving::is_ref(b, n, t) {
         return false;
     }
-    restrict::is_ref(b, n, s)
+    deriving::is_ref(b, n, s)
 }
 
 // One of the three, over lent bytes.
@@ -54,7 +55,7 @@ fn derive_kind(b: &mut [u8; TYPE_BYTES], c: Counts, kind: usize, t: usize, s: us
     if kind == 1 {
         return restrict::sup_type(b, c, t, s);
     }
-    restrict::closed_type(b, c, t, s)
+    closed::closed_type(b, c, t, s)
 }
 
 // A copy of lent bytes. Bytes that are held have their length, of lent ones nothing says it.

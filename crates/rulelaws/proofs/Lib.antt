@@ -7,5 +7,6 @@ pub mod Numbering
 pub mod Made
 pub mod Arguments
 pub mod Refusals
+pub mod Layers
 pub mod Readers
 pub mod Sheets

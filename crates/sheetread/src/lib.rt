@@ -1,6 +1,6 @@
 // The sheet reader (docs/SPEC.md S). `read` takes any bytes and answers with a table, or with the number of a refusal and the byte offset of the line.
 // What it answers is crate `sheet`'s definition `read`, and every byte of the answer is determined by it (specs/View.antt, `answered`).
-// Lines are found by crate `textread` and read by `lineread`; here they are put together and stored, as crate `table` has it.
+// Lines are found by crate `textread` and read by `lineread`; here they are put together and stored by crate `tablestore`.
 ghost use mathlib.Core.Path.{_≡_};
 ghost use mathlib.Core.Bool.{false};
 ghost use mathlib.Core.List.{List, [], map};
@@ -23,7 +23,6 @@ use table::LINK_BYTES;
 use table::Method;
 use table::TYPE_BYTES;
 use table::TypeRec;
-use table::put_links;
 use textread::Got;
 
 // Several lines read: the number of a refusal and the cursor at its line, or the cursor behind the lines.
@@ -82,7 +81,7 @@ fn links_into(s: &[u8], c: Cursor, cats: usize, l: &mut [u8; LINK_BYTES]) -> Don
                 return Done::Refused(k, Cursor { at });
             }
             UnderGot::At(x, next) => {
-                put_links(l, j + 1, x);
+                tablestore::put_links(l, j + 1, x);
                 at = next.at;
                 j += 1;
             }
@@ -243,7 +242,7 @@ fn types_into(
             return Done::Refused(g.refusal, next);
         }
         let t = g.t;
-        table::put_type(b, i, t);
+        tablestore::put_type(b, i, t);
         at = next.at;
         i += 1;
     }

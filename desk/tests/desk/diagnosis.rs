@@ -79,3 +79,60 @@ fn generated_sheets_have_words() {
     }
     enough(&counts, 20);
 }
+
+/// Line 7 of a sheet with three categories is `under=1,2`, line 15 `own=no`, line 16 an m= line; what each is changed to, the part of it that is
+/// marked, and words that are said.
+const WORDS: [(usize, &str, &str, &str); 17] = [
+    (1, "guide=2", "2", "only 1 is"),
+    (2, "subjects=007", "007", "no leading zeros"),
+    (3, "methods=+1", "+", "no sign"),
+    (4, "cats=3 ", " ", "no space stands at the end"),
+    (7, "under=0,1,2", ",2", "two broader ones at most"),
+    (7, "under=0,3", "3", "a lower number than its own"),
+    (7, "under=9,3", "9", "0 to 3 are"),
+    (15, "own=yes\r", "\r", "carriage return"),
+    (15, "own=maybe", "maybe", "yes, no"),
+    (
+        15,
+        "end=sheet",
+        "end=sheet",
+        "where the own= line of type 1 is due",
+    ),
+    (16, "m=avail(0,0,0)0", ",0", "two arguments at most"),
+    (16, "m=avail(0;0)0", ";0", "a ) is due here"),
+    (16, "m=avail()", "", "the answer is missing"),
+    (16, "m=optional", "", "the signature is missing"),
+    (16, "m=denied()-", "()-", "have no signature"),
+    (16, "m=avail(0)99", "99", "0 to 4 are"),
+    (
+        18,
+        "m=denied",
+        "m=denied",
+        "an m= line for each method already",
+    ),
+];
+
+#[test]
+fn the_words_are_those_for_the_fault() {
+    let text = read("examples/categories.sheet");
+    for (number, line, marked, said) in WORDS {
+        let mut lines: Vec<&[u8]> = text.split_inclusive(|byte| *byte == b'\n').collect();
+        let changed = format!("{line}\n");
+        lines[number - 1] = changed.as_bytes();
+        let text = lines.concat();
+        let refused = Sheet::read(&text).expect_err("it is refused");
+        let found = diagnose(&text, refused.number(), refused.offset, &Names::default());
+        let found = found.expect("it has words");
+        let mark = &found.line[found.flaw.mark.clone()];
+        assert_eq!(
+            (found.line_number, mark),
+            (number, marked.as_bytes()),
+            "{line}"
+        );
+        assert!(
+            found.flaw.wrong.contains(said),
+            "{line}: {}",
+            found.flaw.wrong
+        );
+    }
+}

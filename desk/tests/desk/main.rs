@@ -3,6 +3,7 @@
 mod damage;
 mod diagnosis;
 mod files;
+mod naming;
 mod pictures;
 mod program;
 mod quoted;

@@ -89,44 +89,49 @@ fn any_bytes_get_an_answer() {
     }
 }
 
+/// Runs desk with a standard output that nobody reads.
+fn unread(words: &[&str]) -> (i32, String, String) {
+    let mut command = desk(words);
+    command.stdout(Stdio::piped()).stderr(Stdio::piped());
+    let mut child = command.spawn().expect("desk runs");
+    drop(child.stdout.take());
+    told(child.wait_with_output().expect("it ends"))
+}
+
 #[test]
 fn a_reader_may_go_away() {
-    let big = "examples/types-48.sheet";
     for words in [
-        ["pairs", big, "--plain"],
-        ["explain", "1", ""],
-        ["check", "examples/refused-no-end.sheet", ""],
+        &["pairs", "examples/types-48.sheet", "--plain"][..],
+        &["explain", "1"],
     ] {
-        let words: Vec<&str> = words.into_iter().filter(|word| !word.is_empty()).collect();
-        let mut child = desk(&words)
-            .stdout(Stdio::piped())
-            .stderr(Stdio::piped())
-            .spawn()
-            .expect("desk runs");
-        drop(child.stdout.take());
-        let (status, _, error) = told(child.wait_with_output().expect("it ends"));
-        assert!(
-            status < 2 && !error.contains("panicked"),
-            "{words:?}: {error}"
+        assert_eq!(
+            unread(words),
+            (0, String::new(), String::new()),
+            "{words:?}"
         );
     }
+    let (status, _, error) = unread(&["run", "examples/refused-01.script"]);
+    assert_eq!(status, 1);
+    assert!(
+        error.contains("0 has no sign") && !error.contains("cannot print"),
+        "{error}"
+    );
     let mut child = desk(&["check", "no/such/file"])
         .stderr(Stdio::piped())
         .spawn()
         .expect("desk runs");
     drop(child.stderr.take());
     assert_eq!(child.wait().expect("it ends").code(), Some(1));
+}
+
+#[test]
+fn what_cannot_be_printed_is_told() {
     let full = File::options()
         .write(true)
         .open("/dev/full")
         .expect("a device");
-    let (status, _, error) = told(
-        desk(&["help"])
-            .stdout(full)
-            .stderr(Stdio::piped())
-            .output()
-            .expect("desk runs"),
-    );
+    let output = desk(&["help"]).stdout(full).output().expect("desk runs");
+    let (status, _, error) = told(output);
     assert_eq!(status, 1);
     assert!(error.contains("cannot print"), "{error}");
 }
@@ -199,6 +204,10 @@ fn the_matrix_and_a_comparison() {
         names.starts_with("T is type 3 (forwarder), S is type 2 (reader)"),
         "{names}"
     );
+    let own = accepted(&["compare", SHEET, "4", "2"]);
+    assert!(own.contains("for the owner of its object alone"), "{own}");
+    let mixed = accepted(&["compare", SHEET, "0", "2"]);
+    assert!(mixed.contains("never becomes"), "{mixed}");
     assert!(refused(&["compare", SHEET, "6", "0"]).contains("refused with 7"));
     assert!(refused(&["compare", SHEET, "-1", "0"]).contains("refused with 7"));
     assert!(refused(&["compare", SHEET, "log", "0"]).contains("no type is named \"log\""));
@@ -251,46 +260,4 @@ fn a_run_and_its_audit() {
         ended.1.contains("got=1 0") && ended.2.contains("0 has no sign"),
         "{ended:?}"
     );
-}
-
-#[test]
-fn names_that_cannot_be_used() {
-    let lines = [
-        ("module 1 x", "\"module\" can have no name"),
-        ("method", "it takes a kind, a number and a name"),
-        ("method 1", "it takes a kind, a number and a name"),
-        ("method x y", "\"x\" is no number of a method"),
-        ("method 16 x", "they go from 0 to 15"),
-        ("category 0 x", "they go from 1 to 31"),
-        ("type 48 x", "they go from 0 to 47"),
-        ("subject -1 x", "is no number of a subject"),
-        ("method 0 mark", "method 1 is named mark already, on line 2"),
-        ("method 1 x", "method 1 has a name already, on line 2"),
-        ("method 0 17", "the name 17 is a number"),
-        ("method 0 a\tb", "a control character"),
-        (
-            "method 3 x",
-            "there is no method 3: the sheet has numbers from 0 to 2 for that",
-        ),
-        ("category 1 x", "there is no category 1: the sheet has none"),
-        ("method 0 \u{e9}", ""),
-    ];
-    for (line, why) in lines {
-        let text = format!("# comment\nmethod 1 mark\n\n{line}\n");
-        with_file("names", text.as_bytes(), |path| {
-            let words = ["check", SHEET, "--names", path];
-            if why.is_empty() {
-                assert!(accepted(&words).contains("0 \u{e9}"));
-                return;
-            }
-            let error = refused(&words);
-            assert!(
-                error.contains(", line 4: ") && error.contains(why),
-                "{line}: {error}"
-            );
-        });
-    }
-    with_file("bytes", b"method 1 \xff\n", |path| {
-        assert!(refused(&["check", SHEET, "--names", path]).contains(", line 1: not UTF-8"));
-    });
 }

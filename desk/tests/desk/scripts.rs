@@ -2,9 +2,10 @@
 
 use crate::damage::{bytes_damaged, damaged};
 use crate::files::read;
-use desk::follow::{follow, output, Run};
-use desk::requests::split;
-use pilgonca::{raw, Method, MethodInfo, PlaceKind, Type, TypeInfo};
+use desk::follow::{follow, output, Got, Run, Step};
+use desk::relation::Strongest;
+use desk::requests::{split, Request};
+use pilgonca::{raw, CellInfo, Method, MethodInfo, PlaceKind, Refusal, Type, TypeInfo};
 use reference::gen::{generate, Profile, PROFILES};
 
 /// Runs a script here and by the core. None where it is too long or its sheet is refused.
@@ -43,7 +44,7 @@ fn same(input: &[u8]) -> Option<Run<'_>> {
 fn every_small_damage_is_read_as_the_core_reads_it() {
     let mut malformed = 0;
     let requests =
-        b"do=new 0 1 4\ndo=move 0 0 1 -9223372036854775808\ndo=call 1 0 0 5 -6\ndo=answer 0 0 -\n";
+        b"do=new 0 1 4\ndo=move 0 0 1 -9223372036854775808\ndo=call 1 0 0 15 -6 7 8\ndo=answer 0 0 -\n";
     let case_p = read("examples/case-p.script");
     let sheet = split(&case_p).0;
     for requests in damaged(requests) {
@@ -82,14 +83,14 @@ fn explained(run: &Run) -> usize {
     let visit = &run.visit;
     let types: Vec<TypeInfo> = visit.types().collect();
     let places: Vec<PlaceKind> = visit.places().map(|info| info.kind).collect();
-    assert_eq!(run.trails.len(), visit.cells().count());
+    assert_eq!(run.trails.count(), visit.cells().count());
     let mut offered = 0;
     for cell in visit.cells() {
         let base = visit.base_of(cell.place).expect("a base");
         let PlaceKind::Object { class, .. } = places[base.0 as usize] else {
             panic!("a base is an object");
         };
-        let trail = &run.trails[cell.number.0 as usize];
+        let trail = run.trails.of(cell.number);
         assert_eq!(trail.last(), Some(&cell.type_));
         for method in 0..visit.sheet().methods() {
             let came = permits(&types, class, method)
@@ -113,9 +114,64 @@ fn trails_explain_what_is_offered() {
                 continue;
             };
             offered += explained(&run);
-            longest = longest.max(run.trails.iter().map(Vec::len).max().unwrap_or(0));
+            let lengths = run
+                .visit
+                .cells()
+                .map(|cell| run.trails.of(cell.number).len());
+            longest = longest.max(lengths.max().unwrap_or(0));
         }
     }
     println!("{offered} methods offered, the longest trail has {longest} types");
     assert!(offered > 10_000 && longest > 5);
+}
+
+/// What is said of a pair of types comes true when a reference of the one is moved as the other (X1 to X7).
+fn comes_true(step: &Step, cell: &CellInfo, t: &TypeInfo, strongest: Strongest) {
+    let place = match step.outcome {
+        Ok(Got::Held(held)) => Some(held.place),
+        _ => None,
+    };
+    let unrelated = strongest == Strongest::None || strongest == Strongest::Free && !t.own;
+    assert_eq!(
+        unrelated,
+        step.outcome == Err(Refusal::Unrelated),
+        "{step:?}"
+    );
+    match (t.own, strongest) {
+        (false, Strongest::Subtype) => {
+            let full = step.outcome == Err(Refusal::CellsFull);
+            assert!(place == Some(cell.place) || full, "{step:?}");
+        }
+        (false, Strongest::Strict) => assert_ne!(step.outcome, Err(Refusal::NotStrict), "{step:?}"),
+        _ => {}
+    }
+}
+
+/// Looks at every move of a run that came as far as a crossing; how many they are.
+fn moves_come_true(run: &Run) -> usize {
+    let sheet = run.visit.sheet();
+    let (pairs, cells): (_, Vec<CellInfo>) = (sheet.pairs(), run.visit.cells().collect());
+    let mut moves = 0;
+    for step in &run.steps {
+        let early = step.outcome.is_err_and(|refusal| refusal.number() < 8);
+        if let (Request::Move { cell, to, .. }, false) = (&step.request, early) {
+            let (cell, t) = (&cells[*cell as usize], sheet.type_info(Type(*to)));
+            let t = t.expect("a type");
+            let strongest = Strongest::of(&pairs.at(t.number, cell.type_));
+            comes_true(step, cell, &t, strongest);
+            moves += 1;
+        }
+    }
+    moves
+}
+
+#[test]
+fn what_is_said_of_pairs_comes_true() {
+    let moves: usize = [Profile::Small, Profile::Medium, Profile::Big, Profile::Full]
+        .into_iter()
+        .flat_map(|profile| (0..40).map(move |seed| generate(seed, profile)))
+        .filter_map(|input| same(&input).map(|run| moves_come_true(&run)))
+        .sum();
+    println!("{moves} moves");
+    assert!(moves > 5_000);
 }

@@ -4,7 +4,7 @@ use mir.Facts.{toZ-ofZ}
 use native.Mathlib.Omega.{arith}
 use borrow.Author.Needs.{needs}
 use borrow.Author.Tests.{not-true, not-false}
-use Rattle.restrict.proofs.Begins.{ref-below}
+use Rattle.deriving.proofs.Begins.{ref-below}
 use Rattle.offers.proofs.Laws.{step-unknown, step-number, step-off, step-on}
 use Rattle.offers.proofs.after_method.Statement.{statement}
 use Rattle.offers.proofs.after_method.Tie as tie

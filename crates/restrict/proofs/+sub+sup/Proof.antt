@@ -17,9 +17,9 @@ use Rattle.restrict.proofs.+sub+sup.Lts-sub as sub-lts
 use Rattle.restrict.proofs.sup.Reads as sup-reads
 use Rattle.restrict.proofs.sup.Kinds as sup-kinds
 use Rattle.restrict.proofs.+sub+sup.Lts-sup as sup-lts
-use Rattle.restrict.proofs.begin.Reads as begin-reads
-use Rattle.restrict.proofs.finish.Reads as finish-reads
-use Rattle.restrict.proofs.start.Reads as start-reads
+use Rattle.deriving.proofs.begin.Reads as begin-reads
+use Rattle.deriving.proofs.finish.Reads as finish-reads
+use Rattle.deriving.proofs.start.Reads as start-reads
 use Rattle.restrict.proofs.+sub+sup.{statement}
 use Rattle.restrict.proofs.+sub+sup.Tie.{close}
 

@@ -6,7 +6,8 @@ use Rattle.model.specs.Table.{Kind}
 use Rattle.model.specs.Check.{kindOf}
 use Rattle.model.proofs.Rules.{first, second}
 use Rattle.table.proofs.Codes.{closed-kind}
-use Rattle.restrict.specs.Link.{refIn, Derives}
+use Rattle.deriving.specs.Begins.{refIn}
+use Rattle.restrict.specs.Link.{Derives}
 use Rattle.restrict_entry.proofs.Laws.{closed-asked}
 use Rattle.restrict_entry.proofs.derive_kind.Statement.{statement}
 use Rattle.restrict_entry.proofs.derive_kind.Tie as tie

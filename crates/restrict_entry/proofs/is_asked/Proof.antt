@@ -2,8 +2,8 @@
 use mathlib.Core.Path.{sym, _∙_}
 use borrow.Author.Tests.{not-true, not-false}
 use borrow.Author.Needs.{needs}
-use Rattle.restrict.specs.Link.{refIn}
-use Rattle.restrict.proofs.Begins.{not-left}
+use Rattle.deriving.specs.Begins.{refIn}
+use Rattle.deriving.proofs.Begins.{not-left}
 use Rattle.tablecheck.proofs.Steps.{goes}
 use Rattle.restrict_entry.proofs.Laws.{asked-both, asked-none, asked-closed}
 use Rattle.restrict_entry.proofs.is_asked.Statement.{statement}
