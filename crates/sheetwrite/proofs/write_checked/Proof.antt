@@ -1,5 +1,5 @@
 -- Rests on what the check says of the counts, and on the two answers, `short-is` and `length-is`.
-use Rattle.sheetwrite.proofs.Whole.{short-is, length-is}
+use Rattle.sheetwrite.proofs.Answers.{short-is, length-is}
 use Rattle.tablecheck.proofs.Accepted.{accepted-limits}
 use Rattle.table.specs.Store.{rawTable}
 use borrow.Author.Needs.{needs}

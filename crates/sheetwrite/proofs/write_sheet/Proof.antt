@@ -1,5 +1,5 @@
 -- Rests on `unfit-is`, and on `write_checked` for a table that passed the check.
-use Rattle.sheetwrite.proofs.Whole.{unfit-is}
+use Rattle.sheetwrite.proofs.Answers.{unfit-is}
 use Rattle.table.specs.Store.{rawTable}
 use mathlib.Core.Path.{sym, _∙_}
 use borrow.Author.Needs.{needs}

@@ -1,10 +1,10 @@
 -- Rests on `lines-rest` and on the lines of a type, by its representation.
-use Rattle.sheetwrite.proofs.Laws.{ref-type, number-type}
+use Rattle.tablewrite.proofs.Laws.{ref-type, number-type}
 use Rattle.textwrite.proofs.Laws.{lines-rest, lines-are}
 use native.Mathlib.Omega.{arith}
 use borrow.Author.Needs.{needs}
-use Rattle.sheetwrite.proofs.write_type.Statement.{statement}
-use Rattle.sheetwrite.proofs.write_type.Tie as tie
+use Rattle.tablewrite.proofs.write_type.Statement.{statement}
+use Rattle.tablewrite.proofs.write_type.Tie as tie
 
 get-head-requires : tie.Need-get-head-requires
 get-head-requires c κs = search needs

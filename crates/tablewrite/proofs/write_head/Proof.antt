@@ -7,8 +7,8 @@ use mathlib.Core.List.{[], _∷_}
 use mathlib.Core.Path.{ap}
 use native.Mathlib.Omega.{arith}
 use borrow.Author.Needs.{needs}
-use Rattle.sheetwrite.proofs.write_head.Statement.{statement}
-use Rattle.sheetwrite.proofs.write_head.Tie as tie
+use Rattle.tablewrite.proofs.write_head.Statement.{statement}
+use Rattle.tablewrite.proofs.write_head.Tie as tie
 
 slice-aggregate-write-number : tie.Need-slice-aggregate-write-number
 slice-aggregate-write-number c = search needs

@@ -1,9 +1,9 @@
 -- Rests on `lines-rest` and `sheet-is`: the parts together are the sheet.
-use Rattle.sheetwrite.proofs.Whole.{sheet-is}
+use Rattle.tablewrite.proofs.Whole.{sheet-is}
 use Rattle.textwrite.proofs.Laws.{lines-rest}
 use borrow.Author.Needs.{needs}
-use Rattle.sheetwrite.proofs.put_sheet.Statement.{statement}
-use Rattle.sheetwrite.proofs.put_sheet.Tie as tie
+use Rattle.tablewrite.proofs.put_sheet.Statement.{statement}
+use Rattle.tablewrite.proofs.put_sheet.Tie as tie
 
 write-front-requires : tie.Need-write-front-requires
 write-front-requires c κs = search needs

@@ -2,8 +2,8 @@
 use Rattle.textwrite.proofs.Laws.{lines-rest}
 use native.Mathlib.Omega.{arith}
 use borrow.Author.Needs.{needs}
-use Rattle.sheetwrite.proofs.write_members.Statement.{statement}
-use Rattle.sheetwrite.proofs.write_members.Tie as tie
+use Rattle.tablewrite.proofs.write_members.Statement.{statement}
+use Rattle.tablewrite.proofs.write_members.Tie as tie
 
 write-own-requires : tie.Need-write-own-requires
 write-own-requires c κs = search needs

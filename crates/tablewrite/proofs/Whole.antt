@@ -1,26 +1,22 @@
--- The parts together are the text of the table's sheet; and the writer's answers.
+-- The parts together are the text of the table's sheet.
 use mathlib.Core.Path.{_≡_, refl, sym, ap, _∙_}
-use mathlib.Core.Bool.{true, false}
 use mathlib.Core.List.{List, [], _∷_, _++_, append-assoc}
-use Prim.Native.Nat.{ℕ, zero, suc, _≤_, _<_}
+use Prim.Native.Nat.{ℕ, zero, suc, _≤_}
 use native.Mathlib.Nat.{le-of-suc-le-suc}
 use native.Mathlib.Omega.{arith}
 use lib.ListN.{length, take}
-use borrow.Author.Tests.{le-leb, lt-leb}
 use Rattle.model.specs.Basics.{from}
 use Rattle.model.specs.Table.{Ty}
-use Rattle.model.specs.Check.{RawTable, tableOf, tableAccepted}
+use Rattle.model.specs.Check.{tableOf}
 use Rattle.table.specs.declared.Counts.{Counts}
 use Rattle.table.specs.Limits.{Limits}
 use Rattle.table.specs.Store.{rawTable, broaderOf}
 use Rattle.table.proofs.Lists.{length-from}
 use Rattle.sheet.specs.Lines.{bytes, join}
-use Rattle.sheet.specs.Text.{newestForm, numberText, each, typeLines, endText, sheetLines, text, writeText, write}
+use Rattle.sheet.specs.Text.{newestForm, numberText, each, typeLines, endText, sheetLines, text}
 use Rattle.textwrite.specs.Fill.{Filled, Lined}
-use Rattle.textwrite.proofs.Laws.{counted, fill-is}
-use Rattle.sheetwrite.specs.declared.Wrote.the-variants.{UnfitTable, ShortBuffer, Length}
-use Rattle.sheetwrite.specs.Parts.{typeIn, typeLinesTo, underLines, countLines, frontLines, backLines}
-use Rattle.sheetwrite.specs.Answer.{writtenOf}
+use Rattle.textwrite.proofs.Laws.{fill-is}
+use Rattle.tablewrite.specs.Parts.{typeIn, typeLinesTo, underLines, countLines, frontLines, backLines}
 
 take-from : {A : Type 0} (f : ℕ → A) (n c i : ℕ) → n ≤ c → take n (from c i f) ≡ from n i f
 unfolding from
@@ -46,29 +42,3 @@ module _ (b l : List ℕ) (c : Counts) where
 
   pub sheet-is : {old new : List ℕ} {r : ℕ} → Limits c → Lined old new (frontLines l c ++ backLines b c) r → Filled old new (text (tableOf (rawTable b l c))) r
   sheet-is g f = fill-is (parts-are (g .counted)) (f .filled)
-
--- a short buffer (W2, W3): the sheet was counted on an empty part of it
-pub short-is : {tl : List ℕ} {n : ℕ} (r : RawTable) (buf : List ℕ) → tableAccepted r ≡ true → Filled [] tl (text (tableOf r)) n → length (tl ++ buf) < n
-    → writtenOf ShortBuffer (tl ++ buf) ≡ write r buf
-unfolding write writeText
-short-is {tl} {n} r buf h f s =
-    let e : tl ++ buf ≡ buf = counted f in
-    let q : length (tl ++ buf) ≡ length buf = ap length e in
-    let w = f .said in
-    rw (e, h, lt-leb (length (text (tableOf r))) (length buf) (omega arith))
-
--- the length (W4)
-pub length-is : {tl new : List ℕ} {n m : ℕ} (r : RawTable) (buf : List ℕ) → tableAccepted r ≡ true → Filled [] tl (text (tableOf r)) n → n ≤ length (tl ++ buf)
-    → Filled (tl ++ buf) new (text (tableOf r)) m → writtenOf (Length m) new ≡ write r buf
-unfolding write writeText
-length-is {tl} {new} {n} {m} r buf h f s g =
-    let e : tl ++ buf ≡ buf = counted f in
-    let q : length (tl ++ buf) ≡ length buf = ap length e in
-    let w = f .said in
-    let k : length (text (tableOf r)) ≤ length buf = omega arith in
-    rw (g .said, g .text (omega arith), e, h, le-leb (length (text (tableOf r))) (length buf) k)
-
--- an unfit table (W1, W3)
-pub unfit-is : (r : RawTable) (buf : List ℕ) → tableAccepted r ≡ false → writtenOf UnfitTable buf ≡ write r buf
-unfolding write
-unfit-is r buf h = rw h

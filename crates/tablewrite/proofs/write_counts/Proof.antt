@@ -2,8 +2,8 @@
 use Rattle.textwrite.proofs.Laws.{lines-rest}
 use native.Mathlib.Omega.{arith}
 use borrow.Author.Needs.{needs}
-use Rattle.sheetwrite.proofs.write_counts.Statement.{statement}
-use Rattle.sheetwrite.proofs.write_counts.Tie as tie
+use Rattle.tablewrite.proofs.write_counts.Statement.{statement}
+use Rattle.tablewrite.proofs.write_counts.Tie as tie
 
 slice-aggregate-write-number : tie.Need-slice-aggregate-write-number
 slice-aggregate-write-number c = search needs

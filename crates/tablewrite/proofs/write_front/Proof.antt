@@ -1,13 +1,13 @@
 -- Rests on `lines-rest`, twice.
 use Rattle.textwrite.proofs.Laws.{lines-rest, lines-are}
-use Rattle.sheetwrite.specs.Parts.{underLines, countLines, frontLines}
+use Rattle.tablewrite.specs.Parts.{underLines, countLines, frontLines}
 use Rattle.sheet.specs.Text.{numberText}
 use Rattle.sheet.specs.Lines.{bytes}
 use mathlib.Core.List.{[], _∷_, append-assoc}
 use native.Mathlib.Omega.{arith}
 use borrow.Author.Needs.{needs}
-use Rattle.sheetwrite.proofs.write_front.Statement.{statement}
-use Rattle.sheetwrite.proofs.write_front.Tie as tie
+use Rattle.tablewrite.proofs.write_front.Statement.{statement}
+use Rattle.tablewrite.proofs.write_front.Tie as tie
 
 write-counts-requires : tie.Need-write-counts-requires
 write-counts-requires c κs = search needs

@@ -1,13 +1,13 @@
 -- Rests on `lines-rest` and `method-next`: the loop has written the lines of the first j methods.
-use Rattle.sheetwrite.proofs.Laws.{method-next, methods-all, methods-none}
+use Rattle.tablewrite.proofs.Laws.{method-next, methods-all, methods-none}
 use Rattle.textwrite.proofs.Laws.{lines-none, lines-rest, lines-are}
-use Rattle.sheetwrite.specs.Parts.{methodLines}
+use Rattle.tablewrite.specs.Parts.{methodLines}
 use Rattle.textwrite.specs.Fill.{Lined}
 use Prim.Native.Nat.{_-_, _*_, _≤_}
 use native.Mathlib.Omega.{arith}
 use borrow.Author.Needs.{needs}
-use Rattle.sheetwrite.proofs.write_methods.Statement.{statement}
-use Rattle.sheetwrite.proofs.write_methods.Tie as tie
+use Rattle.tablewrite.proofs.write_methods.Statement.{statement}
+use Rattle.tablewrite.proofs.write_methods.Tie as tie
 
 abbrev Inv-loop : tie.InvT-loop
 Inv-loop buf₀ b i methods at₀ j₀ buf at j = (j ≤ methods) × (at ≤ 182 * j) × Lined buf₀ buf (methodLines b i j) at

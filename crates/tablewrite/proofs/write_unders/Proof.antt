@@ -1,13 +1,13 @@
 -- Rests on `lines-rest` and `under-next`: the loop has written the lines of the first i categories.
-use Rattle.sheetwrite.proofs.Laws.{under-next, unders-all, unders-none}
+use Rattle.tablewrite.proofs.Laws.{under-next, unders-all, unders-none}
 use Rattle.textwrite.proofs.Laws.{lines-none, lines-rest, lines-are}
-use Rattle.sheetwrite.specs.Parts.{underLines}
+use Rattle.tablewrite.specs.Parts.{underLines}
 use Rattle.textwrite.specs.Fill.{Lined}
 use Prim.Native.Nat.{_-_, _*_, _≤_}
 use native.Mathlib.Omega.{arith}
 use borrow.Author.Needs.{needs}
-use Rattle.sheetwrite.proofs.write_unders.Statement.{statement}
-use Rattle.sheetwrite.proofs.write_unders.Tie as tie
+use Rattle.tablewrite.proofs.write_unders.Statement.{statement}
+use Rattle.tablewrite.proofs.write_unders.Tie as tie
 
 abbrev Inv-loop : tie.InvT-loop
 Inv-loop buf₀ l cats at₀ i₀ buf at i = (i ≤ cats) × (at ≤ 73 * i) × Lined buf₀ buf (underLines l i) at

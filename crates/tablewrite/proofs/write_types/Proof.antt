@@ -1,13 +1,13 @@
 -- Rests on `lines-rest` and `type-next`: the loop has written the lines of the first i types.
-use Rattle.sheetwrite.proofs.Laws.{type-next, types-all, types-none}
+use Rattle.tablewrite.proofs.Laws.{type-next, types-all, types-none}
 use Rattle.textwrite.proofs.Laws.{lines-none, lines-rest, lines-are}
-use Rattle.sheetwrite.specs.Parts.{typeLinesTo}
+use Rattle.tablewrite.specs.Parts.{typeLinesTo}
 use Rattle.textwrite.specs.Fill.{Lined}
 use Prim.Native.Nat.{_-_, _*_, _≤_}
 use native.Mathlib.Omega.{arith}
 use borrow.Author.Needs.{needs}
-use Rattle.sheetwrite.proofs.write_types.Statement.{statement}
-use Rattle.sheetwrite.proofs.write_types.Tie as tie
+use Rattle.tablewrite.proofs.write_types.Statement.{statement}
+use Rattle.tablewrite.proofs.write_types.Tie as tie
 
 abbrev Inv-loop : tie.InvT-loop
 Inv-loop buf₀ b c n at₀ i₀ buf at i = (i ≤ n) × (at ≤ 3020 * i) × Lined buf₀ buf (typeLinesTo b c i) at

@@ -16,7 +16,7 @@ use Rattle.table.specs.declared.Method.{Method}
 use Rattle.table.specs.Store.{typesIn, linksIn, rawMethod, rawLinks, headOf, methodIn, broaderOf}
 use Rattle.sheet.specs.Lines.{bytes}
 use Rattle.sheet.specs.Text.{numberText, underText, repText, ownText, methodText, each, memberLines, typeLines}
-use Rattle.sheetwrite.specs.Parts.{typeIn, methodLines, typeLinesTo, underLines}
+use Rattle.tablewrite.specs.Parts.{typeIn, methodLines, typeLinesTo, underLines}
 
 -- ---- a type: x is its record and h its head
 module _ (i m s : ℕ) (x : RawType) where

@@ -1,10 +1,10 @@
 -- Rests on `lines-rest`.
 use Rattle.textwrite.proofs.Laws.{lines-rest}
-use Rattle.sheetwrite.specs.Parts.{backLines}
+use Rattle.tablewrite.specs.Parts.{backLines}
 use native.Mathlib.Omega.{arith}
 use borrow.Author.Needs.{needs}
-use Rattle.sheetwrite.proofs.write_back.Statement.{statement}
-use Rattle.sheetwrite.proofs.write_back.Tie as tie
+use Rattle.tablewrite.proofs.write_back.Statement.{statement}
+use Rattle.tablewrite.proofs.write_back.Tie as tie
 
 write-types-requires : tie.Need-write-types-requires
 write-types-requires c κs = search needs
