@@ -1,7 +1,7 @@
 -- Rests on the three cases of an input: too long, refused, accepted (proofs/Whole).
 use mathlib.Core.Path.{ap, _∙_}
 use Rattle.sheet.specs.Lines.{join}
-use Rattle.pairtext.specs.Parts.{codeLines}
+use Rattle.pairwrite.specs.Parts.{codeLines}
 use Rattle.pairtext.proofs.Whole.{sheet-checked, sheet-few, accepted-prints, refused-prints, long-prints}
 use Rattle.textwrite.proofs.Laws.{fill-is}
 use native.Mathlib.Omega.{arith}

@@ -1,13 +1,13 @@
 -- Rests on `lines-rest` and `rows-next`: the loop has written the pairs of the first t types.
-use Rattle.pairtext.proofs.Laws.{rows-none, rows-next, rows-all}
-use Rattle.pairtext.specs.Parts.{codeLines}
+use Rattle.pairwrite.proofs.Laws.{rows-none, rows-next, rows-all}
+use Rattle.pairwrite.specs.Parts.{codeLines}
 use Rattle.textwrite.proofs.Laws.{lines-none, lines-rest, lines-are}
 use Rattle.textwrite.specs.Fill.{Lined}
 use Prim.Native.Nat.{_-_, _*_, _≤_}
 use native.Mathlib.Omega.{arith}
 use borrow.Author.Needs.{needs}
-use Rattle.pairtext.proofs.pair_lines.Statement.{statement}
-use Rattle.pairtext.proofs.pair_lines.Tie as tie
+use Rattle.pairwrite.proofs.pair_lines.Statement.{statement}
+use Rattle.pairwrite.proofs.pair_lines.Tie as tie
 
 abbrev Inv-loop : tie.InvT-loop
 Inv-loop buf₀ pairs n at₀ t₀ buf at t = (t ≤ n) × (at ≤ 672 * t) × Lined buf₀ buf (codeLines pairs n t) at

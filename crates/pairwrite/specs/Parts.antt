@@ -1,11 +1,20 @@
--- The lines of the pairs as the code writes them, from the bytes of the pair table (crate `compare`). That they are those of the definition is proved in proofs/Whole.antt.
+-- The lines of the pairs as the code writes them, from the bytes of the pair table (crate `compare`). That they are those of the definition is proved in crates/pairtext/proofs/Whole.antt.
 use mathlib.Core.List.{List, [], _∷_, _++_, flatten}
 use Prim.Native.Nat.{ℕ, _+_, _*_, _/_, _%_}
 use lib.ListN.{getD}
 use Rattle.model.specs.Basics.{from}
+use Rattle.sheet.specs.Lines.{bytes}
+use Rattle.sheet.specs.Numbers.{decimal, decimalIn}
 use Rattle.sheet.specs.Text.{numberText}
-use Rattle.sheet.specs.Numbers.{decimalIn}
-use Rattle.pairtext.specs.Output.{spaces, spaced}
+
+-- numbers, each behind a space; and with single spaces between
+abbrev pub spaces : List ℕ → List ℕ
+spaces [] = []
+spaces (n ∷ r) = numberText (bytes " ") n ++ spaces r
+
+abbrev pub spaced : List ℕ → List ℕ
+spaced [] = []
+spaced (n ∷ r) = decimal n ++ spaces r
 
 -- The four answers in a pair's byte: subtype counts 1, strict 2, loose 4 and free 8.
 abbrev pub answersIn : ℕ → List ℕ

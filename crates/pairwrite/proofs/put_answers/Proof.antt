@@ -1,10 +1,10 @@
 -- Rests on `fill-rest`, three times, and `answers-are`.
-use Rattle.pairtext.proofs.Laws.{answers-are}
+use Rattle.pairwrite.proofs.Laws.{answers-are}
 use Rattle.textwrite.proofs.Laws.{fill-rest, fill-is}
 use native.Mathlib.Omega.{arith}
 use borrow.Author.Needs.{needs}
-use Rattle.pairtext.proofs.put_answers.Statement.{statement}
-use Rattle.pairtext.proofs.put_answers.Tie as tie
+use Rattle.pairwrite.proofs.put_answers.Statement.{statement}
+use Rattle.pairwrite.proofs.put_answers.Tie as tie
 
 slice-aggregate-put-number : tie.Need-slice-aggregate-put-number
 slice-aggregate-put-number c = search needs

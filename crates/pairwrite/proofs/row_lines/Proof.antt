@@ -1,13 +1,13 @@
 -- Rests on `lines-rest` and `row-next`: the loop has written the pairs of T with the first s types.
-use Rattle.pairtext.proofs.Laws.{row-none, row-next, row-all}
-use Rattle.pairtext.specs.Parts.{rowLines}
+use Rattle.pairwrite.proofs.Laws.{row-none, row-next, row-all}
+use Rattle.pairwrite.specs.Parts.{rowLines}
 use Rattle.textwrite.proofs.Laws.{lines-none, lines-rest, lines-are}
 use Rattle.textwrite.specs.Fill.{Lined}
 use Prim.Native.Nat.{_-_, _*_, _≤_}
 use native.Mathlib.Omega.{arith}
 use borrow.Author.Needs.{needs}
-use Rattle.pairtext.proofs.row_lines.Statement.{statement}
-use Rattle.pairtext.proofs.row_lines.Tie as tie
+use Rattle.pairwrite.proofs.row_lines.Statement.{statement}
+use Rattle.pairwrite.proofs.row_lines.Tie as tie
 
 abbrev Inv-loop : tie.InvT-loop
 Inv-loop buf₀ pairs t n at₀ s₀ buf at s = (s ≤ n) × (at ≤ 14 * s) × Lined buf₀ buf (rowLines pairs t s) at

@@ -13,8 +13,7 @@ use Rattle.sheet.specs.Lines.{bytes, join}
 use Rattle.sheet.specs.Numbers.{decimal}
 use Rattle.sheet.specs.Text.{numberText}
 use Rattle.sheet.proofs.Numbers.{decimal-one, decimal-more}
-use Rattle.pairtext.specs.Output.{spaces}
-use Rattle.pairtext.specs.Parts.{answersIn, answersText, codeLine, rowLines, codeLines}
+use Rattle.pairwrite.specs.Parts.{spaces, answersIn, answersText, codeLine, rowLines, codeLines}
 
 abbrev word : ℕ → List ℕ
 word n = numberText (bytes " ") n
@@ -33,10 +32,6 @@ line-is t s c = three (decimal t) (word s) (spaces (answersIn c)) (10 ∷ [])
   where
     three : (a b d e : List ℕ) → (a ++ b) ++ (d ++ e) ≡ (a ++ (b ++ d)) ++ e
     three a b d e = simp append-assoc
-
-pub refused-is : (n at : ℕ) → numberText (bytes "no=") n ++ join (numberText (bytes " at=") at ∷ []) ≡ (numberText (bytes "no=") n ++ numberText (bytes " at=") at) ++ 10 ∷ []
-unfolding join
-refused-is n at = sym (append-assoc (numberText (bytes "no=") n) (numberText (bytes " at=") at) (10 ∷ []))
 
 -- ---- its length
 digit-length : (n : ℕ) → n < 10 → length (decimal n) ≡ 1

@@ -1,10 +1,10 @@
 -- Rests on `fill-rest`, twice, and `line-is`; `line-short` says how long the line is at most.
-use Rattle.pairtext.proofs.Laws.{line-is, line-short}
+use Rattle.pairwrite.proofs.Laws.{line-is, line-short}
 use Rattle.textwrite.proofs.Laws.{fill-rest, fill-is, ended}
 use native.Mathlib.Omega.{arith}
 use borrow.Author.Needs.{needs}
-use Rattle.pairtext.proofs.pair_line.Statement.{statement}
-use Rattle.pairtext.proofs.pair_line.Tie as tie
+use Rattle.pairwrite.proofs.pair_line.Statement.{statement}
+use Rattle.pairwrite.proofs.pair_line.Tie as tie
 
 put-decimal-requires : tie.Need-put-decimal-requires
 put-decimal-requires c κs = search needs
