@@ -1,7 +1,7 @@
 -- What is written is the definition's: the pairs of an accepted sheet, whose table the relations can be asked of; and the three cases of the input.
 use mathlib.Core.Path.{_≡_, sym, ap, _∙_}
 use mathlib.Core.Bool.{Bool, true, false}
-use mathlib.Core.List.{List, [], _∷_, flatten}
+use mathlib.Core.List.{List, [], _∷_, _++_, flatten, append-assoc}
 use Prim.Native.Nat.{ℕ, _+_, _*_, _/_, _%_, _≤_, _<_}
 use native.Mathlib.Omega.{arith}
 use lib.ListN.{length, getD, take, drop}
@@ -19,13 +19,14 @@ use Rattle.relation.specs.Answered.{answersAt}
 use Rattle.compare.specs.Pairs.{pairCode, pairTable}
 use Rattle.compare.proofs.Laws.{pair-at}
 use Rattle.sheet.specs.Lines.{bytes, join}
+use Rattle.sheet.specs.Text.{numberText}
 use Rattle.sheet.specs.Sheet.{malformed, read}
 use Rattle.sheetread.specs.declared.Sheet.{Sheet}
 use Rattle.sheetread.specs.View.{answered}
 use Rattle.sheetread.proofs.Accepted.{read-loaded, read-malformed, read-accepted}
 use Rattle.textwrite.specs.Fill.{Filled}
-use Rattle.pairtext.specs.Output.{maxInput, spaced, answerBits, pairLine, pairLines, answerLines, pairsOutput}
-use Rattle.pairtext.specs.Parts.{answersIn, codeLine, rowLines, codeLines}
+use Rattle.pairtext.specs.Output.{maxInput, answerBits, pairLine, pairLines, answerLines, pairsOutput}
+use Rattle.pairwrite.specs.Parts.{spaced, answersIn, codeLine, rowLines, codeLines}
 
 -- ---- the pairs
 bit-low : (b : Bool) → bit b ≤ 1
@@ -99,3 +100,8 @@ printed {old} {new} {xs} {r} f l =
     let s = f .size in
     let k : r ≤ length new = omega arith in
     (ap (λ z. take z new) e ∙ ap (take (length xs)) (f .text (omega arith)) ∙ take-append-seam xs (drop (length xs) old), (k, sym (length-take-le r new k)))
+
+-- the line of a refused sheet
+pub refused-is : (n at : ℕ) → numberText (bytes "no=") n ++ join (numberText (bytes " at=") at ∷ []) ≡ (numberText (bytes "no=") n ++ numberText (bytes " at=") at) ++ 10 ∷ []
+unfolding join
+refused-is n at = sym (append-assoc (numberText (bytes "no=") n) (numberText (bytes " at=") at) (10 ∷ []))

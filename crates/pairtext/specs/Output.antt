@@ -9,22 +9,14 @@ use Rattle.model.specs.Table.{Table}
 use Rattle.model.specs.Relations.{Answers, bit, related}
 use Rattle.relation.specs.Answered.{answersAt}
 use Rattle.sheet.specs.Lines.{bytes, join}
-use Rattle.sheet.specs.Numbers.{decimal, decimalIn}
+use Rattle.sheet.specs.Numbers.{decimalIn}
 use Rattle.sheet.specs.Text.{numberText}
+use Rattle.pairwrite.specs.Parts.{spaced}
 use Rattle.sheet.specs.Sheet.{SheetAnswer, malformed, loaded, read}
 
 -- a sheet of at most so many bytes (P1)
 abbrev pub maxInput : ℕ
 maxInput = 32768
-
--- numbers, each behind a space; and with single spaces between
-abbrev pub spaces : List ℕ → List ℕ
-spaces [] = []
-spaces (n ∷ r) = numberText (bytes " ") n ++ spaces r
-
-abbrev pub spaced : List ℕ → List ℕ
-spaced [] = []
-spaced (n ∷ r) = decimal n ++ spaces r
 
 -- the answers of Compare, 1 or 0, in the order in which they are printed
 abbrev pub answerBits : Answers → List ℕ

@@ -1,7 +1,7 @@
 -- The output by the three cases of an input, too long, refused or accepted, as the definition has them (proofs/Whole).
 use mathlib.Core.Path.{ap, _∙_}
 use Rattle.sheet.specs.Lines.{join}
-use Rattle.pairtext.specs.Parts.{codeLines}
+use Rattle.pairwrite.specs.Parts.{codeLines}
 use Rattle.pairtext.proofs.Whole.{sheet-checked, sheet-few, accepted-prints, refused-prints, long-prints}
 use Rattle.textwrite.proofs.Laws.{fill-is}
 use native.Mathlib.Omega.{arith}

@@ -1,6 +1,6 @@
 -- A refusal's line: the number, and the offset in the rest of the buffer (`fill-rest`).
 use Rattle.pairtext.specs.Output.{answerLines}
-use Rattle.pairtext.proofs.Laws.{refused-is}
+use Rattle.pairtext.proofs.Whole.{refused-is}
 use Rattle.textwrite.proofs.Laws.{fill-rest, fill-is, ended}
 use native.Mathlib.Omega.{arith}
 use borrow.Author.Needs.{needs}

@@ -1,5 +1,5 @@
 -- The text is counted first, on an empty part: where the buffer is short it stays as it was (`short-is`), else the text stands in it (`length-is`).
-use Rattle.sheetwrite.proofs.Whole.{short-is, length-is}
+use Rattle.sheetwrite.proofs.Answers.{short-is, length-is}
 use Rattle.tablecheck.proofs.Accepted.{accepted-limits}
 use Rattle.table.specs.Store.{rawTable}
 use borrow.Author.Needs.{needs}
