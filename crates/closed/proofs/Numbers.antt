@@ -11,9 +11,9 @@ use lib.Dec.{ltb}
 use lib.ListN.{length, getD, set, replicate}
 use lib.Seq.{getD-set-same}
 use borrow.Author.Tests.{lt-ltb, le-ltb}
-use Rattle.model.specs.Basics.{then, from}
-use Rattle.model.specs.Table.{closed, Ty, Method, Table, noType, size, typeAt, withTypes, isRef}
-use Rattle.model.specs.Restriction.{find, withoutNew, entry, pending, Derivation, deriveMethods, make, derive}
+use Rattle.model.specs.Basics.{from}
+use Rattle.model.specs.Table.{closed, Ty, Method, Table, noType, typeAt, withTypes, isRef}
+use Rattle.model.specs.Restriction.{find, withoutNew, entry, pending, Derivation, deriveMethods, derive}
 use Rattle.model.specs.Check.{RawType, noRawType, noRawMethod, repOf, typeOf, methodOf, rawTypeFits}
 use Rattle.model.proofs.Rules.{never}
 use Rattle.table.specs.declared.Counts.{Counts}
@@ -33,7 +33,7 @@ use Rattle.restrict.specs.Link.{Ready, Gives, Kept, Coded, Exact, ExactAt}
 use Rattle.closed.specs.Numbers.{Alike, NumberIn, NumberRep, NumberType}
 use Rattle.deriving.proofs.Begins.{found-known, found-full, closed-begins}
 use Rattle.restrict.proofs.Bytes.{record-same, put-below, put-exact}
-use Rattle.restrict.proofs.Ends.{by-new, size-tabled, settled}
+use Rattle.restrict.proofs.Ends.{size-tabled, Last, Methods, make-new, settled}
 
 -- The representation, by its code.
 pub rep-w32 : (x : ℕ) → x ≡ 1 → NumberRep x 1
@@ -154,24 +154,11 @@ module _ {c : Counts} {r v : ℕ} {b : List ℕ} (asked : Ready c (c .types) r v
             ap (λ (y : Ty). y .cat) (number-at r left),
           )
 
-      abbrev Last : ℕ → Option (Table × List Method) → Option (Table × ℕ)
-      Last k o = then o λ p. some (withTypes (p .0) (set (p .0 .types) k (entry Tb closed r v (p .1))), k)
-
-      abbrev Methods : Derivation → Option (Table × List Method)
-      Methods rec = deriveMethods rec closed (withTypes Tb (Tb .types ++ (pending Tb closed r v ∷ []))) (typeAt Tb r .methods) (typeAt Tb v .methods)
-
       unknown : withoutNew Tb closed r v ≡ none
       unfolding withoutNew
       unknown = sym is ∙ ap (λ (a : Bool). cond a (some i) none) (le-ltb i n none-known)
 
-      make-new : (rec : Derivation) → make rec Tb closed r v ≡ Last n (Methods rec)
-      unfolding make
-      make-new rec =
-          by-new Tb (elim (ltb (size Tb) 128) as (λ _. Option (Table × ℕ)) [ false ↦ none | true ↦ Last (size Tb) (Methods rec) ]) (withoutNew Tb closed r v) unknown
-          ∙ ap (λ (k : ℕ). elim (ltb k 128) as (λ _. Option (Table × ℕ)) [ false ↦ none | true ↦ Last k (Methods rec) ]) (size-tabled T c n b)
-          ∙ ap (λ (a : Bool). elim a as (λ _. Option (Table × ℕ)) [ false ↦ none | true ↦ Last n (Methods rec) ]) (lt-ltb n 128 room)
-
-      methods-none : (rec : Derivation) → Methods rec ≡ some (withTypes Tb (Tb .types ++ (pending Tb closed r v ∷ [])), [])
+      methods-none : (rec : Derivation) → Methods Tb closed r v rec ≡ some (withTypes Tb (Tb .types ++ (pending Tb closed r v ∷ [])), [])
       unfolding deriveMethods
       methods-none rec = ap (λ (l : List Method). deriveMethods rec closed (withTypes Tb (Tb .types ++ (pending Tb closed r v ∷ []))) l (typeAt Tb v .methods)) (no-methods r left)
 
@@ -184,7 +171,9 @@ module _ {c : Counts} {r v : ℕ} {b : List ℕ} (asked : Ready c (c .types) r v
       derives : (f : ℕ) → 128 ≤ n + f → some (tabled T c (n + 1) b′, n) ≡ derive f Tb closed r v
       unfolding derive
       derives zero l = absurd (omega arith)
-      derives (suc f) l = ap (λ (ts : List Ty). some (withTypes T ts, n)) types ∙ sym (make-new (derive f) ∙ ap (Last n) (methods-none (derive f)))
+      derives (suc f) l =
+          ap (λ (ts : List Ty). some (withTypes T ts, n)) types
+          ∙ sym (make-new Tb closed r v n unknown (size-tabled T c n b) room (derive f) ∙ ap (Last Tb closed r v n) (methods-none (derive f)))
 
     pub numbers-new : Gives closed c n r v b b′ (At n (n + 1))
     numbers-new = record {

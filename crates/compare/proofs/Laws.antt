@@ -1,5 +1,5 @@
 -- Compare and the pair table, from the answers at a pair.
-use mathlib.Core.Path.{_≡_, ap, _∙_}
+use mathlib.Core.Path.{_≡_, ap, sym, _∙_}
 use mathlib.Core.Bool.{true, false, _&&_}
 use mathlib.Core.List.{List}
 use Prim.Native.Nat.{ℕ, _+_, _*_, _/_, _%_, _≤_, _<_}
@@ -63,7 +63,7 @@ module _ (b l : List ℕ) (c : Counts) (t s : ℕ) where
 -- The table, entry by entry.
 pub pairs-all : (T : Table) (out : List ℕ) → length out ≡ 2304 → ((k : ℕ) → k < 2304 → getD out k 0 ≡ pairEntry T (k / 48) (k % 48)) → out ≡ pairTable T
 unfolding pairTable
-pairs-all T out e h = is-from (λ p. pairEntry T (p / 48) (p % 48)) 2304 0 out e h
+pairs-all T out e h = sym (is-from (λ p. pairEntry T (p / 48) (p % 48)) 2304 0 out e h)
 
 -- Where the pair (T, S) stands.
 pub pair-at : (T : Table) (t s : ℕ) → t < 48 → s < 48 → getD (pairTable T) (t * 48 + s) 0 ≡ pairEntry T t s

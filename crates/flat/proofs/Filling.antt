@@ -28,4 +28,4 @@ module _ {A : Type 0} (d : A) (f : ℕ → A) where
   }
 
   pub filled-all : (n k : ℕ) (l : List A) → n ≤ k → Filled n k l → l ≡ from n 0 f
-  filled-all n k l h w = is-from f n d l (w .long) (λ i p. w .are i (omega (arith, p, h)))
+  filled-all n k l h w = sym (is-from f n d l (w .long) (λ i p. w .are i (omega (arith, p, h))))

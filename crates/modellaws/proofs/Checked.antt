@@ -6,12 +6,12 @@ use Prim.Native.Nat.{ℕ, _≤_, _<_}
 use native.Mathlib.Omega.{arith}
 use lib.Dec.{ltb, leb}
 use lib.ListN.{length}
-use Rattle.model.specs.Basics.{refuse, ok, all, every}
+use Rattle.model.specs.Basics.{refuse, ok, all, every, AllBelow}
 use Rattle.model.specs.Table.{Kind, Table, maxTypes, size, tableFits}
 use Rattle.model.specs.Relations.{free, related}
 use Rattle.model.specs.Restriction.{derive, derived}
 use Rattle.model.specs.Crossing.{Place, object, adapter, noPlace, maxPlaces, placeAt}
-use Rattle.model.specs.Requests.{System, maxCells, maxCalls, Request, noCell, noCall, cellAt, callAt, serve, after}
+use Rattle.model.specs.Requests.{System, maxCells, maxCalls, Request, noCell, noCall, cellAt, callAt, layers, serve, after}
 use Rattle.model.specs.Check.{cellFits, placeFits, callFits, systemFits}
 use Rattle.model.proofs.Tests.{ltb-so, leb-so, so-leb}
 use Rattle.model.proofs.Rules.{both, first, second}
@@ -20,7 +20,7 @@ use Rattle.modellaws.proofs.Deriving.{IfSome}
 use Rattle.modellaws.proofs.Good.{Sound, counted-of, sheet-within, derive-sound}
 use Rattle.modellaws.proofs.Steps.{IfOk}
 use Rattle.modellaws.proofs.Fitting.{all-at, every-at, table-fitting, fitting-sound}
-use Rattle.modellaws.proofs.Within.{PlaceIn, SystemIn, serve-in}
+use Rattle.modellaws.proofs.Within.{PlaceIn, SystemIn, layers-below, serve-in}
 
 -- ---- what 11 makes of a derivation
 pub derived-of : (Q : Table × ℕ → Type 0) (t : Table) (d : Kind) (l r : ℕ) → IfSome (derive maxTypes t d l r) Q → IfOk (derived t d l r) Q
@@ -48,6 +48,12 @@ Bounded = SystemIn Sound (λ t i. Unit {0}) (λ t i h. tt) (λ t u i g l h. tt) 
 
 pub bounded-kept : (s : System) → Bounded s → (q : Request) → Bounded (after s (serve s q))
 bounded-kept s h q = serve-in Sound (λ t i. Unit {0}) (λ t i h. tt) (λ t u i g l h. tt) (λ t g. sheet-within t (g .counts)) (λ t g. g .sheetSigs) (λ t g. g .sigs) sound-derives s h q
+
+-- the types of a place and of what is behind it are in the table
+pub bounded-layers : (s : System) → Bounded s → (f p : ℕ) → p < length (s .places) → AllBelow (size (s .table)) (layers f (s .places) p)
+bounded-layers s h f p l =
+    layers-below Sound (λ t i. Unit {0}) (λ t i h. tt) (λ t u i g l h. tt) (λ t g. sheet-within t (g .counts)) (λ t g. g .sheetSigs) (λ t g. g .sigs) sound-derives
+    (s .table) (s .places) (h .places) f p (sheet-within (s .table) (h .table .counts)) l
 
 -- ---- what the check says, by its parts
 pub record SystemFitting (s : System) : Type 0 where

@@ -14,19 +14,18 @@ use Rattle.model.specs.Basics.{Res, refuse, ok, try, need, names, named, AllBel
 use Rattle.model.specs.Table.{Rep, ref, w32, w64, Kind, sub, closed, Table, maxTypes, size, typeAt, methodAt, argumentAt, answerAt, isRef, isAvail}
 use Rattle.model.specs.Relations.{conforms, strict, loose, free, subtype, related}
 use Rattle.model.specs.Restriction.{derive, derived}
-use Rattle.model.specs.Crossing.{Place, object, adapter, noPlace, maxPlaces, placeType, placeAt, baseOf, baseOwner, Reference, adapt, cross}
-use Rattle.model.specs.Requests.{System, maxCells, maxCalls, Result, number, cellAt, callAt, held, leaving, addCell, layers, wayOf, atLayer, renumber}
+use Rattle.model.specs.Crossing.{Place, adapter, maxPlaces, placeType, placeAt, baseOf, baseOwner, Reference, adapt, cross}
+use Rattle.model.specs.Requests.{System, maxCells, maxCalls, Result, number, cellAt, callAt, held, leaving, addCell, wayOf, atLayer, renumber}
 use Rattle.model.specs.Requests.{crossLayers, within, passLayers, send, argumentsHeld, sendArguments, callRequest, withAnswer, give, answerRequest}
-use Rattle.model.specs.Check.{placeFits, systemFits}
-use Rattle.model.proofs.Tests.{ltb-so}
-use Rattle.model.proofs.Rules.{never, first, second}
+use Rattle.model.specs.Check.{systemFits}
+use Rattle.model.proofs.Rules.{never}
 use Rattle.model.proofs.Derived.{AnswerBelow, SignaturesIn}
 use Rattle.model.proofs.Growth.{Grown, grown-refl, grown-trans, method-same}
 use Rattle.modellaws.proofs.Unowned.{AllUnowned, AnswerUnowned, UnownedSignatures}
 use Rattle.modellaws.proofs.Deriving.{IfSome, derive-grown}
 use Rattle.modellaws.proofs.Demand3.{held-in}
-use Rattle.modellaws.proofs.Fitting.{every-at, TableFitting, table-fitting, fitting-sigs, fitting-unowned}
-use Rattle.modellaws.proofs.Checked.{SystemFitting, system-fitting, fits-bounded}
+use Rattle.modellaws.proofs.Fitting.{TableFitting, table-fitting, fitting-sigs, fitting-unowned}
+use Rattle.modellaws.proofs.Checked.{SystemFitting, bounded-layers, system-fitting, fits-bounded}
 
 -- not refused with 9; if accepted, Q
 abbrev NoNine : {A : Type 0} → Res A → (A → Type 0) → Type 0
@@ -206,19 +205,8 @@ module _ (s : System) (fits : So (systemFits s)) where
   t : TableFitting (s .table)
   t = table-fitting (s .table) (f .table)
 
-  layers-in : (n p : ℕ) → p < length (s .places) → AllBelow (size (s .table)) (layers n (s .places) p)
-  unfolding layers
-  layers-in zero p l = tt
-  layers-in (suc n) p l = go (placeAt (s .places) p)
-      (subst (λ k. So (placeFits s k (placeAt (s .places) p))) (omega arith) (every-at (placeFits s) noPlace 0 (s .places) (f .places) p l)) (layers-in n)
-    where
-      go : (x : Place) → So (placeFits s p x) → ((b : ℕ) → b < length (s .places) → AllBelow (size (s .table)) (layers n (s .places) b))
-          → AllBelow (size (s .table)) (elim x [ object c o ↦ c ∷ [] | adapter b c ↦ c ∷ layers n (s .places) b ])
-      go (object c o) h ih = let q : c < s .table .sheet = ltb-so (first (ltb c (s .table .sheet)) _ (second (ltb o (s .table .subjects)) _ h)) in (omega (arith, q, t .sheet), tt)
-      go (adapter b c) h ih = let q : b < p = ltb-so (first (ltb b p) _ h) in (ltb-so (first (ltb c (size (s .table))) _ (second (ltb b p) _ h)), ih b (omega (arith, q, l)))
-
   way-in : (k : ℕ) → k < length (s .cells) → AllBelow (size (s .table)) (wayOf s (cellAt s k))
-  way-in k l = let c = fits-bounded s fits .cells k l in (omega (arith, c .sheet, t .sheet), layers-in (length (s .places)) (cellAt s k .place) (c .place))
+  way-in k l = let c = fits-bounded s fits .cells k l in (omega (arith, c .sheet, t .sheet), bounded-layers s (fits-bounded s fits) (length (s .places)) (cellAt s k .place) (c .place))
 
   -- C13, of a call and of an answer
   pub call-not-nine : (subject k m : ℤ) (vs : List ℤ) → callRequest s subject k m vs ≢ refuse 9

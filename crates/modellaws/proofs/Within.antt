@@ -103,7 +103,7 @@ module _ (TP : Table → Type 0) (RF : Table → ℕ → Type 0)
         go (object c o) k ih = s c (k .1)
         go (adapter b c) k ih = more c (layers f ps b) (ih b (omega (arith, k .0)) (omega (arith, k .0)))
 
-    layers-below : (f p : ℕ) → t .sheet ≤ size t → p < length ps → AllBelow (size t) (layers f ps p)
+    pub layers-below : (f p : ℕ) → t .sheet ≤ size t → p < length ps → AllBelow (size t) (layers f ps p)
     unfolding layers
     layers-below zero p q l = tt
     layers-below (suc f) p q l = go (placeAt ps p) (h .each p l) (λ b. layers-below f b q)

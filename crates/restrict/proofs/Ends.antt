@@ -47,7 +47,7 @@ module _ (T : Table) where
   by-known : (i : ℕ) (rest : Option (Table × ℕ)) (o : Option ℕ) → o ≡ some i → _≡_ {A = Option (Table × ℕ)} (some (T, i)) (elim o [ some i ↦ some (T, i) | none ↦ rest ])
   by-known i rest o e = sym (ap (λ (z : Option ℕ). elim z as (λ _. Option (Table × ℕ)) [ some i ↦ some (T, i) | none ↦ rest ]) e)
 
-  pub by-new : (rest : Option (Table × ℕ)) (o : Option ℕ) → o ≡ none → _≡_ {A = Option (Table × ℕ)} (elim o [ some i ↦ some (T, i) | none ↦ rest ]) rest
+  by-new : (rest : Option (Table × ℕ)) (o : Option ℕ) → o ≡ none → _≡_ {A = Option (Table × ℕ)} (elim o [ some i ↦ some (T, i) | none ↦ rest ]) rest
   by-new rest o e = ap (λ (z : Option ℕ). elim z as (λ _. Option (Table × ℕ)) [ some i ↦ some (T, i) | none ↦ rest ]) e
 
 by-room : (rest : Option (Table × ℕ)) (b : Bool) → b ≡ false → _≡_ {A = Option (Table × ℕ)} (elim b [ false ↦ none | true ↦ rest ]) none
@@ -63,6 +63,20 @@ module _ (T : Table) (d : Kind) (t s : ℕ) where
   unfolding derive make
   derive-full zero e h = sym (by-new T none (withoutNew T d t s) e)
   derive-full (suc f) e h = sym (by-new T _ (withoutNew T d t s) e ∙ by-room _ (ltb (size T) 128) (le-ltb (size T) 128 h))
+
+  -- The methods of a type that is not known are derived on the table with its number taken, and stored at that number.
+  abbrev pub Last : ℕ → Option (Table × List Method) → Option (Table × ℕ)
+  Last k o = then o λ p. some (withTypes (p .0) (set (p .0 .types) k (entry T d t s (p .1))), k)
+
+  abbrev pub Methods : Derivation → Option (Table × List Method)
+  Methods rec = deriveMethods rec d (withTypes T (T .types ++ (pending T d t s ∷ []))) (typeAt T t .methods) (typeAt T s .methods)
+
+  pub make-new : (n : ℕ) → withoutNew T d t s ≡ none → size T ≡ n → n < 128 → (rec : Derivation) → make rec T d t s ≡ Last n (Methods rec)
+  unfolding make
+  make-new n unknown is room rec =
+      by-new T (elim (ltb (size T) 128) as (λ _. Option (Table × ℕ)) [ false ↦ none | true ↦ Last (size T) (Methods rec) ]) (withoutNew T d t s) unknown
+      ∙ ap (λ (k : ℕ). elim (ltb k 128) as (λ _. Option (Table × ℕ)) [ false ↦ none | true ↦ Last k (Methods rec) ]) is
+      ∙ ap (λ (a : Bool). elim a as (λ _. Option (Table × ℕ)) [ false ↦ none | true ↦ Last n (Methods rec) ]) (lt-ltb n 128 room)
 
 pub size-tabled : (T : Table) (c : Counts) (n : ℕ) (b : List ℕ) → size (tabled T c n b) ≡ n
 size-tabled T c n b = types-to-length (c .methods) (c .sheet) (typesIn b) n
@@ -315,27 +329,14 @@ module _ {d : Kind} {c : Counts} {n t s : ℕ} {w : Work} {b b₀ : List ℕ} (f
     abbrev After : Option Row → Option (Table × ℕ)
     After o = then o λ q. some (withTypes (q .0) (set (q .0 .types) n (entry Tb d t s (from ms 0 (fillAt d (methodIn x) (methodIn y) (q .1))))), n)
 
-    abbrev Last : ℕ → Option (Table × List Method) → Option (Table × ℕ)
-    Last k o = then o λ p. some (withTypes (p .0) (set (p .0 .types) k (entry Tb d t s (p .1))), k)
-
-    abbrev Methods : Derivation → Option (Table × List Method)
-    Methods rec = deriveMethods rec d (withTypes Tb (Tb .types ++ (pending Tb d t s ∷ []))) (typeAt Tb t .methods) (typeAt Tb s .methods)
-
-    make-new : (rec : Derivation) → make rec Tb d t s ≡ Last n (Methods rec)
-    unfolding make
-    make-new rec =
-        by-new Tb (elim (ltb (size Tb) 128) as (λ _. Option (Table × ℕ)) [ false ↦ none | true ↦ Last (size Tb) (Methods rec) ]) (withoutNew Tb d t s) (from-start .new T)
-        ∙ ap (λ (k : ℕ). elim (ltb k 128) as (λ _. Option (Table × ℕ)) [ false ↦ none | true ↦ Last k (Methods rec) ]) (size-tabled T c n b)
-        ∙ ap (λ (a : Bool). elim a as (λ _. Option (Table × ℕ)) [ false ↦ none | true ↦ Last n (Methods rec) ]) (lt-ltb n 128 (from-start .room))
-
-    last-after : (o : Option Row) → Last n (then o λ q. some (q .0, from ms 0 (fillAt d (methodIn x) (methodIn y) (q .1)))) ≡ After o
+    last-after : (o : Option Row) → Last Tb d t s n (then o λ q. some (q .0, from ms 0 (fillAt d (methodIn x) (methodIn y) (q .1)))) ≡ After o
     last-after none = refl
     last-after (some q) = refl
 
     make-runs : (f : ℕ) → make (derive f) Tb d t s ≡ After (Whole d c n w b₀ T f)
     make-runs f =
-        make-new (derive f)
-        ∙ ap (Last n)
+        make-new Tb d t s n (from-start .new T) (size-tabled T c n b) (from-start .room) (derive f)
+        ∙ ap (Last Tb d t s n)
         (ap (λ (u : Table). deriveMethods (derive f) d u (typeAt Tb t .methods) (typeAt Tb s .methods)) begun-is
         ∙ ap (λ (l : List Method). deriveMethods (derive f) d (tabled T c (n + 1) b₀) l (typeAt Tb s .methods)) (side-methods T c n b t x (from-start .left) (from-start .leftRecord))
         ∙ ap (λ (l : List Method). deriveMethods (derive f) d (tabled T c (n + 1) b₀) (from ms 0 (methodIn x)) l) (side-methods T c n b s y (from-start .right) (from-start .rightRecord))

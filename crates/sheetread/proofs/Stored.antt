@@ -50,8 +50,8 @@ methods-add l j x h = ap (λ (n : ℕ). map methodIs (take n (set l j x))) (add-
 
 pub methods-all : (l : List Method) (m : ℕ) → m ≤ length l → from m 0 (λ j. methodOf (getD (map rawMethod l) j noRawMethod)) ≡ map methodIs (take m l)
 methods-all l m h =
-    sym (is-from (λ j. methodOf (getD (map rawMethod l) j noRawMethod)) m (methodIs absent) (map methodIs (take m l)) (length-map (take m l) methodIs ∙ length-take-le m l h)
-    (λ j p. List·getD-map methodIs (take m l) j absent ∙ ap methodIs (getD-take m l j absent p) ∙ ap methodOf (sym (List·getD-map rawMethod l j absent))))
+    is-from (λ j. methodOf (getD (map rawMethod l) j noRawMethod)) m (methodIs absent) (map methodIs (take m l)) (length-map (take m l) methodIs ∙ length-take-le m l h)
+    (λ j p. List·getD-map methodIs (take m l) j absent ∙ ap methodIs (getD-take m l j absent p) ∙ ap methodOf (sym (List·getD-map rawMethod l j absent)))
 
 -- A type of the sheet.
 meaning : Rep → Bool → ℕ → ℕ → List Methodᵐ → Bool → RawType → Ty

@@ -179,7 +179,7 @@ module _ (x : RawType) (s : Shaped x) where
   unfolding recordBytes mkT rawMethodsAt
   record-own =
       mkT-eq refl refl refl refl refl refl
-      (sym (is-from (λ j. rawMethodAt (recordBytes x) (0 + 16 + j * 7)) 16 noRawMethod (x .methods) (s .methods) (λ j l. sym (own-method j l))))
+      (is-from (λ j. rawMethodAt (recordBytes x) (0 + 16 + j * 7)) 16 noRawMethod (x .methods) (s .methods) (λ j l. sym (own-method j l)))
 
 -- A record's bytes stored at `at`: it stands there, and nothing else changes.
 module _ (b : List ℕ) (at : ℕ) (x : RawType) (s : Shaped x) where
@@ -210,13 +210,12 @@ stored b i x eb hi s =
     (λ (lt : k < i). sym (below b (i * 128) x s (k * 128 + p) (omega arith)))
     (λ (ge : i ≤ k). let gt : i < k = omega (arith, ne) in sym (above b (i * 128) x s (k * 128 + p) (omega arith)))
     (lt-or-ge k i)) in
-    sym
-    (is-from (λ k. rawTypeAt b′ (k * 128)) 128 x (set (from 128 0 f) i x) (length-set (from 128 0 f) i x ∙ length-from f 128 0)
+    is-from (λ k. rawTypeAt b′ (k * 128)) 128 x (set (from 128 0 f) i x) (length-set (from 128 0 f) i x ∙ length-from f 128 0)
     (λ k l. ⊎-elim
     (λ (e : k ≡ i). ap (λ (n : ℕ). getD (set (from 128 0 f) i x) n x) e ∙ getD-set-same (from 128 0 f) i x x (rw (length-from f 128 0) hi) ∙ sym own
     ∙ ap (λ (n : ℕ). rawTypeAt b′ (n * 128)) (sym e))
     (λ (ne : k ≡ i → ⊥). getD-set-other (from 128 0 f) i k x x ne ∙ from-first f 128 k x l ∙ other k ne)
-    (same-or k i)))
+    (same-or k i))
 
 -- What `put_type` promises, as its callers use it.
 module _ {b : List ℕ} {i : ℕ} {x : RawType} {b′ : List ℕ} (w : Put b i x b′) where

@@ -67,12 +67,12 @@ module _ (l : List ℕ) (k x y z : ℕ) (h : k < 32) (e : length l ≡ 96) where
   unfolding linksIn
   three-put =
       let r : RawLinks = record { count = x; first = y; second = z } in
-      sym (is-from (λ i. rawLinksAt stored (i * 3)) 32 noRawLinks (set (linksIn l) k r) (length-set (linksIn l) k r ∙ links-length l)
+      is-from (λ i. rawLinksAt stored (i * 3)) 32 noRawLinks (set (linksIn l) k r) (length-set (linksIn l) k r ∙ links-length l)
       (λ i p. ⊎-elim
       (λ (q : i ≡ k). ap (λ (v : ℕ). getD (set (linksIn l) k r) v noRawLinks) q ∙ getD-set-same (linksIn l) k r noRawLinks (subst (λ (v : ℕ). k < v) (sym (links-length l)) h) ∙ sym at-k
       ∙ ap (λ (v : ℕ). rawLinksAt stored (v * 3)) (sym q))
       (λ (q : i ≡ k → ⊥). getD-set-other (linksIn l) k i r noRawLinks q ∙ links-in l i noRawLinks p ∙ at-other i q)
-      (same-or i k)))
+      (same-or i k))
 
 -- What `put_links` stores, as its callers use it.
 pub links-put : (l : List ℕ) (k : ℕ) (x : RawLinks) → k < 32 → length l ≡ 96 → linksIn (sets l (k * 3) (linksBytes x)) ≡ set (linksIn l) k x

@@ -12,8 +12,7 @@ use borrow.Author.Tests.{ltb-true, ltb-false}
 use lib.ListN.{length, getD, set, replicate, length-set, length-replicate, replicate-append-replicate}
 use lib.Seq.{sets, getD-set-same, getD-set-other}
 use Rattle.model.specs.Basics.{from}
-pub use Rattle.model.proofs.Lists.{length-from, from-first, from-same}
-use Rattle.model.proofs.Lists.{is-from as from-is}
+pub use Rattle.model.proofs.Lists.{length-from, from-first, from-same, is-from}
 
 -- Numbers are below or not, the same or not.
 pub lt-or-ge : (a b : ℕ) → (a < b) ⊎ (b ≤ a)
@@ -33,10 +32,6 @@ module _ {A : Type 0} (f : ℕ → A) where
   unfolding from
   from-last zero i = let e : i ≡ i + 0 = omega arith in ap (λ (k : ℕ). f k ∷ []) e
   from-last (suc c) i = let e : suc i + c ≡ i + suc c = omega arith in ap (λ l. f i ∷ l) (from-last c (suc i) ∙ ap (λ (k : ℕ). from c (suc i) f ++ (f k ∷ [])) e)
-
-  -- a list is known by its elements
-  pub is-from : (n : ℕ) (d : A) (l : List A) → length l ≡ n → ((i : ℕ) → i < n → getD l i d ≡ f i) → l ≡ from n 0 f
-  is-from n d l e h = sym (from-is f n d l e h)
 
 -- Several stores in a row.
 module _ {A : Type 0} where

@@ -98,7 +98,7 @@ mkT-eq c p q s t = cc
 module _ (ms sh i : ℕ) (x : RawType) (l : length (x .methods) ≡ 16) (key : KeyExact sh i x) where
   stored-methods : (ys : List Method) → ((j : ℕ) → j < 16 → getD (x .methods) j noRawMethod ≡ methodRecord (getD ys j noMethod))
       → from 16 0 (λ j. methodRecord (getD ys j noMethod)) ≡ x .methods
-  stored-methods ys h = sym (is-from (λ j. methodRecord (getD ys j noMethod)) 16 noRawMethod (x .methods) l h)
+  stored-methods ys h = is-from (λ j. methodRecord (getD ys j noMethod)) 16 noRawMethod (x .methods) l h
 
   -- A reference type whose methods are exact, and blank behind the last.
   pub ref-exact : x .rep ≡ 0 → x .own < 2 → ((j : ℕ) → j < ms → MethodExact (getD (x .methods) j noRawMethod))
