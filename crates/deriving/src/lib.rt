@@ -107,7 +107,7 @@ pub fn begin(b: &[u8; TYPE_BYTES], c: Counts, n: usize, kind: u8, t: usize, s: u
     search(b, c, n, kind, t, s)
 }
 
-// Both sides are read. The new type takes the next number before its signatures are derived (D16); until then every method of it is denied.
+// Both sides are read. The new type has its number from here on (D16); until its signatures are there every method of it is denied.
 pub fn start(b: &mut [u8; TYPE_BYTES], n: usize, kind: u8, t: usize, s: usize) -> Work
     requires { ⌜ (n < 128) × (t < 128) × (s < 128) × (length (now b) ≡ 16384) ⌝ }
     ensures { λ w. ⌜ Opened kind t s n w (now (b .entry)) (now (b .exit)) ⌝ }

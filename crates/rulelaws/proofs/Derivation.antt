@@ -91,7 +91,7 @@ reached-derived t valid qs = let u = reached t qs .0 .table in let g = reached-g
     }
 
 -- ---- D12, D13: what needs no new type
--- D12. Sub and Sup of a type with itself are that type; nothing is derived.
+-- D12. Asked of the same type twice, Sub and Sup give it back and derive nothing.
 pub sub-of-itself : (f : ℕ) (t : Table) (l : ℕ) → derive f t sub l l ≡ some (t, l)
 unfolding withoutNew
 sub-of-itself f t l =
