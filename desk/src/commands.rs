@@ -1,17 +1,14 @@
 //! What each command does: from files to text.
 
 use crate::args::{Args, Command, USAGE};
-use crate::diagnosis::{block, told};
-use crate::explain::explain;
-use crate::follow::{follow, output, Run};
+use crate::diagnosis::told;
+use crate::explain::{explain, refused};
 use crate::input;
 use crate::names::{Kind, Names};
-use crate::paint::{Paint, Tone};
+use crate::paint::Paint;
 use crate::relation::compared;
-use crate::requests::{right, split};
-use crate::told::{refused, Teller};
-use crate::{audit, matrix, pairs_picture, run_picture, summary};
-use pilgonca::{raw, Refusal, Sheet, Type};
+use crate::{matrix, pairs_picture, summary};
+use pilgonca::{Refusal, Sheet, SheetRefused, Type};
 use std::path::Path;
 
 /// Whether what goes to standard output and to standard error is coloured.
@@ -21,19 +18,32 @@ pub struct Paints {
     pub error: Paint,
 }
 
-/// A command that met bad input: what was to print before, and the message.
+/// Exit statuses.
+pub const BAD_INPUT: u8 = 1;
+pub const BAD_USAGE: u8 = 2;
+
+/// A command that came to nothing: what was to print before, the message, and the exit status.
 #[derive(Debug)]
 pub struct Stop {
     pub printed: String,
     pub problem: String,
+    pub status: u8,
+}
+
+impl Stop {
+    /// Bad input, met before anything was printed.
+    pub fn at_input(problem: String) -> Stop {
+        Stop {
+            printed: String::new(),
+            problem,
+            status: BAD_INPUT,
+        }
+    }
 }
 
 impl From<String> for Stop {
     fn from(problem: String) -> Stop {
-        Stop {
-            printed: String::new(),
-            problem: problem + "\n",
-        }
+        Stop::at_input(problem + "\n")
     }
 }
 
@@ -55,9 +65,10 @@ pub fn perform(args: &Args, paints: Paints) -> Result<String, Stop> {
     }
 }
 
-struct Desk {
-    names: Names,
-    paints: Paints,
+/// What the commands share; desk run and desk audit are in `scripts`.
+pub struct Desk {
+    pub names: Names,
+    pub paints: Paints,
 }
 
 impl Desk {
@@ -98,29 +109,6 @@ impl Desk {
         Ok(compared(&t, &s, &answers, &self.names, self.paints.out))
     }
 
-    fn run(&self, path: &Path, svg: Option<&Path>) -> Result<String, Stop> {
-        let bytes = input::read(path)?;
-        let run = self.followed(path, &bytes)?;
-        if let Some(file) = svg {
-            let title = format!("References at the end of {}", short(path));
-            let picture = run_picture::picture(&title, &run, &self.names).map_err(refused)?;
-            input::write(file, &picture)?;
-        }
-        let teller = Teller {
-            run: &run,
-            names: &self.names,
-            paint: self.paints.out,
-        };
-        self.ended(path, &run, teller.told())
-    }
-
-    fn audit(&self, path: &Path) -> Result<String, Stop> {
-        let bytes = input::read(path)?;
-        let run = self.followed(path, &bytes)?;
-        let text = audit::audit(&run, &self.names, self.paints.out).map_err(refused)?;
-        self.ended(path, &run, text)
-    }
-
     fn explain(&self, number: &str) -> Result<String, Stop> {
         let found = number.parse().ok().and_then(Refusal::from_number);
         let refusal = found.ok_or_else(|| {
@@ -139,68 +127,15 @@ impl Desk {
 
     /// A sheet that is accepted, with names that fit it.
     fn accepted(&self, path: &Path, bytes: &[u8]) -> Result<Sheet, Stop> {
-        let sheet = Sheet::read(bytes).map_err(|refused| Stop {
-            printed: String::new(),
-            problem: told(
-                &input::name(path),
-                bytes,
-                &refused,
-                &self.names,
-                self.paints.error,
-            ),
-        })?;
+        let sheet = Sheet::read(bytes).map_err(|refused| self.refused(path, bytes, &refused))?;
         self.names.fit(&sheet)?;
         Ok(sheet)
     }
 
-    /// A script that was run here and by the core's own run, with one outcome.
-    fn followed<'a>(&self, path: &Path, bytes: &'a [u8]) -> Result<Run<'a>, Stop> {
+    /// The end of a command whose sheet, from the file, is refused.
+    pub fn refused(&self, path: &Path, sheet: &[u8], refused: &SheetRefused) -> Stop {
         let file = input::name(path);
-        if bytes.len() > raw::MAX_SCRIPT {
-            let (most, length) = (raw::MAX_SCRIPT, bytes.len());
-            return Err(format!(
-                "{file}: refused with 2: a script has at most {most} bytes, and this has {length}"
-            )
-            .into());
-        }
-        let run = follow(bytes).map_err(|refused| Stop {
-            printed: String::new(),
-            problem: told(
-                &file,
-                split(bytes).0,
-                &refused,
-                &self.names,
-                self.paints.error,
-            ),
-        })?;
-        if output(&run).as_bytes() != pilgonca::script(bytes) {
-            return Err(format!("{file}: desk read the requests otherwise than the core did; this is an error in desk").into());
-        }
-        self.names.fit(&run.visit.sheet())?;
-        Ok(run)
-    }
-
-    /// What was printed, and the line that ended the run if one did.
-    fn ended(&self, path: &Path, run: &Run, text: String) -> Result<String, Stop> {
-        let Some(malformed) = &run.malformed else {
-            return Ok(text);
-        };
-        let paint = self.paints.error;
-        let how = paint.of(Tone::Bad, "refused with 1");
-        let block = block(
-            malformed.line_number,
-            malformed.line,
-            &malformed.flaw,
-            &right(malformed.line),
-            paint,
-        );
-        Err(Stop {
-            printed: text,
-            problem: format!(
-                "{}: a line is {how}, and the run ends there\n{block}",
-                input::name(path)
-            ),
-        })
+        Stop::at_input(told(&file, sheet, refused, &self.names, self.paints.error))
     }
 
     /// A type by its number or its name.
@@ -217,7 +152,7 @@ impl Desk {
 }
 
 /// The last part of a path, for a title.
-fn short(path: &Path) -> String {
+pub fn short(path: &Path) -> String {
     path.file_name()
         .map_or_else(|| input::name(path), |name| input::name(Path::new(name)))
 }

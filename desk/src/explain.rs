@@ -18,6 +18,11 @@ pub fn explain(refusal: Refusal, paint: Paint) -> String {
     )
 }
 
+/// A refusal in words.
+pub fn refused(refusal: Refusal) -> String {
+    format!("refused with {}: {refusal}", refusal.number())
+}
+
 /// What the guide says, without its backquotes. A test holds that it has a whole row for every refusal.
 fn row(number: u8) -> [String; 3] {
     let start = format!("| {number} | ");

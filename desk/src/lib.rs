@@ -2,26 +2,23 @@
 //! (crate `pilgonca`); what is here finds words and draws pictures.
 
 pub mod args;
-mod audit;
 pub mod commands;
 pub mod diagnosis;
 mod due;
 mod explain;
-pub mod follow;
 mod input;
 mod line;
 mod matrix;
 pub mod names;
+#[cfg(not(feature = "visits"))]
+mod no_scripts;
 pub mod paint;
 mod pairs_picture;
 mod reader;
 pub mod relation;
-pub mod requests;
-mod run_picture;
-mod run_plan;
+#[cfg(feature = "visits")]
+pub mod scripts;
 mod shown;
 mod summary;
 mod svg;
-mod told;
-mod trails;
 mod words;

@@ -1,14 +1,11 @@
 //! The program: words in, text out, and an exit status.
 
 use desk::args::{parse, USAGE};
-use desk::commands::{perform, Paints, Stop};
+use desk::commands::{perform, Paints, Stop, BAD_INPUT, BAD_USAGE};
 use desk::paint::Paint;
 use std::env;
 use std::io::{self, ErrorKind, IsTerminal, Write};
 use std::process::ExitCode;
-
-const BAD_INPUT: u8 = 1;
-const BAD_USAGE: u8 = 2;
 
 fn main() -> ExitCode {
     let args = match parse(env::args_os().skip(1)) {
@@ -20,8 +17,12 @@ fn main() -> ExitCode {
     };
     match perform(&args, paints()) {
         Ok(text) => print(&text, ExitCode::SUCCESS),
-        Err(Stop { printed, problem }) => {
-            let status = print(&printed, ExitCode::from(BAD_INPUT));
+        Err(Stop {
+            printed,
+            problem,
+            status,
+        }) => {
+            let status = print(&printed, ExitCode::from(status));
             complain(&problem);
             status
         }

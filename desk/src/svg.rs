@@ -69,10 +69,6 @@ impl Canvas {
         ));
     }
 
-    pub fn path(&mut self, class: &str, path: &str) {
-        self.add(format_args!("<path class=\"{class}\" d=\"{path}\"/>"));
-    }
-
     pub fn text(&mut self, class: &str, (x, y): (usize, usize), text: &str) {
         let text = escaped(text);
         self.add(format_args!(
@@ -88,7 +84,8 @@ impl Canvas {
         ));
     }
 
-    fn add(&mut self, element: std::fmt::Arguments) {
+    /// An element as it is written.
+    pub fn add(&mut self, element: std::fmt::Arguments) {
         writeln!(self.body, "{element}").expect("a String takes everything");
     }
 

@@ -15,6 +15,8 @@
 //! # }
 //! ```
 //!
+//! `Visit` and `script` are the feature `visits`, which is on unless it is turned off: sheets alone need one static library of the four.
+//!
 //! A request takes up to half a megabyte of stack (docs/MEASURED.md): the 2 MB that std gives a thread do.
 #![deny(unsafe_code)]
 
@@ -23,32 +25,15 @@ pub mod raw;
 mod records;
 mod refusal;
 mod sheet;
+#[cfg(feature = "visits")]
 mod visit;
 
 pub use numbers::{Call, Cell, Method, Place, Subject, Type};
-pub use records::{
-    CallInfo, CellInfo, Key, Kind, MethodInfo, PlaceInfo, PlaceKind, Representation, Signature,
-    TypeInfo,
-};
+pub use records::{Key, Kind, MethodInfo, Representation, Signature, TypeInfo};
 pub use refusal::{Refusal, SheetRefused};
 pub use sheet::{Answers, Pairs, Sheet};
-pub use visit::{Answered, Called, Held, Visit};
+#[cfg(feature = "visits")]
+pub use visit::{Answered, CallInfo, Called, CellInfo, Held, PlaceInfo, PlaceKind, Visit, script};
 
 /// The first sheet of docs/GUIDE.md, for examples: two subjects, the methods read (0) and mark (1), and the class 1.
 pub const EXAMPLE: &[u8] = include_bytes!("../../examples/guide.sheet");
-
-/// What the program `script` prints for an input: a sheet with requests behind it (P).
-///
-/// ```
-/// let input = [pilgonca::EXAMPLE, b"do=new 0 1 4\ndo=move 0 0 1 7\n"].concat();
-/// assert_eq!(pilgonca::script(&input), b"got=0 0\nno=7\n");
-/// ```
-pub fn script(input: &[u8]) -> Vec<u8> {
-    // a longer input gets one short line (P1)
-    let room = input.len().min(raw::MAX_SCRIPT) + raw::SCRIPT_LONGER;
-    let (mut buffer, mut length) = (vec![0; room], 0);
-    let code = raw::script(input, &mut buffer, &mut length);
-    assert_eq!(code, 0, "{room} bytes hold the output of every input (P18)");
-    buffer.truncate(length);
-    buffer
-}

@@ -1,13 +1,18 @@
 //! A state, and the requests that are put to it.
 
+mod records;
+mod script;
+
 use crate::numbers::{Call, Cell, Method, Place, Subject, Type, below};
 use crate::raw::{self, State, StateMut, Table, Values};
-use crate::records::{
-    CallInfo, CellInfo, PlaceInfo, PlaceKind, TypeInfo, call_info, cell_info, place_info, type_info,
-};
+use crate::records::{TypeInfo, type_info};
 use crate::refusal::{Refusal, SheetRefused};
 use crate::sheet::Sheet;
+use records::{call_info, cell_info, place_info};
 use std::fmt;
+
+pub use records::{CallInfo, CellInfo, PlaceInfo, PlaceKind};
+pub use script::script;
 
 /// A state: a table with the cells, places and calls made since it was loaded. A request that is refused changes nothing of it (Q14).
 #[derive(Clone)]

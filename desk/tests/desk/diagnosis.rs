@@ -4,7 +4,7 @@ use crate::damage::damaged;
 use crate::files::read;
 use desk::diagnosis::diagnose;
 use desk::names::Names;
-use desk::requests::split;
+use desk::scripts::requests::split;
 use pilgonca::{Sheet, SheetRefused};
 use reference::gen::{generate, Profile};
 

@@ -9,7 +9,11 @@ pub const SCRIPT: &str = "examples/case-p.script";
 pub const NAMES: &str = "examples/case-p.names";
 
 pub fn desk(words: &[&str]) -> Command {
-    let mut command = Command::new(env!("CARGO_BIN_EXE_desk"));
+    program(Path::new(env!("CARGO_BIN_EXE_desk")), words)
+}
+
+pub fn program(path: &Path, words: &[&str]) -> Command {
+    let mut command = Command::new(path);
     command.args(words).current_dir(root()).stdin(Stdio::null());
     command
 }

@@ -8,3 +8,4 @@ mod pictures;
 mod program;
 mod quoted;
 mod scripts;
+mod sheets_alone;

@@ -2,9 +2,9 @@
 
 use crate::damage::{bytes_damaged, damaged};
 use crate::files::read;
-use desk::follow::{follow, output, Got, Run, Step};
 use desk::relation::Strongest;
-use desk::requests::{split, Request};
+use desk::scripts::follow::{follow, output, Got, Run, Step};
+use desk::scripts::requests::{split, Request};
 use pilgonca::{raw, CellInfo, Method, MethodInfo, PlaceKind, Refusal, Type, TypeInfo};
 use reference::gen::{generate, Profile, PROFILES};
 

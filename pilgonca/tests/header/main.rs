@@ -74,9 +74,6 @@ fn exported() -> Functions {
 
 /// The functions that the crate declares.
 fn declared() -> Functions {
-    let text = include_str!("../../src/raw/functions.rs");
-    let (block, behind) = between(text, "extern \"C\" {", "\n}\n").expect("the declarations");
-    assert!(!behind.contains("extern"), "declarations elsewhere");
     let arrays = |name: &str| match name {
         "Types" => Some(("u8", size_of::<raw::Types>())),
         "Links" => Some(("u8", size_of::<raw::Links>())),
@@ -89,7 +86,18 @@ fn declared() -> Functions {
         "Values" => Some(("i64", size_of::<raw::Values>() / size_of::<i64>())),
         _ => None,
     };
-    rust_functions(block, "fn ", &|word| panic!("{word}"), &arrays)
+    let texts = [
+        include_str!("../../src/raw/functions.rs"),
+        include_str!("../../src/raw/functions/states.rs"),
+    ];
+    let blocks = texts.map(|text| {
+        let found = between(text, "extern \"C\" {", "\n}\n");
+        let (block, behind) = found.expect("the declarations");
+        assert!(!behind.contains("extern"), "declarations elsewhere");
+        block
+    });
+    let length = |word: &str| panic!("{word}");
+    rust_functions(&blocks.concat(), "fn ", &length, &arrays)
 }
 
 fn same(theirs: &Functions, exported: &Functions, whose: &str) {

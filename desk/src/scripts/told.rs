@@ -1,12 +1,13 @@
 //! A run in words: each request, and what it came to.
 
-use crate::follow::{printed, Got, Run, Step};
+use crate::explain::refused;
 use crate::names::{Kind, Names};
 use crate::paint::{Paint, Tone};
-use crate::requests::Request;
+use crate::scripts::follow::{printed, Got, Run, Step};
+use crate::scripts::requests::Request;
 use crate::shown::shown;
 use crate::words::plural;
-use pilgonca::{Answered, Call, Called, CellInfo, Place, PlaceKind, Refusal};
+use pilgonca::{Answered, Call, Called, CellInfo, Place, PlaceKind};
 
 /// Tells a run, with names.
 pub struct Teller<'a> {
@@ -191,9 +192,4 @@ fn with(arguments: &[i64]) -> String {
             format!("with {}", words.join(" and "))
         }
     }
-}
-
-/// A refusal in words.
-pub fn refused(refusal: Refusal) -> String {
-    format!("refused with {}: {refusal}", refusal.number())
 }

@@ -1,8 +1,8 @@
 //! A script's requests put to the core one by one.
 
 use crate::reader::{Flaw, NO_LF};
-use crate::requests::{read, split, Request};
-use crate::trails::Trails;
+use crate::scripts::requests::{read, split, Request};
+use crate::scripts::trails::Trails;
 use pilgonca::{
     Answered, Call, Called, Cell, Held, Method, Refusal, SheetRefused, Subject, Type, Visit,
 };

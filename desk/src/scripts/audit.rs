@@ -1,8 +1,8 @@
 //! The referee's question: for each object and method, who holds a reference that offers it, and by which types it came to them.
 
-use crate::follow::Run;
 use crate::names::{Kind, Names};
 use crate::paint::{Paint, Tone};
+use crate::scripts::follow::Run;
 use pilgonca::{CellInfo, Method, MethodInfo, Place, PlaceInfo, PlaceKind, Refusal, TypeInfo};
 
 const HEAD: &str = "\

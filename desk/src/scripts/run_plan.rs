@@ -1,8 +1,8 @@
 //! Where the references of a run stand in its picture. Every object is the root of a tree: holders of references on the left, adapters between, the
 //! object on the right. A cell has a row of its own and what is behind it stands in the middle of its rows, so that no lines cross.
 
-use crate::follow::Run;
 use crate::names::{Kind, Names};
+use crate::scripts::follow::Run;
 use crate::svg::{text_width, BELOW_TITLE};
 use pilgonca::{CellInfo, Method, MethodInfo, PlaceInfo, PlaceKind, Refusal, TypeInfo};
 

@@ -1,8 +1,8 @@
 //! The references at the end of a run as a picture.
 
-use crate::follow::Run;
 use crate::names::Names;
-use crate::run_plan::{plan, Leaf, Node, Plan, Words};
+use crate::scripts::follow::Run;
+use crate::scripts::run_plan::{plan, Leaf, Node, Plan, Words};
 use crate::svg::{text_width, Canvas, MARGIN};
 use pilgonca::Refusal;
 
@@ -105,17 +105,13 @@ fn draw_box(
 fn way(canvas: &mut Canvas, (x, y): (usize, usize), to: &Node, columns: &Columns) {
     let left = columns.nodes[to.depth].0;
     let (turn, tip, end) = (left - GAP / 2, left - 8, to.y);
-    canvas.path("way", &format!("M {x} {y} H {turn} V {end} H {tip}"));
-    canvas.path(
-        "tip",
-        &format!(
-            "M {} {} L {left} {end} L {} {} Z",
-            left - 9,
-            end - 4,
-            left - 9,
-            end + 4
-        ),
-    );
+    let (back, above, below) = (left - 9, end - 4, end + 4);
+    canvas.add(format_args!(
+        "<path class=\"way\" d=\"M {x} {y} H {turn} V {end} H {tip}\"/>"
+    ));
+    canvas.add(format_args!(
+        "<path class=\"tip\" d=\"M {back} {above} L {left} {end} L {back} {below} Z\"/>"
+    ));
 }
 
 /// What the boxes are; how wide that is, and where it ends.

@@ -1,6 +1,6 @@
 //! The types that each cell's reference came through, followed from the requests that were accepted (L9 to L13).
 
-use crate::requests::Request;
+use crate::scripts::requests::Request;
 use pilgonca::{
     Call, Cell, CellInfo, Method, MethodInfo, PlaceKind, Representation, Sheet, Signature, Type,
     Visit,

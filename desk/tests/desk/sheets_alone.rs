@@ -1,0 +1,40 @@
+//! The program without the feature `visits`, as ./run builds it where not every static library is there yet.
+
+use crate::files::{program, root, run, told, NAMES, SCRIPT, SHEET};
+use std::path::PathBuf;
+use std::process::Command;
+
+fn built() -> PathBuf {
+    let target = root().join("target-rust/sheets");
+    let mut cargo = Command::new(env!("CARGO"));
+    cargo.args(["build", "--quiet", "--release", "--offline", "-p", "desk"]);
+    cargo.args(["--no-default-features", "--target-dir"]);
+    let status = cargo.arg(&target).current_dir(root()).status();
+    assert!(status.expect("cargo runs").success());
+    target.join("release/desk")
+}
+
+#[test]
+fn sheets_are_answered_alike_and_scripts_not_at_all() {
+    let path = built();
+    let alone = |words: &[&str]| told(program(&path, words).output().expect("desk runs"));
+    for words in [
+        &["check", "examples/refused-leading-zero.sheet"][..],
+        &["check", SHEET, "--names", NAMES],
+        &["pairs", SHEET],
+        &["compare", SHEET, "3", "2"],
+        &["explain", "8"],
+        &["help"],
+    ] {
+        assert_eq!(alone(words), run(words), "{words:?}");
+    }
+    for command in ["run", "audit"] {
+        let (status, out, error) = alone(&[command, SCRIPT]);
+        assert_eq!((status, out.as_str()), (2, ""), "{error}");
+        assert_eq!(error.lines().count(), 1, "{error}");
+        assert!(
+            error.contains(&format!("without desk {command}")),
+            "{error}"
+        );
+    }
+}
