@@ -28,16 +28,16 @@ use Rattle.operand.proofs.Laws.{index-unknown, index-known}
 use Rattle.state.specs.declared.Call.{Call}
 use Rattle.state.specs.declared.Calls.{Calls}
 use Rattle.state.specs.declared.Cell.{Cell}
-use Rattle.state.specs.declared.State.{State}
+use Rattle.state.specs.Whole.{Whole as State}
 use Rattle.state.specs.View.{cellOf, callOf, cellsIn, placesIn, callsIn, callAnswered, systemIn}
 use Rattle.state.specs.Sound.{CallIn, Sound}
 use Rattle.state.proofs.Laws.{calls-length}
 use Rattle.carry.specs.Carried.{passedOf}
 use Rattle.steps.specs.declared.Answer.{Answer}
 use Rattle.steps.specs.declared.Answer.the-variants.{Refused, Pair, Number, Nothing}
-use Rattle.steps.specs.declared.Served.{Served}
-use Rattle.steps.specs.Served.{outcomeOf, servedWith, refusal, Step}
-use Rattle.steps.proofs.Laws.{step-refuses, step-as, table-is, cells-are, places-are, calls-are, subject-at}
+use Rattle.steps.specs.Served.{Done as Served, refusalOf as refusal}
+use Rattle.steps.specs.Served.{outcomeOf, servedWith, Step}
+use Rattle.steps.proofs.Laws.{refuses, step-as, table-is, cells-are, places-are, calls-are, subject-at}
 use Rattle.sending.specs.Sent.{isAccepted}
 use Rattle.sending.proofs.Sending.{step-after, step-stops}
 use Rattle.sending.proofs.OtherCalls.{callsLeft, calls-step}
@@ -163,7 +163,7 @@ module _ (s : State) (h : Sound s) (subject : ℤ) (j : ℕ) (x : Call) (c : Cel
     asks = value-is ∙ ap (λ (y : Bool). Either y (held (systemIn s) subject v) (x .caller) ts (tableIn (s .types) (s .links) (s .counts))) z
 
     pub value-15 : held (systemIn s) subject v ≡ false → (y : Served) → y ≡ refusal s 15 → Gives y
-    value-15 w y e = step-refuses h (asks ∙ ap (λ (b : Bool). Either true b (x .caller) ts (tableIn (s .types) (s .links) (s .counts))) w) e
+    value-15 w y e = refuses h (asks ∙ ap (λ (b : Bool). Either true b (x .caller) ts (tableIn (s .types) (s .links) (s .counts))) w) e
 
     pub value-reference : held (systemIn s) subject v ≡ true → (r : ℕ) → r ≡ x .caller → (y : Served) → Step s (giveReference (systemIn s) j r v ts) y → Gives y
     value-reference w r e y g = step-as
@@ -178,7 +178,7 @@ module _ (s : State) (h : Sound s) (subject : ℤ) (j : ℕ) (x : Call) (c : Cel
         ∙ ap (λ (y : Res (Unit {0})). try y (λ _. ok (withAnswer (systemIn s) j, number v))) (sym (passed (s .links)))
 
     pub number-refused : (e ≡ 0 → ⊥) → (y : Served) → y ≡ refusal s e → Gives y
-    number-refused w y u = step-refuses h (number-is ∙ ap Passed (ne-eqb e 0 w)) u
+    number-refused w y u = refuses h (number-is ∙ ap Passed (ne-eqb e 0 w)) u
 
     pub number-answers : e ≡ 0 → (y : Served) → Step s (ok (withAnswer (systemIn s) j, number v)) y → Gives y
     number-answers w y g = step-as (number-is ∙ ap Passed (eq-eqb e 0 w)) g
@@ -212,7 +212,7 @@ module _ (s : State) (h : Sound s) (subject : ℤ) (j n : ℕ) (due : dueFor (sy
     is-none = due ∙ ap answerOf z
 
     pub given-idle : (v : ℤ) → g ≡ Value v → y ≡ refusal s 15 → Answers
-    given-idle v w e = step-refuses h (give-is none (Value v) is-none w ∙ give-idle (systemIn s) subject j v) e
+    given-idle v w e = refuses h (give-is none (Value v) is-none w ∙ give-idle (systemIn s) subject j v) e
 
     pub given-nothing : g ≡ given.Nothing → Step s (ok (withAnswer (systemIn s) j, nothing)) y → Answers
     given-nothing w k = step-as (give-is none given.Nothing is-none w ∙ give-nothing (systemIn s) subject j) k
@@ -222,7 +222,7 @@ module _ (s : State) (h : Sound s) (subject : ℤ) (j n : ℕ) (due : dueFor (sy
     is-some = due ∙ answer-is n z
 
     pub given-lacks : g ≡ given.Nothing → y ≡ refusal s 15 → Answers
-    given-lacks w e = step-refuses h (give-is (some (n - 1)) given.Nothing is-some w ∙ give-lacks (systemIn s) subject j (n - 1)) e
+    given-lacks w e = refuses h (give-is (some (n - 1)) given.Nothing is-some w ∙ give-lacks (systemIn s) subject j (n - 1)) e
 
     pub given-value : (v : ℤ) → g ≡ Value v → Step s (giveValue (systemIn s) subject j (n - 1) v) y → Answers
     given-value v w k = step-as (give-is (some (n - 1)) (Value v) is-some w ∙ give-value (systemIn s) subject j (n - 1) v) k
@@ -247,14 +247,14 @@ module _ (s : State) (h : Sound s) (subject : ℤ) (j : ℕ) (o : Option ℤ) (x
   Answered y = Step s (answerCall (systemIn s) subject j o) y
 
   pub owner-6 : (owner ≡ who → ⊥) → (y : Served) → y ≡ refusal s 6 → Answered y
-  owner-6 z y e = step-refuses h (tests-are ∙ ap (λ (b : Bool). Tests b (x .answered)) (ne-eqb who owner (λ w. z (sym w)))) e
+  owner-6 z y e = refuses h (tests-are ∙ ap (λ (b : Bool). Tests b (x .answered)) (ne-eqb who owner (λ w. z (sym w)))) e
 
   module _ (z : owner ≡ who) where
     mine : answerCall (systemIn s) subject j o ≡ Tests true (x .answered)
     mine = tests-are ∙ ap (λ (b : Bool). Tests b (x .answered)) (eq-eqb who owner (sym z))
 
     pub answered-17 : x .answered ≡ true → (y : Served) → y ≡ refusal s 17 → Answered y
-    answered-17 w y e = step-refuses h (mine ∙ ap (Tests true) w) e
+    answered-17 w y e = refuses h (mine ∙ ap (Tests true) w) e
 
     pub call-gives : x .answered ≡ false → (y : Served) → Step s (give (systemIn s) subject j (dueFor (systemIn s) j) o) y → Answered y
     call-gives w y g = step-as (mine ∙ ap (Tests true) w) g
@@ -279,14 +279,14 @@ module _ (s : State) (h : Sound s) (subject call : ℤ) (o : Option ℤ) where
   Replies y = Step s (answerRequest (systemIn s) subject call o) y
 
   pub step-5 : names subject (systemIn s .table .subjects) ≡ false → (y : Served) → y ≡ refusal s 5 → Replies y
-  step-5 z y e = step-refuses h (answer-5 (systemIn s) subject call o z) e
+  step-5 z y e = refuses h (answer-5 (systemIn s) subject call o z) e
 
   module _ (known : names subject (systemIn s .table .subjects) ≡ true) (j : ℕ) (j-is : j ≡ indexOf call (s .calls .count)) where
     calls-are-counted : length (systemIn s .calls) ≡ s .calls .count
     calls-are-counted = ap length (calls-are s) ∙ calls-length (s .calls)
 
     pub step-6 : s .calls .count ≤ j → (y : Served) → y ≡ refusal s 6 → Replies y
-    step-6 l y e = step-refuses h (answer-6 (systemIn s) subject call o known (ap (names call) calls-are-counted ∙ index-unknown call (s .calls .count) j j-is l)) e
+    step-6 l y e = refuses h (answer-6 (systemIn s) subject call o known (ap (names call) calls-are-counted ∙ index-unknown call (s .calls .count) j j-is l)) e
 
     pub step-goes : j < s .calls .count → (who : ℕ) → who ≡ indexOf subject (s .counts .subjects) → (y : Served)
         → ((z : ℤ) → named z ≡ who → Step s (answerCall (systemIn s) z j o) y) → Replies y

@@ -12,7 +12,7 @@ use Rattle.model.specs.Crossing.{baseOwner}
 use Rattle.model.specs.Requests.{System, Result, number, cellAt, callAt, held, wayOf, send, passLayers, withAnswer, give}
 use Rattle.state.specs.declared.Cell.{Cell}
 use Rattle.state.specs.declared.Call.{Call}
-use Rattle.state.specs.declared.State.{State}
+use Rattle.state.specs.Whole.{Whole as State}
 use Rattle.state.specs.View.{cellOf, callOf, systemIn}
 use Rattle.answering.specs.declared.Given.{Given}
 use Rattle.answering.specs.declared.Given.the-variants.{Value, Nothing}

@@ -1,14 +1,16 @@
 // The request answer as a step on a sound state (A1 to A13). A refusal gives back the state that was handed in.
 ghost use mathlib.Core.Path.{_≡_};
+ghost use mathlib.Core.List.{List};
 ghost use mathlib.Core.Bool.{true};
-ghost use Prim.Native.Nat.{_≤_, _<_};
+ghost use Prim.Native.Nat.{ℕ, _≤_, _<_};
 ghost use lib.IntN.{ℤ};
 ghost use Rattle.model.specs.Basics.{ok, named};
 ghost use Rattle.model.specs.Requests.{Result, got, give, withAnswer, answerRequest};
+ghost use Rattle.state.specs.Whole.{whole};
 ghost use Rattle.state.specs.View.{systemIn};
 ghost use Rattle.state.specs.Sound.{Sound};
 ghost use Rattle.carry.specs.Carried.{targetsIn};
-ghost use Rattle.steps.specs.Served.{outcomeOf, Step};
+ghost use Rattle.steps.specs.Served.{outcomeOf, Step, done};
 ghost use Rattle.sending.specs.Sent.{isAccepted};
 ghost use Rattle.answering.specs.Given.{givenAs, answersMet, dueFor, giveReference, giveValue, answerCall, Called};
 use carry::Slot;
@@ -20,6 +22,7 @@ use state::Cell;
 use state::State;
 use steps::Answer;
 use steps::Served;
+use table::TYPE_BYTES;
 
 // What is handed over as the answer: a value, which is the number of a cell where a reference is due, or nothing.
 pub enum Given {
@@ -29,17 +32,15 @@ pub enum Given {
 
 // Call j is answered (A11), and the request with it (A12).
 fn answered(s: State, j: usize, answer: Answer) -> Served
-    requires { ⌜ Sound s × (j < s .calls .count) × (isAccepted answer ≡ true) ⌝ }
-    ensures { λ r. ⌜ ((x : Result) → outcomeOf answer ≡ got x → Step s (ok (withAnswer (systemIn s) j, x)) r) ⌝ }
+    requires { ⌜ (j < s .calls .count) × (s .calls .count ≤ 256) × (isAccepted answer ≡ true) ⌝ }
+    ensures { λ r. ⌜ ((b : List ℕ) → Sound (whole b s) → (x : Result) → outcomeOf answer ≡ got x → Step (whole b s) (ok (withAnswer (systemIn (whole b s)) j, x)) (done b r)) ⌝ }
 {
     let calls = s.calls.answered(j);
-    let types = s.types;
     let links = s.links;
     let counts = s.counts;
     let cells = s.cells;
     let places = s.places;
     let state = State {
-        types,
         links,
         counts,
         cells,
@@ -50,23 +51,23 @@ fn answered(s: State, j: usize, answer: Answer) -> Served
 }
 
 // The answer types of the layers, from the class's outward (A7).
-fn answers_met(s: State, j: usize, x: Call, c: Cell) -> Targets
-    requires { ⌜ Sound s × Called s j x c ⌝ }
-    ensures { λ r. ⌜ (targetsIn r ≡ answersMet (systemIn s) j) × (r .count ≤ 129) ⌝ }
+fn answers_met(types: &[u8; TYPE_BYTES], s: State, j: usize, x: Call, c: Cell) -> Targets
+    requires { ⌜ Sound (whole (now types) s) × Called (whole (now types) s) j x c ⌝ }
+    ensures { λ r. ⌜ (targetsIn r ≡ answersMet (systemIn (whole (now (types .entry)) s)) j) × (r .count ≤ 129) ⌝ }
 {
     let ps = s.places;
     let counts = s.counts;
     let layers = state::layers_of(ps, wide(c.place));
     let way = carry::way_of(c.sort, layers);
-    carry::reversed(carry::targets_of(&s.types, counts, wide(x.method), Slot::Answer, way))
+    carry::reversed(carry::targets_of(types, counts, wide(x.method), Slot::Answer, way))
 }
 
 // A reference crosses to the caller, and then the call is answered (A8, A10, A11).
-fn give_reference(s: State, j: usize, r: usize, v: i64, targets: Targets) -> Served
-    requires { ⌜ Sound s × (j < s .calls .count) × (0 < s .places .count) × (0 < s .counts .types) × (r < 256) × (targets .count ≤ 129) ⌝ }
-    ensures { λ q. ⌜ Step s (giveReference (systemIn s) j r v (targetsIn targets)) q ⌝ }
+fn give_reference(types: &mut [u8; TYPE_BYTES], s: State, j: usize, r: usize, v: i64, targets: Targets) -> Served
+    requires { ⌜ Sound (whole (now types) s) × (j < s .calls .count) × (0 < s .places .count) × (0 < s .counts .types) × (r < 256) × (targets .count ≤ 129) ⌝ }
+    ensures { λ q. ⌜ Step (whole (now (types .entry)) s) (giveReference (systemIn (whole (now (types .entry)) s)) j r v (targetsIn targets)) (done (now (types .exit)) q) ⌝ }
 {
-    let q = sending::send(s, r, v, targets);
+    let q = sending::send(types, s, r, v, targets);
     let answer = q.answer;
     if !sending::accepted(answer) {
         return q;
@@ -75,21 +76,21 @@ fn give_reference(s: State, j: usize, r: usize, v: i64, targets: Targets) -> Ser
 }
 
 // A value v where type a is due (A6 to A12).
-fn give_value(s: State, who: usize, j: usize, x: Call, c: Cell, a: usize, v: i64) -> Served
-    requires { ⌜ Sound s × Called s j x c ⌝ }
-    ensures { λ r. ⌜ ((subject : ℤ) → named subject ≡ who → Step s (giveValue (systemIn s) subject j a v) r) ⌝ }
+fn give_value(types: &mut [u8; TYPE_BYTES], s: State, who: usize, j: usize, x: Call, c: Cell, a: usize, v: i64) -> Served
+    requires { ⌜ Sound (whole (now types) s) × Called (whole (now types) s) j x c ⌝ }
+    ensures { λ r. ⌜ ((subject : ℤ) → named subject ≡ who → Step (whole (now (types .entry)) s) (giveValue (systemIn (whole (now (types .entry)) s)) subject j a v) (done (now (types .exit)) r)) ⌝ }
 {
     let counts = s.counts;
     let cells = s.cells;
     let caller = wide(x.caller);
-    let targets = answers_met(s, j, x, c);
-    if sending::is_ref(&s.types, counts, a) {
+    let targets = answers_met(types, s, j, x, c);
+    if sending::is_ref(types, counts, a) {
         if !steps::is_held(cells, who, v) {
             return steps::refused(s, 15);
         }
-        return give_reference(s, j, caller, v, targets);
+        return give_reference(types, s, j, caller, v, targets);
     }
-    let e = carry::pass(&s.types, counts, v, targets);
+    let e = carry::pass(types, counts, v, targets);
     if e != 0 {
         return steps::refused(s, e);
     }
@@ -97,18 +98,18 @@ fn give_value(s: State, who: usize, j: usize, x: Call, c: Cell, a: usize, v: i64
 }
 
 // What is due and what is given (A4, A5, A13).
-fn give(s: State, who: usize, j: usize, x: Call, c: Cell, given: Given) -> Served
-    requires { ⌜ Sound s × Called s j x c ⌝ }
-    ensures { λ r. ⌜ ((subject : ℤ) → named subject ≡ who → Step s (give (systemIn s) subject j (dueFor (systemIn s) j) (givenAs given)) r) ⌝ }
+fn give(types: &mut [u8; TYPE_BYTES], s: State, who: usize, j: usize, x: Call, c: Cell, given: Given) -> Served
+    requires { ⌜ Sound (whole (now types) s) × Called (whole (now types) s) j x c ⌝ }
+    ensures { λ r. ⌜ ((subject : ℤ) → named subject ≡ who → Step (whole (now (types .entry)) s) (give (systemIn (whole (now (types .entry)) s)) subject j (dueFor (systemIn (whole (now (types .entry)) s)) j) (givenAs given)) (done (now (types .exit)) r)) ⌝ }
 {
     let counts = s.counts;
-    let due = carry::target_at(&s.types, counts, wide(x.method), Slot::Answer, wide(c.sort));
+    let due = carry::target_at(types, counts, wide(x.method), Slot::Answer, wide(c.sort));
     match given {
         Given::Value(v) => {
             if due == 0 {
                 return steps::refused(s, 15);
             }
-            give_value(s, who, j, x, c, due - 1, v)
+            give_value(types, s, who, j, x, c, due - 1, v)
         }
         Given::Nothing => {
             if due != 0 {
@@ -120,9 +121,9 @@ fn give(s: State, who: usize, j: usize, x: Call, c: Cell, given: Given) -> Serve
 }
 
 // The tests that are left once the subject is known and j is the number of a call (A2, A3).
-fn answer_call(s: State, who: usize, j: usize, given: Given) -> Served
-    requires { ⌜ Sound s × (j < s .calls .count) ⌝ }
-    ensures { λ r. ⌜ ((subject : ℤ) → named subject ≡ who → Step s (answerCall (systemIn s) subject j (givenAs given)) r) ⌝ }
+fn answer_call(types: &mut [u8; TYPE_BYTES], s: State, who: usize, j: usize, given: Given) -> Served
+    requires { ⌜ Sound (whole (now types) s) × (j < s .calls .count) ⌝ }
+    ensures { λ r. ⌜ ((subject : ℤ) → named subject ≡ who → Step (whole (now (types .entry)) s) (answerCall (systemIn (whole (now (types .entry)) s)) subject j (givenAs given)) (done (now (types .exit)) r)) ⌝ }
 {
     let x = state::call_at(s.calls, j);
     let c = state::cell_at(s.cells, wide(x.cell));
@@ -134,13 +135,13 @@ fn answer_call(s: State, who: usize, j: usize, given: Given) -> Served
     if x.answered {
         return steps::refused(s, 17);
     }
-    give(s, who, j, x, c, given)
+    give(types, s, who, j, x, c, given)
 }
 
 // Answer (A).
-pub fn answer_step(s: State, subject: i64, call: i64, given: Given) -> Served
-    requires { ⌜ Sound s ⌝ }
-    ensures { λ r. ⌜ Step s (answerRequest (systemIn s) subject call (givenAs given)) r ⌝ }
+pub fn answer_step(types: &mut [u8; TYPE_BYTES], s: State, subject: i64, call: i64, given: Given) -> Served
+    requires { ⌜ Sound (whole (now types) s) ⌝ }
+    ensures { λ r. ⌜ Step (whole (now (types .entry)) s) (answerRequest (systemIn (whole (now (types .entry)) s)) subject call (givenAs given)) (done (now (types .exit)) r) ⌝ }
 {
     let counts = s.counts;
     let calls = s.calls;
@@ -152,5 +153,5 @@ pub fn answer_step(s: State, subject: i64, call: i64, given: Given) -> Served
     if calls.count <= j {
         return steps::refused(s, 6);
     }
-    answer_call(s, who, j, given)
+    answer_call(types, s, who, j, given)
 }

@@ -28,15 +28,16 @@ use Rattle.operand.proofs.Laws.{index-unknown, index-known}
 use Rattle.state.specs.declared.Call.{Call}
 use Rattle.state.specs.declared.Calls.{Calls}
 use Rattle.state.specs.declared.Cell.{Cell}
-use Rattle.state.specs.declared.State.{State}
+use Rattle.state.specs.Whole.{Whole as State}
 use Rattle.state.specs.View.{cellOf, callOf, cellsIn, placesIn, callsIn, callAdded, systemIn}
 use Rattle.state.specs.Sound.{CallIn, Sound}
 use Rattle.state.proofs.Laws.{calls-length, system-is}
 use Rattle.steps.specs.declared.Answer.{Answer}
 use Rattle.steps.specs.declared.Answer.the-variants.{Pair}
-use Rattle.steps.specs.declared.Served.{Served}
-use Rattle.steps.specs.Served.{outcomeOf, servedWith, servedAs, refusal, Step}
-use Rattle.steps.proofs.Laws.{step-refuses, step-as, table-is, cells-are, places-are, calls-are, subject-at, held-at}
+use Rattle.state.specs.Whole.{withTypes}
+use Rattle.steps.specs.Served.{Done as Served, refusalOf as refusal}
+use Rattle.steps.specs.Served.{outcomeOf, servedWith, servedAs, Step}
+use Rattle.steps.proofs.Laws.{refuses, refuses-kept, step-as, table-is, cells-are, places-are, calls-are, subject-at, held-at}
 use Rattle.sending.specs.Sent.{isAccepted, argumentsOf, allSent, Sent}
 use Rattle.sending.proofs.Sending.{goes-on, only-refused, step-after}
 use Rattle.sending.proofs.OtherCalls.{callsLeft, calls-step}
@@ -117,9 +118,9 @@ module _ (s : State) (h : Sound s) (who k m : ℕ) (xs : List ℕ) (vs : List �
       through (refuse e) = refl
       through (ok x) = refl
 
-  pub through-stops : isAccepted (q .answer) ≡ false → Step s (callThrough (systemIn s) who k m xs vs) (record { answer = q .answer; state = s })
+  pub through-stops : isAccepted (q .answer) ≡ false → Step s (callThrough (systemIn s) who k m xs vs) (record { answer = q .answer; state = withTypes s (q .state .types) })
   through-stops z = only-refused (λ (y : Answer). callThrough (systemIn s) who k m xs vs ≡ try (servedWith (systemIn (q .state)) (outcomeOf y)) (λ x. Ends (x .0)) →
-      Step s (callThrough (systemIn s) who k m xs vs) (record { answer = y; state = s })) (λ e u. step-refuses h u refl) (q .answer) z through-is
+      Step s (callThrough (systemIn s) who k m xs vs) (record { answer = y; state = withTypes s (q .state .types) })) (λ e u. refuses-kept h (sent .sound .long) (sent .stored .kept) u refl) (q .answer) z through-is
 
   pub through-room : s .calls .count < 256 → who < 256 → k < s .cells .count → m < s .counts .methods →
       Sound (q .state) × (q .state .calls .count < 256) × (who < 256) × (k < q .state .cells .count) × (m < q .state .counts .methods)
@@ -160,7 +161,7 @@ module _ (s : State) (h : Sound s) (subject : ℤ) (k m : ℕ) (vs : List ℤ) (
   Asked r = Step s (callHeld (systemIn s) subject k m vs) r
 
   pub held-14 : (x .state ≡ 2 → ⊥) → (r : Served) → r ≡ refusal s 14 → Asked r
-  held-14 z r e = step-refuses h (held-is ∙ rw (not-avail (x .state) z)) e
+  held-14 z r e = refuses h (held-is ∙ rw (not-avail (x .state) z)) e
 
   module _ (avail : x .state ≡ 2) where
     abbrev Next : Bool → Bool → Res (System × Result)
@@ -170,7 +171,7 @@ module _ (s : State) (h : Sound s) (subject : ℤ) (k m : ℕ) (vs : List ℤ) (
     avail-is = held-is ∙ ap (λ (n : ℕ). By (signed (stateOf n) (cond (permit (stateOf n)) (argumentsOf x) []) (cond (permit (stateOf n)) (answerOf (x .answer)) none))) avail
 
     pub held-15 : argumentsHeld (systemIn s) subject (argumentsOf x) vs ≡ false → (r : Served) → r ≡ refusal s 15 → Asked r
-    held-15 z r e = step-refuses h (avail-is ∙ rw z) e
+    held-15 z r e = refuses h (avail-is ∙ rw z) e
 
     module _ (fit : argumentsHeld (systemIn s) subject (argumentsOf x) vs ≡ true) where
       calls-counted : length (systemIn s .calls) ≡ s .calls .count
@@ -180,7 +181,7 @@ module _ (s : State) (h : Sound s) (subject : ℤ) (k m : ℕ) (vs : List ℤ) (
       fit-is = avail-is ∙ ap (λ (y : Bool). Next y (ltb (length (systemIn s .calls)) maxCalls)) fit ∙ ap (λ (n : ℕ). Next true (ltb n maxCalls)) calls-counted
 
       pub held-18 : 256 ≤ s .calls .count → (r : Served) → r ≡ refusal s 18 → Asked r
-      held-18 l r e = step-refuses h (fit-is ∙ ap (Next true) (le-ltb (s .calls .count) 256 l)) e
+      held-18 l r e = refuses h (fit-is ∙ ap (Next true) (le-ltb (s .calls .count) 256 l)) e
 
       pub held-goes : s .calls .count < 256 → (who : ℕ) → named subject ≡ who → (r : Served) → Step s (callThrough (systemIn s) who k m (argumentsOf x) vs) r → Asked r
       held-goes l who w r g =
@@ -215,21 +216,21 @@ module _ (s : State) (h : Sound s) (subject cell method : ℤ) (vs : List ℤ) w
   methods-are = ap (λ (x : System). x .table .methods) (system-is s)
 
   pub step-5 : names subject (systemIn s .table .subjects) ≡ false → (r : Served) → r ≡ refusal s 5 → Called r
-  step-5 z r e = step-refuses h (call-5 (systemIn s) subject cell method vs z) e
+  step-5 z r e = refuses h (call-5 (systemIn s) subject cell method vs z) e
 
   module _ (known : names subject (systemIn s .table .subjects) ≡ true) (who : ℕ) (who-is : who ≡ indexOf subject (s .counts .subjects)) where
     pub who-named : (named subject ≡ who) × (who < 256)
     who-named = let x = subject-at s subject who who-is known in (sym (x .0), omega (arith, x .1, h .checked .limits .subjects))
 
     pub step-6 : held (systemIn s) subject cell ≡ false → (r : Served) → r ≡ refusal s 6 → Called r
-    step-6 z r e = step-refuses h (call-6 (systemIn s) subject cell method vs known z) e
+    step-6 z r e = refuses h (call-6 (systemIn s) subject cell method vs known z) e
 
     module _ (has : held (systemIn s) subject cell ≡ true) (k : ℕ) (k-is : k ≡ indexOf cell (s .cells .count)) (m : ℕ) (m-is : m ≡ indexOf method (s .counts .methods)) where
       pub cell-here : (k ≡ named cell) × (k < s .cells .count)
       cell-here = held-at s cell k k-is subject has
 
       pub step-14 : s .counts .methods ≤ m → (r : Served) → r ≡ refusal s 14 → Called r
-      step-14 l r e = step-refuses h (call-14 (systemIn s) subject cell method vs known has (ap (names method) methods-are ∙ index-unknown method (s .counts .methods) m m-is l)) e
+      step-14 l r e = refuses h (call-14 (systemIn s) subject cell method vs known has (ap (names method) methods-are ∙ index-unknown method (s .counts .methods) m m-is l)) e
 
       pub step-goes : m < s .counts .methods → (r : Served) → ((z : ℤ) → named z ≡ who → Step s (callHeld (systemIn s) z k m vs) r) → Called r
       step-goes l r g =

@@ -21,7 +21,7 @@ use Rattle.table.specs.declared.Method.{Method}
 use Rattle.table.specs.Store.{typesIn, tableIn, rawMethod, headOf, emptyMethod}
 use Rattle.table.proofs.Tables.{type-is}
 use Rattle.table.proofs.Codes.{rep-code}
-use Rattle.state.specs.declared.State.{State}
+use Rattle.state.specs.Whole.{Whole as State}
 use Rattle.state.specs.View.{systemIn}
 use Rattle.carry.specs.Carried.{argumentOf}
 use Rattle.carry.proofs.Methods.{ref-is, method-is}

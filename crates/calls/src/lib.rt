@@ -10,9 +10,10 @@ ghost use Rattle.model.specs.Check.{methodOf};
 ghost use Rattle.model.specs.Requests.{pair, held, argumentsHeld, withCall, callRequest};
 ghost use Rattle.table.specs.Store.{tableIn, rawMethod};
 ghost use Rattle.table.specs.Limits.{Limits};
+ghost use Rattle.state.specs.Whole.{whole};
 ghost use Rattle.state.specs.View.{systemIn};
 ghost use Rattle.state.specs.Sound.{Sound};
-ghost use Rattle.steps.specs.Served.{Step};
+ghost use Rattle.steps.specs.Served.{Step, done};
 ghost use Rattle.sending.specs.Sent.{argumentsOf};
 ghost use Rattle.calls.specs.Called.{newCall, callThrough, callHeld};
 use numbers::narrow;
@@ -40,22 +41,22 @@ fn method_at(types: &[u8; TYPE_BYTES], c: Counts, t: usize, m: usize) -> Method
 }
 
 // A value for type a of the signature: a reference is one that the subject holds (C5).
-fn argument_held(s: State, who: usize, a: usize, v: i64) -> bool
-    requires { ⌜ Sound s ⌝ }
-    ensures { λ r. ⌜ ((subject : ℤ) → named subject ≡ who → r ≡ not (isRef (typeAt (systemIn s .table) a .rep)) || held (systemIn s) subject v) ⌝ }
+fn argument_held(types: &[u8; TYPE_BYTES], s: State, who: usize, a: usize, v: i64) -> bool
+    requires { ⌜ Sound (whole (now types) s) ⌝ }
+    ensures { λ r. ⌜ ((subject : ℤ) → named subject ≡ who → r ≡ not (isRef (typeAt (systemIn (whole (now (types .entry)) s) .table) a .rep)) || held (systemIn (whole (now (types .entry)) s)) subject v) ⌝ }
 {
     let c = s.counts;
     let cs = s.cells;
-    if !sending::is_ref(&s.types, c, a) {
+    if !sending::is_ref(types, c, a) {
         return true;
     }
     steps::is_held(cs, who, v)
 }
 
 // As many values as the signature has arguments, and each reference held (C4, C5).
-fn arguments_held(s: State, who: usize, x: Method, vs: &[i64]) -> bool
-    requires { ⌜ Sound s ⌝ }
-    ensures { λ r. ⌜ ((subject : ℤ) → named subject ≡ who → r ≡ argumentsHeld (systemIn s) subject (argumentsOf x) (now (vs .entry))) ⌝ }
+fn arguments_held(types: &[u8; TYPE_BYTES], s: State, who: usize, x: Method, vs: &[i64]) -> bool
+    requires { ⌜ Sound (whole (now types) s) ⌝ }
+    ensures { λ r. ⌜ ((subject : ℤ) → named subject ≡ who → r ≡ argumentsHeld (systemIn (whole (now (types .entry)) s)) subject (argumentsOf x) (now (vs .entry))) ⌝ }
 {
     let n = vs.len();
     let mut i: usize = 0;
@@ -64,7 +65,7 @@ fn arguments_held(s: State, who: usize, x: Method, vs: &[i64]) -> bool
         if a == 0 {
             return false;
         }
-        if !argument_held(s, who, a - 1, vs[i]) {
+        if !argument_held(types, s, who, a - 1, vs[i]) {
             return false;
         }
         i += 1;
@@ -74,8 +75,8 @@ fn arguments_held(s: State, who: usize, x: Method, vs: &[i64]) -> bool
 
 // One more call (C18), and its answer (C19).
 fn add_call(s: State, who: usize, k: usize, m: usize, adapters: usize) -> Served
-    requires { ⌜ Sound s × (s .calls .count < 256) × (who < 256) × (k < s .cells .count) × (m < s .counts .methods) ⌝ }
-    ensures { λ r. ⌜ Step s (ok (withCall (systemIn s) (newCall who k m), pair (s .calls .count) adapters)) r ⌝ }
+    requires { ⌜ (s .calls .count < 256) × (who < 256) × (k < 256) × (m < 256) ⌝ }
+    ensures { λ r. ⌜ ((b : List ℕ) → Sound (whole b s) → k < s .cells .count → m < s .counts .methods → Step (whole b s) (ok (withCall (systemIn (whole b s)) (newCall who k m), pair (s .calls .count) adapters)) (done b r)) ⌝ }
 {
     let first = s.calls.count;
     let c = Call {
@@ -85,13 +86,11 @@ fn add_call(s: State, who: usize, k: usize, m: usize, adapters: usize) -> Served
         answered: false,
     };
     let calls = s.calls.add(c);
-    let types = s.types;
     let links = s.links;
     let counts = s.counts;
     let cells = s.cells;
     let places = s.places;
     let state = State {
-        types,
         links,
         counts,
         cells,
@@ -108,16 +107,16 @@ fn add_call(s: State, who: usize, k: usize, m: usize, adapters: usize) -> Served
 }
 
 // The call of method m, whose signature is x, through cell k (C9, C12, C18, C19).
-fn call_through(s: State, who: usize, k: usize, m: usize, x: Method, vs: &[i64]) -> Served
-    requires { ⌜ Sound s × (s .calls .count < 256) × (who < 256) × (k < s .cells .count) × (m < s .counts .methods) ⌝ }
-    ensures { λ r. ⌜ Step s (callThrough (systemIn s) who k m (argumentsOf x) (now (vs .entry))) r ⌝ }
+fn call_through(types: &mut [u8; TYPE_BYTES], s: State, who: usize, k: usize, m: usize, x: Method, vs: &[i64]) -> Served
+    requires { ⌜ Sound (whole (now types) s) × (s .calls .count < 256) × (who < 256) × (k < s .cells .count) × (m < s .counts .methods) ⌝ }
+    ensures { λ r. ⌜ Step (whole (now (types .entry)) s) (callThrough (systemIn (whole (now (types .entry)) s)) who k m (argumentsOf x) (now (vs .entry))) (done (now (types .exit)) r) ⌝ }
 {
     let c = state::cell_at(s.cells, k);
     let p = wide(c.place);
     let ps = s.places;
     let owner = state::base_owner(ps, p);
     let layers = state::layers_of(ps, p);
-    let q = sending::send_arguments(s, owner, carry::way_of(c.sort, layers), m, x, vs);
+    let q = sending::send_arguments(types, s, owner, carry::way_of(c.sort, layers), m, x, vs);
     let answer = q.answer;
     let sent = q.state;
     if !sending::accepted(answer) {
@@ -127,29 +126,29 @@ fn call_through(s: State, who: usize, k: usize, m: usize, x: Method, vs: &[i64])
 }
 
 // The tests that are left once the subject, its cell and the method are known (C3, C4, C5, C7).
-fn call_held(s: State, who: usize, k: usize, m: usize, vs: &[i64]) -> Served
-    requires { ⌜ Sound s × (who < 256) × (k < s .cells .count) × (m < s .counts .methods) ⌝ }
-    ensures { λ r. ⌜ ((subject : ℤ) → named subject ≡ who → Step s (callHeld (systemIn s) subject k m (now (vs .entry))) r) ⌝ }
+fn call_held(types: &mut [u8; TYPE_BYTES], s: State, who: usize, k: usize, m: usize, vs: &[i64]) -> Served
+    requires { ⌜ Sound (whole (now types) s) × (who < 256) × (k < s .cells .count) × (m < s .counts .methods) ⌝ }
+    ensures { λ r. ⌜ ((subject : ℤ) → named subject ≡ who → Step (whole (now (types .entry)) s) (callHeld (systemIn (whole (now (types .entry)) s)) subject k m (now (vs .entry))) (done (now (types .exit)) r)) ⌝ }
 {
     let c = state::cell_at(s.cells, k);
     let counts = s.counts;
-    let x = method_at(&s.types, counts, wide(c.sort), m);
+    let x = method_at(types, counts, wide(c.sort), m);
     if x.state != Method::AVAIL {
         return steps::refused(s, 14);
     }
-    if !arguments_held(s, who, x, vs) {
+    if !arguments_held(types, s, who, x, vs) {
         return steps::refused(s, 15);
     }
     if State::CALLS <= s.calls.count {
         return steps::refused(s, 18);
     }
-    call_through(s, who, k, m, x, vs)
+    call_through(types, s, who, k, m, x, vs)
 }
 
 // Call (C).
-pub fn call_step(s: State, subject: i64, cell: i64, method: i64, arguments: &[i64]) -> Served
-    requires { ⌜ Sound s ⌝ }
-    ensures { λ r. ⌜ Step s (callRequest (systemIn s) subject cell method (now (arguments .entry))) r ⌝ }
+pub fn call_step(types: &mut [u8; TYPE_BYTES], s: State, subject: i64, cell: i64, method: i64, arguments: &[i64]) -> Served
+    requires { ⌜ Sound (whole (now types) s) ⌝ }
+    ensures { λ r. ⌜ Step (whole (now (types .entry)) s) (callRequest (systemIn (whole (now (types .entry)) s)) subject cell method (now (arguments .entry))) (done (now (types .exit)) r) ⌝ }
 {
     let counts = s.counts;
     let cells = s.cells;
@@ -165,5 +164,5 @@ pub fn call_step(s: State, subject: i64, cell: i64, method: i64, arguments: &[i6
     if counts.methods <= m {
         return steps::refused(s, 14);
     }
-    call_held(s, who, k, m, arguments)
+    call_held(types, s, who, k, m, arguments)
 }

@@ -9,14 +9,14 @@ use borrow.Author.Tests.{eq-eqb, ne-eqb, le-leb, lt-leb}
 use Rattle.model.specs.Basics.{Res}
 use Rattle.model.specs.Requests.{System, Request, Result, Outcome, got, refused, serve, newRequest, moveRequest, callRequest, answerRequest, after, outcome}
 use Rattle.operand.specs.Coded.{byCode}
-use Rattle.state.specs.declared.State.{State}
+use Rattle.state.specs.Whole.{Whole as State}
 use Rattle.state.specs.View.{systemIn}
 use Rattle.state.specs.Sound.{Sound}
 use Rattle.steps.specs.declared.Answer.{Answer}
 use Rattle.steps.specs.declared.Answer.the-variants.{Refused, Pair, Number, Nothing}
-use Rattle.steps.specs.declared.Served.{Served}
-use Rattle.steps.specs.Served.{outcomeOf, servedWith, refusal, Step}
-use Rattle.steps.proofs.Laws.{step-refuses}
+use Rattle.steps.specs.Served.{Done as Served, refusalOf as refusal}
+use Rattle.steps.specs.Served.{outcomeOf, servedWith, Step}
+use Rattle.steps.proofs.Laws.{refuses as step-refuses, refused-means}
 use Rattle.coded.specs.Coded.{serveAsked}
 
 -- ---- One request.
@@ -80,7 +80,7 @@ module _ (s : State) (m : Res (System × Result)) (r : Served) (h : Step s m r) 
   pub after-is : after (systemIn s) m ≡ systemIn (r .state)
   after-is = ap (after (systemIn s)) (sym (h .is)) ∙ go (r .answer) refl where
     go : (a : Answer) → r .answer ≡ a → after (systemIn s) (servedWith (systemIn (r .state)) (outcomeOf a)) ≡ systemIn (r .state)
-    go (Refused e) z = sym (ap systemIn (h .stays e z))
+    go (Refused e) z = sym (refused-means h e z)
     go (Pair a b) z = refl
     go (Number v) z = refl
     go Nothing z = refl

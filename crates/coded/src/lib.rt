@@ -1,13 +1,15 @@
 // A request by its code and operands (U2 to U6), which the run's words and the script's lines come down to. What it comes to is the definition `serveAsked` in specs/Coded.antt.
+ghost use Rattle.state.specs.Whole.{whole};
 ghost use Rattle.state.specs.View.{systemIn};
 ghost use Rattle.state.specs.Sound.{Sound};
-ghost use Rattle.steps.specs.Served.{Step};
+ghost use Rattle.steps.specs.Served.{Step, done};
 ghost use Rattle.operand.specs.Coded.{byCode};
 ghost use Rattle.coded.specs.Coded.{serveAsked};
 use answering::Given;
 use state::State;
 use steps::Served;
 use steps::refused;
+use table::TYPE_BYTES;
 
 // The codes of the requests (U3 to U5), and how many there are.
 pub const NEW: usize = 0;
@@ -21,73 +23,73 @@ pub const ANSWER: usize = 3;
 pub const CODES: usize = 4;
 
 // New: three operands (U3).
-fn serve_new(s: State, ops: &[i64]) -> Served
-    requires { ⌜ Sound s ⌝ }
-    ensures { λ r. ⌜ Step s (serveAsked (systemIn s) (byCode 0 (now (ops .entry)))) r ⌝ }
+fn serve_new(types: &mut [u8; TYPE_BYTES], s: State, ops: &[i64]) -> Served
+    requires { ⌜ Sound (whole (now types) s) ⌝ }
+    ensures { λ r. ⌜ Step (whole (now (types .entry)) s) (serveAsked (systemIn (whole (now (types .entry)) s)) (byCode 0 (now (ops .entry)))) (done (now (types .exit)) r) ⌝ }
 {
     if ops.len() != 3 {
         return refused(s, 1);
     }
-    moves::new_step(s, ops[0], ops[1], ops[2])
+    moves::new_step(types, s, ops[0], ops[1], ops[2])
 }
 
 // Move: four (U3).
-fn serve_move(s: State, ops: &[i64]) -> Served
-    requires { ⌜ Sound s ⌝ }
-    ensures { λ r. ⌜ Step s (serveAsked (systemIn s) (byCode 1 (now (ops .entry)))) r ⌝ }
+fn serve_move(types: &mut [u8; TYPE_BYTES], s: State, ops: &[i64]) -> Served
+    requires { ⌜ Sound (whole (now types) s) ⌝ }
+    ensures { λ r. ⌜ Step (whole (now (types .entry)) s) (serveAsked (systemIn (whole (now (types .entry)) s)) (byCode 1 (now (ops .entry)))) (done (now (types .exit)) r) ⌝ }
 {
     if ops.len() != 4 {
         return refused(s, 1);
     }
-    moves::move_step(s, ops[0], ops[1], ops[2], ops[3])
+    moves::move_step(types, s, ops[0], ops[1], ops[2], ops[3])
 }
 
 // Call: three, and its arguments (U4). The step is called in two places, since the compiler makes what is called once a part of its caller: the stack of a call, the largest of
 // the four requests', would be taken by every other request too.
-fn serve_call(s: State, ops: &[i64]) -> Served
-    requires { ⌜ Sound s ⌝ }
-    ensures { λ r. ⌜ Step s (serveAsked (systemIn s) (byCode 2 (now (ops .entry)))) r ⌝ }
+fn serve_call(types: &mut [u8; TYPE_BYTES], s: State, ops: &[i64]) -> Served
+    requires { ⌜ Sound (whole (now types) s) ⌝ }
+    ensures { λ r. ⌜ Step (whole (now (types .entry)) s) (serveAsked (systemIn (whole (now (types .entry)) s)) (byCode 2 (now (ops .entry)))) (done (now (types .exit)) r) ⌝ }
 {
     if ops.len() < 3 {
         return refused(s, 1);
     }
     if ops.len() == 3 {
-        return calls::call_step(s, ops[0], ops[1], ops[2], &ops[..0]);
+        return calls::call_step(types, s, ops[0], ops[1], ops[2], &ops[..0]);
     }
-    calls::call_step(s, ops[0], ops[1], ops[2], &ops[3..])
+    calls::call_step(types, s, ops[0], ops[1], ops[2], &ops[3..])
 }
 
 // Answer: two operands and a value, or nothing (U5).
-fn serve_answer(s: State, ops: &[i64]) -> Served
-    requires { ⌜ Sound s ⌝ }
-    ensures { λ r. ⌜ Step s (serveAsked (systemIn s) (byCode 3 (now (ops .entry)))) r ⌝ }
+fn serve_answer(types: &mut [u8; TYPE_BYTES], s: State, ops: &[i64]) -> Served
+    requires { ⌜ Sound (whole (now types) s) ⌝ }
+    ensures { λ r. ⌜ Step (whole (now (types .entry)) s) (serveAsked (systemIn (whole (now (types .entry)) s)) (byCode 3 (now (ops .entry)))) (done (now (types .exit)) r) ⌝ }
 {
     if ops.len() == 2 {
-        return answering::answer_step(s, ops[0], ops[1], Given::Nothing);
+        return answering::answer_step(types, s, ops[0], ops[1], Given::Nothing);
     }
     if ops.len() != 3 {
         return refused(s, 1);
     }
     let v = ops[2];
-    answering::answer_step(s, ops[0], ops[1], Given::Value(v))
+    answering::answer_step(types, s, ops[0], ops[1], Given::Value(v))
 }
 
 // The request of a code and its operands: 1 where there is none such (U6). The run and the script both serve by it.
-pub fn serve_coded(s: State, k: usize, ops: &[i64]) -> Served
-    requires { ⌜ Sound s ⌝ }
-    ensures { λ r. ⌜ Step s (serveAsked (systemIn s) (byCode k (now (ops .entry)))) r ⌝ }
+pub fn serve_coded(types: &mut [u8; TYPE_BYTES], s: State, k: usize, ops: &[i64]) -> Served
+    requires { ⌜ Sound (whole (now types) s) ⌝ }
+    ensures { λ r. ⌜ Step (whole (now (types .entry)) s) (serveAsked (systemIn (whole (now (types .entry)) s)) (byCode k (now (ops .entry)))) (done (now (types .exit)) r) ⌝ }
 {
     if k == NEW {
-        return serve_new(s, ops);
+        return serve_new(types, s, ops);
     }
     if k == MOVE {
-        return serve_move(s, ops);
+        return serve_move(types, s, ops);
     }
     if k == CALL {
-        return serve_call(s, ops);
+        return serve_call(types, s, ops);
     }
     if k == ANSWER {
-        return serve_answer(s, ops);
+        return serve_answer(types, s, ops);
     }
     refused(s, 1)
 }

@@ -18,10 +18,12 @@ use Rattle.statecheck.proofs.Laws.{codes-hold}
 use Rattle.flat.specs.Flat.{Flat, countsIn, rawFlat, stateFrom}
 use Rattle.flat.proofs.Laws.{codesIn, read-counted, codes-refused, written-is}
 use Rattle.handing.specs.States.{Stored}
-use Rattle.run.specs.declared.Ran.{Ran}
 use Rattle.run.specs.Requested.{requests, runAsked, runHanded}
-use Rattle.run.specs.Ran.{Runs, RanAs}
+use Rattle.run.specs.Ran.{Over as Ran, Runs, RanAs}
 use Rattle.exports_runs.specs.Results.{LentRun, lentRun, RanOut, RunsOut}
+
+abbrev withBytes : Flat → List ℕ → Flat
+withBytes f t = record { types = t; links = f .links; cells = f .cells; places = f .places; calls = f .calls; counts = f .counts }
 
 module _ (f : Flat) (k : ℕ) (ws : List ℤ) where
   abbrev from : Bool → System → Res (List Outcome × System)
@@ -40,11 +42,12 @@ module _ (f : Flat) (k : ℕ) (ws : List ℤ) where
 
   module _ (fits : codesIn f ≡ true) (old new : List ℤ) (r : Ran) (w : Runs (stateFrom f) old new (runHanded (rawState (stateFrom f)) k ws) r) (served : ℕ) where
     -- refused with 2: the answers are as they were
-    pub run-refused : (r .refusal ≡ 0 → ⊥) → RunsOut (runHanded (rawFlat f) k ws) (r .refusal) (lentRun f old served) (lentRun f new served)
-    run-refused h = subst (λ x. RunsOut x (r .refusal) (lentRun f old served) (lentRun f new served)) (same fits) (go (runHanded (rawState (stateFrom f)) k ws) w)
+    pub run-refused : (r .refusal ≡ 0 → ⊥) → RunsOut (runHanded (rawFlat f) k ws) (r .refusal) (lentRun f old served) (lentRun (withBytes f (r .state .types)) new served)
+    run-refused h = subst (λ x. RunsOut x (r .refusal) (lentRun f old served) (lentRun (withBytes f (r .state .types)) new served)) (same fits) (go (runHanded (rawState (stateFrom f)) k ws) w)
       where
-        go : (x : Res (List Outcome × System)) → Runs (stateFrom f) old new x r → RunsOut x (r .refusal) (lentRun f old served) (lentRun f new served)
-        go (refuse e) v = (ap (λ (z : Ran). z .refusal) (v .0), ap (λ (z : List ℤ). lentRun f z served) (v .1))
+        go : (x : Res (List Outcome × System)) → Runs (stateFrom f) old new x r → RunsOut x (r .refusal) (lentRun f old served) (lentRun (withBytes f (r .state .types)) new served)
+        go (refuse e) v = (ap (λ (z : Ran). z .refusal) (v .0),
+          ap (λ (z : Ran). lentRun (withBytes f (z .state .types)) new served) (v .0) ∙ ap (λ (z : List ℤ). lentRun f z served) (v .1))
         go (ok x) v = absurd (h (v .refusal))
 
     -- taken: the state is stored in the arrays, g

@@ -83,8 +83,8 @@ pub extern "C" fn pilgonca_offers(
     if !flat::codes_fit(places, calls, counts[6], counts[7]) {
         return 2;
     }
-    let s = flat::state_from(types, links, cells, places, calls, *counts);
-    let o = offers::offers(s, cell, chain);
+    let s = flat::state_from(links, cells, places, calls, *counts);
+    let o = offers::offers(types, s, cell, chain);
     offered_code(o, offered)
 }
 
@@ -106,13 +106,13 @@ pub extern "C" fn pilgonca_run(
     if !flat::codes_fit(places, calls, counts[6], counts[7]) {
         return 2;
     }
-    let s = flat::state_from(types, links, cells, places, calls, *counts);
-    let r = run::run(s, words, answers);
+    let s = flat::state_from(links, cells, places, calls, *counts);
+    let r = run::run(types, s, words, answers);
     if r.refusal != 0 {
         return r.refusal;
     }
     let state = r.state;
-    handing::store(state, types, cells, places, calls, counts);
+    handing::store(state, cells, places, calls, counts);
     *served = r.served;
     0
 }

@@ -32,9 +32,9 @@ pub extern "C" fn pilgonca_new(
     if !flat::codes_fit(places, calls, counts[6], counts[7]) {
         return 2;
     }
-    let s = flat::state_from(types, links, cells, places, calls, *counts);
-    let r = serve::new(s, subject, class, to);
-    handing::hand_back(r, types, cells, places, calls, counts, values)
+    let s = flat::state_from(links, cells, places, calls, *counts);
+    let r = serve::new(types, s, subject, class, to);
+    handing::hand_back(r, cells, places, calls, counts, values)
 }
 
 // Move (M): subject, cell, receiver and type; the values are the new cell and its place.
@@ -57,9 +57,9 @@ pub extern "C" fn pilgonca_move(
     if !flat::codes_fit(places, calls, counts[6], counts[7]) {
         return 2;
     }
-    let s = flat::state_from(types, links, cells, places, calls, *counts);
-    let r = serve::move_cell(s, subject, cell, receiver, to);
-    handing::hand_back(r, types, cells, places, calls, counts, values)
+    let s = flat::state_from(links, cells, places, calls, *counts);
+    let r = serve::move_cell(types, s, subject, cell, receiver, to);
+    handing::hand_back(r, cells, places, calls, counts, values)
 }
 
 // Call (C): subject, cell, method and any number of arguments; the values are the call and how many adapters it goes through (C19).
@@ -82,9 +82,9 @@ pub extern "C" fn pilgonca_call(
     if !flat::codes_fit(places, calls, counts[6], counts[7]) {
         return 2;
     }
-    let s = flat::state_from(types, links, cells, places, calls, *counts);
-    let r = serve::call(s, subject, cell, method, arguments);
-    handing::hand_back(r, types, cells, places, calls, counts, values)
+    let s = flat::state_from(links, cells, places, calls, *counts);
+    let r = serve::call(types, s, subject, cell, method, arguments);
+    handing::hand_back(r, cells, places, calls, counts, values)
 }
 
 // What is given as an answer.
@@ -117,8 +117,8 @@ pub extern "C" fn pilgonca_answer(
     if !flat::codes_fit(places, calls, counts[6], counts[7]) {
         return 2;
     }
-    let s = flat::state_from(types, links, cells, places, calls, *counts);
+    let s = flat::state_from(links, cells, places, calls, *counts);
     let g = given_of(given, value);
-    let r = serve::answer(s, subject, call, g);
-    handing::hand_back(r, types, cells, places, calls, counts, values)
+    let r = serve::answer(types, s, subject, call, g);
+    handing::hand_back(r, cells, places, calls, counts, values)
 }

@@ -22,7 +22,7 @@ use Rattle.state.specs.declared.Call.{Call}
 use Rattle.state.specs.declared.Cells.{Cells}
 use Rattle.state.specs.declared.Places.{Places}
 use Rattle.state.specs.declared.Calls.{Calls}
-use Rattle.state.specs.declared.State.{State}
+use Rattle.state.specs.Whole.{Whole as State}
 use Rattle.state.specs.View.{cellOf, placeOf, callOf, blankCell, blankPlace, blankCall, rawState}
 use Rattle.flat.specs.Flat.{Flat, countsIn, cellCount, placeCount, callCount, rawCellAt, rawPlaceAt, rawCallAt, rawCells, rawPlaces, rawCalls, rawFlat, placeCodes, callCodes}
 use Rattle.flat.specs.Flat.{cellFrom, placeBy, placeFrom, callFrom, cellsFrom, placesFrom, callsFrom, stateFrom, cellBytes, placeBytes, callBytes, cellRecords, placeRecords}

@@ -2,10 +2,11 @@
 // in the bytes a cell, a place or a call stands. Whole arrays are read and written, whatever the counts are: none of them is used as an index.
 ghost use mathlib.Core.Path.{_≡_};
 ghost use mathlib.Core.Bool.{_&&_};
-ghost use mathlib.Core.List.{[], _∷_};
-ghost use Prim.Native.Nat.{_*_, _<_};
+ghost use mathlib.Core.List.{List, [], _∷_};
+ghost use Prim.Native.Nat.{ℕ, _*_, _<_};
 ghost use lib.Seq.{sets};
 ghost use Rattle.model.specs.Relations.{bit};
+ghost use Rattle.state.specs.Whole.{whole};
 ghost use Rattle.flat.specs.Flat.{flat, countsIn, cellCount, placeCount, callCount, cellFrom, placeFrom, callFrom, cellsFrom, placesFrom, callsFrom, stateFrom, placeCodes, callCodes, placeBy, cellBytes, placeBytes, callBytes, rawCells, rawPlaces, rawCalls, cellRecords, placeRecords, callRecords};
 use state::Call;
 use state::Calls;
@@ -17,7 +18,6 @@ use state::Places;
 use state::State;
 use table::Counts;
 use table::LINK_BYTES;
-use table::TYPE_BYTES;
 
 // The bytes of all cells, places and calls.
 pub const CELL_BYTES: usize = 768;
@@ -265,18 +265,16 @@ pub fn calls_to(js: Calls) -> [u8; CALL_BYTES]
     b
 }
 
-// The state that stands in the bytes; what `codes_fit` says of them is asked by itself.
+// The state that stands in the bytes, its types aside; what `codes_fit` says of them is asked by itself.
 pub fn state_from(
-    types: &[u8; TYPE_BYTES],
     links: &[u8; LINK_BYTES],
     cells: &[u8; CELL_BYTES],
     places: &[u8; PLACE_BYTES],
     calls: &[u8; CALL_BYTES],
     counts: [usize; 8],
 ) -> State
-    ensures { λ r. ⌜ r ≡ stateFrom (flat (now (types .entry)) (now (links .entry)) (now (cells .entry)) (now (places .entry)) (now (calls .entry)) counts) ⌝ }
+    ensures { λ r. ⌜ ((t : List ℕ) → whole t r ≡ stateFrom (flat t (now (links .entry)) (now (cells .entry)) (now (places .entry)) (now (calls .entry)) counts)) ⌝ }
 {
-    let t = *types;
     let l = *links;
     let n = Counts {
         subjects: counts[0],
@@ -289,7 +287,6 @@ pub fn state_from(
     let ps = places_from(places, counts[6]);
     let js = calls_from(calls, counts[7]);
     State {
-        types: t,
         links: l,
         counts: n,
         cells: cs,

@@ -19,13 +19,13 @@ use Rattle.tablecheck.proofs.Steps.{refused as unfit}
 use Rattle.table.specs.Store.{tableIn, withCount}
 use Rattle.table.specs.Records.{bytesOf}
 use Rattle.table.proofs.Tables.{size-is}
-use Rattle.state.specs.declared.State.{State}
+use Rattle.state.specs.Whole.{Whole as State}
 use Rattle.state.specs.View.{rawState, systemIn}
 use Rattle.flat.specs.Flat.{Flat, countsIn, rawFlat, stateFrom}
 use Rattle.flat.proofs.Laws.{codesIn, read-counted, codes-refused, written-is}
 use Rattle.steps.specs.declared.Answer.{Answer}
 use Rattle.steps.specs.declared.Answer.the-variants.{Refused, Pair, Number, Nothing}
-use Rattle.steps.specs.declared.Served.{Served}
+use Rattle.steps.specs.Served.{Done as Served}
 use Rattle.steps.specs.Served.{outcomeOf}
 use Rattle.sending.specs.Sent.{isAccepted}
 use Rattle.serve.specs.Serves.{Serves}
@@ -35,6 +35,9 @@ use Rattle.handing.specs.States.{LentState, lentState, outcomeNumber, ou
 -- Every counted byte of the types: the equation of `Handed`, of the state x that is left, types b before and b′ after, n of them before.
 abbrev Bytes : System → ℕ → List ℕ → List ℕ → Type 0
 Bytes x n b b′ = take (size (x .table) * 128) b′ ≡ take (n * 128) b ++ flatten (map bytesOf (drop n (x .table .types)))
+
+abbrev withBytes : Flat → List ℕ → Flat
+withBytes f t = record { types = t; links = f .links; cells = f .cells; places = f .places; calls = f .calls; counts = f .counts }
 
 -- which answers are refusals
 refusal-of : (a : Answer) → isAccepted a ≡ false → (e : ℕ) × (a ≡ Refused e)
@@ -135,11 +138,19 @@ module _ (f : Flat) (q : Request) (v : List ℤ) (fits : codesIn f ≡ true) (r 
         handed (ap (λ x. counted (rawFlat x)) stayed ∙ sym (ap (λ (x : State). counted (rawState x)) same ∙ alike)) (λ k p. rw (stayed, old)) (ap (λ (x : Flat). x .links) stayed)
         (ap (λ (x : Flat). countsIn (x .counts)) stayed ∙ sym (ap (λ (x : State). x .counts) same)) (ap (λ (x : Flat). x .types) stayed ∙ sym (ap (λ (x : State). x .types) same))
 
-  back-handed : (g : Flat) (n : ℕ) (u : List ℤ) → g .links ≡ f .links → Back r n (lentState f v) (lentState g u) → Handed q n (lentState f v) (lentState g u)
+  -- what was lent, beside the types that the request has left by the time the rest is handed back
+  abbrev f′ : Flat
+  f′ = withBytes f (r .state .types)
+
+  -- which a refused one gave back
+  back-same : isAccepted (r .answer) ≡ false → f′ ≡ f
+  back-same h = let e = refusal-of (r .answer) h in ap (λ (x : State). withBytes f (x .types)) (w .stays (e .0) (e .1))
+
+  back-handed : (g : Flat) (n : ℕ) (u : List ℤ) → g .links ≡ f .links → Back r n (lentState f′ v) (lentState g u) → Handed q n (lentState f v) (lentState g u)
   back-handed g n u links b = go (isAccepted (r .answer)) refl
     where
       go : (x : Bool) → isAccepted (r .answer) ≡ x → Handed q n (lentState f v) (lentState g u)
-      go false h = refused-handed g n u (b .number) (b .values) h (b .refused h)
+      go false h = refused-handed g n u (b .number) (b .values) h (b .refused h ∙ back-same h)
       go true h = accepted-handed g n u (b .number) (b .values) h links (b .accepted h)
 
 -- ---- As the C functions use it: b says whether the codes fit, s is the state that was read.
@@ -148,6 +159,6 @@ module _ (f : Flat) (q : Request) (v : List ℤ) (b : Bool) (tested : b ≡ code
   request-unfit h = codes-handed f q v (unfit b _ tested h)
 
   pub request-handed : not b ≡ false → (s : State) → s ≡ stateFrom f → (r : Served) → Serves s q r → (g : Flat) (n : ℕ) (u : List ℤ) → g .links ≡ f .links
-      → Back r n (lentState f v) (lentState g u)
+      → Back r n (lentState (withBytes f (r .state .types)) v) (lentState g u)
       → Handed q n (lentState f v) (lentState g u)
   request-handed h s read r w = back-handed f q v (passed b _ tested h) r (subst (λ (x : State). Serves x q r) read w)

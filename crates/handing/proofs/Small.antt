@@ -12,11 +12,11 @@ use Rattle.modellaws.proofs.Checked.{Bounded, fits-bounded, checked-stays}
 use Rattle.modellaws.proofs.Returned.{accepted-codes}
 use Rattle.returned.proofs.Small.{Named, small-serve}
 use Rattle.returned.proofs.Small.{Small as SmallWith}
-use Rattle.state.specs.declared.State.{State}
+use Rattle.state.specs.Whole.{Whole as State}
 use Rattle.state.specs.View.{rawState, systemIn}
 use Rattle.steps.specs.declared.Answer.{Answer}
 use Rattle.steps.specs.declared.Answer.the-variants.{Refused, Pair, Number, Nothing}
-use Rattle.steps.specs.declared.Served.{Served}
+use Rattle.steps.specs.Served.{Done as Served}
 use Rattle.steps.specs.Served.{outcomeOf}
 use Rattle.serve.specs.Serves.{defined, Serves}
 use Rattle.serve.proofs.Laws.{serves-answer}

@@ -12,11 +12,11 @@ use Rattle.model.specs.Check.{RawSystem, systemOf, systemAccepted}
 use Rattle.model.specs.Handed.{serveHanded, Returns}
 use Rattle.table.specs.Store.{withCount}
 use Rattle.table.specs.Records.{bytesOf}
-use Rattle.state.specs.declared.State.{State}
+use Rattle.state.specs.Whole.{Whole as State}
 use Rattle.flat.specs.Flat.{Flat, countsIn, cellCount, placeCount, callCount, rawCells, rawPlaces, rawCalls, cellRecords, placeRecords, callRecords, rawFlat}
 use Rattle.steps.specs.declared.Answer.{Answer}
 use Rattle.steps.specs.declared.Answer.the-variants.{Refused, Pair, Number, Nothing}
-use Rattle.steps.specs.declared.Served.{Served}
+use Rattle.steps.specs.Served.{Done as Served}
 use Rattle.steps.specs.Served.{outcomeOf}
 use Rattle.sending.specs.Sent.{isAccepted}
 

@@ -5,8 +5,9 @@ ghost use mathlib.Core.Bool.{true, false};
 ghost use mathlib.Core.List.{List, [], _∷_};
 ghost use Prim.Native.Nat.{ℕ, _<_};
 ghost use lib.IntN.{pos};
+ghost use Rattle.state.specs.Whole.{whole};
 ghost use Rattle.flat.specs.Flat.{flat};
-ghost use Rattle.steps.specs.Served.{outcomeOf};
+ghost use Rattle.steps.specs.Served.{outcomeOf, done};
 ghost use Rattle.handing.specs.States.{outcomeNumber, outcomeValues, Small, Stored, Back, lentState};
 use flat::CALL_BYTES;
 use flat::CELL_BYTES;
@@ -14,7 +15,6 @@ use flat::PLACE_BYTES;
 use state::State;
 use steps::Answer;
 use steps::Served;
-use table::TYPE_BYTES;
 
 fn put_pair(first: usize, second: usize, values: &mut [i64; 3])
     requires { ⌜ (first < 65536) × (second < 65536) ⌝ }
@@ -60,16 +60,13 @@ fn answer_out(a: Answer, values: &mut [i64; 3]) -> usize
 // The state in the arrays.
 pub fn store(
     s: State,
-    types: &mut [u8; TYPE_BYTES],
     cells: &mut [u8; CELL_BYTES],
     places: &mut [u8; PLACE_BYTES],
     calls: &mut [u8; CALL_BYTES],
     counts: &mut [usize; 8],
 )
-    ensures { λ _. ⌜ Stored s (now (types .exit)) (now (cells .exit)) (now (places .exit)) (now (calls .exit)) (now (counts .exit)) ⌝ }
+    ensures { λ _. ⌜ ((t : List ℕ) → Stored (whole t s) t (now (cells .exit)) (now (places .exit)) (now (calls .exit)) (now (counts .exit))) ⌝ }
 {
-    let t = s.types;
-    *types = t;
     let cs = s.cells;
     let ps = s.places;
     let js = s.calls;
@@ -82,7 +79,6 @@ pub fn store(
 // What comes back of a request: refused, nothing is stored (Q14).
 pub fn hand_back(
     r: Served,
-    types: &mut [u8; TYPE_BYTES],
     cells: &mut [u8; CELL_BYTES],
     places: &mut [u8; PLACE_BYTES],
     calls: &mut [u8; CALL_BYTES],
@@ -90,13 +86,13 @@ pub fn hand_back(
     values: &mut [i64; 3],
 ) -> usize
     requires { ⌜ Small (r .answer) ⌝ }
-    ensures { λ n. ⌜ ((l : List ℕ) → Back r n (lentState (flat (now (types .entry)) l (now (cells .entry)) (now (places .entry)) (now (calls .entry)) (now (counts .entry))) (now (values .entry))) (lentState (flat (now (types .exit)) l (now (cells .exit)) (now (places .exit)) (now (calls .exit)) (now (counts .exit))) (now (values .exit)))) ⌝ }
+    ensures { λ n. ⌜ ((t l : List ℕ) → Back (done t r) n (lentState (flat t l (now (cells .entry)) (now (places .entry)) (now (calls .entry)) (now (counts .entry))) (now (values .entry))) (lentState (flat t l (now (cells .exit)) (now (places .exit)) (now (calls .exit)) (now (counts .exit))) (now (values .exit)))) ⌝ }
 {
     let a = r.answer;
     if !sending::accepted(a) {
         return answer_out(a, values);
     }
     let s = r.state;
-    store(s, types, cells, places, calls, counts);
+    store(s, cells, places, calls, counts);
     answer_out(a, values)
 }

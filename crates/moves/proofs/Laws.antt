@@ -19,7 +19,7 @@ use Rattle.table.specs.Store.{tableIn}
 use Rattle.state.specs.declared.Cell.{Cell}
 use Rattle.state.specs.declared.Places.{Places}
 use Rattle.state.specs.declared.Place.the-variants.{Object}
-use Rattle.state.specs.declared.State.{State}
+use Rattle.state.specs.Whole.{Whole as State}
 use Rattle.state.specs.View.{cellOf, cellsIn, placesIn, placeAdded, systemIn}
 use Rattle.state.specs.Sound.{Falling, Sound}
 use Rattle.state.proofs.Laws.{places-length, system-is}

@@ -8,7 +8,7 @@ use Rattle.model.specs.Requests.{System, Result, addCell}
 use Rattle.table.specs.declared.Counts.{Counts}
 use Rattle.table.specs.Store.{tableIn}
 use Rattle.state.specs.declared.Places.{Places}
-use Rattle.state.specs.declared.State.{State}
+use Rattle.state.specs.Whole.{Whole as State}
 use Rattle.state.specs.View.{placesIn, systemIn}
 use Rattle.state.specs.Sound.{Falling, Typed, Sound}
 use Rattle.cross.specs.Crossed.{reference}

@@ -3,9 +3,10 @@
 ghost use mathlib.Core.Path.{_≡_};
 ghost use Prim.Native.Nat.{_<_};
 ghost use Rattle.model.specs.Requests.{newRequest, moveRequest};
+ghost use Rattle.state.specs.Whole.{whole};
 ghost use Rattle.state.specs.View.{systemIn};
 ghost use Rattle.state.specs.Sound.{Falling, Sound};
-ghost use Rattle.steps.specs.Served.{Step};
+ghost use Rattle.steps.specs.Served.{Step, done};
 ghost use Rattle.moves.specs.Sent.{sentTo, Sends, Made};
 use numbers::narrow;
 use numbers::wide;
@@ -15,21 +16,21 @@ use state::PlaceRec;
 use state::Places;
 use state::State;
 use steps::Served;
+use table::TYPE_BYTES;
 
 // A reference of static type `sort` to place p of `ps` crosses to type `to`, received by r, and becomes a cell of r (N6 to N8, M4 to M6).
-fn send(s: State, ps: Places, sort: usize, p: usize, to: usize, r: usize) -> Served
-    requires { ⌜ Sends s ps p to r ⌝ }
-    ensures { λ q. ⌜ Step s (sentTo s ps sort p to r) q ⌝ }
+fn send(types: &mut [u8; TYPE_BYTES], s: State, ps: Places, sort: usize, p: usize, to: usize, r: usize) -> Served
+    requires { ⌜ Sends (whole (now types) s) ps p to r ⌝ }
+    ensures { λ q. ⌜ Step (whole (now (types .entry)) s) (sentTo (whole (now (types .entry)) s) ps sort p to r) (done (now (types .exit)) q) ⌝ }
 {
-    let mut types = s.types;
     let links = s.links;
-    let x = cross::cross(&mut types, &links, s.counts, ps, sort, p, to, r);
+    let x = cross::cross(types, &links, s.counts, ps, sort, p, to, r);
     let y = cross::land(ps, x);
     if y.refusal != 0 {
         return steps::refused(s, y.refusal);
     }
     let places = y.places;
-    steps::add_cell(s, types, y.types, places, r, to, y.place)
+    steps::add_cell(s, y.types, places, r, to, y.place)
 }
 
 // An object of the class, owned by the subject, is the next place (N5).
@@ -45,18 +46,18 @@ fn make(ps: Places, class: usize, owner: usize) -> Places
 }
 
 // New (N): an object of a sheet class, and a cell of the subject that refers to it.
-pub fn new_step(s: State, subject: i64, class: i64, to: i64) -> Served
-    requires { ⌜ Sound s ⌝ }
-    ensures { λ q. ⌜ Step s (newRequest (systemIn s) subject class to) q ⌝ }
+pub fn new_step(types: &mut [u8; TYPE_BYTES], s: State, subject: i64, class: i64, to: i64) -> Served
+    requires { ⌜ Sound (whole (now types) s) ⌝ }
+    ensures { λ q. ⌜ Step (whole (now (types .entry)) s) (newRequest (systemIn (whole (now (types .entry)) s)) subject class to) (done (now (types .exit)) q) ⌝ }
 {
     let c = s.counts;
     if !steps::is_subject(c, subject) {
         return steps::refused(s, 5);
     }
-    if !steps::is_sheet_class(&s.types, c, class) {
+    if !steps::is_sheet_class(types, c, class) {
         return steps::refused(s, 7);
     }
-    if !steps::is_sheet_ref(&s.types, c, to) {
+    if !steps::is_sheet_ref(types, c, to) {
         return steps::refused(s, 7);
     }
     let ps = s.places;
@@ -67,13 +68,13 @@ pub fn new_step(s: State, subject: i64, class: i64, to: i64) -> Served
     let sort = index_of(class, c.sheet);
     let target = index_of(to, c.sheet);
     let made = make(ps, sort, owner);
-    send(s, made, sort, ps.count, target, owner)
+    send(types, s, made, sort, ps.count, target, owner)
 }
 
 // Move (M): the reference in the cell crosses and becomes a cell of the receiver; the cell that is moved stays (M6).
-pub fn move_step(s: State, subject: i64, cell: i64, receiver: i64, to: i64) -> Served
-    requires { ⌜ Sound s ⌝ }
-    ensures { λ q. ⌜ Step s (moveRequest (systemIn s) subject cell receiver to) q ⌝ }
+pub fn move_step(types: &mut [u8; TYPE_BYTES], s: State, subject: i64, cell: i64, receiver: i64, to: i64) -> Served
+    requires { ⌜ Sound (whole (now types) s) ⌝ }
+    ensures { λ q. ⌜ Step (whole (now (types .entry)) s) (moveRequest (systemIn (whole (now (types .entry)) s)) subject cell receiver to) (done (now (types .exit)) q) ⌝ }
 {
     let c = s.counts;
     if !steps::is_subject(c, subject) {
@@ -87,12 +88,12 @@ pub fn move_step(s: State, subject: i64, cell: i64, receiver: i64, to: i64) -> S
     if !steps::is_held(cells, who, cell) {
         return steps::refused(s, 6);
     }
-    if !steps::is_sheet_ref(&s.types, c, to) {
+    if !steps::is_sheet_ref(types, c, to) {
         return steps::refused(s, 7);
     }
     let r = index_of(receiver, c.subjects);
     let target = index_of(to, c.sheet);
     let x = state::cell_at(cells, index_of(cell, cells.count));
     let ps = s.places;
-    send(s, ps, wide(x.sort), wide(x.place), target, r)
+    send(types, s, ps, wide(x.sort), wide(x.place), target, r)
 }

@@ -7,7 +7,7 @@ use Prim.Native.Nat.{ℕ, zero, suc, _+_, _-_, _≤_, _<_}
 use native.Mathlib.Numerals.{add-one}
 use native.Mathlib.Omega.{arith}
 use lib.IntN.{ℤ, pos}
-use lib.ListN.{length, getD, drop, drop-of-length-le}
+use lib.ListN.{length, getD, drop, drop-of-length-le, replicate, length-replicate}
 use lib.Seq.{drop-cons}
 use Rattle.model.specs.Basics.{over, names, named, need, ok}
 use Rattle.model.specs.Table.{Table, typeAt, methodAt, isRef, isNil, permit}
@@ -23,7 +23,7 @@ use Rattle.model.specs.Check.{tableOf}
 use Rattle.model.proofs.Codes.{code-back}
 use Rattle.deriving.specs.Begins.{refIn}
 use Rattle.restrict.proofs.Ends.{ref-table}
-use Rattle.state.specs.declared.State.{State}
+use Rattle.state.specs.Whole.{Whole as State}
 use Rattle.state.specs.View.{cellsIn, placesIn, rawState, systemIn}
 use Rattle.state.specs.Sound.{Sound}
 use Rattle.state.proofs.Laws.{cells-length, system-is}
@@ -160,6 +160,14 @@ module _ (s : State) (z : ℤ) (w : List ℤ) (k : ℕ) (e : k ≡ indexOf z (s 
 
     pub offers-by-place : true ≡ permitsNamed T (x .type) w → (r : Bool) → r ≡ permitsNamed T (placeType (placeAt (placesIn (s .places)) (x .place))) w → r ≡ offersNamed (systemIn s) z w
     offers-by-place h r y = y ∙ sym (offers-both ∙ rw (← h))
+
+-- any bytes of the types' length: what is known of the rest of a state asks for no others
+unfoldable pub blank : List ℕ
+blank = replicate 16384 0
+
+pub blank-long : length blank ≡ 16384
+unfolding blank
+blank-long = length-replicate {A = ℕ} 16384 0
 
 -- its place is one of the state's
 pub place-known : (s : State) → Sound s → (k : ℕ) → k < s .cells .count → (x : Cell) → x ≡ getD (cellsIn (s .cells)) k noCell → (p : ℕ) → p ≡ x .place → p < s .places .count

@@ -3,8 +3,10 @@
 ghost use mathlib.Core.Path.{_≡_};
 ghost use mathlib.Core.List.{List};
 ghost use Prim.Native.Nat.{ℕ};
+ghost use lib.ListN.{length};
 ghost use Rattle.table.specs.Limits.{Limits};
 ghost use Rattle.table.specs.Store.{tableIn};
+ghost use Rattle.state.specs.Whole.{whole};
 ghost use Rattle.state.specs.View.{rawState, systemIn};
 ghost use Rattle.state.specs.Sound.{Sound};
 ghost use Rattle.offers.specs.Chained.{stepCode, permitsNamed, offersNamed, offersHanded, offeredAs};
@@ -65,9 +67,9 @@ fn type_permits(types: &[u8; TYPE_BYTES], c: Counts, t: usize, chain: &[i64]) ->
 }
 
 // Of a state that passes the check: the type of the cell and the type of its place both permit the chain (L18).
-fn cell_offers(s: State, cell: i64, chain: &[i64]) -> bool
-    requires { ⌜ Sound s ⌝ }
-    ensures { λ r. ⌜ r ≡ offersNamed (systemIn s) cell (now (chain .entry)) ⌝ }
+fn cell_offers(types: &[u8; TYPE_BYTES], s: State, cell: i64, chain: &[i64]) -> bool
+    requires { ⌜ ((t : List ℕ) → length t ≡ 16384 → Sound (whole t s)) ⌝ }
+    ensures { λ r. ⌜ r ≡ offersNamed (systemIn (whole (now (types .entry)) s)) cell (now (chain .entry)) ⌝ }
 {
     let cells = s.cells;
     let k = operand::index_of(cell, cells.count);
@@ -80,20 +82,20 @@ fn cell_offers(s: State, cell: i64, chain: &[i64]) -> bool
     let cell_type = wide(x.sort);
     let place_type = state::place_type(p);
     let c = s.counts;
-    if !type_permits(&s.types, c, cell_type, chain) {
+    if !type_permits(types, c, cell_type, chain) {
         return false;
     }
-    type_permits(&s.types, c, place_type, chain)
+    type_permits(types, c, place_type, chain)
 }
 
 // On any state handed in: 2 before all else (E11).
-pub fn offers(s: State, cell: i64, chain: &[i64]) -> Offered
-    ensures { λ r. ⌜ offeredAs r ≡ offersHanded (rawState s) cell (now (chain .entry)) ⌝ }
+pub fn offers(types: &[u8; TYPE_BYTES], s: State, cell: i64, chain: &[i64]) -> Offered
+    ensures { λ r. ⌜ offeredAs r ≡ offersHanded (rawState (whole (now (types .entry)) s)) cell (now (chain .entry)) ⌝ }
 {
-    if !statecheck::state_fits(s) {
+    if !statecheck::state_fits(types, s) {
         return Offered::Unfit;
     }
-    if cell_offers(s, cell, chain) {
+    if cell_offers(types, s, cell, chain) {
         return Offered::Yes;
     }
     Offered::No

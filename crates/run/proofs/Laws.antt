@@ -1,6 +1,6 @@
 -- A request by its code as a word, and what has been served so far.
 use mathlib.Core.Path.{_≡_, refl, sym, ap, subst, _∙_}
-use mathlib.Core.Bool.{Bool, true, false}
+use mathlib.Core.Bool.{Bool, true, false, cond, _||_}
 use mathlib.Core.List.{List, [], _∷_}
 use mathlib.Core.Option.{Option}
 use Prim.Native.Nat.{ℕ, zero, suc, _+_, _-_, _*_, _≤_, _<_}
@@ -9,23 +9,25 @@ use lib.IntN.{ℤ}
 use lib.ListN.{length, drop, drop-of-length-le}
 use lib.Seq.{sets, length-sets}
 use Rattle.model.specs.Basics.{ok, need, names}
+use Rattle.model.proofs.Rules.{never}
 use Rattle.model.specs.Requests.{System, Request, Outcome, after}
 use Rattle.model.specs.Check.{systemOf, systemAccepted}
 use Rattle.operand.specs.Index.{indexOf}
-use Rattle.state.specs.declared.State.{State}
+use Rattle.state.specs.Whole.{Whole as State}
+use Rattle.state.specs.Whole.{withTypes}
 use Rattle.state.specs.View.{rawState, systemIn}
 use Rattle.state.specs.Sound.{Sound}
 use Rattle.steps.specs.declared.Answer.{Answer}
 use Rattle.steps.specs.declared.Answer.the-variants.{Refused, Pair, Number, Nothing}
-use Rattle.steps.specs.declared.Served.{Served}
+use Rattle.steps.specs.Served.{Done as Served}
 use Rattle.steps.specs.Served.{outcomeOf, Stored, Step}
-use Rattle.steps.proofs.Laws.{stored-self, stored-on}
-use Rattle.run.specs.declared.Ran.{Ran}
+use Rattle.steps.proofs.Laws.{stored-self, stored-on, system-kept}
+use Rattle.sending.specs.Sent.{isAccepted}
 use Rattle.operand.specs.Coded.{byCode}
 use Rattle.coded.specs.Coded.{serveAsked}
 use Rattle.coded.proofs.Laws.{outcome-is, after-is}
 use Rattle.run.specs.Requested.{request, requests, runAsked, runHanded}
-use Rattle.run.specs.Ran.{wordsOf, answersOf, room, AllRefused, RanAs, Runs, askedAt, nextAt}
+use Rattle.run.specs.Ran.{Over as Ran, wordsOf, answersOf, room, AllRefused, RanAs, Runs, askedAt, nextAt}
 use Rattle.run.proofs.Words.{request-at, words-next}
 use Rattle.run.proofs.Whole.{serveEach, each-is-run}
 
@@ -37,15 +39,20 @@ code-is code ws = go (names code 4) refl
     go true e = rw e
     go false e = rw e
 
+neither : (a b : Bool) → (a || b) ≡ false → (a ≡ false) × (b ≡ false)
+neither true b h = never (sym h)
+neither false b h = (refl, h)
+
 -- ---- The run so far: `i` requests are served, the words from `at` on are still to come.
 abbrev rest : State → List ℤ → ℕ → ℕ → List Outcome × System
 rest s ws f at = serveEach (systemIn s) (requests f (drop at ws))
 
-pub record Going (s₀ : State) (ws old : List ℤ) (s : State) (cur : List ℤ) (i at : ℕ) : Type 0 where
+pub record Going (s₀ : State) (ws old : List ℤ) (s : State) (cur : List ℤ) (i at : ℕ) (any : Bool) : Type 0 where
   pub system : rest s ws (room old - i) at .1 ≡ rest s₀ ws (room old) 0 .1
   pub count : i + length (rest s ws (room old - i) at .0) ≡ length (rest s₀ ws (room old) 0 .0)
   pub words : sets cur (i * 4) (answersOf (rest s ws (room old - i) at .0)) ≡ sets old 0 (answersOf (rest s₀ ws (room old) 0 .0))
-  pub untouched : AllRefused (rest s₀ ws (room old) 0 .0) → (s ≡ s₀) × AllRefused (rest s ws (room old - i) at .0)
+  pub untouched : AllRefused (rest s₀ ws (room old) 0 .0) → (any ≡ false) × AllRefused (rest s ws (room old - i) at .0)
+  pub quiet : any ≡ false → s ≡ withTypes s₀ (s .types)
   pub stored : Stored s₀ s
   pub sound : Sound s
   pub long : length cur ≡ length old
@@ -56,7 +63,7 @@ module _ (s₀ : State) (ws old : List ℤ) where
   abbrev whole : List Outcome × System
   whole = runAsked (systemIn s₀) (requests (room old) ws)
 
-  pub going-starts : Sound s₀ → Going s₀ ws old s₀ old 0 0
+  pub going-starts : Sound s₀ → Going s₀ ws old s₀ old 0 0 false
   going-starts h =
       let e : room old - 0 ≡ room old = omega arith in
       let z : (n : ℕ) → 0 + n ≡ n = λ n. omega arith in
@@ -65,6 +72,7 @@ module _ (s₀ : State) (ws old : List ℤ) where
         count = z (length (rest s₀ ws (room old - 0) 0 .0)) ∙ rw e;
         words = rw e;
         untouched = λ a. (refl, subst (λ (f : ℕ). AllRefused (rest s₀ ws f 0 .0)) (sym e) a);
+        quiet = λ z. refl;
         stored = stored-self s₀ h;
         sound = h;
         long = refl;
@@ -72,25 +80,50 @@ module _ (s₀ : State) (ws old : List ℤ) where
         within = omega arith;
       }
 
-  module _ (s : State) (cur : List ℤ) (i at : ℕ) (g : Going s₀ ws old s cur i at) where
+  module _ (s : State) (cur : List ℤ) (i at : ℕ) (any : Bool) (g : Going s₀ ws old s cur i at any) where
+    -- The types once they are given back where no request was taken.
+    module _ (h₀ : Sound s₀) (t : List ℕ) (back : t ≡ cond any (s .types) (s₀ .types)) where
+      back-same : any ≡ false → withTypes s t ≡ s₀
+      back-same z = ap (withTypes s) (back ∙ ap (λ (b : Bool). cond b (s .types) (s₀ .types)) z) ∙ ap (λ (x : State). withTypes x (s₀ .types)) (g .quiet z)
+
+      back-any : any ≡ true → withTypes s t ≡ s
+      back-any z = ap (withTypes s) (back ∙ ap (λ (b : Bool). cond b (s .types) (s₀ .types)) z)
+
+      back-means : systemIn (withTypes s t) ≡ systemIn s
+      back-means = go any refl
+        where
+          go : (b : Bool) → any ≡ b → systemIn (withTypes s t) ≡ systemIn s
+          go true z = ap systemIn (back-any z)
+          go false z = ap systemIn (back-same z)
+              ∙ sym (ap systemIn (g .quiet z) ∙ system-kept s₀ (s .types) (omega (arith, g .stored .grew .more, g .stored .grew .room)) (g .stored .kept))
+
+      back-left : Stored s₀ (withTypes s t) × Sound (withTypes s t)
+      back-left = go any refl
+        where
+          go : (b : Bool) → any ≡ b → Stored s₀ (withTypes s t) × Sound (withTypes s t)
+          go true z = subst (λ (x : State). Stored s₀ x × Sound x) (sym (back-any z)) (g .stored, g .sound)
+          go false z = subst (λ (x : State). Stored s₀ x × Sound x) (sym (back-same z)) (stored-self s₀ h₀, h₀)
+
     -- nothing comes any more: no room, or no words
-    ended : rest s ws (room old - i) at ≡ ([], systemIn s) → (out : List ℤ) → out ≡ cur → (r : Ran) → r ≡ record { refusal = 0; served = i; state = s }
+    ended : rest s ws (room old - i) at ≡ ([], systemIn s) → Sound s₀ → (t : List ℕ) → t ≡ cond any (s .types) (s₀ .types)
+        → (out : List ℤ) → out ≡ cur → (r : Ran) → r ≡ record { refusal = 0; served = i; state = withTypes s t }
         → RanAs s₀ old out (whole .0) (whole .1) r
     unfolding answersOf
-    ended e out k r y =
+    ended e h₀ t back out k r y =
         let z : i + 0 ≡ i = omega arith in
         subst (RanAs s₀ old out (whole .0) (whole .1)) (sym y)
-        (subst (λ (m : List Outcome × System). RanAs s₀ old out (m .0) (m .1) (record { refusal = 0; served = i; state = s })) (each-is-run (systemIn s₀) (requests (room old) ws)) (record {
+        (subst (λ (m : List Outcome × System). RanAs s₀ old out (m .0) (m .1) (record { refusal = 0; served = i; state = withTypes s t })) (each-is-run (systemIn s₀) (requests (room old) ws)) (record {
           refusal = refl;
           served = sym z ∙ ap (λ (p : List Outcome × System). i + length (p .0)) (sym e) ∙ g .count;
           answers = k ∙ ap (λ (p : List Outcome × System). sets cur (i * 4) (answersOf (p .0))) (sym e) ∙ g .words;
-          is = ap (λ (p : List Outcome × System). p .1) (sym e) ∙ g .system;
-          untouched = λ a. g .untouched a .0;
-          stored = g .stored;
-          sound = g .sound;
+          is = back-means h₀ t back ∙ ap (λ (p : List Outcome × System). p .1) (sym e) ∙ g .system;
+          untouched = λ a. back-same h₀ t back (g .untouched a .0);
+          stored = back-left h₀ t back .0;
+          sound = back-left h₀ t back .1;
         }))
 
-    pub going-full : room old ≤ i → (out : List ℤ) → out ≡ cur → (r : Ran) → r ≡ record { refusal = 0; served = i; state = s }
+    pub going-full : room old ≤ i → Sound s₀ → (t : List ℕ) → t ≡ cond any (s .types) (s₀ .types)
+        → (out : List ℤ) → out ≡ cur → (r : Ran) → r ≡ record { refusal = 0; served = i; state = withTypes s t }
         → RanAs s₀ old out (whole .0) (whole .1) r
     unfolding serveEach requests
     going-full l = let e : room old - i ≡ 0 = omega arith in ended (ap (λ (f : ℕ). rest s ws f at) e)
@@ -100,7 +133,8 @@ module _ (s₀ : State) (ws old : List ℤ) where
     no-words zero = refl
     no-words (suc f) = refl
 
-    pub going-done : length ws ≤ at → (out : List ℤ) → out ≡ cur → (r : Ran) → r ≡ record { refusal = 0; served = i; state = s }
+    pub going-done : length ws ≤ at → Sound s₀ → (t : List ℕ) → t ≡ cond any (s .types) (s₀ .types)
+        → (out : List ℤ) → out ≡ cur → (r : Ran) → r ≡ record { refusal = 0; served = i; state = withTypes s t }
         → RanAs s₀ old out (whole .0) (whole .1) r
     going-done l = ended (ap (λ (xs : List ℤ). serveEach (systemIn s) (requests (room old - i) xs)) (drop-of-length-le ws {i = at} l) ∙ no-words (room old - i))
 
@@ -120,13 +154,14 @@ module _ (s₀ : State) (ws old : List ℤ) where
           ∙ ap (λ (t : System). (outcomeOf (r .answer) ∷ serveEach t qs .0, serveEach t qs .1)) (after-is s _ r step)
 
       pub going-on : (out : List ℤ) → out ≡ sets cur (i * 4) (wordsOf (outcomeOf (r .answer))) → (at′ : ℕ) → at′ ≡ nextAt ws at → at′ ≤ length ws
-          → Going s₀ ws old (r .state) out (i + 1) at′
+          → (any′ : Bool) → any′ ≡ (any || isAccepted (r .answer)) → Going s₀ ws old (r .state) out (i + 1) at′ any′
       unfolding answersOf
-      going-on out k at′ d w = subst (λ (n : ℕ). n ≤ length ws → Going s₀ ws old (r .state) out (i + 1) n) (sym d) (λ (w′ : nextAt ws at ≤ length ws). record {
+      going-on out k at′ d w any′ ea = subst (λ (n : ℕ). n ≤ length ws → Going s₀ ws old (r .state) out (i + 1) n any′) (sym d) (λ (w′ : nextAt ws at ≤ length ws). record {
         system = ap (λ (p : List Outcome × System). p .1) (sym one) ∙ g .system;
         count = let z : i + 1 + length (on .0) ≡ i + suc (length (on .0)) = omega arith in z ∙ ap (λ (p : List Outcome × System). i + length (p .0)) (sym one) ∙ g .count;
         words = written (outcomeOf (r .answer)) k ∙ ap (λ (p : List Outcome × System). sets cur (i * 4) (answersOf (p .0))) (sym one) ∙ g .words;
-        untouched = λ a. let b = g .untouched a in let c = still (r .answer) refl (subst (λ (p : List Outcome × System). AllRefused (p .0)) one (b .1)) in (c .0 ∙ b .0, c .1);
+        untouched = λ a. let b = g .untouched a in let c = still (r .answer) refl (subst (λ (p : List Outcome × System). AllRefused (p .0)) one (b .1)) in (ea ∙ ap (λ (x : Bool). x || isAccepted (r .answer)) (b .0) ∙ c .0, c .1);
+        quiet = λ z. let n = neither any (isAccepted (r .answer)) (sym ea ∙ z) in still-there (r .answer) refl (n .1) ∙ ap (λ (x : State). withTypes x (r .state .types)) (g .quiet (n .0));
         stored = stored-on s₀ s (r .state) (g .stored) (step .stored);
         sound = step .sound;
         long = ap length k ∙ length-sets cur (i * 4) (wordsOf (outcomeOf (r .answer))) ∙ g .long;
@@ -134,11 +169,17 @@ module _ (s₀ : State) (ws old : List ℤ) where
         within = w′;
       }) w
         where
-          still : (a : Answer) → r .answer ≡ a → AllRefused (outcomeOf a ∷ on .0) → (r .state ≡ s) × AllRefused (on .0)
-          still (Refused e) z h = (step .stays e z, h)
+          still : (a : Answer) → r .answer ≡ a → AllRefused (outcomeOf a ∷ on .0) → (isAccepted (r .answer) ≡ false) × AllRefused (on .0)
+          still (Refused e) z h = (ap isAccepted z, h)
           still (Pair m n) z h = absurd h
           still (Number v) z h = absurd h
           still Nothing z h = absurd h
+
+          still-there : (a : Answer) → r .answer ≡ a → isAccepted (r .answer) ≡ false → r .state ≡ withTypes s (r .state .types)
+          still-there (Refused e) z h = step .stays e z
+          still-there (Pair m n) z h = never (sym h ∙ ap isAccepted z)
+          still-there (Number v) z h = never (sym h ∙ ap isAccepted z)
+          still-there Nothing z h = never (sym h ∙ ap isAccepted z)
 
           written : (o : Outcome) → out ≡ sets cur (i * 4) (wordsOf o) → sets out ((i + 1) * 4) (answersOf (on .0)) ≡ sets cur (i * 4) (answersOf (o ∷ on .0))
           written o z =

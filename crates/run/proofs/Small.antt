@@ -8,13 +8,13 @@ use native.Mathlib.Omega.{arith}
 use lib.ListN.{length, getD}
 use Rattle.model.specs.Requests.{Cell, System, Request, Result, noCell}
 use Rattle.returned.proofs.Small.{Small, Named, small-serve}
-use Rattle.state.specs.declared.State.{State}
+use Rattle.state.specs.Whole.{Whole as State}
 use Rattle.state.specs.View.{cellsIn, systemIn}
 use Rattle.state.specs.Sound.{Sound}
 use Rattle.state.proofs.Laws.{cells-length, places-length}
 use Rattle.steps.specs.declared.Answer.{Answer}
 use Rattle.steps.specs.declared.Answer.the-variants.{Refused, Pair, Number, Nothing}
-use Rattle.steps.specs.declared.Served.{Served}
+use Rattle.steps.specs.Served.{Done as Served}
 use Rattle.steps.specs.Served.{outcomeOf, servedWith, Step}
 use Rattle.steps.proofs.Laws.{cells-are, places-are}
 use Rattle.coded.specs.Coded.{serveAsked}

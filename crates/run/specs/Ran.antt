@@ -11,7 +11,8 @@ use lib.Seq.{sets}
 use Rattle.model.specs.Basics.{Res, refuse, ok}
 use Rattle.model.specs.Requests.{System, Request, pair, number, nothing, Outcome, got, refused}
 use Rattle.operand.specs.Index.{indexOf}
-use Rattle.state.specs.declared.State.{State}
+use Rattle.state.specs.Whole.{Whole as State}
+use Rattle.state.specs.Whole.{whole}
 use Rattle.state.specs.View.{systemIn}
 use Rattle.state.specs.Sound.{Sound}
 use Rattle.steps.specs.declared.Answer.{Answer}
@@ -31,6 +32,15 @@ unfoldable pub answersOf : List Outcome → List ℤ
 answersOf [] = []
 answersOf (o ∷ os) = wordsOf o ++ answersOf os
 
+-- how a run ended, with the whole state
+pub record Over : Type 0 where
+  pub refusal : ℕ
+  pub served : ℕ
+  pub state : State
+
+abbrev pub over : List ℕ → Ran → Over
+over b r = record { refusal = r .refusal; served = r .served; state = whole b (r .state) }
+
 -- how many requests there is room for (U9)
 abbrev pub room : List ℤ → ℕ
 room answers = length answers / 4
@@ -43,7 +53,7 @@ AllRefused (got x ∷ os) = ⊥
 
 -- A run that was taken, of which `os` and `m` are what the model's run comes to (`runAsked`): the state means the model's, and the answers stand from the front on; what is
 -- behind them is as it was. Where every request is refused, so is every byte of the state (Q14).
-pub record RanAs (s : State) (old new : List ℤ) (os : List Outcome) (m : System) (r : Ran) : Type 0 where
+pub record RanAs (s : State) (old new : List ℤ) (os : List Outcome) (m : System) (r : Over) : Type 0 where
   pub refusal : r .refusal ≡ 0
   pub served : r .served ≡ length os
   pub answers : new ≡ sets old 0 (answersOf os)
@@ -53,7 +63,7 @@ pub record RanAs (s : State) (old new : List ℤ) (os : List Outcome) (m : Syste
   pub sound : Sound (r .state)
 
 -- Where the state handed in is not taken, nothing changes (Q14).
-abbrev pub Runs : State → List ℤ → List ℤ → Res (List Outcome × System) → Ran → Type 0
+abbrev pub Runs : State → List ℤ → List ℤ → Res (List Outcome × System) → Over → Type 0
 Runs s old new (refuse e) r = (r ≡ record { refusal = e; served = 0; state = s }) × (new ≡ old)
 Runs s old new (ok x) r = RanAs s old new (x .0) (x .1) r
 

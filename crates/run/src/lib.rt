@@ -1,18 +1,20 @@
 // A run (U): the requests in a list of words, one after the other. What it answers is the definition `runHanded` in specs/Requested.antt, the model's run of those that are
 // requests; the state is checked once, and then each step leaves what the next one needs.
 ghost use mathlib.Core.Path.{_≡_};
+ghost use mathlib.Core.Bool.{cond, _||_};
 ghost use mathlib.Core.List.{[], _∷_};
 ghost use Prim.Native.Nat.{_+_, _≤_, _<_};
 ghost use lib.IntN.{pos};
 ghost use lib.ListN.{length, getD};
 ghost use lib.Seq.{sets};
 ghost use Rattle.model.specs.Basics.{ok};
+ghost use Rattle.state.specs.Whole.{whole};
 ghost use Rattle.state.specs.View.{rawState, systemIn};
 ghost use Rattle.state.specs.Sound.{Sound};
-ghost use Rattle.steps.specs.Served.{outcomeOf, Step};
+ghost use Rattle.steps.specs.Served.{outcomeOf, Step, done};
 ghost use Rattle.coded.specs.Coded.{serveAsked};
 ghost use Rattle.run.specs.Requested.{request, requests, runAsked, runHanded};
-ghost use Rattle.run.specs.Ran.{wordsOf, room, Runs, SmallAnswer, leftAt, countAt, askedAt, nextAt};
+ghost use Rattle.run.specs.Ran.{wordsOf, room, over, Runs, SmallAnswer, leftAt, countAt, askedAt, nextAt};
 use coded::CODES;
 use coded::serve_coded;
 use operand::index_of;
@@ -20,6 +22,7 @@ use state::State;
 use steps::Answer;
 use steps::Served;
 use steps::refused;
+use table::TYPE_BYTES;
 
 // How a run ended: 2 or 0, how many requests were served, and the state.
 pub struct Ran {
@@ -90,18 +93,18 @@ fn next(words: &[i64], at: usize) -> usize
 }
 
 // The request of a code as a word and its operands (U6).
-fn serve(s: State, code: i64, ops: &[i64]) -> Served
-    requires { ⌜ Sound s ⌝ }
-    ensures { λ r. ⌜ Step s (serveAsked (systemIn s) (request code (now (ops .entry)))) r ⌝ }
+fn serve(types: &mut [u8; TYPE_BYTES], s: State, code: i64, ops: &[i64]) -> Served
+    requires { ⌜ Sound (whole (now types) s) ⌝ }
+    ensures { λ r. ⌜ Step (whole (now (types .entry)) s) (serveAsked (systemIn (whole (now (types .entry)) s)) (request code (now (ops .entry)))) (done (now (types .exit)) r) ⌝ }
 {
     let k = index_of(code, CODES);
-    serve_coded(s, k, ops)
+    serve_coded(types, s, k, ops)
 }
 
 // The request at `at` (U6, U7).
-fn serve_at(s: State, words: &[i64], at: usize) -> Served
-    requires { ⌜ Sound s × (at < length (now words)) ⌝ }
-    ensures { λ r. ⌜ Step s (serveAsked (systemIn s) (askedAt (now (words .entry)) at)) r ⌝ }
+fn serve_at(types: &mut [u8; TYPE_BYTES], s: State, words: &[i64], at: usize) -> Served
+    requires { ⌜ Sound (whole (now types) s) × (at < length (now words)) ⌝ }
+    ensures { λ r. ⌜ Step (whole (now (types .entry)) s) (serveAsked (systemIn (whole (now (types .entry)) s)) (askedAt (now (words .entry)) at)) (done (now (types .exit)) r) ⌝ }
 {
     let left = words.len() - at - 1;
     let n = operands(words, at);
@@ -111,33 +114,30 @@ fn serve_at(s: State, words: &[i64], at: usize) -> Served
     let code = words[at];
     let first = at + 2;
     let end = first + n;
-    serve(s, code, &words[first..end])
+    serve(types, s, code, &words[first..end])
 }
 
-// Each on the state that those before it left, as long as there is room for an answer (U9).
-fn run_checked(s: State, words: &[i64], answers: &mut [i64]) -> Ran
-    requires { ⌜ Sound s ⌝ }
-    ensures { λ r. ⌜ Runs s (now (answers .entry)) (now (answers .exit)) (ok (runAsked (systemIn s) (requests (room (now (answers .entry))) (now (words .entry))))) r ⌝ }
+fn either(a: bool, b: bool) -> bool
+    ensures { λ r. ⌜ r ≡ (a || b) ⌝ }
 {
-    let most = answers.len() / Ran::WORDS;
-    let mut state = s;
-    let mut served: usize = 0;
-    let mut at: usize = 0;
-    while served < most {
-        if words.len() <= at {
-            return Ran {
-                refusal: 0,
-                served,
-                state,
-            };
-        }
-        let r = serve_at(state, words, at);
-        let answer = r.answer;
-        put_answer(answers, served * Ran::WORDS, answer);
-        state = r.state;
-        served += 1;
-        at = next(words, at);
+    if a {
+        return true;
     }
+    b
+}
+
+// The end of a run: where no request was taken, the types are given back, every byte (Q14).
+fn ended(types: &mut [u8; TYPE_BYTES], old: &[u8; TYPE_BYTES], any: bool, served: usize, state: State) -> Ran
+    ensures { λ r. ⌜ (r ≡ record { refusal = 0; served = served; state = state }) × (now (types .exit) ≡ cond any (now (types .entry)) (now (old .entry))) ⌝ }
+{
+    if any {
+        return Ran {
+            refusal: 0,
+            served,
+            state,
+        };
+    }
+    *types = *old;
     Ran {
         refusal: 0,
         served,
@@ -145,12 +145,45 @@ fn run_checked(s: State, words: &[i64], answers: &mut [i64]) -> Ran
     }
 }
 
-// On any state handed in: 2 before all else, and nothing is served (U1).
-pub fn run(s: State, words: &[i64], answers: &mut [i64]) -> Ran
-    ensures { λ r. ⌜ Runs s (now (answers .entry)) (now (answers .exit)) (runHanded (rawState s) (room (now (answers .entry))) (now (words .entry))) r ⌝ }
+// Each on the state that those before it left, as long as there is room for an answer (U9).
+fn run_checked(types: &mut [u8; TYPE_BYTES], old: &[u8; TYPE_BYTES], s: State, words: &[i64], answers: &mut [i64]) -> Ran
+    requires { ⌜ Sound (whole (now types) s) × (now old ≡ now types) ⌝ }
+    ensures { λ r. ⌜ Runs (whole (now (types .entry)) s) (now (answers .entry)) (now (answers .exit)) (ok (runAsked (systemIn (whole (now (types .entry)) s)) (requests (room (now (answers .entry))) (now (words .entry))))) (over (now (types .exit)) r) ⌝ }
 {
-    if statecheck::state_fits(s) {
-        return run_checked(s, words, answers);
+    let most = answers.len() / Ran::WORDS;
+    let mut any = false;
+    let mut state = s;
+    let mut served: usize = 0;
+    let mut at: usize = 0;
+    while served < most {
+        if words.len() <= at {
+            return ended(types, old, any, served, state);
+        }
+        let r = serve_at(types, state, words, at);
+        let answer = r.answer;
+        any = either(any, sending::accepted(answer));
+        put_answer(answers, served * Ran::WORDS, answer);
+        state = r.state;
+        served += 1;
+        at = next(words, at);
+    }
+    ended(types, old, any, served, state)
+}
+
+// A copy of lent bytes. Bytes that are held have their length, of lent ones nothing says it.
+fn copied(b: [u8; TYPE_BYTES]) -> [u8; TYPE_BYTES]
+    ensures { λ r. ⌜ (r ≡ b) × (length b ≡ 16384) ⌝ }
+{
+    b
+}
+
+// On any state handed in: 2 before all else, and nothing is served (U1).
+pub fn run(types: &mut [u8; TYPE_BYTES], s: State, words: &[i64], answers: &mut [i64]) -> Ran
+    ensures { λ r. ⌜ Runs (whole (now (types .entry)) s) (now (answers .entry)) (now (answers .exit)) (runHanded (rawState (whole (now (types .entry)) s)) (room (now (answers .entry))) (now (words .entry))) (over (now (types .exit)) r) ⌝ }
+{
+    if statecheck::state_fits(types, s) {
+        let old = copied(*types);
+        return run_checked(types, &old, s, words, answers);
     }
     Ran {
         refusal: 2,

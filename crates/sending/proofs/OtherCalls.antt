@@ -7,7 +7,7 @@ use Rattle.model.specs.Basics.{ok}
 use Rattle.model.specs.Requests.{System, Result, noCall, withCalls, got}
 use Rattle.model.proofs.Rules.{never}
 use Rattle.state.specs.declared.Calls.{Calls}
-use Rattle.state.specs.declared.State.{State}
+use Rattle.state.specs.Whole.{Whole as State}
 use Rattle.state.specs.View.{callsIn, systemIn}
 use Rattle.state.specs.Sound.{CallIn, Sound}
 use Rattle.state.proofs.Laws.{system-is}
@@ -30,6 +30,7 @@ module _ (s : State) (h : Sound s) (calls : Calls) (few : calls .count ≤ 256) 
     stays = λ d y. never (sym (ap isAccepted y) ∙ k);
     stored = let y = stored-self s h in record { links = refl; counts = refl; grew = y .grew; kept = y .kept };
     sound = record {
+      long = h .long;
       checked = h .checked;
       falling = h .falling;
       typed = h .typed;

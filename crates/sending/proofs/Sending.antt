@@ -20,7 +20,7 @@ use Rattle.model.proofs.Rules.{never}
 use Rattle.table.specs.Store.{tableIn}
 use Rattle.table.proofs.Lists.{lt-or-ge}
 use Rattle.state.specs.declared.Cell.{Cell}
-use Rattle.state.specs.declared.State.{State}
+use Rattle.state.specs.Whole.{Whole as State}
 use Rattle.state.specs.View.{cellOf, cellsIn, placesIn, systemIn}
 use Rattle.state.specs.Sound.{CellIn, Sound}
 use Rattle.state.proofs.Laws.{cells-length, places-length, calls-length, system-is}
@@ -29,9 +29,10 @@ use Rattle.carry.specs.declared.Carried.{Carried}
 use Rattle.carry.specs.Carried.{passedOf, carriedOf, Carries}
 use Rattle.steps.specs.declared.Answer.{Answer}
 use Rattle.steps.specs.declared.Answer.the-variants.{Refused, Pair, Number, Nothing}
-use Rattle.steps.specs.declared.Served.{Served}
-use Rattle.steps.specs.Served.{outcomeOf, servedWith, servedAs, refusal, Stored, Step, Arrives, arrived}
-use Rattle.steps.proofs.Laws.{stored-self, stored-on, step-refuses, step-as, table-is, cells-are, places-are, calls-are}
+use Rattle.steps.specs.Served.{Done as Served, refusalOf as refusal}
+use Rattle.state.specs.Whole.{withTypes}
+use Rattle.steps.specs.Served.{outcomeOf, servedWith, servedAs, Stored, Step, Arrives, arrived}
+use Rattle.steps.proofs.Laws.{stored-self, stored-on, refuses, refuses-kept, step-as, table-is, cells-are, places-are, calls-are}
 use Rattle.sending.specs.Sent.{isAccepted, sendArgument, allSent, Went, Sent}
 
 -- ---- Answers.
@@ -78,6 +79,10 @@ step-nothing s h = record { is = refl; stays = λ e y. refl; stored = stored-sel
 pub went-self : (s : State) → Went s s
 went-self s = record { cells = omega arith; places = omega arith; calls = refl }
 
+-- nor do the bytes of the types count
+went-types : (s : State) (t : List ℕ) → Went s (withTypes s t)
+went-types s t = record { cells = omega arith; places = omega arith; calls = refl }
+
 pub went-on : (s s₁ s₂ : State) → Went s s₁ → Went s₁ s₂ → Went s s₂
 went-on s s₁ s₂ h k = record { cells = omega (arith, h .cells, k .cells); places = omega (arith, h .places, k .places); calls = k .calls ∙ h .calls }
 
@@ -118,7 +123,7 @@ added-goes s r f more q k = go (q .answer) refl (ltb (length (systemIn s .cells)
         went-by s (q .state) (systemIn s) e (omega arith) (let p : length (systemIn s .places) ≡ s .places .count = ap length (places-are s) ∙ places-length (s .places) in omega arith) refl
 
     go : (a : Answer) → q .answer ≡ a → (b : Bool) → servedWith (systemIn (q .state)) (outcomeOf a) ≡ need b 13 (λ _. ok new) → Went s (q .state)
-    go (Refused d) z b e = subst (Went s) (sym (k .stays d z)) (went-self s)
+    go (Refused d) z b e = subst (Went s) (sym (k .stays d z)) (went-types s (q .state .types))
     go (Pair x y) z b e = left b (ap (after (systemIn s)) e)
     go (Number v) z b e = left b (ap (after (systemIn s)) e)
     go Nothing z b e = left b (ap (after (systemIn s)) e)
@@ -155,10 +160,10 @@ module _ (s : State) (h : Sound s) (r k : ℕ) (c : Cell) (is : cellOf c ≡ get
     send-is = ap (λ (f : Reference). try (crossLayers true f r ts) (λ g. addCell (systemIn s) r g)) leaving-is
         ∙ ap (λ (y : Res Reference). try y (λ g. addCell (systemIn s) r g)) (sym crossed)
 
-    pub send-refused : (x .refusal ≡ 0 → ⊥) → (q : Served) → q ≡ refusal s (x .refusal) → Step s (send (systemIn s) r k ts) q × Went s (q .state)
+    pub send-refused : (x .refusal ≡ 0 → ⊥) → (q : Served) → q ≡ refusal (withTypes s b) (x .refusal) → Step s (send (systemIn s) r k ts) q × Went s (q .state)
     send-refused z q e = (
-      step-refuses h (send-is ∙ ap (λ (y : Bool). try (Comes y) (λ f. addCell (systemIn s) r f)) (ne-eqb (x .refusal) 0 z)) e,
-      subst (λ (y : Served). Went s (y .state)) (sym e) (went-self s),
+      refuses-kept h (leaves .long) (leaves .kept) (send-is ∙ ap (λ (y : Bool). try (Comes y) (λ f. addCell (systemIn s) r f)) (ne-eqb (x .refusal) 0 z)) e,
+      subst (λ (y : Served). Went s (y .state)) (sym e) (went-types s b),
     )
 
     module _ (z : x .refusal ≡ 0) where
@@ -212,7 +217,7 @@ module _ (s : State) (h : Sound s) (r : ℕ) (way : List ℕ) (m i a : ℕ) (v :
         ∙ ap (λ (y : Res (Unit {0})). try y (λ _. ok (systemIn s, nothing))) (sym (passed (s .links)))
 
     pub number-refused : (e ≡ 0 → ⊥) → (y : Served) → y ≡ refusal s e → Goes y
-    number-refused w y u = (step-refuses h (number-is ∙ ap Passed (ne-eqb e 0 w)) u, subst (λ (k : Served). Went s (k .state)) (sym u) (went-self s))
+    number-refused w y u = (refuses h (number-is ∙ ap Passed (ne-eqb e 0 w)) u, subst (λ (k : Served). Went s (k .state)) (sym u) (went-self s))
 
     pub number-passes : e ≡ 0 → Goes (record { answer = Nothing; state = s })
     number-passes w = (

@@ -9,11 +9,11 @@ use Rattle.model.specs.Basics.{Res, ok, try, named}
 use Rattle.model.specs.Table.{typeAt, argumentAt, isRef}
 use Rattle.model.specs.Requests.{System, Result, nothing, send, passLayers}
 use Rattle.table.specs.declared.Method.{Method}
-use Rattle.state.specs.declared.State.{State}
+use Rattle.state.specs.Whole.{Whole as State}
 use Rattle.state.specs.Sound.{Sound}
 use Rattle.steps.specs.declared.Answer.{Answer}
 use Rattle.steps.specs.declared.Answer.the-variants.{Refused, Pair, Number, Nothing}
-use Rattle.steps.specs.declared.Served.{Served}
+use Rattle.steps.specs.Served.{Done as Served}
 use Rattle.steps.specs.Served.{servedAs, Stored}
 
 abbrev pub isAccepted : Answer → Bool

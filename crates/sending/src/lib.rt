@@ -9,10 +9,11 @@ ghost use Rattle.model.specs.Table.{typeAt, isRef};
 ghost use Rattle.model.specs.Requests.{noCell, send, sendArguments};
 ghost use Rattle.table.specs.Store.{tableIn};
 ghost use Rattle.table.specs.Limits.{Limits};
+ghost use Rattle.state.specs.Whole.{whole};
 ghost use Rattle.state.specs.View.{cellOf, cellsIn, systemIn};
 ghost use Rattle.state.specs.Sound.{Sound};
 ghost use Rattle.carry.specs.Carried.{wayIn, targetsIn};
-ghost use Rattle.steps.specs.Served.{Step};
+ghost use Rattle.steps.specs.Served.{Step, done};
 ghost use Rattle.sending.specs.Sent.{isAccepted, argumentsOf, sendArgument, allSent, Went, Sent};
 use carry::Slot;
 use carry::Targets;
@@ -69,17 +70,16 @@ pub fn is_ref(types: &[u8; TYPE_BYTES], c: Counts, a: usize) -> bool
 }
 
 // The reference in the cell that v names crosses to each target and becomes a cell of r (C11, C17; A8, A10).
-pub fn send(s: State, r: usize, v: i64, targets: Targets) -> Served
-    requires { ⌜ Sound s × (0 < s .places .count) × (0 < s .counts .types) × (r < 256) × (targets .count ≤ 129) ⌝ }
-    ensures { λ q. ⌜ Step s (send (systemIn s) r (named v) (targetsIn targets)) q × Went s (q .state) ⌝ }
+pub fn send(types: &mut [u8; TYPE_BYTES], s: State, r: usize, v: i64, targets: Targets) -> Served
+    requires { ⌜ Sound (whole (now types) s) × (0 < s .places .count) × (0 < s .counts .types) × (r < 256) × (targets .count ≤ 129) ⌝ }
+    ensures { λ q. ⌜ Step (whole (now (types .entry)) s) (send (systemIn (whole (now (types .entry)) s)) r (named v) (targetsIn targets)) (done (now (types .exit)) q) × Went (whole (now (types .entry)) s) (whole (now (types .exit)) (q .state)) ⌝ }
 {
     let c = named_cell(s.cells, v);
-    let mut types = s.types;
     let links = s.links;
     let counts = s.counts;
     let ps = s.places;
     let x = carry::carry(
-        &mut types,
+        types,
         &links,
         counts,
         ps,
@@ -91,7 +91,7 @@ pub fn send(s: State, r: usize, v: i64, targets: Targets) -> Served
     if x.refusal != 0 {
         return steps::refused(s, x.refusal);
     }
-    steps::add_cell(s, types, x.types, x.places, r, x.sort, x.place)
+    steps::add_cell(s, x.types, x.places, r, x.sort, x.place)
 }
 
 // Whether a request was accepted.
@@ -110,16 +110,16 @@ pub fn accepted(a: Answer) -> bool
 }
 
 // Argument i, of type a in the signature of the cell's type, meets the layers by the types as they are now (C8, C10).
-fn send_argument(s: State, r: usize, w: Way, m: usize, i: usize, a: usize, v: i64) -> Served
-    requires { ⌜ Sound s × (0 < s .places .count) × (0 < s .counts .types) × (r < 256) × (w .count ≤ 129) ⌝ }
-    ensures { λ q. ⌜ Step s (sendArgument (systemIn s) r (wayIn w) m i a v) q × Went s (q .state) ⌝ }
+fn send_argument(types: &mut [u8; TYPE_BYTES], s: State, r: usize, w: Way, m: usize, i: usize, a: usize, v: i64) -> Served
+    requires { ⌜ Sound (whole (now types) s) × (0 < s .places .count) × (0 < s .counts .types) × (r < 256) × (w .count ≤ 129) ⌝ }
+    ensures { λ q. ⌜ Step (whole (now (types .entry)) s) (sendArgument (systemIn (whole (now (types .entry)) s)) r (wayIn w) m i a v) (done (now (types .exit)) q) × Went (whole (now (types .entry)) s) (whole (now (types .exit)) (q .state)) ⌝ }
 {
     let c = s.counts;
-    let targets = carry::targets_of(&s.types, c, m, Slot::Argument(i), w);
-    if is_ref(&s.types, c, a) {
-        return send(s, r, v, targets);
+    let targets = carry::targets_of(types, c, m, Slot::Argument(i), w);
+    if is_ref(types, c, a) {
+        return send(types, s, r, v, targets);
     }
-    let e = carry::pass(&s.types, c, v, targets);
+    let e = carry::pass(types, c, v, targets);
     if e != 0 {
         return steps::refused(s, e);
     }
@@ -130,9 +130,9 @@ fn send_argument(s: State, r: usize, w: Way, m: usize, i: usize, a: usize, v: i6
 }
 
 // The arguments in order, each before the next is begun (C10, C17).
-pub fn send_arguments(s: State, r: usize, w: Way, m: usize, x: Method, vs: &[i64]) -> Served
-    requires { ⌜ Sound s × (0 < s .places .count) × (0 < s .counts .types) × (r < 256) × (w .count ≤ 129) ⌝ }
-    ensures { λ q. ⌜ Sent s (allSent (sendArguments (systemIn s) r (wayIn w) m 0 (argumentsOf x) (now (vs .entry)))) q ⌝ }
+pub fn send_arguments(types: &mut [u8; TYPE_BYTES], s: State, r: usize, w: Way, m: usize, x: Method, vs: &[i64]) -> Served
+    requires { ⌜ Sound (whole (now types) s) × (0 < s .places .count) × (0 < s .counts .types) × (r < 256) × (w .count ≤ 129) ⌝ }
+    ensures { λ q. ⌜ Sent (whole (now (types .entry)) s) (allSent (sendArguments (systemIn (whole (now (types .entry)) s)) r (wayIn w) m 0 (argumentsOf x) (now (vs .entry)))) (done (now (types .exit)) q) ⌝ }
 {
     let n = vs.len();
     let mut at = s;
@@ -145,7 +145,7 @@ pub fn send_arguments(s: State, r: usize, w: Way, m: usize, x: Method, vs: &[i64
                 state: at,
             };
         }
-        let q = send_argument(at, r, w, m, i, a - 1, vs[i]);
+        let q = send_argument(types, at, r, w, m, i, a - 1, vs[i]);
         let answer = q.answer;
         if !accepted(answer) {
             return q;

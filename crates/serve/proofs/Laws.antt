@@ -19,14 +19,19 @@ use Rattle.table.specs.Store.{typesIn, typesTo, withCount}
 use Rattle.table.specs.Records.{bytesOf}
 use Rattle.table.proofs.Tables.{size-is, types-of}
 use Rattle.restrict.proofs.Bytes.{exact-take}
-use Rattle.state.specs.declared.State.{State}
+use Rattle.state.specs.declared.State.{State as Rest}
+use Rattle.state.specs.Whole.{Whole as State}
+use Rattle.state.specs.Whole.{whole, withTypes}
+use Rattle.state.specs.Sound.{Sound}
 use Rattle.state.specs.View.{rawState, systemIn}
 use Rattle.state.proofs.Laws.{system-is}
 use Rattle.steps.specs.declared.Answer.{Answer}
 use Rattle.steps.specs.declared.Answer.the-variants.{Refused, Pair, Number, Nothing}
-use Rattle.steps.specs.declared.Served.{Served}
-use Rattle.steps.specs.Served.{outcomeOf, servedWith, servedAs, refusal, Step}
-use Rattle.serve.specs.Serves.{defined, leaves, Serves}
+use Rattle.steps.specs.declared.Served.{Served as Answered}
+use Rattle.steps.specs.Served.{Done as Served, refusalOf as refusal}
+use Rattle.steps.specs.Served.{outcomeOf, servedWith, servedAs, done, Step}
+use Rattle.steps.proofs.Laws.{refuses}
+use Rattle.serve.specs.Serves.{defined, leaves, givenBack, Serves}
 use Rattle.serve.proofs.Stored.{counted-stored}
 
 -- the answers that are refusals
@@ -48,8 +53,26 @@ module _ (s : State) where
   typed : systemIn s .table .types ≡ typesTo (s .counts .methods) (s .counts .sheet) (s .counts .types) (typesIn (s .types))
   typed = ap (λ (x : System). x .table .types) (system-is s) ∙ types-of (s .types) (s .links) (s .counts)
 
+-- ---- What a step leaves, t, and what is left of it once a refused one has given back the types: t′.
+module _ {b t t′ : List ℕ} {s : Rest} {m : Res (System × Result)} {r : Answered} (h : Sound (whole b s)) (w : Step (whole b s) m (done t r)) (e : t′ ≡ givenBack b t (r .answer)) where
+  back-stays : (d : ℕ) → r .answer ≡ Refused d → whole t′ (r .state) ≡ whole b s
+  back-stays d z = ap (λ (x : List ℕ). whole x (r .state)) (e ∙ ap (givenBack b t) z) ∙ ap (λ (x : State). withTypes x b) (w .stays d z)
+
+  back-step : Step (whole b s) m (done t′ r)
+  back-step = go (r .answer) refl
+    where
+      kept : (a : Answer) → r .answer ≡ a → givenBack b t a ≡ t → Step (whole b s) m (done t′ r)
+      kept a z y = subst (λ (x : List ℕ). Step (whole b s) m (done x r)) (sym (e ∙ ap (givenBack b t) z ∙ y)) w
+
+      go : (a : Answer) → r .answer ≡ a → Step (whole b s) m (done t′ r)
+      go (Refused d) z = refuses h (sym (w .is) ∙ ap (λ (a : Answer). servedWith (systemIn (whole t (r .state))) (outcomeOf a)) z)
+          (ap (λ (a : Answer). record { answer = a; state = whole t′ (r .state) }) z ∙ ap (λ (x : State). refusal x d) (back-stays d z))
+      go (Pair x y) z = kept (Pair x y) z refl
+      go (Number v) z = kept (Number v) z refl
+      go Nothing z = kept Nothing z refl
+
 -- ---- a step
-module _ (s : State) (q : Request) (r : Served) (h : So (systemAccepted (rawState s))) (w : Step s (serve (systemIn s) q) r) where
+module _ (s : State) (q : Request) (r : Served) (h : So (systemAccepted (rawState s))) (w : Step s (serve (systemIn s) q) r) (stays : (e : ℕ) → r .answer ≡ Refused e → r .state ≡ s) where
   abbrev s′ : State
   s′ = r .state
 
@@ -65,11 +88,11 @@ module _ (s : State) (q : Request) (r : Served) (h : So (systemAccepted (rawStat
   answers (got x) = refl
 
   stored : (o : Outcome) → outcomeOf (r .answer) ≡ o → counted (rawState s′) ≡ counted (handBack (rawState s) (servedWith (systemIn s′) o) .state)
-  stored (refused e) p = ap (λ x. counted (rawState x)) (w .stays e (refused-answer (r .answer) e p))
+  stored (refused e) p = ap (λ x. counted (rawState x)) (stays e (refused-answer (r .answer) e p))
   stored (got x) p = counted-stored s s′ (w .stored)
 
   left-with : (o : Outcome) → outcomeOf (r .answer) ≡ o → after (systemIn s) (servedWith (systemIn s′) o) ≡ systemIn s′
-  left-with (refused e) p = ap systemIn (sym (w .stays e (refused-answer (r .answer) e p)))
+  left-with (refused e) p = ap systemIn (sym (stays e (refused-answer (r .answer) e p)))
   left-with (got x) p = refl
 
   left : leaves s q ≡ systemIn s′
@@ -80,14 +103,14 @@ module _ (s : State) (q : Request) (r : Served) (h : So (systemAccepted (rawStat
       ∙ ap (λ (xs : List Ty). take (s .counts .types * 128) (s .types) ++ flatten (map bytesOf (drop (s .counts .types) xs)))
       (sym (typed s′ ∙ ap (λ (c : Counts). typesTo (c .methods) (c .sheet) (s′ .counts .types) (typesIn (s′ .types))) (w .stored .counts)))
 
-  pub step-serves : Serves s q r
+  step-serves : Serves s q r
   step-serves = record {
     returns = record {
       outcome = answers (outcomeOf (r .answer)) ∙ ap (λ x. x .outcome) (sym handed);
       records = stored (outcomeOf (r .answer)) refl ∙ ap (λ x. counted (x .state)) (sym handed);
-      untouched = λ e p. ap rawState (w .stays e (refused-answer (r .answer) e p));
+      untouched = λ e p. ap rawState (stays e (refused-answer (r .answer) e p));
     };
-    stays = w .stays;
+    stays = stays;
     links = w .stored .links;
     counts = w .stored .counts ∙ ap (withCount (s .counts)) (sym (ap (λ (x : System). size (x .table)) left ∙ sized s′));
     types = subst
@@ -95,11 +118,16 @@ module _ (s : State) (q : Request) (r : Served) (h : So (systemAccepted (rawStat
         (sym left) (ap (λ (n : ℕ). take (n * 128) (s′ .types)) (sized s′) ∙ wrote);
   }
 
+-- a step on a state that was taken, its types given back
+pub back-serves : (b t t′ : List ℕ) (s : Rest) (q : Request) (r : Answered) → Sound (whole b s) → So (systemAccepted (rawState (whole b s)))
+    → Step (whole b s) (serve (systemIn (whole b s)) q) (done t r) → t′ ≡ givenBack b t (r .answer) → Serves (whole b s) q (done t′ r)
+back-serves b t t′ s q r h k w e = step-serves (whole b s) q (done t′ r) k (back-step h w e) (back-stays h w e)
+
 -- ---- a refusal with 2
 module _ (s : State) (q : Request) (no : systemAccepted (rawState s) ≡ false) where
-  refuses : serveHanded (rawState s) q ≡ handBack (rawState s) (refuse 2)
+  refuses-2 : serveHanded (rawState s) q ≡ handBack (rawState s) (refuse 2)
   unfolding serveHanded
-  refuses = ap (λ (b : Bool). handBack (rawState s) (need b 2 λ _. serve (systemOf (rawState s)) q)) no
+  refuses-2 = ap (λ (b : Bool). handBack (rawState s) (need b 2 λ _. serve (systemOf (rawState s)) q)) no
 
   untouched : leaves s q ≡ systemIn s
   untouched = ap (λ (b : Bool). after (systemIn s) (need b 2 λ _. serve (systemIn s) q)) no
@@ -113,8 +141,8 @@ module _ (s : State) (q : Request) (no : systemAccepted (rawState s) ≡ false) 
   two-serves : Serves s q (refusal s 2)
   two-serves = record {
     returns = record {
-      outcome = ap (λ x. x .outcome) (sym refuses);
-      records = ap (λ x. counted (x .state)) (sym refuses);
+      outcome = ap (λ x. x .outcome) (sym refuses-2);
+      records = ap (λ x. counted (x .state)) (sym refuses-2);
       untouched = λ e p. refl;
     };
     stays = λ e p. refl;
@@ -144,7 +172,7 @@ module _ (s : State) (q : Request) (r : Served) (w : Serves s q r) where
     where
       go : (b : Bool) → systemAccepted (rawState s) ≡ b → systemIn (r .state) ≡ after (systemIn s) (need b 2 λ _. serve (systemIn s) q)
       go true e = returns-means (rawState s) q (outcomeOf (r .answer)) (rawState (r .state)) (w .returns) e
-      go false e = ap systemIn (w .stays 2 (refused-answer (r .answer) 2 (w .returns .outcome ∙ ap (λ x. x .outcome) (refuses s q e))))
+      go false e = ap systemIn (w .stays 2 (refused-answer (r .answer) 2 (w .returns .outcome ∙ ap (λ x. x .outcome) (refuses-2 s q e))))
 
   -- every record counted before is stored as it was, a call's but for its flag (Q15)
   pub serves-before : Before (rawState s) (rawState (r .state))

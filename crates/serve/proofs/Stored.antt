@@ -27,7 +27,7 @@ use Rattle.restrict.proofs.Bytes.{record-same}
 use Rattle.state.specs.declared.Cells.{Cells}
 use Rattle.state.specs.declared.Places.{Places}
 use Rattle.state.specs.declared.Calls.{Calls}
-use Rattle.state.specs.declared.State.{State}
+use Rattle.state.specs.Whole.{Whole as State}
 use Rattle.state.specs.View.{cellOf, placeOf, callOf, blankCell, blankPlace, blankCall, cellsIn, placesIn, callsIn, rawState, systemIn}
 use Rattle.state.proofs.Laws.{cells-length, places-length, calls-length, system-is}
 use Rattle.steps.specs.Served.{Stored}

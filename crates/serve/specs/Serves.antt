@@ -1,6 +1,7 @@
 -- What an entry point promises of every state and all numbers: result, counts and counted records are the definition's.
 use mathlib.Core.Path.{_≡_}
-use mathlib.Core.List.{_++_, map, flatten}
+use mathlib.Core.Bool.{cond}
+use mathlib.Core.List.{List, _++_, map, flatten}
 use Prim.Native.Nat.{ℕ, _*_}
 use lib.ListN.{take, drop}
 use Rattle.model.specs.Basics.{Res, need}
@@ -10,11 +11,13 @@ use Rattle.model.specs.Check.{systemAccepted}
 use Rattle.model.specs.Handed.{Returns}
 use Rattle.table.specs.Store.{withCount}
 use Rattle.table.specs.Records.{bytesOf}
-use Rattle.state.specs.declared.State.{State}
+use Rattle.state.specs.Whole.{Whole as State}
 use Rattle.state.specs.View.{rawState, systemIn}
+use Rattle.steps.specs.declared.Answer.{Answer}
 use Rattle.steps.specs.declared.Answer.the-variants.{Refused}
-use Rattle.steps.specs.declared.Served.{Served}
+use Rattle.steps.specs.Served.{Done as Served}
 use Rattle.steps.specs.Served.{outcomeOf}
+use Rattle.sending.specs.Sent.{isAccepted}
 
 -- What the definition makes of the request: 2 before all else (Q13). And the state that it leaves: the one handed in where it refuses.
 abbrev pub defined : State → Request → Res (System × Result)
@@ -22,6 +25,10 @@ defined s q = need (systemAccepted (rawState s)) 2 λ _. serve (systemIn s) q
 
 abbrev pub leaves : State → Request → System
 leaves s q = after (systemIn s) (defined s q)
+
+-- the bytes of the types that a request leaves, where a refused one gives back the old
+abbrev pub givenBack : List ℕ → List ℕ → Answer → List ℕ
+givenBack old new a = cond (isAccepted a) new old
 
 -- It follows (proofs/Laws) that the state left means the definition's (`serves-means`), and that every record counted before is stored as it was but for the flag of an
 -- answered call (`serves-before`, Q15).

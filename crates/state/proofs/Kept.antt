@@ -12,6 +12,7 @@ use Rattle.model.specs.Crossing.{Place as Placeᵐ, noPlace, placeAt, placeType
 use Rattle.table.specs.declared.Counts.{Counts}
 use Rattle.table.specs.Limits.{Checked}
 use Rattle.state.specs.declared.Places.{Places}
+use Rattle.state.specs.Whole.{Whole, whole, withTypes}
 use Rattle.state.specs.View.{placesIn, isObject, behindOf, stateLoaded}
 use Rattle.state.specs.Sound.{Falling, Typed, Sound}
 use Rattle.state.proofs.Laws.{places-length}
@@ -40,8 +41,9 @@ module _ (ps qs : Places) (x : Placeᵐ) (count : qs .count ≡ ps .count + 1) (
   typed-more c h new = each-more (λ p y. placeType y < c .types) h new
 
 -- the state of a loaded sheet
-pub loaded-sound : (types links : List ℕ) (counts : Counts) → Checked links counts → Sound (stateLoaded types links counts)
-loaded-sound types links counts h = record {
+pub loaded-sound : (types links : List ℕ) (counts : Counts) → length types ≡ 16384 → Checked links counts → Sound (whole types (stateLoaded links counts))
+loaded-sound types links counts long h = record {
+  long = long;
   checked = h;
   falling = record { count = omega arith; behind = λ p l. absurd (not-suc-le-zero l) };
   typed = λ p l. absurd (not-suc-le-zero l);
@@ -49,4 +51,17 @@ loaded-sound types links counts h = record {
   callCount = omega arith;
   cells = λ k l. absurd (not-suc-le-zero l);
   calls = λ j l. absurd (not-suc-le-zero l);
+}
+
+-- nothing of soundness is in the bytes of the types
+pub sound-types : (s : Whole) (b : List ℕ) → length b ≡ 16384 → Sound s → Sound (withTypes s b)
+sound-types s b long h = record {
+  long = long;
+  checked = h .checked;
+  falling = h .falling;
+  typed = h .typed;
+  cellCount = h .cellCount;
+  callCount = h .callCount;
+  cells = λ k l. let x = h .cells k l in record { type = x .type; place = x .place };
+  calls = λ j l. let x = h .calls j l in record { cell = x .cell; method = x .method };
 }

@@ -18,7 +18,7 @@ use Rattle.state.specs.declared.Call.{Call}
 use Rattle.state.specs.declared.Cells.{Cells}
 use Rattle.state.specs.declared.Places.{Places}
 use Rattle.state.specs.declared.Calls.{Calls}
-use Rattle.state.specs.declared.State.{State}
+use Rattle.state.specs.Whole.{Whole as State}
 use Rattle.state.specs.View.{cellOf, placeOf, callOf, blankCell, blankPlace, blankCall, cellsIn, placesIn, callsIn, cellAdded, placeAdded, callAdded, callAnswered, answeredAs}
 use Rattle.state.specs.View.{systemIn, isObject, behindOf}
 use Rattle.state.specs.Sound.{Falling, BaseAt}

@@ -4,14 +4,14 @@ use mathlib.Core.Path.{_≡_}
 use mathlib.Core.Bool.{true, false}
 use mathlib.Core.List.{List}
 use Prim.Native.Nat.{ℕ, _-_, _≤_, _<_}
-use lib.ListN.{getD, take}
+use lib.ListN.{length, getD, take}
 use Rattle.model.specs.Crossing.{maxPlaces, placeAt, placeType, baseOf}
 use Rattle.model.specs.Requests.{Cell as Cellᵐ, Call as Callᵐ, noCell, noCall, maxCells, maxCalls, layersOf, adapterCount}
 use Rattle.table.specs.declared.Counts.{Counts}
 use Rattle.table.specs.Limits.{Checked}
 use Rattle.state.specs.declared.Places.{Places}
 use Rattle.state.specs.declared.Layers.{Layers}
-use Rattle.state.specs.declared.State.{State}
+use Rattle.state.specs.Whole.{Whole as State}
 use Rattle.state.specs.View.{cellsIn, placesIn, callsIn, isObject, behindOf}
 
 -- at most 128 places (Q8), and what is behind lies below (Q2)
@@ -48,6 +48,7 @@ pub record CallIn (s : State) (c : Callᵐ) : Type 0 where
   pub method : c .method < s .counts .methods
 
 pub record Sound (s : State) : Type 0 where
+  pub long : length (s .types) ≡ 16384
   pub checked : Checked (s .links) (s .counts)
   pub falling : Falling (s .places)
   pub typed : Typed (s .places) (s .counts)

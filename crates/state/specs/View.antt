@@ -18,7 +18,8 @@ use Rattle.state.specs.declared.Call.{Call}
 use Rattle.state.specs.declared.Cells.{Cells}
 use Rattle.state.specs.declared.Places.{Places}
 use Rattle.state.specs.declared.Calls.{Calls}
-use Rattle.state.specs.declared.State.{State}
+use Rattle.state.specs.declared.State.{State as Rest}
+use Rattle.state.specs.Whole.{Whole as State}
 
 abbrev pub cellOf : Cell → Cellᵐ
 cellOf c = record { holder = c .holder; type = c .sort; place = c .place }
@@ -101,5 +102,5 @@ noPlaces = record { list = replicate 128 blankPlace; count = 0 }
 abbrev pub noCalls : Calls
 noCalls = record { list = replicate 256 blankCall; count = 0 }
 
-abbrev pub stateLoaded : List ℕ → List ℕ → Counts → State
-stateLoaded types links counts = record { types = types; links = links; counts = counts; cells = noCells; places = noPlaces; calls = noCalls }
+abbrev pub stateLoaded : List ℕ → Counts → Rest
+stateLoaded links counts = record { links = links; counts = counts; cells = noCells; places = noPlaces; calls = noCalls }

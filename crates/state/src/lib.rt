@@ -11,7 +11,6 @@ ghost use Rattle.state.specs.View.{cellOf, placeOf, callOf, cellsIn, pla
 ghost use Rattle.state.specs.Sound.{Falling, BaseAt, LayersAt};
 use table::Counts;
 use table::LINK_BYTES;
-use table::TYPE_BYTES;
 
 // A cell: a reference as a subject holds it. Its holder, the sheet type by which it is held, and the place it leads to.
 pub struct Cell {
@@ -54,7 +53,6 @@ pub struct Calls {
 }
 
 pub struct State {
-    pub types: [u8; TYPE_BYTES],
     pub links: [u8; LINK_BYTES],
     pub counts: Counts,
     pub cells: Cells,
@@ -211,14 +209,13 @@ impl State {
     pub const CALLS: usize = 256;
 
     // the state of a loaded sheet
-    pub fn loaded(types: [u8; TYPE_BYTES], links: [u8; LINK_BYTES], counts: Counts) -> Self
-        ensures { λ r. ⌜ r ≡ stateLoaded types links counts ⌝ }
+    pub fn loaded(links: [u8; LINK_BYTES], counts: Counts) -> Self
+        ensures { λ r. ⌜ r ≡ stateLoaded links counts ⌝ }
     {
         let cells = Cells::none();
         let places = Places::none();
         let calls = Calls::none();
         Self {
-            types,
             links,
             counts,
             cells,

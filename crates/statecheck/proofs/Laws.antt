@@ -25,7 +25,7 @@ use Rattle.tablecheck.proofs.Each.{under-and, all-each, every-each, each-same}
 use Rattle.tablecheck.proofs.Accepted.{accepted-limits}
 use Rattle.state.specs.declared.PlaceRec.{PlaceRec}
 use Rattle.state.specs.declared.Call.{Call}
-use Rattle.state.specs.declared.State.{State}
+use Rattle.state.specs.Whole.{Whole as State}
 use Rattle.state.specs.View.{cellOf, placeOf, callOf, blankCell, blankPlace, blankCall, cellsIn, placesIn, callsIn, rawState, systemIn}
 use Rattle.state.proofs.Laws.{cells-length, places-length, calls-length, system-is}
 use Rattle.statecheck.specs.Parts.{refAs, settledAs, classAs, cellAccepted, placeAccepted, callAccepted, cellsAccepted, placesAccepted, callsAccepted, sizesAccepted, recordsAccepted}

@@ -1,6 +1,7 @@
 -- A state that passes the check has what the steps of requests need.
 use mathlib.Core.Path.{_≡_, sym, subst, _∙_}
 use mathlib.Core.Bool.{false, So}
+use mathlib.Core.List.{List}
 use Prim.Native.Nat.{ℕ, _≤_, _<_}
 use native.Mathlib.Omega.{arith}
 use lib.Dec.{ltb}
@@ -17,7 +18,8 @@ use Rattle.table.specs.Limits.{Checked}
 use Rattle.table.specs.Store.{tableIn, rawTable}
 use Rattle.table.proofs.Tables.{size-is}
 use Rattle.tablecheck.proofs.Accepted.{accepted-checked}
-use Rattle.state.specs.declared.State.{State}
+use Rattle.state.specs.Whole.{Whole as State}
+use Rattle.state.specs.Whole.{withTypes}
 use Rattle.state.specs.View.{cellsIn, placesIn, callsIn, rawState, systemIn, isObject, behindOf}
 use Rattle.state.specs.Sound.{Sound}
 use Rattle.state.proofs.Laws.{cells-length, places-length, calls-length, system-is}
@@ -59,11 +61,13 @@ module _ (s : State) (h : So (systemAccepted (rawState s))) where
   unfolding tableIn tableOf
   sheet-below = subst (λ (n : ℕ). s .counts .sheet ≤ n) (sym (size-is (s .types) (s .links) (s .counts))) (checked .limits .counted)
 
-  pub accepted-sound : Sound s
+  -- beside any bytes of the types' length, for a caller who has none of his own
+  pub accepted-beside : (t : List ℕ) → length t ≡ 16384 → Sound (withTypes s t)
   unfolding tableIn tableOf
-  accepted-sound =
+  accepted-beside t long =
       let z = sizes-are (s .cells .count) (s .places .count) (s .calls .count) (by-parts .0) in
       record {
+        long = long;
         checked = checked;
         falling = record { count = z .1; behind = λ p l. falls m p (placeAt (placesIn (s .places)) p) (place-fits p l) };
         typed = λ p l. subst (λ (n : ℕ). placeType (placeAt (placesIn (s .places)) p) < n) (size-is (s .types) (s .links) (s .counts))
@@ -88,3 +92,6 @@ module _ (s : State) (h : So (systemAccepted (rawState s))) where
               method = ltb-so (second (ltb (c .cell) (length (m .cells))) _ e₁);
             };
       }
+
+  pub accepted-sound : length (s .types) ≡ 16384 → Sound s
+  accepted-sound long = accepted-beside (s .types) long

@@ -6,6 +6,7 @@ ghost use lib.ListN.{getD};
 ghost use Rattle.model.specs.Check.{noRawType, systemAccepted};
 ghost use Rattle.table.specs.Limits.{Limits};
 ghost use Rattle.table.specs.Store.{typesIn};
+ghost use Rattle.state.specs.Whole.{whole};
 ghost use Rattle.state.specs.View.{cellOf, placeOf, callOf, rawState};
 ghost use Rattle.statecheck.specs.Parts.{settledAs, classAs, refAs, cellAccepted, cellsAccepted, objectAccepted, adapterAccepted, placeAccepted, placesAccepted, callAccepted, callsAccepted, sizesAccepted, recordsAccepted};
 use state::Call;
@@ -207,8 +208,8 @@ fn records_fit(b: &[u8; TYPE_BYTES], c: Counts, cs: Cells, ps: Places, js: Calls
 }
 
 // Whether a state that is handed in is taken.
-pub fn state_fits(s: State) -> bool
-    ensures { λ r. ⌜ r ≡ systemAccepted (rawState s) ⌝ }
+pub fn state_fits(types: &[u8; TYPE_BYTES], s: State) -> bool
+    ensures { λ r. ⌜ r ≡ systemAccepted (rawState (whole (now (types .entry)) s)) ⌝ }
 {
     let cs = s.cells;
     let ps = s.places;
@@ -218,8 +219,8 @@ pub fn state_fits(s: State) -> bool
     }
     let links = s.links;
     let c = s.counts;
-    if !tablecheck::table_fits(&s.types, &links, c) {
+    if !tablecheck::table_fits(types, &links, c) {
         return false;
     }
-    records_fit(&s.types, c, cs, ps, js)
+    records_fit(types, c, cs, ps, js)
 }

@@ -18,26 +18,32 @@ use Rattle.model.specs.Requests.{Cell as Cellᵐ}
 use Rattle.model.specs.Check.{noRawType, tableOf}
 use Rattle.model.proofs.Rules.{first}
 use Rattle.table.specs.declared.Counts.{Counts}
-use Rattle.table.specs.Store.{typesIn, tableIn, withCount}
+use Rattle.table.specs.Store.{typesIn, typesTo, tableIn, withCount}
 use Rattle.table.specs.Limits.{Limits}
 use Rattle.table.proofs.Lists.{lt-or-ge}
+use Rattle.table.proofs.Tables.{types-same}
+use Rattle.restrict.proofs.Bytes.{record-same}
 use Rattle.operand.specs.Index.{indexOf}
 use Rattle.operand.proofs.Laws.{index-unknown, index-known}
 use Rattle.state.specs.declared.Cell.{Cell}
 use Rattle.state.specs.declared.Cells.{Cells}
 use Rattle.state.specs.declared.Places.{Places}
-use Rattle.state.specs.declared.State.{State}
+use Rattle.state.specs.declared.State.{State as Rest}
+use Rattle.state.specs.Whole.{Whole as State}
+use Rattle.state.specs.Whole.{whole, withTypes}
+use Rattle.state.proofs.Kept.{sound-types}
 use Rattle.state.specs.View.{cellOf, cellsIn, placesIn, callsIn, cellAdded, systemIn}
 use Rattle.state.specs.Sound.{CellIn, Sound}
 use Rattle.state.proofs.Laws.{cells-length, system-is}
 use Rattle.statecheck.specs.Parts.{refAs, classAs}
 use Rattle.statecheck.proofs.Laws.{ref-is, class-is}
+use Rattle.restrict.specs.Link.{Kept}
 use Rattle.cross.specs.Crossed.{Grew}
 use Rattle.cross.proofs.Laws.{grown-checked, grew-on}
 use Rattle.steps.specs.declared.Answer.{Answer}
 use Rattle.steps.specs.declared.Answer.the-variants.{Refused, Pair, Number, Nothing}
 use Rattle.steps.specs.declared.Served.{Served}
-use Rattle.steps.specs.Served.{refusal, Stored, Step, Arrives, arrived, isSheetClass}
+use Rattle.steps.specs.Served.{refusal, refusalOf, Done, done, Stored, Step, Arrives, arrived, isSheetClass}
 
 -- ---- What is left of a state.
 pub stored-self : (s : State) → Sound s → Stored s s
@@ -57,15 +63,33 @@ stored-on s s₁ s₂ h k = record {
   kept = λ i l. k .kept i (let u = h .grew .more in omega arith) ∙ h .kept i l;
 }
 
-pub step-refused : {s : State} {m : Res (System × Result)} {e : ℕ} → Sound s → m ≡ refuse e → Step s m (refusal s e)
-step-refused {s} h z = record { is = sym z; stays = λ d y. refl; stored = stored-self s h; sound = h }
+-- the same beside bytes that keep the counted types
+stored-kept : (s : State) (t : List ℕ) → Sound s → Kept (s .counts .types) (s .types) t → Stored s (withTypes s t)
+stored-kept s t h k = record {
+  links = refl;
+  counts = refl;
+  grew = record { more = omega arith; room = h .checked .limits .types; exact = λ i p q. absurd (omega arith) };
+  kept = k;
+}
 
--- the same with the answer as `refused` gives it
-pub step-refuses : {s : State} {m : Res (System × Result)} {e : ℕ} {r : Served} → Sound s → m ≡ refuse e → r ≡ refusal s e → Step s m r
-step-refuses {s} {m} h z y = subst (Step s m) (sym y) (step-refused h z)
+-- A refusal of a whole state, before its types were worked on and after.
+pub refuses : {s : State} {m : Res (System × Result)} {e : ℕ} {q : Done} → Sound s → m ≡ refuse e → q ≡ refusalOf s e → Step s m q
+refuses {s} {m} h z y = subst (Step s m) (sym y) (record { is = sym z; stays = λ d w. refl; stored = stored-self s h; sound = h })
+
+pub refuses-kept : {s : State} {t : List ℕ} {m : Res (System × Result)} {e : ℕ} {q : Done} → Sound s → length t ≡ 16384 → Kept (s .counts .types) (s .types) t
+    → m ≡ refuse e → q ≡ refusalOf (withTypes s t) e → Step s m q
+refuses-kept {s} {t} {m} h long k z y = subst (Step s m) (sym y) (record { is = sym z; stays = λ d w. refl; stored = stored-kept s t h k; sound = sound-types s t long h })
+
+-- The same with the answer as `refused` gives it.
+pub step-refuses-kept : {b t : List ℕ} {s : Rest} {m : Res (System × Result)} {e : ℕ} {r : Served} → Sound (whole b s) → length t ≡ 16384 → Kept (s .counts .types) b t
+    → m ≡ refuse e → r ≡ refusal s e → Step (whole b s) m (done t r)
+step-refuses-kept {b} {t} {s} h long k z y = refuses-kept {s = whole b s} h long k z (ap (done t) y)
+
+pub step-refuses : {b : List ℕ} {s : Rest} {m : Res (System × Result)} {e : ℕ} {r : Served} → Sound (whole b s) → m ≡ refuse e → r ≡ refusal s e → Step (whole b s) m (done b r)
+step-refuses {b} {s} h z y = refuses {s = whole b s} h z (ap (done b) y)
 
 -- a step of what comes to the same
-pub step-as : {s : State} {m n : Res (System × Result)} {r : Served} → m ≡ n → Step s n r → Step s m r
+pub step-as : {s : State} {m n : Res (System × Result)} {r : Done} → m ≡ n → Step s n r → Step s m r
 step-as {s} {r = r} e h = subst (λ (x : Res (System × Result)). Step s x r) (sym e) h
 
 -- ---- What a state means, where the operands ask.
@@ -89,6 +113,20 @@ module _ (s : State) where
 
   pub calls-are : systemIn s .calls ≡ callsIn (s .calls)
   calls-are = ap (λ (x : System). x .calls) (system-is s)
+
+-- what is not counted of the types means nothing
+table-kept : (b t l : List ℕ) (c : Counts) → c .types ≤ 128 → Kept (c .types) b t → tableIn t l c ≡ tableIn b l c
+unfolding tableIn tableOf typesTo
+table-kept b t l c low k = rw (types-same (c .methods) (c .sheet) (typesIn b) (c .types) (typesIn t) (λ i h. record-same b t i (omega arith) (k i h)))
+
+pub system-kept : (s : State) (t : List ℕ) → s .counts .types ≤ 128 → Kept (s .counts .types) (s .types) t → systemIn (withTypes s t) ≡ systemIn s
+system-kept s t low k = system-is (withTypes s t)
+    ∙ ap (λ (x : Table). record { table = x; cells = cellsIn (s .cells); places = placesIn (s .places); calls = callsIn (s .calls) }) (table-kept (s .types) t (s .links) (s .counts) low k)
+    ∙ sym (system-is s)
+
+-- so a refusal leaves what the state meant
+pub refused-means : {s : State} {m : Res (System × Result)} {r : Done} → Step s m r → (e : ℕ) → r .answer ≡ Refused e → systemIn (r .state) ≡ systemIn s
+refused-means {s} {r = r} h e z = ap systemIn (h .stays e z) ∙ system-kept s (r .state .types) (omega (arith, h .stored .grew .more, h .stored .grew .room)) (h .stored .kept)
 
 -- a number that names one of n things is the index that `index_of` gives
 pub index-named : (z : ℤ) (n i : ℕ) → i ≡ indexOf z n → names z n ≡ true → (i ≡ named z) × (i < n)
@@ -234,6 +272,7 @@ module _ (s : State) (types : List ℕ) (n : ℕ) (ps : Places) (holder sort pla
       stays = λ d y. absurd (differ d y);
       stored = record { links = refl; counts = refl; grew = h .grew; kept = h .kept };
       sound = record {
+        long = h .long;
         checked = grown-checked (s .links) (s .counts) n (h .sound .checked) (h .grew .more) (h .grew .room);
         falling = h .falling;
         typed = h .typed;

@@ -13,7 +13,9 @@ use Rattle.model.specs.Requests.{System, Result, pair, number, nothing, Outcome
 use Rattle.table.specs.Store.{tableIn, withCount}
 use Rattle.restrict.specs.Link.{Kept}
 use Rattle.state.specs.declared.Places.{Places}
-use Rattle.state.specs.declared.State.{State}
+use Rattle.state.specs.declared.State.{State as Rest}
+use Rattle.state.specs.Whole.{Whole as State}
+use Rattle.state.specs.Whole.{whole, withTypes}
 use Rattle.state.specs.View.{placesIn, systemIn}
 use Rattle.state.specs.Sound.{Falling, Typed, Sound}
 use Rattle.cross.specs.Crossed.{Grew, reference}
@@ -33,12 +35,23 @@ abbrev pub servedWith : System → Outcome → Res (System × Result)
 servedWith s (refused e) = refuse e
 servedWith s (got x) = ok (s, x)
 
-abbrev pub servedAs : Served → Res (System × Result)
+-- an answer with the whole state that is left: the types as they are now, and the rest that comes back
+pub record Done : Type 0 where
+  pub answer : Answer
+  pub state : State
+
+abbrev pub done : List ℕ → Served → Done
+done b r = record { answer = r .answer; state = whole b (r .state) }
+
+abbrev pub servedAs : Done → Res (System × Result)
 servedAs r = servedWith (systemIn (r .state)) (outcomeOf (r .answer))
 
 -- a refusal, with the state as it was handed in
-abbrev pub refusal : State → ℕ → Served
+abbrev pub refusal : Rest → ℕ → Served
 refusal s e = record { answer = Refused e; state = s }
+
+abbrev pub refusalOf : State → ℕ → Done
+refusalOf s e = record { answer = Refused e; state = s }
 
 -- What is left of the table: links and counts as they were but for the count of types, every byte of the types that there were, and each new type stored as the
 -- record that stands for it (B22).
@@ -48,10 +61,11 @@ pub record Stored (s s′ : State) : Type 0 where
   pub grew : Grew (s .counts) (s′ .counts .types) (s′ .types)
   pub kept : Kept (s .counts .types) (s .types) (s′ .types)
 
--- The step's answer is the model's; a refusal leaves the state that was handed in, every byte (Q14); the state left is one that the next step can start from.
-pub record Step (s : State) (m : Res (System × Result)) (r : Served) : Type 0 where
+-- The step's answer is the model's; a refusal leaves all that was handed in, but for bytes of the types that are not counted (`stored`); the state left is one that the
+-- next step can start from.
+pub record Step (s : State) (m : Res (System × Result)) (r : Done) : Type 0 where
   pub is : servedAs r ≡ m
-  pub stays : (e : ℕ) → r .answer ≡ Refused e → r .state ≡ s
+  pub stays : (e : ℕ) → r .answer ≡ Refused e → r .state ≡ withTypes s (r .state .types)
   pub stored : Stored s (r .state)
   pub sound : Sound (r .state)
 

@@ -1,13 +1,15 @@
 // What the four requests have in common: their answers, the tests of their operands (N1 to N3, M1 to M3, C1, C2, C5, A1, A6), and a reference that becomes a cell.
 // A state goes in by value and comes out by value: where a request is refused, it is the one that went in.
 ghost use mathlib.Core.Path.{_≡_};
-ghost use Prim.Native.Nat.{_≤_, _<_};
+ghost use mathlib.Core.List.{List};
+ghost use Prim.Native.Nat.{ℕ, _≤_, _<_};
 ghost use lib.IntN.{ℤ};
 ghost use Rattle.model.specs.Basics.{names, named};
 ghost use Rattle.model.specs.Requests.{addCell, held, isSheetRef};
 ghost use Rattle.table.specs.Limits.{Limits};
+ghost use Rattle.state.specs.Whole.{Whole, whole};
 ghost use Rattle.state.specs.View.{systemIn};
-ghost use Rattle.steps.specs.Served.{refusal, Step, Arrives, arrived, isSheetClass};
+ghost use Rattle.steps.specs.Served.{refusal, Step, done, Arrives, arrived, isSheetClass};
 use numbers::narrow;
 use numbers::wide;
 use operand::index_of;
@@ -44,15 +46,14 @@ pub fn refused(s: State, number: usize) -> Served
 // The reference that arrived becomes a cell of `holder`; 13 where there is no room for a cell (N7, M5, C17, A10).
 pub fn add_cell(
     s: State,
-    types: [u8; TYPE_BYTES],
     count: usize,
     places: Places,
     holder: usize,
     sort: usize,
     place: usize,
 ) -> Served
-    requires { ⌜ Arrives s types count places sort place × (holder < 256) ⌝ }
-    ensures { λ r. ⌜ Step s (addCell (systemIn s) holder (arrived s types count places sort place)) r ⌝ }
+    requires { ⌜ (holder < 256) × (sort < 256) × (place < 256) ⌝ }
+    ensures { λ r. ⌜ ((b t : List ℕ) → Arrives (whole b s) t count places sort place → Step (whole b s) (addCell (systemIn (whole b s)) holder (arrived (whole b s) t count places sort place)) (done t r)) ⌝ }
 {
     if State::CELLS <= s.cells.count {
         return refused(s, 13);
@@ -74,7 +75,6 @@ pub fn add_cell(
     };
     let calls = s.calls;
     let state = State {
-        types,
         links,
         counts,
         cells,
@@ -92,7 +92,7 @@ pub fn add_cell(
 
 // Whether z names a subject (N1, M1, C1, A1).
 pub fn is_subject(c: Counts, z: i64) -> bool
-    ensures { λ r. ⌜ ((s : State) → s .counts ≡ c → r ≡ names z (systemIn s .table .subjects)) ⌝ }
+    ensures { λ r. ⌜ ((s : Whole) → s .counts ≡ c → r ≡ names z (systemIn s .table .subjects)) ⌝ }
 {
     let i = index_of(z, c.subjects);
     i < c.subjects
@@ -101,7 +101,7 @@ pub fn is_subject(c: Counts, z: i64) -> bool
 // Whether k is the number of a cell that `who` holds (M2, C2, C5, A6).
 pub fn is_held(cs: Cells, who: usize, k: i64) -> bool
     requires { ⌜ cs .count ≤ 256 ⌝ }
-    ensures { λ r. ⌜ ((s : State) (subject : ℤ) → s .cells ≡ cs → named subject ≡ who → r ≡ held (systemIn s) subject k) ⌝ }
+    ensures { λ r. ⌜ ((s : Whole) (subject : ℤ) → s .cells ≡ cs → named subject ≡ who → r ≡ held (systemIn s) subject k) ⌝ }
 {
     let i = index_of(k, cs.count);
     if cs.count <= i {
@@ -114,7 +114,7 @@ pub fn is_held(cs: Cells, who: usize, k: i64) -> bool
 // Whether z is the number of a sheet ref type (N3, M3).
 pub fn is_sheet_ref(types: &[u8; TYPE_BYTES], c: Counts, z: i64) -> bool
     requires { ⌜ Limits c ⌝ }
-    ensures { λ r. ⌜ ((s : State) → s .types ≡ now (types .entry) → s .counts ≡ c → r ≡ isSheetRef (systemIn s .table) z) ⌝ }
+    ensures { λ r. ⌜ ((s : Whole) → s .types ≡ now (types .entry) → s .counts ≡ c → r ≡ isSheetRef (systemIn s .table) z) ⌝ }
 {
     let i = index_of(z, c.sheet);
     if c.sheet <= i {
@@ -126,7 +126,7 @@ pub fn is_sheet_ref(types: &[u8; TYPE_BYTES], c: Counts, z: i64) -> bool
 // Whether z is the number of a sheet class (N2).
 pub fn is_sheet_class(types: &[u8; TYPE_BYTES], c: Counts, z: i64) -> bool
     requires { ⌜ Limits c ⌝ }
-    ensures { λ r. ⌜ ((s : State) → s .types ≡ now (types .entry) → s .counts ≡ c → r ≡ isSheetClass (systemIn s .table) z) ⌝ }
+    ensures { λ r. ⌜ ((s : Whole) → s .types ≡ now (types .entry) → s .counts ≡ c → r ≡ isSheetClass (systemIn s .table) z) ⌝ }
 {
     let i = index_of(z, c.sheet);
     if c.sheet <= i {

@@ -1,6 +1,9 @@
 -- The tests of A2 and A3, on the records of the call and of its cell.
 use native.Mathlib.Omega.{arith}
+use mathlib.Core.Path.{ap}
 use borrow.Author.Needs.{needs}
+use Rattle.state.specs.Whole.{whole}
+use Rattle.steps.specs.Served.{done}
 use Rattle.answering.proofs.Laws.{cell-low, called, owner-6, answered-17, call-gives}
 use Rattle.answering.specs.Given.{givenAs}
 use Rattle.answering.proofs.answer_call.Statement.{statement}
@@ -13,7 +16,7 @@ wide-requires : tie.Need-wide-requires
 wide-requires c κs = search needs
 
 cell-at-requires : tie.Need-cell-at-requires
-cell-at-requires c κs = let a = c .before .before .args in let l = cell-low (a .s) (c .before .before .pre .0) (a .j) (c .before .before .pre .1) (c .before .call-at .result)
+cell-at-requires c κs = let a = c .before .before .args in let s = whole (a .types .now) (a .s) in let l = cell-low s (c .before .before .pre .0) (a .j) (c .before .before .pre .1) (c .before .call-at .result)
     (c .before .call-at .ensures .1 (c .before .before .pre .1)) (c .wide .result) (c .wide .ensures .0) in omega (arith, l, c .before .before .pre .0 .cellCount)
 
 wide-requires-2 : tie.Need-wide-requires-2
@@ -21,11 +24,11 @@ wide-requires-2 c κs = search needs
 
 base-owner-requires : tie.Need-base-owner-requires
 base-owner-requires c κs =
-    let a = c .before .before .before .before .before .args in
+    let a = c .before .before .before .before .before .args in let s = whole (a .types .now) (a .s) in
     let h = c .before .before .before .before .before .pre in
     let y = c .before .before .before .before .call-at in
-    let l = cell-low (a .s) (h .0) (a .j) (h .1) (y .result) (y .ensures .1 (h .1)) (c .before .before .before .wide .result) (c .before .before .before .wide .ensures .0) in
-    let k = called (a .s) (h .0) (a .j) (h .1) (y .result) (y .ensures .1 (h .1)) (c .before .before .before .wide .result) (c .before .before .before .wide .ensures .0)
+    let l = cell-low s (h .0) (a .j) (h .1) (y .result) (y .ensures .1 (h .1)) (c .before .before .before .wide .result) (c .before .before .before .wide .ensures .0) in
+    let k = called s (h .0) (a .j) (h .1) (y .result) (y .ensures .1 (h .1)) (c .before .before .before .wide .result) (c .before .before .before .wide .ensures .0)
     (c .before .before .cell-at .result) (c .before .before .cell-at .ensures .1 l) in
     (h .0 .falling, omega (arith, k .place, c .wide2 .ensures .0))
 
@@ -34,61 +37,61 @@ refused-requires c κs = search needs
 
 returns : tie.Need-returns
 returns c = λ subject w.
-    let a = c .before .before .before .before .before .before .before .before .args in
+    let a = c .before .before .before .before .before .before .before .before .args in let s = whole (a .types .now) (a .s) in
     let h = c .before .before .before .before .before .before .before .before .pre in
     let y = c .before .before .before .before .before .before .before .call-at in
-    let l = cell-low (a .s) (h .0) (a .j) (h .1) (y .result) (y .ensures .1 (h .1)) (c .before .before .before .before .before .before .wide .result)
+    let l = cell-low s (h .0) (a .j) (h .1) (y .result) (y .ensures .1 (h .1)) (c .before .before .before .before .before .before .wide .result)
     (c .before .before .before .before .before .before .wide .ensures .0) in
-    let k = called (a .s) (h .0) (a .j) (h .1) (y .result) (y .ensures .1 (h .1)) (c .before .before .before .before .before .before .wide .result)
+    let k = called s (h .0) (a .j) (h .1) (y .result) (y .ensures .1 (h .1)) (c .before .before .before .before .before .before .wide .result)
     (c .before .before .before .before .before .before .wide .ensures .0) (c .before .before .before .before .before .cell-at .result)
     (c .before .before .before .before .before .cell-at .ensures .1 l) in
-    owner-6 (a .s) (h .0) subject (a .j) (givenAs (a .given)) (y .result) (c .before .before .before .before .before .cell-at .result) k (c .before .before .before .wide2 .result)
+    owner-6 s (h .0) subject (a .j) (givenAs (a .given)) (y .result) (c .before .before .before .before .before .cell-at .result) k (c .before .before .before .wide2 .result)
     (c .before .before .base-owner .result) (a .who) (c .before .before .before .wide2 .ensures .0) (c .before .before .base-owner .ensures .0) w (c .before .if1 .taken)
-    (c .refused .result) (c .refused .ensures)
+    (done (a .types .now) (c .refused .result)) (ap (done (a .types .now)) (c .refused .ensures))
 
 refused-requires-2 : tie.Need-refused-requires-2
 refused-requires-2 c κs = search needs
 
 returns-2 : tie.Need-returns-2
 returns-2 c = λ subject w.
-    let a = c .before .before .before .before .before .before .before .before .before .args in
+    let a = c .before .before .before .before .before .before .before .before .before .args in let s = whole (a .types .now) (a .s) in
     let h = c .before .before .before .before .before .before .before .before .before .pre in
     let y = c .before .before .before .before .before .before .before .before .call-at in
-    let l = cell-low (a .s) (h .0) (a .j) (h .1) (y .result) (y .ensures .1 (h .1)) (c .before .before .before .before .before .before .before .wide .result)
+    let l = cell-low s (h .0) (a .j) (h .1) (y .result) (y .ensures .1 (h .1)) (c .before .before .before .before .before .before .before .wide .result)
     (c .before .before .before .before .before .before .before .wide .ensures .0) in
-    let k = called (a .s) (h .0) (a .j) (h .1) (y .result) (y .ensures .1 (h .1)) (c .before .before .before .before .before .before .before .wide .result)
+    let k = called s (h .0) (a .j) (h .1) (y .result) (y .ensures .1 (h .1)) (c .before .before .before .before .before .before .before .wide .result)
     (c .before .before .before .before .before .before .before .wide .ensures .0) (c .before .before .before .before .before .before .cell-at .result)
     (c .before .before .before .before .before .before .cell-at .ensures .1 l) in
-    answered-17 (a .s) (h .0) subject (a .j) (givenAs (a .given)) (y .result) (c .before .before .before .before .before .before .cell-at .result) k
+    answered-17 s (h .0) subject (a .j) (givenAs (a .given)) (y .result) (c .before .before .before .before .before .before .cell-at .result) k
     (c .before .before .before .before .wide2 .result) (c .before .before .before .base-owner .result) (a .who) (c .before .before .before .before .wide2 .ensures .0)
-    (c .before .before .before .base-owner .ensures .0) w (c .before .before .if1 .left) (c .before .if2 .taken) (c .refused2 .result) (c .refused2 .ensures)
+    (c .before .before .before .base-owner .ensures .0) w (c .before .before .if1 .left) (c .before .if2 .taken) (done (a .types .now) (c .refused2 .result)) (ap (done (a .types .now)) (c .refused2 .ensures))
 
 give-requires : tie.Need-give-requires
 give-requires c κs =
-    let a = c .before .before .before .before .before .before .before .before .args in
-    let h = c .before .before .before .before .before .before .before .before .pre in
-    let y = c .before .before .before .before .before .before .before .call-at in
-    let l = cell-low (a .s) (h .0) (a .j) (h .1) (y .result) (y .ensures .1 (h .1)) (c .before .before .before .before .before .before .wide .result)
-    (c .before .before .before .before .before .before .wide .ensures .0) in (
+    let a = c .before .before .before .before .before .before .before .before .before .args in let s = whole (a .types .now) (a .s) in
+    let h = c .before .before .before .before .before .before .before .before .before .pre in
+    let y = c .before .before .before .before .before .before .before .before .call-at in
+    let l = cell-low s (h .0) (a .j) (h .1) (y .result) (y .ensures .1 (h .1)) (c .before .before .before .before .before .before .before .wide .result)
+    (c .before .before .before .before .before .before .before .wide .ensures .0) in (
       h .0,
-      called (a .s) (h .0) (a .j) (h .1) (y .result) (y .ensures .1 (h .1)) (c .before .before .before .before .before .before .wide .result)
-          (c .before .before .before .before .before .before .wide .ensures .0) (c .before .before .before .before .before .cell-at .result)
-          (c .before .before .before .before .before .cell-at .ensures .1 l),
+      called s (h .0) (a .j) (h .1) (y .result) (y .ensures .1 (h .1)) (c .before .before .before .before .before .before .before .wide .result)
+          (c .before .before .before .before .before .before .before .wide .ensures .0) (c .before .before .before .before .before .before .cell-at .result)
+          (c .before .before .before .before .before .before .cell-at .ensures .1 l),
     )
 
 returns-3 : tie.Need-returns-3
 returns-3 c = λ subject w.
-    let a = c .before .before .before .before .before .before .before .before .before .args in
-    let h = c .before .before .before .before .before .before .before .before .before .pre in
-    let y = c .before .before .before .before .before .before .before .before .call-at in
-    let l = cell-low (a .s) (h .0) (a .j) (h .1) (y .result) (y .ensures .1 (h .1)) (c .before .before .before .before .before .before .before .wide .result)
-    (c .before .before .before .before .before .before .before .wide .ensures .0) in
-    let k = called (a .s) (h .0) (a .j) (h .1) (y .result) (y .ensures .1 (h .1)) (c .before .before .before .before .before .before .before .wide .result)
-    (c .before .before .before .before .before .before .before .wide .ensures .0) (c .before .before .before .before .before .before .cell-at .result)
-    (c .before .before .before .before .before .before .cell-at .ensures .1 l) in
-    call-gives (a .s) (h .0) subject (a .j) (givenAs (a .given)) (y .result) (c .before .before .before .before .before .before .cell-at .result) k
-    (c .before .before .before .before .wide2 .result) (c .before .before .before .base-owner .result) (a .who) (c .before .before .before .before .wide2 .ensures .0)
-    (c .before .before .before .base-owner .ensures .0) w (c .before .before .if1 .left) (c .before .if2 .left) (c .give .result) (c .give .ensures subject w)
+    let a = c .before .before .before .before .before .before .before .before .before .before .args in let s = whole (a .types .now) (a .s) in
+    let h = c .before .before .before .before .before .before .before .before .before .before .pre in
+    let y = c .before .before .before .before .before .before .before .before .before .call-at in
+    let l = cell-low s (h .0) (a .j) (h .1) (y .result) (y .ensures .1 (h .1)) (c .before .before .before .before .before .before .before .before .wide .result)
+    (c .before .before .before .before .before .before .before .before .wide .ensures .0) in
+    let k = called s (h .0) (a .j) (h .1) (y .result) (y .ensures .1 (h .1)) (c .before .before .before .before .before .before .before .before .wide .result)
+    (c .before .before .before .before .before .before .before .before .wide .ensures .0) (c .before .before .before .before .before .before .before .cell-at .result)
+    (c .before .before .before .before .before .before .before .cell-at .ensures .1 l) in
+    call-gives s (h .0) subject (a .j) (givenAs (a .given)) (y .result) (c .before .before .before .before .before .before .before .cell-at .result) k
+    (c .before .before .before .before .before .wide2 .result) (c .before .before .before .before .base-owner .result) (a .who) (c .before .before .before .before .before .wide2 .ensures .0)
+    (c .before .before .before .before .base-owner .ensures .0) w (c .before .before .before .if1 .left) (c .before .before .if2 .left) (done (c .give .last .0) (c .give .result)) (c .give .ensures subject w)
 
 pub answer-call-spec : {M : Type 1} → statement M
 answer-call-spec =

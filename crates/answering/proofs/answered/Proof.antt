@@ -1,16 +1,17 @@
 -- The flag is set in the record of call j alone.
+use Rattle.state.specs.Whole.{whole}
 use Rattle.answering.proofs.Laws.{answered-step}
 use Rattle.answering.proofs.answered.Statement.{statement}
 use Rattle.answering.proofs.answered.Tie as tie
 
 answered-requires : tie.Need-answered-requires
-answered-requires c κs = (c .pre .1, c .pre .0 .callCount)
+answered-requires c κs = (c .pre .0, c .pre .1)
 
 returns : tie.Need-returns
-returns c = λ x e. let a = c .before .before .before .before .before .before .args in answered-step (a .s) (c .before .before .before .before .before .before .pre .0) (a .j)
-    (c .before .before .before .before .before .before .pre .1) (c .before .before .before .before .before .answered .result)
-    (c .before .before .before .before .before .answered .ensures .0) (c .before .before .before .before .before .answered .ensures .1) (a .answer)
-    (c .before .before .before .before .before .before .pre .2) x e
+returns c = λ b h x e. let a = c .before .before .before .before .before .args in answered-step (whole b (a .s)) h (a .j)
+    (c .before .before .before .before .before .pre .0) (c .before .before .before .before .answered .result)
+    (c .before .before .before .before .answered .ensures .0) (c .before .before .before .before .answered .ensures .1) (a .answer)
+    (c .before .before .before .before .before .pre .2) x e
 
 pub answered-spec : {M : Type 1} → statement M
 answered-spec = tie.close (tie.spec answered-requires returns)

@@ -3,6 +3,7 @@ use mathlib.Core.Path.{subst, sym}
 use Prim.Native.Nat.{ℕ, _<_}
 use native.Mathlib.Omega.{arith}
 use borrow.Author.Needs.{needs}
+use Rattle.state.specs.Whole.{whole}
 use Rattle.state.specs.Sound.{layersIn}
 use Rattle.carry.specs.Carried.{wayIn, targetsIn}
 use Rattle.answering.proofs.Laws.{answers-are}
@@ -15,7 +16,7 @@ wide-requires c κs = search needs
 layers-of-requires : tie.Need-layers-of-requires
 layers-of-requires c κs = (
   c .before .before .before .pre .0 .falling,
-  subst (λ (n : ℕ). n < c .before .before .before .args .t1 .places .count) (sym (c .wide .ensures .0))
+  subst (λ (n : ℕ). n < c .before .before .before .args .s .places .count) (sym (c .wide .ensures .0))
       (c .before .before .before .pre .1 .place),
 )
 
@@ -27,28 +28,28 @@ wide-requires-2 c κs = search needs
 
 targets-of-requires : tie.Need-targets-of-requires
 targets-of-requires c κs = (
-  c .before .before .before .before .before .before .before .before .pre .0 .checked .limits,
+  c .before .before .before .before .before .before .pre .0 .checked .limits,
   omega
-      (arith, c .before .before .before .way-of .ensures .1, c .before .before .before .before .layers-of .ensures .few),
+      (arith, c .before .way-of .ensures .1, c .before .before .layers-of .ensures .few),
 )
 
 reversed-requires : tie.Need-reversed-requires
-reversed-requires c κs = omega (arith, c .targets-of .ensures .1, c .before .before .before .before .way-of .ensures .1, c .before .before .before .before .before .layers-of .ensures .few)
+reversed-requires c κs = omega (arith, c .targets-of .ensures .1, c .before .before .way-of .ensures .1, c .before .before .before .layers-of .ensures .few)
 
 returns : tie.Need-returns
-returns c = let a = c .before .before .before .before .before .before .before .before .before .before .args in (
-  answers-are (a .t1) (a .j) (a .x) (a .c) (c .before .before .before .before .before .before .before .before .before .before .pre .1)
-      (c .before .before .before .before .before .before .before .wide .result) (c .before .before .wide2 .result)
-      (c .before .before .before .before .before .before .before .wide .ensures .0) (c .before .before .wide2 .ensures .0)
-      (layersIn (c .before .before .before .before .before .before .layers-of .result)) (wayIn (c .before .before .before .before .before .way-of .result))
-      (c .before .before .before .before .before .before .layers-of .ensures .are) (c .before .before .before .before .before .way-of .ensures .0)
+returns c = let a = c .before .before .before .before .before .before .before .before .args in let s = whole (a .types .now) (a .s) in (
+  answers-are s (a .j) (a .x) (a .c) (c .before .before .before .before .before .before .before .before .pre .1)
+      (c .before .before .before .before .before .wide .result) (c .before .before .wide2 .result)
+      (c .before .before .before .before .before .wide .ensures .0) (c .before .before .wide2 .ensures .0)
+      (layersIn (c .before .before .before .before .layers-of .result)) (wayIn (c .before .before .before .way-of .result))
+      (c .before .before .before .before .layers-of .ensures .are) (c .before .before .before .way-of .ensures .0)
       (targetsIn (c .before .targets-of .result)) (targetsIn (c .reversed .result)) (c .before .targets-of .ensures .0) (c .reversed .ensures .0),
   omega (
     arith,
     c .reversed .ensures .1,
     c .before .targets-of .ensures .1,
-    c .before .before .before .before .before .way-of .ensures .1,
-    c .before .before .before .before .before .before .layers-of .ensures .few,
+    c .before .before .before .way-of .ensures .1,
+    c .before .before .before .before .layers-of .ensures .few,
   ),
 )
 

@@ -4,10 +4,12 @@ use Rattle.operand.specs.Coded.{byCode}
 use Rattle.coded.proofs.Words.{is-read}
 use Rattle.coded.proofs.Laws.{refuses, answer-none, nothing-is, answer-is}
 use borrow.Author.Needs.{needs}
+use Rattle.state.specs.Whole.{whole}
+use Rattle.steps.specs.Served.{done}
 use Rattle.coded.proofs.serve_answer.Statement.{statement}
 use Rattle.coded.proofs.serve_answer.Tie as tie
 use Rattle.steps.proofs.Laws.{step-as}
-use mathlib.Core.Path.{sym}
+use mathlib.Core.Path.{sym, ap}
 
 shared-slice-copy-out-answer-step : tie.Need-shared-slice-copy-out-answer-step
 shared-slice-copy-out-answer-step c = search needs
@@ -19,16 +21,16 @@ answer-step-requires : tie.Need-answer-step-requires
 answer-step-requires c κs = search needs
 
 returns : tie.Need-returns
-returns c = let a = c .before .before .before .before .args in let w = a .ops .now in
-    step-as (sym (nothing-is (systemIn (a .s)) w (c .before .before .before .if1 .taken)))
-    (rw (is-read w 0 (c .before .before .answer-step-arg .given), is-read w 1 (c .before .answer-step-arg2 .given)) at (c .answer-step .ensures))
+returns c = let a = c .before .before .before .before .before .args in let s = whole (a .types .now) (a .s) in let w = a .ops .now in
+    step-as (sym (nothing-is (systemIn s) w (c .before .before .before .before .if1 .taken)))
+    (rw (is-read w 0 (c .before .before .answer-step-arg2 .given), is-read w 1 (c .before .answer-step-arg3 .given)) at (c .answer-step .ensures))
 
 refused-requires : tie.Need-refused-requires
 refused-requires c κs = search needs
 
 returns-2 : tie.Need-returns-2
-returns-2 c = let a = c .before .before .before .args in let w = a .ops .now in
-    refuses (a .s) (byCode 3 w) (c .refused .result) (c .before .before .before .pre) (answer-none (systemIn (a .s)) w (c .before .before .if1 .left) (c .before .if2 .taken)) (c .refused .ensures)
+returns-2 c = let a = c .before .before .before .args in let s = whole (a .types .now) (a .s) in let w = a .ops .now in
+    refuses s (byCode 3 w) (done (a .types .now) (c .refused .result)) (c .before .before .before .pre) (answer-none (systemIn s) w (c .before .before .if1 .left) (c .before .if2 .taken)) (ap (done (a .types .now)) (c .refused .ensures))
 
 shared-slice-copy-out-v : tie.Need-shared-slice-copy-out-v
 shared-slice-copy-out-v c = search needs
@@ -43,9 +45,9 @@ answer-step-requires-2 : tie.Need-answer-step-requires-2
 answer-step-requires-2 c κs = search needs
 
 returns-3 : tie.Need-returns-3
-returns-3 c = let a = c .before .before .before .before .before .before .args in let w = a .ops .now in
-    step-as (sym (answer-is (systemIn (a .s)) w (c .before .before .before .before .before .if1 .left) (c .before .before .before .before .if2 .left)))
-    (rw (is-read w 0 (c .before .before .answer-step-arg3 .given), is-read w 1 (c .before .answer-step-arg4 .given), is-read w 2 (c .before .before .before .v .given)) at (c .answer-step2 .ensures))
+returns-3 c = let a = c .before .before .before .before .before .before .before .args in let s = whole (a .types .now) (a .s) in let w = a .ops .now in
+    step-as (sym (answer-is (systemIn s) w (c .before .before .before .before .before .before .if1 .left) (c .before .before .before .before .before .if2 .left)))
+    (rw (is-read w 0 (c .before .before .answer-step-arg5 .given), is-read w 1 (c .before .answer-step-arg6 .given), is-read w 2 (c .before .before .before .before .v .given)) at (c .answer-step2 .ensures))
 
 pub serve-answer-spec : {M : Type 1} → statement M
 serve-answer-spec =

@@ -10,6 +10,8 @@ use Rattle.coded.proofs.Words.{is-read, all-behind}
 use Rattle.coded.proofs.Laws.{refuses, call-none, call-is}
 use native.Mathlib.Omega.{arith}
 use borrow.Author.Needs.{needs}
+use Rattle.state.specs.Whole.{whole}
+use Rattle.steps.specs.Served.{done}
 use Rattle.coded.proofs.serve_call.Statement.{statement}
 use Rattle.coded.proofs.serve_call.Tie as tie
 use Rattle.steps.proofs.Laws.{step-as}
@@ -23,9 +25,9 @@ refused-requires c κs = search needs
 
 returns : tie.Need-returns
 returns c =
-    let a = c .before .before .args in
+    let a = c .before .before .args in let s = whole (a .types .now) (a .s) in
     let w = a .ops .now in
-    refuses (a .s) (byCode 2 w) (c .refused .result) (c .before .before .pre) (call-none (systemIn (a .s)) w (c .before .if1 .taken)) (c .refused .ensures)
+    refuses s (byCode 2 w) (done (a .types .now) (c .refused .result)) (c .before .before .pre) (call-none (systemIn s) w (c .before .if1 .taken)) (ap (done (a .types .now)) (c .refused .ensures))
 
 shared-slice-copy-out-call-step : tie.Need-shared-slice-copy-out-call-step
 shared-slice-copy-out-call-step c = search needs
@@ -43,14 +45,14 @@ call-step-requires : tie.Need-call-step-requires
 call-step-requires c κs = search needs
 
 returns-2 : tie.Need-returns-2
-returns-2 c = let a = c .before .before .before .before .before .before .before .args in let w = a .ops .now in let m = systemIn (a .s) in
+returns-2 c = let a = c .before .before .before .before .before .before .before .before .args in let s = whole (a .types .now) (a .s) in let w = a .ops .now in let m = systemIn s in
     step-as
-    (sym (ap (callRequest m (getD w 0 (pos 0)) (getD w 1 (pos 0)) (getD w 2 (pos 0))) (sym (none-behind w (c .before .before .before .before .before .if2 .taken)))
-    ∙ call-is m w (c .before .before .before .before .before .before .if1 .left)))
+    (sym (ap (callRequest m (getD w 0 (pos 0)) (getD w 1 (pos 0)) (getD w 2 (pos 0))) (sym (none-behind w (c .before .before .before .before .before .before .if2 .taken)))
+    ∙ call-is m w (c .before .before .before .before .before .before .before .if1 .left)))
     (rw (
-      is-read w 0 (c .before .before .before .before .call-step-arg .given),
-      is-read w 1 (c .before .before .before .call-step-arg2 .given),
-      is-read w 2 (c .before .before .call-step-arg3 .given),
+      is-read w 0 (c .before .before .before .before .call-step-arg2 .given),
+      is-read w 1 (c .before .before .before .call-step-arg3 .given),
+      is-read w 2 (c .before .before .call-step-arg4 .given),
     ) at (c .call-step .ensures))
 
 shared-slice-copy-out-call-step-4 : tie.Need-shared-slice-copy-out-call-step-4
@@ -75,12 +77,12 @@ call-step-requires-2 : tie.Need-call-step-requires-2
 call-step-requires-2 c κs = search needs
 
 returns-3 : tie.Need-returns-3
-returns-3 c = let a = c .before .before .before .before .before .before .before .args in let w = a .ops .now in let m = systemIn (a .s) in
-    step-as (sym (ap (callRequest m (getD w 0 (pos 0)) (getD w 1 (pos 0)) (getD w 2 (pos 0))) (all-behind w 3) ∙ call-is m w (c .before .before .before .before .before .before .if1 .left)))
+returns-3 c = let a = c .before .before .before .before .before .before .before .before .args in let s = whole (a .types .now) (a .s) in let w = a .ops .now in let m = systemIn s in
+    step-as (sym (ap (callRequest m (getD w 0 (pos 0)) (getD w 1 (pos 0)) (getD w 2 (pos 0))) (all-behind w 3) ∙ call-is m w (c .before .before .before .before .before .before .before .if1 .left)))
     (rw (
-      is-read w 0 (c .before .before .before .before .call-step-arg5 .given),
-      is-read w 1 (c .before .before .before .call-step-arg6 .given),
-      is-read w 2 (c .before .before .call-step-arg7 .given),
+      is-read w 0 (c .before .before .before .before .call-step-arg7 .given),
+      is-read w 1 (c .before .before .before .call-step-arg8 .given),
+      is-read w 2 (c .before .before .call-step-arg9 .given),
     ) at (c .call-step2 .ensures))
 
 pub serve-call-spec : {M : Type 1} → statement M

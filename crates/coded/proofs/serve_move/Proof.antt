@@ -4,19 +4,21 @@ use Rattle.operand.specs.Coded.{byCode}
 use Rattle.coded.proofs.Words.{is-read}
 use Rattle.coded.proofs.Laws.{refuses, move-none, move-is}
 use borrow.Author.Needs.{needs}
+use Rattle.state.specs.Whole.{whole}
+use Rattle.steps.specs.Served.{done}
 use Rattle.coded.proofs.serve_move.Statement.{statement}
 use Rattle.coded.proofs.serve_move.Tie as tie
 use Rattle.steps.proofs.Laws.{step-as}
-use mathlib.Core.Path.{sym}
+use mathlib.Core.Path.{sym, ap}
 
 refused-requires : tie.Need-refused-requires
 refused-requires c κs = search needs
 
 returns : tie.Need-returns
 returns c =
-    let a = c .before .before .args in
+    let a = c .before .before .args in let s = whole (a .types .now) (a .s) in
     let w = a .ops .now in
-    refuses (a .s) (byCode 1 w) (c .refused .result) (c .before .before .pre) (move-none (systemIn (a .s)) w (c .before .if1 .taken)) (c .refused .ensures)
+    refuses s (byCode 1 w) (done (a .types .now) (c .refused .result)) (c .before .before .pre) (move-none (systemIn s) w (c .before .if1 .taken)) (ap (done (a .types .now)) (c .refused .ensures))
 
 shared-slice-copy-out-move-step : tie.Need-shared-slice-copy-out-move-step
 shared-slice-copy-out-move-step c = search needs
@@ -34,13 +36,13 @@ move-step-requires : tie.Need-move-step-requires
 move-step-requires c κs = search needs
 
 returns-2 : tie.Need-returns-2
-returns-2 c = let a = c .before .before .before .before .before .before .args in let w = a .ops .now in
-    step-as (sym (move-is (systemIn (a .s)) w (c .before .before .before .before .before .if1 .left)))
+returns-2 c = let a = c .before .before .before .before .before .before .before .args in let s = whole (a .types .now) (a .s) in let w = a .ops .now in
+    step-as (sym (move-is (systemIn s) w (c .before .before .before .before .before .before .if1 .left)))
     (rw (
-      is-read w 0 (c .before .before .before .before .move-step-arg .given),
-      is-read w 1 (c .before .before .before .move-step-arg2 .given),
-      is-read w 2 (c .before .before .move-step-arg3 .given),
-      is-read w 3 (c .before .move-step-arg4 .given),
+      is-read w 0 (c .before .before .before .before .move-step-arg2 .given),
+      is-read w 1 (c .before .before .before .move-step-arg3 .given),
+      is-read w 2 (c .before .before .move-step-arg4 .given),
+      is-read w 3 (c .before .move-step-arg5 .given),
     ) at (c .move-step .ensures))
 
 pub serve-move-spec : {M : Type 1} → statement M

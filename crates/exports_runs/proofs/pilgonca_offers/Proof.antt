@@ -41,7 +41,7 @@ returns-2 c =
     let f = flat (a .types .now) (a .links .now) (a .cells .now) (a .places .now) (a .calls .now) (a .counts .now) in
     let o = c .before .before .offers in
     let e = rw (toZ-ofZ (c .before .before .before .before .before .before .before .before .before .fits .cell)) at (o .ensures) in
-    let w = subst (λ s. offeredAs (o .result) ≡ offersHanded (rawState s) (a .cell) (a .chain .now)) (c .before .before .before .state-from .ensures) e in
+    let w = subst (λ s. offeredAs (o .result) ≡ offersHanded (rawState s) (a .cell) (a .chain .now)) (c .before .before .before .state-from .ensures (a .types .now)) e in
     c .offered-code .ensures ∙ ap (offeredOut (a .offered .now))
     (w ∙ offers-same f (a .cell) (a .chain .now) (passed _ _ (c .before .before .before .before .before .before .codes-fit .ensures) (c .before .before .before .before .before .if1 .left)))
 

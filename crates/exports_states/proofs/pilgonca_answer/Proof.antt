@@ -7,6 +7,8 @@ use Rattle.handing.proofs.Small.{served-small}
 use Rattle.handing.proofs.Handing.{request-unfit, request-handed}
 use Rattle.exports_states.specs.States.{givenIn}
 use borrow.Author.Needs.{needs}
+use Rattle.state.specs.Whole.{whole}
+use Rattle.steps.specs.Served.{done}
 use Rattle.exports_states.proofs.pilgonca_answer.Statement.{statement}
 use Rattle.exports_states.proofs.pilgonca_answer.Tie as tie
 
@@ -33,21 +35,22 @@ answer-requires : tie.Need-answer-requires
 answer-requires c κs = search needs
 
 hand-back-requires : tie.Need-hand-back-requires
-hand-back-requires c κs = served-small _ _ _ (c .before .before .before .before .before .before .answer .ensures)
+hand-back-requires c κs = served-small _ _ _ (c .before .before .before .before .before .answer .ensures)
 
 returns-2 : tie.Need-returns-2
 returns-2 c =
-    let a = c .before .before .before .before .before .before .before .before .before .before .before .before .before .before .before .before .before .before .before .before .before .args in
+    let a = c .before .before .before .before .before .before .before .before .before .before .before .before .before .before .before .before .before .before .before .before .args in
     let f = flat (a .types .now) (a .links .now) (a .cells .now) (a .places .now) (a .calls .now) (a .counts .now) in
     let q = answer (a .subject) (a .call) (givenIn (a .given) (a .value)) in
-    let t = c .before .before .before .before .before .before .before .before .before .before .before .before .before .before .before .before .before .before .before .before .before .fits in
-    let r = c .before .before .before .before .before .before .before .answer in
+    let t = c .before .before .before .before .before .before .before .before .before .before .before .before .before .before .before .before .before .before .before .before .fits in
+    let r = c .before .before .before .before .before .before .answer in
     let g = rw (toZ-ofZ (t .value)) at (c .before .before .before .before .before .before .before .before .given-of .ensures) in
     let w = rw (toZ-ofZ (t .subject), toZ-ofZ (t .call), g) at (r .ensures) in
     let s = c .before .before .before .before .before .before .before .before .before .state-from in
-    request-handed f q (a .values .now) _ (c .before .before .before .before .before .before .before .before .before .before .before .before .before .before .before .before .codes-fit .ensures)
-    (c .before .before .before .before .before .before .before .before .before .before .before .before .before .before .before .if1 .left) (s .result) (s .ensures) (r .result) w _ _ _ refl
-    (c .hand-back .ensures (a .links .now))
+    request-handed f q (a .values .now) _ (c .before .before .before .before .before .before .before .before .before .before .before .before .before .before .before .codes-fit .ensures)
+    (c .before .before .before .before .before .before .before .before .before .before .before .before .before .before .if1 .left) (whole (a .types .now) (s .result)) (s .ensures (a .types .now))
+    (done (r .last .0) (r .result)) w _ _ _ refl
+    (c .hand-back .ensures (r .last .0) (a .links .now))
 
 pub pilgonca-answer-spec : {M : Type 1} → statement M
 pilgonca-answer-spec =

@@ -6,14 +6,14 @@ use Rattle.flat.proofs.state_from.Tie as tie
 array-read-cells-from : tie.Need-array-read-cells-from
 array-read-cells-from c = search needs
 
-array-read-t19 : tie.Need-array-read-t19
-array-read-t19 c = search needs
+array-read-t17 : tie.Need-array-read-t17
+array-read-t17 c = search needs
 
-array-read-t22 : tie.Need-array-read-t22
-array-read-t22 c = search needs
+array-read-t20 : tie.Need-array-read-t20
+array-read-t20 c = search needs
 
-array-read-t25 : tie.Need-array-read-t25
-array-read-t25 c = search needs
+array-read-t23 : tie.Need-array-read-t23
+array-read-t23 c = search needs
 
 array-read-places-from : tie.Need-array-read-places-from
 array-read-places-from c = search needs
@@ -37,16 +37,16 @@ calls-from-requires : tie.Need-calls-from-requires
 calls-from-requires c κs = search needs
 
 returns : tie.Need-returns
-returns c = rw (c .before .before .cells-from .ensures, c .before .places-from .ensures, c .calls-from .ensures)
+returns c = λ t. rw (c .before .before .cells-from .ensures, c .before .places-from .ensures, c .calls-from .ensures)
 
 pub state-from-spec : {M : Type 1} → statement M
 state-from-spec =
     tie.close
     (tie.spec
     array-read-cells-from
-    array-read-t19
-    array-read-t22
-    array-read-t25
+    array-read-t17
+    array-read-t20
+    array-read-t23
     array-read-places-from
     array-read-cells-from-2
     cells-from-requires

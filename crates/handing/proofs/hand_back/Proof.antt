@@ -13,7 +13,7 @@ answer-out-requires : tie.Need-answer-out-requires
 answer-out-requires c κs = search needs
 
 returns : tie.Need-returns
-returns c = λ l.
+returns c = λ t l.
     record {
       number = c .answer-out .ensures .0;
       values = c .answer-out .ensures .1;
@@ -28,11 +28,11 @@ answer-out-requires-2 : tie.Need-answer-out-requires-2
 answer-out-requires-2 c κs = search needs
 
 returns-2 : tie.Need-returns-2
-returns-2 c = λ l. let c9 = c .before .before .before .before .before .before .before .before .before in record {
+returns-2 c = λ t l. let c8 = c .before .before .before .before .before .before .before .before in record {
   number = c .answer-out2 .ensures .0;
   values = c .answer-out2 .ensures .1;
-  refused = λ h. never (sym h ∙ passed _ _ (c9 .before .accepted .ensures) (c9 .if1 .left));
-  accepted = λ _. c .before .before .store .ensures;
+  refused = λ h. never (sym h ∙ passed _ _ (c8 .before .accepted .ensures) (c8 .if1 .left));
+  accepted = λ _. c .before .before .store .ensures t;
 }
 
 pub hand-back-spec : {M : Type 1} → statement M

@@ -11,6 +11,7 @@ use Rattle.coded.specs.Coded.{serveAsked}
 use Rattle.run.specs.Requested.{request}
 use Rattle.run.proofs.Laws.{code-is}
 use borrow.Author.Needs.{needs}
+use Rattle.state.specs.Whole.{whole}
 use Rattle.run.proofs.serve.Statement.{statement}
 use Rattle.run.proofs.serve.Tie as tie
 use Rattle.steps.proofs.Laws.{step-as}
@@ -25,8 +26,8 @@ coded : (code : ℤ) (ws : List ℤ) (k : ℕ) → k ≡ indexOf code 4 → byCo
 coded code ws k e = ap (λ (m : ℕ). byCode m ws) e ∙ code-is code ws
 
 returns : tie.Need-returns
-returns c = let a = c .before .before .args in
-    step-as (sym (ap (serveAsked (systemIn (a .s))) (coded (a .code) (a .ops .now) (c .before .index-of .result) (rw (toZ-ofZ (c .before .before .fits .code)) at (c .before .index-of .ensures)))))
+returns c = let a = c .before .before .before .args in let s = whole (a .types .now) (a .s) in
+    step-as (sym (ap (serveAsked (systemIn s)) (coded (a .code) (a .ops .now) (c .before .before .index-of .result) (rw (toZ-ofZ (c .before .before .before .fits .code)) at (c .before .before .index-of .ensures)))))
     (c .serve-coded .ensures)
 
 pub serve-spec : {M : Type 1} → statement M

@@ -9,6 +9,8 @@ use Rattle.run.specs.Ran.{askedAt}
 use Rattle.run.proofs.Words.{asked-none, asked-is}
 use native.Mathlib.Omega.{arith}
 use borrow.Author.Needs.{needs}
+use Rattle.state.specs.Whole.{whole}
+use Rattle.steps.specs.Served.{done}
 use Rattle.run.proofs.serve_at.Statement.{statement}
 use Rattle.run.proofs.serve_at.Tie as tie
 use Rattle.steps.proofs.Laws.{step-as}
@@ -26,9 +28,9 @@ refused-requires : tie.Need-refused-requires
 refused-requires c κs = search needs
 
 returns : tie.Need-returns
-returns c = let a = c .before .before .before .args in let w = a .words .now in
-    refuses (a .s) (askedAt w (a .at)) (c .refused .result) (c .before .before .before .pre .0)
-    (asked-none w (a .at) (c .before .before .before .pre .1) (c .before .before .operands .result) (c .before .before .operands .ensures) (c .before .if1 .taken)) (c .refused .ensures)
+returns c = let a = c .before .before .before .args in let s = whole (a .types .now) (a .s) in let w = a .words .now in
+    refuses s (askedAt w (a .at)) (done (a .types .now) (c .refused .result)) (c .before .before .before .pre .0)
+    (asked-none w (a .at) (c .before .before .before .pre .1) (c .before .before .operands .result) (c .before .before .operands .ensures) (c .before .if1 .taken)) (ap (done (a .types .now)) (c .refused .ensures))
 
 mul-code : tie.Need-mul-code
 mul-code c = search needs
@@ -58,12 +60,12 @@ serve-requires : tie.Need-serve-requires
 serve-requires c κs = search needs
 
 returns-2 : tie.Need-returns-2
-returns-2 c = let a = c .before .before .before .before .before .args in let w = a .words .now in let n = c .before .before .before .before .operands .result in
+returns-2 c = let a = c .before .before .before .before .before .before .args in let s = whole (a .types .now) (a .s) in let w = a .words .now in let n = c .before .before .before .before .before .operands .result in
     let e : a .at + 2 + n - (a .at + 2) ≡ n = omega arith in
     step-as
-    (sym (ap (serveAsked (systemIn (a .s)))
-    (asked-is w (a .at) (c .before .before .before .before .before .pre .1) n (c .before .before .before .before .operands .ensures) (c .before .before .before .if1 .left) _
-    (is-read w (a .at) (c .before .before .code .given)) (a .at + 2) (a .at + 2 + n - (a .at + 2)) refl e))) (c .serve .ensures)
+    (sym (ap (serveAsked (systemIn s))
+    (asked-is w (a .at) (c .before .before .before .before .before .before .pre .1) n (c .before .before .before .before .before .operands .ensures) (c .before .before .before .before .if1 .left) _
+    (is-read w (a .at) (c .before .before .before .code .given)) (a .at + 2) (a .at + 2 + n - (a .at + 2)) refl e))) (c .serve .ensures)
 
 pub serve-at-spec : {M : Type 1} → statement M
 serve-at-spec =

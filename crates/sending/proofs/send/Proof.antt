@@ -1,8 +1,10 @@
 -- The way was refused (`send-refused`), or what arrived becomes a cell (`send-adds`).
 use mir.Facts.{toZ-ofZ}
-use mathlib.Core.Path.{_≡_}
-use lib.ListN.{length}
+use mathlib.Core.Path.{ap}
 use borrow.Author.Needs.{needs}
+use Rattle.state.specs.Whole.{whole}
+use Rattle.steps.specs.Served.{done}
+use Rattle.steps.proofs.Laws.{sort-byte, place-byte}
 use Rattle.model.specs.Basics.{named}
 use Rattle.carry.specs.Carried.{targetsIn}
 use Rattle.sending.proofs.Sending.{any-cell, send-stands, send-refused, send-arrives, send-adds}
@@ -20,54 +22,59 @@ wide-requires-2 c κs = search needs
 
 carry-requires : tie.Need-carry-requires
 carry-requires c κs =
-    let a = c .before .before .before .before .before .before .before .before .before .args in
-    let h = c .before .before .before .before .before .before .before .before .before .pre in
-    let long : length (a .s .types) ≡ 16384 = search needs in
-    let g = send-stands (a .s) (h .0) (a .r) (named (a .v)) (c .before .before .before .before .before .before .before .before .named-cell .result)
-    (rw (toZ-ofZ (c .before .before .before .before .before .before .before .before .before .fits .v)) at
-    (c .before .before .before .before .before .before .before .before .named-cell .ensures)) (any-cell (a .s) (h .0) (h .1) (h .2) (named (a .v)))
-    (targetsIn (a .targets)) (c .before .wide .result) (c .wide2 .result) (c .before .wide .ensures .0) (c .wide2 .ensures .0) (record { checked = h .0 .checked; long = long }) in (g .0, g .1, h .4)
+    let a = c .before .before .before .before .before .before .before .before .args in let s = whole (a .types .now) (a .s) in
+    let h = c .before .before .before .before .before .before .before .before .pre in
+    let g = send-stands s (h .0) (a .r) (named (a .v)) (c .before .before .before .before .before .before .before .named-cell .result)
+    (rw (toZ-ofZ (c .before .before .before .before .before .before .before .before .fits .v)) at
+    (c .before .before .before .before .before .before .before .named-cell .ensures)) (any-cell s (h .0) (h .1) (h .2) (named (a .v)))
+    (targetsIn (a .targets)) (c .before .wide .result) (c .wide2 .result) (c .before .wide .ensures .0) (c .wide2 .ensures .0) (record { checked = h .0 .checked; long = h .0 .long }) in (g .0, g .1, h .4)
 
 refused-requires : tie.Need-refused-requires
 refused-requires c κs = search needs
 
 returns : tie.Need-returns
 returns c =
-    let a = c .before .before .before .before .before .before .before .before .before .before .before .before .before .args in
-    let h = c .before .before .before .before .before .before .before .before .before .before .before .before .before .pre in
-    send-refused (a .s) (h .0) (a .r) (named (a .v)) (c .before .before .before .before .before .before .before .before .before .before .before .before .named-cell .result)
-    (rw (toZ-ofZ (c .before .before .before .before .before .before .before .before .before .before .before .before .before .fits .v)) at
-    (c .before .before .before .before .before .before .before .before .before .before .before .before .named-cell .ensures)) (any-cell (a .s) (h .0) (h .1) (h .2) (named (a .v)))
+    let a = c .before .before .before .before .before .before .before .before .before .before .before .before .args in let s = whole (a .types .now) (a .s) in
+    let h = c .before .before .before .before .before .before .before .before .before .before .before .before .pre in
+    send-refused s (h .0) (a .r) (named (a .v)) (c .before .before .before .before .before .before .before .before .before .before .before .named-cell .result)
+    (rw (toZ-ofZ (c .before .before .before .before .before .before .before .before .before .before .before .before .fits .v)) at
+    (c .before .before .before .before .before .before .before .before .before .before .before .named-cell .ensures)) (any-cell s (h .0) (h .1) (h .2) (named (a .v)))
     (targetsIn (a .targets)) (c .before .before .before .before .before .wide .result) (c .before .before .before .before .wide2 .result)
     (c .before .before .before .before .before .wide .ensures .0) (c .before .before .before .before .wide2 .ensures .0) (c .before .before .before .carry .last .0)
     (c .before .before .before .carry .result) (c .before .before .before .carry .ensures .0) (c .before .before .before .carry .ensures .1)
-    (c .before .if1 .taken) (c .refused .result) (c .refused .ensures)
+    (c .before .if1 .taken) (done (c .before .before .before .carry .last .0) (c .refused .result)) (ap (done (c .before .before .before .carry .last .0)) (c .refused .ensures))
 
 add-cell-requires : tie.Need-add-cell-requires
 add-cell-requires c κs =
-    let a = c .before .before .before .before .before .before .before .before .before .before .before .before .args in
-    let h = c .before .before .before .before .before .before .before .before .before .before .before .before .pre in (
-      send-arrives (a .s) (h .0) (a .r) (named (a .v)) (c .before .before .before .before .before .before .before .before .before .before .before .named-cell .result)
-          (rw (toZ-ofZ (c .before .before .before .before .before .before .before .before .before .before .before .before .fits .v)) at
-          (c .before .before .before .before .before .before .before .before .before .before .before .named-cell .ensures)) (any-cell (a .s) (h .0) (h .1) (h .2) (named (a .v)))
+    let a = c .before .before .before .before .before .before .before .before .before .before .before .args in let s = whole (a .types .now) (a .s) in
+    let h = c .before .before .before .before .before .before .before .before .before .before .before .pre in 
+    let w = send-arrives s (h .0) (a .r) (named (a .v)) (c .before .before .before .before .before .before .before .before .before .before .named-cell .result)
+          (rw (toZ-ofZ (c .before .before .before .before .before .before .before .before .before .before .before .fits .v)) at
+          (c .before .before .before .before .before .before .before .before .before .before .named-cell .ensures)) (any-cell s (h .0) (h .1) (h .2) (named (a .v)))
           (targetsIn (a .targets)) (c .before .before .before .before .wide .result) (c .before .before .before .wide2 .result) (c .before .before .before .before .wide .ensures .0)
           (c .before .before .before .wide2 .ensures .0) (c .before .before .carry .last .0) (c .before .before .carry .result) (c .before .before .carry .ensures .0)
           (c .before .before .carry .ensures .1)
-          (c .if1 .left),
-      h .3,
-    )
+          (c .if1 .left) in
+    (h .3, sort-byte s (c .before .before .carry .last .0) _ _ (a .r) _ _ w, place-byte s (c .before .before .carry .last .0) _ _ (a .r) _ _ w)
 
 returns-2 : tie.Need-returns-2
 returns-2 c =
-    let a = c .before .before .before .before .before .before .before .before .before .before .before .before .before .args in
-    let h = c .before .before .before .before .before .before .before .before .before .before .before .before .before .pre in
-    send-adds (a .s) (h .0) (a .r) (named (a .v)) (c .before .before .before .before .before .before .before .before .before .before .before .before .named-cell .result)
-    (rw (toZ-ofZ (c .before .before .before .before .before .before .before .before .before .before .before .before .before .fits .v)) at
-    (c .before .before .before .before .before .before .before .before .before .before .before .before .named-cell .ensures)) (any-cell (a .s) (h .0) (h .1) (h .2) (named (a .v)))
+    let a = c .before .before .before .before .before .before .before .before .before .before .before .before .args in let s = whole (a .types .now) (a .s) in
+    let h = c .before .before .before .before .before .before .before .before .before .before .before .before .pre in
+    send-adds s (h .0) (a .r) (named (a .v)) (c .before .before .before .before .before .before .before .before .before .before .before .named-cell .result)
+    (rw (toZ-ofZ (c .before .before .before .before .before .before .before .before .before .before .before .before .fits .v)) at
+    (c .before .before .before .before .before .before .before .before .before .before .before .named-cell .ensures)) (any-cell s (h .0) (h .1) (h .2) (named (a .v)))
     (targetsIn (a .targets)) (c .before .before .before .before .before .wide .result) (c .before .before .before .before .wide2 .result)
     (c .before .before .before .before .before .wide .ensures .0) (c .before .before .before .before .wide2 .ensures .0) (c .before .before .before .carry .last .0)
     (c .before .before .before .carry .result) (c .before .before .before .carry .ensures .0) (c .before .before .before .carry .ensures .1)
-    (c .before .if1 .left) (c .add-cell .result) (c .add-cell .ensures)
+    (c .before .if1 .left) (done (c .before .before .before .carry .last .0) (c .add-cell .result)) (c .add-cell .ensures (a .types .now) (c .before .before .before .carry .last .0)
+    (send-arrives s (h .0) (a .r) (named (a .v)) (c .before .before .before .before .before .before .before .before .before .before .before .named-cell .result)
+          (rw (toZ-ofZ (c .before .before .before .before .before .before .before .before .before .before .before .before .fits .v)) at
+          (c .before .before .before .before .before .before .before .before .before .before .before .named-cell .ensures)) (any-cell s (h .0) (h .1) (h .2) (named (a .v)))
+          (targetsIn (a .targets)) (c .before .before .before .before .before .wide .result) (c .before .before .before .before .wide2 .result) (c .before .before .before .before .before .wide .ensures .0)
+          (c .before .before .before .before .wide2 .ensures .0) (c .before .before .before .carry .last .0) (c .before .before .before .carry .result) (c .before .before .before .carry .ensures .0)
+          (c .before .before .before .carry .ensures .1)
+          (c .before .if1 .left)))
 
 pub send-spec : {M : Type 1} → statement M
 send-spec =
