@@ -12,10 +12,10 @@ use Rattle.model.specs.Table.{isNone}
 use Rattle.model.specs.Requests.{System, Request, refused, serve, after, outcome}
 use Rattle.sheet.specs.Lines.{Row, row, cut, bytes, split, firstLine}
 use Rattle.sheet.proofs.Steps.{none-some}
-use Rattle.state.specs.declared.State.{State}
+use Rattle.state.specs.Whole.{Whole as State}
 use Rattle.state.specs.View.{systemIn}
 use Rattle.state.specs.Sound.{Sound}
-use Rattle.steps.specs.declared.Served.{Served}
+use Rattle.steps.specs.Served.{Done as Served}
 use Rattle.steps.specs.Served.{outcomeOf, Step}
 use Rattle.coded.specs.Coded.{serveAsked}
 use Rattle.coded.proofs.Laws.{outcome-is, after-is}

@@ -22,7 +22,8 @@ use Rattle.sheet.specs.Sheet.{read}
 use Rattle.sheetread.specs.declared.Sheet.{Sheet}
 use Rattle.sheetread.specs.View.{answered}
 use Rattle.sheetread.proofs.Accepted.{read-loaded, read-malformed, read-accepted}
-use Rattle.state.specs.declared.State.{State}
+use Rattle.state.specs.declared.State.{State as Rest}
+use Rattle.state.specs.Whole.{whole}
 use Rattle.state.specs.View.{systemIn, stateLoaded}
 use Rattle.state.specs.Sound.{Sound}
 use Rattle.state.proofs.Kept.{loaded-sound}
@@ -57,7 +58,7 @@ unfolding servedLines
 served-from t rs = lines-are-from (start t) rs
 
 -- the state of a loaded sheet is the model's
-loaded-is : (types links : List ℕ) (c : Counts) → systemIn (stateLoaded types links c) ≡ start (tableIn types links c)
+loaded-is : (types links : List ℕ) (c : Counts) → systemIn (whole types (stateLoaded links c)) ≡ start (tableIn types links c)
 unfolding systemIn systemOf tableIn from
 loaded-is types links c = refl
 
@@ -87,14 +88,15 @@ module _ (s : List ℕ) where
         ∙ ap (λ i. join (printedLines (read (take i s)) (split (drop i s)))) w ∙ rw (le-ltb maxInput (length s) l)
 
     module _ (z : x .refusal ≡ 0) where
-      pub served-sound : (st : State) → st ≡ stateLoaded (x .types) (x .links) (x .counts) → Sound st
-      served-sound st q = subst Sound (sym q) (loaded-sound (x .types) (x .links) (x .counts) (accepted-checked (x .types) (x .links) (x .counts) (read-accepted (take e s) x h z)))
+      pub served-sound : length (x .types) ≡ 16384 → (st : Rest) → st ≡ stateLoaded (x .links) (x .counts) → Sound (whole (x .types) st)
+      served-sound long st q = subst (λ (y : Rest). Sound (whole (x .types) y)) (sym q)
+          (loaded-sound (x .types) (x .links) (x .counts) long (accepted-checked (x .types) (x .links) (x .counts) (read-accepted (take e s) x h z)))
 
-      -- st is the state that the lines from e on are served on
-      pub served-prints : (st : State) → st ≡ stateLoaded (x .types) (x .links) (x .counts) → join (linesFrom (systemIn st) (split (restOf s e))) ≡ scriptOutput s
+      -- st beside the types is the state that the lines from e on are served on
+      pub served-prints : (st : Rest) → st ≡ stateLoaded (x .links) (x .counts) → join (linesFrom (systemIn (whole (x .types) st)) (split (restOf s e))) ≡ scriptOutput s
       unfolding scriptOutput
       served-prints st q =
-          ap (λ (y : State). join (linesFrom (systemIn y) (split (restOf s e)))) q
+          ap (λ (y : Rest). join (linesFrom (systemIn (whole (x .types) y)) (split (restOf s e)))) q
           ∙ ap (λ (y : System). join (linesFrom y (split (restOf s e)))) (loaded-is (x .types) (x .links) (x .counts))
           ∙ ap (λ y. join (linesFrom (start (tableIn (x .types) (x .links) (x .counts))) (split y))) (rest-is s e)
           ∙ ap join (sym (served-from (tableIn (x .types) (x .links) (x .counts)) (split (drop e s))))

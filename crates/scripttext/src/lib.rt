@@ -1,4 +1,5 @@
-// The program `script`: a sheet and request lines in, a line for each request out (P1 to P15). `script` takes any bytes and says what is printed (specs/Output.antt).
+// The program `script`: a sheet and request lines in, a line for each request out (P1 to P15). `script` takes any bytes and says what is printed
+// (specs/Output.antt).
 // Each line is written behind the one before it, in one lent buffer (F2).
 use answerwrite::write_answer;
 use cursor::Cursor;
@@ -10,6 +11,7 @@ use requestread::read_request;
 use state::State;
 use steps::Served;
 use steps::refused;
+use table::TYPE_BYTES;
 use textread::is_word;
 use textwrite::write_number;
 use textwrite::write_word;
@@ -22,9 +24,10 @@ ghost use lib.ListN.{length};
 ghost use Rattle.model.specs.Requests.{Request};
 ghost use Rattle.sheet.specs.Lines.{split};
 ghost use Rattle.sheet.specs.Text.{writeText};
+ghost use Rattle.state.specs.Whole.{whole};
 ghost use Rattle.state.specs.View.{systemIn};
 ghost use Rattle.state.specs.Sound.{Sound};
-ghost use Rattle.steps.specs.Served.{Step};
+ghost use Rattle.steps.specs.Served.{Step, done};
 ghost use Rattle.coded.specs.Coded.{serveAsked};
 ghost use Rattle.requestread.specs.Read.{askedAs};
 ghost use Rattle.textwrite.specs.Fill.{Filled, Lined};
@@ -67,16 +70,16 @@ fn sheet_end(s: &[u8]) -> usize
 }
 
 // What a line asks, served (P4); a malformed line is refused with 1 (P11).
-fn serve_asked(s: State, q: Asked) -> Served
-    requires { ⌜ Sound s × (q .count ≤ 7) × (length (q .items) ≡ 7) ⌝ }
-    ensures { λ r. ⌜ Step s (serveAsked (systemIn s) (askedAs q)) r ⌝ }
+fn serve_asked(types: &mut [u8; TYPE_BYTES], s: State, q: Asked) -> Served
+    requires { ⌜ Sound (whole (now types) s) × (q .count ≤ 7) × (length (q .items) ≡ 7) ⌝ }
+    ensures { λ r. ⌜ Step (whole (now (types .entry)) s) (serveAsked (systemIn (whole (now (types .entry)) s)) (askedAs q)) (done (now (types .exit)) r) ⌝ }
 {
     if !q.right {
         return refused(s, 1);
     }
     let items = q.items;
     let count = q.count;
-    coded::serve_coded(s, q.code, &items[..count])
+    coded::serve_coded(types, s, q.code, &items[..count])
 }
 
 // Where the line behind one begins that was passed: none is read behind a malformed line (P11).
@@ -90,9 +93,9 @@ fn behind(right: bool, next: usize, end: usize) -> usize
 }
 
 // A line for each request, on the state that those before it left.
-fn serve_lines(buf: &mut [u8], s: State, rest: &[u8]) -> usize
-    requires { ⌜ Sound s × (length (now rest) ≤ 32768) ⌝ }
-    ensures is { λ r. ⌜ Lined (now (buf .entry)) (now (buf .exit)) (linesFrom (systemIn s) (split (now (rest .entry)))) r ⌝ }
+fn serve_lines(buf: &mut [u8], types: &mut [u8; TYPE_BYTES], s: State, rest: &[u8]) -> usize
+    requires { ⌜ Sound (whole (now types) s) × (length (now rest) ≤ 32768) ⌝ }
+    ensures is { λ r. ⌜ Lined (now (buf .entry)) (now (buf .exit)) (linesFrom (systemIn (whole (now (types .entry)) s)) (split (now (rest .entry)))) r ⌝ }
     ensures few { λ r. ⌜ r ≤ 2392064 ⌝ }
 {
     let mut state = s;
@@ -104,7 +107,7 @@ fn serve_lines(buf: &mut [u8], s: State, rest: &[u8]) -> usize
         let l = between(rest, c, d);
         let q = read_request(l);
         let right = q.right;
-        let r = serve_asked(state, q);
+        let r = serve_asked(types, state, q);
         let answer = r.answer;
         let k = least(written, buf.len());
         let more = write_answer(&mut buf[k..], answer);
@@ -127,10 +130,10 @@ fn put_script(buf: &mut [u8], s: &[u8]) -> usize
     if x.refusal != 0 {
         return write_number(buf, b"no=", x.refusal);
     }
-    let types = x.types;
+    let mut types = x.types;
     let links = x.links;
-    let state = State::loaded(types, links, x.counts);
-    serve_lines(buf, state, &s[e..])
+    let state = State::loaded(links, x.counts);
+    serve_lines(buf, &mut types, state, &s[e..])
 }
 
 // What the program prints for any input, in front of a buffer of any length: 4 where it does not fit, and then the buffer stays as it was.

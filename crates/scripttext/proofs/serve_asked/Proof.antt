@@ -11,6 +11,8 @@ use Rattle.coded.specs.Coded.{serveAsked}
 use Rattle.coded.proofs.Laws.{refuses}
 use borrow.Author.Tests.{not-true, not-false}
 use borrow.Author.Needs.{needs}
+use Rattle.state.specs.Whole.{whole}
+use Rattle.steps.specs.Served.{done}
 use Rattle.scripttext.proofs.serve_asked.Statement.{statement}
 use Rattle.scripttext.proofs.serve_asked.Tie as tie
 use Rattle.steps.proofs.Laws.{step-as}
@@ -21,24 +23,27 @@ refused-requires c κs = search needs
 returns : tie.Need-returns
 returns c =
     let a = c .before .before .before .args in
-    refuses (a .s) (askedAs (a .q)) (c .refused .result) (c .before .before .before .pre .0) (rw (not-true (a .q .right) (c .before .if1 .taken))) (c .refused .ensures)
+    let t = a .types .now in
+    refuses (whole t (a .s)) (askedAs (a .q)) (done t (c .refused .result)) (c .before .before .before .pre .0) (rw (not-true (a .q .right) (c .before .if1 .taken)))
+    (ap (done t) (c .refused .ensures))
 
 array-share-prefix-items : tie.Need-array-share-prefix-items
 array-share-prefix-items c = search needs
 
 slice-aggregate-serve-coded : tie.Need-slice-aggregate-serve-coded
 slice-aggregate-serve-coded c =
-    let q = c .before .before .before .before .args .q in
-    let p = c .before .before .before .before .pre in sym (length-take-le (q .count) (q .items) (omega (arith, p .1, p .2)))
+    let q = c .before .before .before .before .before .args .q in
+    let p = c .before .before .before .before .before .pre in sym (length-take-le (q .count) (q .items) (omega (arith, p .1, p .2)))
 
 serve-coded-requires : tie.Need-serve-coded-requires
 serve-coded-requires c κs = search needs
 
 returns-2 : tie.Need-returns-2
 returns-2 c =
-    let a = c .before .before .before .before .before .args in
-    let q : byCode (a .q .code) (take (a .q .count) (a .q .items)) ≡ askedAs (a .q) = rw (not-false (a .q .right) (c .before .before .before .if1 .left)) in
-    step-as (sym (ap (serveAsked (systemIn (a .s))) q)) (c .serve-coded .ensures)
+    let a = c .before .before .before .before .before .before .args in
+    let s = whole (a .types .now) (a .s) in
+    let q : byCode (a .q .code) (take (a .q .count) (a .q .items)) ≡ askedAs (a .q) = rw (not-false (a .q .right) (c .before .before .before .before .if1 .left)) in
+    step-as (sym (ap (serveAsked (systemIn s)) q)) (c .serve-coded .ensures)
 
 pub serve-asked-spec : {M : Type 1} → statement M
 serve-asked-spec =

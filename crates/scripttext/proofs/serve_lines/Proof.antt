@@ -5,17 +5,19 @@ use Prim.Native.Nat.{_-_}
 use native.Mathlib.Omega.{arith}
 use Rattle.scripttext.proofs.Laws.{Going, going-starts, going-on, going-done, next-behind, passed-line}
 use borrow.Author.Needs.{needs}
+use Rattle.state.specs.Whole.{whole}
+use Rattle.steps.specs.Served.{done}
 use Rattle.scripttext.proofs.serve_lines.Statement.{statement}
 use Rattle.scripttext.proofs.serve_lines.Tie as tie
 
 abbrev Inv-loop : tie.InvT-loop
-Inv-loop buf₀ rest state₀ written₀ at₀ buf state written at = Going state₀ rest buf₀ state buf written at
+Inv-loop buf₀ types₀ rest state₀ written₀ at₀ buf types state written at = Going (whole types₀ state₀) rest buf₀ (whole types state) buf written at
 
 abbrev μ-loop : tie.MeasureT-loop
-μ-loop buf₀ rest state₀ written₀ at₀ buf state written at = length rest - at
+μ-loop buf₀ types₀ rest state₀ written₀ at₀ buf types state written at = length rest - at
 
 loop-holds : tie.Need-loop-holds Inv-loop μ-loop
-loop-holds c = let a = c .before .before in going-starts (a .args .s) (a .args .rest .now) (a .args .buf .now) (a .pre .0)
+loop-holds c = let a = c .before .before in going-starts (whole (a .args .types .now) (a .args .s)) (a .args .rest .now) (a .args .buf .now) (a .pre .0)
 
 next-line-requires : tie.Need-next-line-requires Inv-loop μ-loop
 next-line-requires c κs = search needs
@@ -27,7 +29,7 @@ read-request-requires : tie.Need-read-request-requires Inv-loop μ-loop
 read-request-requires c κs = search needs
 
 serve-asked-requires : tie.Need-serve-asked-requires Inv-loop μ-loop
-serve-asked-requires c κs = let q = c .read-request .ensures in (c .before .before .before .before .loop .inv .sound, q .count, q .items)
+serve-asked-requires c κs = let q = c .before .read-request .ensures in (c .before .before .before .before .before .loop .inv .sound, q .count, q .items)
 
 least-requires : tie.Need-least-requires Inv-loop μ-loop
 least-requires c κs = search needs
@@ -46,38 +48,41 @@ write-answer-requires c κs = search needs
 
 add-written : tie.Need-add-written Inv-loop μ-loop
 add-written c =
-    let inv = c .before .before .before .before .before .before .before .before .before .before .loop .inv in
+    let inv = c .before .before .before .before .before .before .before .before .before .before .before .loop .inv in
     let f = c .before .before .write-answer .ensures in
-    let p = c .before .before .before .before .before .before .before .before .before .before .before .before .before .pre in record { fits = omega (arith, inv .few, inv .within, f .1, p .1) }
+    let p = c .before .before .before .before .before .before .before .before .before .before .before .before .before .before .pre in record { fits = omega (arith, inv .few, inv .within, f .1, p .1) }
 
 behind-requires : tie.Need-behind-requires Inv-loop μ-loop
 behind-requires c κs = search needs
 
 loop-less : tie.Need-loop-less Inv-loop μ-loop
 loop-less c =
-    let rest = c .before .before .before .before .before .before .before .before .before .before .before .before .before .before .before .args .rest .now in
-    let loop = c .before .before .before .before .before .before .before .before .before .before .before .before .loop in
-    let h = c .before .before .before .before .before .before .before .before .before .between .ensures in
-    let k = c .before .before .before .before .before .before .before .before .before .before .before .loop-test .taken in
-    let q = c .before .before .before .before .before .before .before .before .read-request in
+    let rest = c .before .before .before .before .before .before .before .before .before .before .before .before .before .before .before .before .args .rest .now in
+    let loop = c .before .before .before .before .before .before .before .before .before .before .before .before .before .loop in
+    let h = c .before .before .before .before .before .before .before .before .before .before .between .ensures in
+    let k = c .before .before .before .before .before .before .before .before .before .before .before .before .loop-test .taken in
+    let q = c .before .before .before .before .before .before .before .before .before .read-request in
+    let s = whole (loop .types) (loop .state) in
     let r = c .before .before .before .before .before .before .before .serve-asked in
     let n =
-    c .behind .ensures ∙ passed-line rest (loop .at) _ h k (q .result) (q .ensures) _ (c .before .before .before .before .before .before .before .before .before .before .next-line .ensures) in
-    let u = next-behind (loop .state) rest (loop .at) _ h k (q .result) (q .ensures) (r .result) (r .ensures) (c .behind .result) n in
+    c .behind .ensures ∙ passed-line rest (loop .at) _ h k (q .result) (q .ensures) _ (c .before .before .before .before .before .before .before .before .before .before .before .next-line .ensures) in
+    let u = next-behind s rest (loop .at) _ h k (q .result) (q .ensures) (done (r .last .0) (r .result)) (r .ensures) (c .behind .result) n in
     omega (arith, u .0, u .1)
 
 loop-again : tie.Need-loop-again Inv-loop μ-loop
 loop-again c =
-    let a = c .before .before .before .before .before .before .before .before .before .before .before .before .before .before .before .args in
-    let loop = c .before .before .before .before .before .before .before .before .before .before .before .before .loop in
-    let h = c .before .before .before .before .before .before .before .before .before .between .ensures in
-    let k = c .before .before .before .before .before .before .before .before .before .before .before .loop-test .taken in
-    let q = c .before .before .before .before .before .before .before .before .read-request in
+    let a = c .before .before .before .before .before .before .before .before .before .before .before .before .before .before .before .before .args in
+    let loop = c .before .before .before .before .before .before .before .before .before .before .before .before .before .loop in
+    let h = c .before .before .before .before .before .before .before .before .before .before .between .ensures in
+    let k = c .before .before .before .before .before .before .before .before .before .before .before .before .loop-test .taken in
+    let q = c .before .before .before .before .before .before .before .before .before .read-request in
+    let s = whole (loop .types) (loop .state) in
     let r = c .before .before .before .before .before .before .before .serve-asked in
     let n = c .behind .ensures ∙ passed-line (a .rest .now) (loop .at) _ h k (q .result) (q .ensures) _
-    (c .before .before .before .before .before .before .before .before .before .before .next-line .ensures) in
+    (c .before .before .before .before .before .before .before .before .before .before .before .next-line .ensures) in
     let f = c .before .before .before .before .write-answer .ensures in
-    going-on (a .s) (a .rest .now) (a .buf .now) (loop .state) (loop .buf) (loop .written) (loop .at) (loop .inv) _ h k (q .result) (q .ensures) (r .result) (r .ensures)
+    going-on (whole (a .types .now) (a .s)) (a .rest .now) (a .buf .now) s (loop .buf) (loop .written) (loop .at) (loop .inv) _ h k (q .result) (q .ensures)
+    (done (r .last .0) (r .result)) (r .ensures)
     (c .behind .result) n (c .before .before .before .before .before .before .least .ensures .0) (f .0) (f .1)
 
 same-length : tie.Need-same-length Inv-loop μ-loop
@@ -88,8 +93,10 @@ returns c =
     let a = c .before .before .before .before .args in
     let loop = c .before .loop in
     let l = c .loop-test .left in
-    let inv = loop .inv in
-    (going-done (a .s) (a .rest .now) (a .buf .now) (loop .state) (loop .buf) (loop .written) (loop .at) inv l, omega (arith, inv .few, inv .within, c .before .before .before .before .pre .1))
+    let inv = loop .inv in (
+      going-done (whole (a .types .now) (a .s)) (a .rest .now) (a .buf .now) (whole (loop .types) (loop .state)) (loop .buf) (loop .written) (loop .at) inv l,
+      omega (arith, inv .few, inv .within, c .before .before .before .before .pre .1),
+    )
 
 pub serve-lines-spec : {M : Type 1} → statement M
 serve-lines-spec =
