@@ -14,12 +14,13 @@ use Rattle.table.specs.Store.{rawTable, tableIn}
 use Rattle.sheet.proofs.Exact.{loaded-valid}
 use Rattle.sheetread.specs.declared.Sheet.{Sheet}
 use Rattle.sheetread.proofs.Accepted.{read-loaded, read-accepted}
-use Rattle.state.specs.declared.State.{State}
+use Rattle.state.specs.Whole.{Whole as State}
+use Rattle.state.specs.Whole.{whole}
 use Rattle.state.specs.View.{rawState, systemIn, stateLoaded}
 use Rattle.steps.specs.Served.{outcomeOf}
 use Rattle.serve.proofs.Stored.{counted-stored}
-use Rattle.run.specs.declared.Ran.{Ran}
 use Rattle.run.specs.Requested.{requests, runAsked, runHanded}
+use Rattle.run.specs.Ran.{Over as Ran}
 use Rattle.run.specs.Ran.{room, Runs}
 use Rattle.flat.specs.Flat.{Flat, countsIn, rawCells, rawPlaces, rawCalls, rawFlat}
 use Rattle.handing.specs.States.{outcomeOn}
@@ -50,7 +51,7 @@ shown bytes f a r b h = let t = sheetTable f in let v = valid bytes f a in let x
 }
 
 -- ---- The code. No record of a loaded state is counted but the table's.
-loaded-counted : (f : Sheet) → counted (rawState (stateLoaded (f .types) (f .links) (f .counts))) ≡ counted (first f)
+loaded-counted : (f : Sheet) → counted (rawState (whole (f .types) (stateLoaded (f .links) (f .counts)))) ≡ counted (first f)
 unfolding counted from
 loaded-counted f = refl
 

@@ -22,13 +22,14 @@ use Rattle.table.specs.Store.{rawTable, tableIn}
 use Rattle.sheet.specs.Sheet.{read}
 use Rattle.sheetread.specs.declared.Sheet.{Sheet}
 use Rattle.sheetread.specs.View.{answered}
-use Rattle.state.specs.declared.State.{State}
+use Rattle.state.specs.Whole.{Whole as State}
+use Rattle.state.specs.Whole.{whole}
 use Rattle.state.specs.View.{rawState, systemIn, stateLoaded}
-use Rattle.steps.specs.declared.Served.{Served}
+use Rattle.steps.specs.Served.{Done as Served}
 use Rattle.steps.specs.Served.{outcomeOf}
 use Rattle.serve.specs.Serves.{Serves}
-use Rattle.run.specs.declared.Ran.{Ran}
 use Rattle.run.specs.Requested.{requests, runAsked, runHanded}
+use Rattle.run.specs.Ran.{Over as Ran}
 use Rattle.run.specs.Ran.{room, Runs}
 use Rattle.flat.specs.Flat.{Flat, rawFlat, countsIn, cellCount, placeCount, callCount}
 use Rattle.handing.specs.States.{LentState, outcomeOn, Handed}
@@ -106,9 +107,10 @@ abbrev pub Shown : Type 0
 Shown = (bytes : List ℕ) (f : Sheet) → Accepts bytes f → (r : RawSystem) (b : Book) → History f r b → Holds r b
 
 -- ---- The code
--- A caller who keeps a `State`: the one made of the sheet begins a history, and what an entry point answers takes it on, accepted or refused; so does a run.
+-- A caller who keeps a state, the bytes of its types and the `State` beside them: the one made of the sheet begins a history, and what an entry point leaves takes it on,
+-- accepted or refused; so does a run.
 pub record OfStates (f : Sheet) : Type 0 where
-  pub begins : History f (rawState (stateLoaded (f .types) (f .links) (f .counts))) (opened (sheetTable f))
+  pub begins : History f (rawState (whole (f .types) (stateLoaded (f .links) (f .counts)))) (opened (sheetTable f))
   pub serves : (s : State) (b : Book) (q : Request) (y : Served) → History f (rawState s) b → Serves s q y → History f (rawState (y .state)) (feed b q (taken (outcomeOf (y .answer))))
   -- so that this holds of what the entry point of a call accepts
   pub calls : (s : State) (b : Book) (subject k m : ℤ) (vs : List ℤ) (y : Served) → History f (rawState s) b
