@@ -14,18 +14,18 @@ use Rattle.state.specs.View.{placesIn, isObject, behindOf}
 use Rattle.state.specs.Sound.{Falling, LayersAt}
 use Rattle.state.proofs.Laws.{goes-below, layers-end, layers-go}
 
-module _ (ps : Places) (h : Falling ps) (p : ℕ) (pl : p < ps .count) where
-  pub record Walk (list : List ℕ) (count q : ℕ) : Type 0 where
-    pub inside : q < ps .count
-    pub room : q + count ≤ p
-    pub slots : length list ≡ 128
-    pub rest : layersOf (placesIn ps) p ≡ take count list ++ layersOf (placesIn ps) q
+pub record Walk (ps : Places) (p : ℕ) (list : List ℕ) (count q : ℕ) : Type 0 where
+  pub inside : q < ps .count
+  pub room : q + count ≤ p
+  pub slots : length list ≡ 128
+  pub rest : layersOf (placesIn ps) p ≡ take count list ++ layersOf (placesIn ps) q
 
-  pub walk-starts : (list : List ℕ) → length list ≡ 128 → Walk list 0 p
+module _ (ps : Places) (h : Falling ps) (p : ℕ) (pl : p < ps .count) where
+  pub walk-starts : (list : List ℕ) → length list ≡ 128 → Walk ps p list 0 p
   walk-starts list e = record { inside = pl; room = omega arith; slots = e; rest = refl }
 
   -- the place q is reached, x is read there, and its type v stored
-  module _ (list : List ℕ) (count q : ℕ) (w : Walk list count q) (x : Placeᵐ) (e : x ≡ placeAt (placesIn ps) q) (v : ℕ) (t : v ≡ placeType x) where
+  module _ (list : List ℕ) (count q : ℕ) (w : Walk ps p list count q) (x : Placeᵐ) (e : x ≡ placeAt (placesIn ps) q) (v : ℕ) (t : v ≡ placeType x) where
     few : count < 128
     few = omega (arith, w .room, pl, h .count)
 
@@ -35,7 +35,7 @@ module _ (ps : Places) (h : Falling ps) (p : ℕ) (pl : p < ps .count) where
         ∙ ap (λ (l : List ℕ). l ++ xs) (take-suc-set list count v (omega (arith, few, w .slots)))
         ∙ append-snoc (take count list) v xs ∙ ap (λ (y : ℕ). take count list ++ (y ∷ xs)) t
 
-    pub walk-goes : isObject x ≡ false → (b : ℕ) → b ≡ behindOf x → (b < q) × Walk (set list count v) (count + 1) b
+    pub walk-goes : isObject x ≡ false → (b : ℕ) → b ≡ behindOf x → (b < q) × Walk ps p (set list count v) (count + 1) b
     walk-goes o b f =
         let less : b < q = subst (λ (n : ℕ). n < q) (sym f) (goes-below ps h q (w .inside) x e o) in (
           less,

@@ -327,8 +327,8 @@ pub fn base_of(ps: Places, p: usize) -> usize
     ensures { λ r. ⌜ BaseAt ps p r ⌝ }
 {
     let mut at = p;
-    while !is_object(place_at(ps, at)) {
-        at = place_behind(place_at(ps, at));
+    while !is_object(ps.list[at]) {
+        at = place_behind(ps.list[at]);
     }
     at
 }
@@ -348,13 +348,13 @@ pub fn layers_of(ps: Places, p: usize) -> Layers
     let mut list = [0u8; State::PLACES];
     let mut count: usize = 0;
     let mut at = p;
-    while !is_object(place_at(ps, at)) {
-        let x = place_at(ps, at);
+    while !is_object(ps.list[at]) {
+        let x = ps.list[at];
         list[count] = numbers::narrow(place_type(x));
         count += 1;
         at = place_behind(x);
     }
-    list[count] = numbers::narrow(place_type(place_at(ps, at)));
+    list[count] = numbers::narrow(place_type(ps.list[at]));
     Layers {
         list,
         count: count + 1,

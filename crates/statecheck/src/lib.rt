@@ -85,7 +85,7 @@ fn cells_fit(b: &[u8; TYPE_BYTES], c: Counts, places: usize, cs: Cells) -> bool
     let n = cs.count;
     let mut k: usize = 0;
     while k < n {
-        let x = state::cell_at(cs, k);
+        let x = cs.list[k];
         if !cell_fits(b, c, places, x) {
             return false;
         }
@@ -140,7 +140,7 @@ fn places_fit(b: &[u8; TYPE_BYTES], c: Counts, ps: Places) -> bool
     let n = ps.count;
     let mut p: usize = 0;
     while p < n {
-        let x = state::place_at(ps, p);
+        let x = ps.list[p];
         if !place_fits(b, c, p, x) {
             return false;
         }
@@ -169,7 +169,7 @@ fn calls_fit(c: Counts, cells: usize, js: Calls) -> bool
     let n = js.count;
     let mut j: usize = 0;
     while j < n {
-        let x = state::call_at(js, j);
+        let x = js.list[j];
         if !call_fits(c, cells, x) {
             return false;
         }

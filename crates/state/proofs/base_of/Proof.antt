@@ -1,68 +1,76 @@
 -- The invariant: the base looked for is that of the place reached. The measure is the place's number: what is behind lies below.
 use mathlib.Core.Path.{_≡_, refl, sym, ap, subst, _∙_}
-use mathlib.Core.Bool.{true, false}
+use mathlib.Core.Bool.{false}
 use Prim.Native.Nat.{_<_}
 use native.Mathlib.Omega.{arith}
+use lib.ListN.{getD}
 use borrow.Author.Needs.{needs}
 use borrow.Author.Tests.{not-true, not-false}
-use Rattle.model.specs.Crossing.{placeAt, baseOf}
-use Rattle.state.specs.View.{placesIn, placeOf, isObject, behindOf}
-use Rattle.state.proofs.Laws.{goes-below, base-ends, base-goes, based}
+use Rattle.model.specs.Crossing.{Place as Placeᵐ, placeAt, baseOf}
+use Rattle.state.specs.View.{placesIn, placeOf, blankPlace, isObject, behindOf}
+use Rattle.state.proofs.Laws.{place-is, goes-below, base-ends, base-goes, based}
 use Rattle.state.proofs.base_of.Statement.{statement}
 use Rattle.state.proofs.base_of.Tie as tie
 
 abbrev Inv-loop : tie.InvT-loop
-Inv-loop ps p at₀ at = (at < ps .count) × (baseOf (placesIn ps) p ≡ baseOf (placesIn ps) at)
+Inv-loop p ps at₀ at = (at < ps .count) × (baseOf (placesIn ps) p ≡ baseOf (placesIn ps) at)
 
 abbrev μ-loop : tie.MeasureT-loop
-μ-loop ps p at₀ at = at
+μ-loop p ps at₀ at = at
+
+-- at the top of a turn: the place reached is counted, and it is read from the array; behind an adapter lies a lower place
+abbrev Top : Type 0
+Top = tie.At-loop Inv-loop μ-loop
+
+inside : (c : Top) → c .loop .at < 128
+inside c = omega (arith, c .loop .inv .0, c .before .pre .0 .count)
+
+abbrev here : Top → Placeᵐ
+here c = placeOf (getD (c .before .args .t1 .list) (c .loop .at) blankPlace .place)
+
+counted : (c : Top) → here c ≡ placeAt (placesIn (c .before .args .t1)) (c .loop .at)
+counted c = sym (place-is (c .before .args .t1) (c .loop .at) (c .loop .inv .0))
+
+adapter : (c : tie.Then1 Inv-loop μ-loop) → isObject (here (c .before .before .before)) ≡ false
+adapter c = sym (c .before .is-object .ensures) ∙ not-true _ (c .if1 .taken)
+
+below : (c : Top) → isObject (here c) ≡ false → behindOf (here c) < c .loop .at
+below c = goes-below (c .before .args .t1) (c .before .pre .0) (c .loop .at) (c .loop .inv .0) (here c) (counted c)
 
 loop-holds : tie.Need-loop-holds Inv-loop μ-loop
 loop-holds c = (c .pre .1, refl)
 
-place-at-requires : tie.Need-place-at-requires Inv-loop μ-loop
-place-at-requires c κs = omega (arith, c .loop .inv .0, c .before .pre .0 .count)
+mul-is-object : tie.Need-mul-is-object Inv-loop μ-loop
+mul-is-object c = search needs
+
+element-copy-out-is-object : tie.Need-element-copy-out-is-object Inv-loop μ-loop
+element-copy-out-is-object c = inside c
 
 is-object-requires : tie.Need-is-object-requires Inv-loop μ-loop
 is-object-requires c κs = search needs
 
-place-at-requires-2 : tie.Need-place-at-requires-2 Inv-loop μ-loop
-place-at-requires-2 c κs = omega (arith, c .before .before .before .loop .inv .0, c .before .before .before .before .pre .0 .count)
+mul-place-behind : tie.Need-mul-place-behind Inv-loop μ-loop
+mul-place-behind c = search needs
+
+element-copy-out-place-behind : tie.Need-element-copy-out-place-behind Inv-loop μ-loop
+element-copy-out-place-behind c = inside (c .before .before .before)
 
 place-behind-requires : tie.Need-place-behind-requires Inv-loop μ-loop
 place-behind-requires c κs = search needs
 
 loop-less : tie.Need-loop-less Inv-loop μ-loop
-loop-less c = let ps = c .before .before .before .before .before .before .args .ps in
-    let h = c .before .before .before .before .before .before .pre .0 in
-    let l = c .before .before .before .before .before .loop in
-    let y = c .before .before .before .before .place-at in
-    let z = c .before .place-at2 in
-    let o : isObject (placeOf (y .result .place)) ≡ false = sym (c .before .before .before .is-object .ensures) ∙ not-true _ (c .before .before .if1 .taken) in
-    let ey : placeOf (y .result .place) ≡ placeAt (placesIn ps) (l .at) = y .ensures .1 (l .inv .0) in
-    let same : c .place-behind .result ≡ behindOf (placeOf (y .result .place)) = c .place-behind .ensures .0 ∙ ap behindOf (z .ensures .1 (l .inv .0) ∙ sym ey) in
-    let less : behindOf (placeOf (y .result .place)) < l .at = goes-below ps h (l .at) (l .inv .0) (placeOf (y .result .place)) ey o in
-    subst (λ n. n < l .at) (sym same) less
+loop-less c = let top = c .before .before .before .before .before in subst (λ n. n < top .loop .at) (sym (c .place-behind .ensures .0)) (below top (adapter (c .before .before)))
 
 loop-again : tie.Need-loop-again Inv-loop μ-loop
-loop-again c = let ps = c .before .before .before .before .before .before .args .ps in
-    let h = c .before .before .before .before .before .before .pre .0 in
-    let l = c .before .before .before .before .before .loop in
-    let y = c .before .before .before .before .place-at in
-    let z = c .before .place-at2 in
-    let o : isObject (placeOf (y .result .place)) ≡ false = sym (c .before .before .before .is-object .ensures) ∙ not-true _ (c .before .before .if1 .taken) in
-    let ey : placeOf (y .result .place) ≡ placeAt (placesIn ps) (l .at) = y .ensures .1 (l .inv .0) in
-    let same : c .place-behind .result ≡ behindOf (placeOf (y .result .place)) = c .place-behind .ensures .0 ∙ ap behindOf (z .ensures .1 (l .inv .0) ∙ sym ey) in
-    let less : behindOf (placeOf (y .result .place)) < l .at = goes-below ps h (l .at) (l .inv .0) (placeOf (y .result .place)) ey o in
-    let below : c .place-behind .result < l .at = subst (λ n. n < l .at) (sym same) less in
-    (omega (arith, below, l .inv .0), l .inv .1 ∙ base-goes ps h (l .at) (l .inv .0) (placeOf (y .result .place)) ey o ∙ ap (baseOf (placesIn ps)) (sym same))
+loop-again c = let top = c .before .before .before .before .before in let a = top .before in let l = top .loop in (
+  omega (arith, below top (adapter (c .before .before)), l .inv .0, c .place-behind .ensures .0),
+  l .inv .1 ∙ base-goes (a .args .t1) (a .pre .0) (l .at) (l .inv .0) (here top) (counted top) (adapter (c .before .before))
+      ∙ ap (baseOf (placesIn (a .args .t1))) (sym (c .place-behind .ensures .0)),
+)
 
 returns : tie.Need-returns Inv-loop μ-loop
-returns c = let ps = c .before .before .before .before .args .ps in
-    let l = c .before .before .before .loop in
-    let y = c .before .before .place-at in
-    let o : isObject (placeOf (y .result .place)) ≡ true = sym (c .before .is-object .ensures) ∙ not-false _ (c .if1 .left) in
-    based ps _ _ (l .inv .1) (base-ends ps (c .before .before .before .before .pre .0) (l .at) (l .inv .0) (placeOf (y .result .place)) (y .ensures .1 (l .inv .0)) o)
+returns c = let top = c .before .before .before in let a = top .before in let l = top .loop in
+    based (a .args .t1) _ _ (l .inv .1) (base-ends (a .args .t1) (a .pre .0) (l .at) (l .inv .0) (here top) (counted top) (sym (c .before .is-object .ensures) ∙ not-false _ (c .if1 .left)))
 
 pub base-of-spec : {M : Type 1} → statement M
 base-of-spec =
@@ -71,9 +79,11 @@ base-of-spec =
     Inv-loop
     μ-loop
     loop-holds
-    place-at-requires
+    mul-is-object
+    element-copy-out-is-object
     is-object-requires
-    place-at-requires-2
+    mul-place-behind
+    element-copy-out-place-behind
     place-behind-requires
     loop-less
     loop-again

@@ -6,9 +6,7 @@ use borrow.Author.Needs.{needs}
 use Rattle.tablecheck.proofs.Each.{rest-next, rest-broken, rest-end}
 use Rattle.tablecheck.proofs.Steps.{refused, passed}
 use Rattle.tablecheck.specs.Parts.{eachFrom}
-use Rattle.state.specs.View.{callOf}
-use Rattle.state.specs.declared.Call.{Call}
-use Rattle.statecheck.specs.Parts.{callAccepted, callsAccepted}
+use Rattle.statecheck.specs.Parts.{callsAccepted}
 use Rattle.statecheck.proofs.Steps.{CallAt}
 use Rattle.statecheck.proofs.calls_fit.Statement.{statement}
 use Rattle.statecheck.proofs.calls_fit.Tie as tie
@@ -21,19 +19,21 @@ abbrev μ-loop : tie.MeasureT-loop
 
 loop-holds : tie.Need-loop-holds Inv-loop μ-loop
 unfolding callsAccepted
-loop-holds c = let a = c .args in let e : a .js .count ≡ a .js .count - 0 = omega arith in (omega arith, refl, ap (λ (z : ℕ). eachFrom z 0 (CallAt (a .c) (a .cells) (a .js))) e)
+loop-holds c = let a = c .args in let e : a .t3 .count ≡ a .t3 .count - 0 = omega arith in (omega arith, refl, ap (λ (z : ℕ). eachFrom z 0 (CallAt (a .c) (a .cells) (a .t3))) e)
 
-call-at-requires : tie.Need-call-at-requires Inv-loop μ-loop
-call-at-requires c κs = omega (arith, c .loop-test .taken, c .before .before .pre)
+mul-x : tie.Need-mul-x Inv-loop μ-loop
+mul-x c = search needs
+
+element-copy-out-x : tie.Need-element-copy-out-x Inv-loop μ-loop
+element-copy-out-x c = search needs
 
 call-fits-requires : tie.Need-call-fits-requires Inv-loop μ-loop
 call-fits-requires c κs = search needs
 
 returns : tie.Need-returns Inv-loop μ-loop
 returns c = let a = c .before .before .before .before .before .args in let l = c .before .before .before .before .loop in
-    sym (l .inv .2 ∙ rest-broken (CallAt (a .c) (a .cells) (a .js)) (a .js .count) (l .j) (c .before .before .before .loop-test .taken)
-    (ap (λ (z : Call). callAccepted (a .c) (a .cells) (callOf z)) (sym (c .before .before .call-at .ensures .0))
-    ∙ refused (c .before .call-fits .result) _ (c .before .call-fits .ensures) (c .if1 .taken)))
+    sym (l .inv .2 ∙ rest-broken (CallAt (a .c) (a .cells) (a .t3)) (a .t3 .count) (l .j) (c .before .before .before .loop-test .taken)
+    (refused (c .before .call-fits .result) _ (c .before .call-fits .ensures) (c .if1 .taken)))
 
 add-j : tie.Need-add-j Inv-loop μ-loop
 add-j c = search needs
@@ -45,13 +45,12 @@ loop-again : tie.Need-loop-again Inv-loop μ-loop
 loop-again c = let a = c .before .before .before .before .before .args in let l = c .before .before .before .before .loop in (
   omega arith,
   refl,
-  l .inv .2 ∙ rest-next (CallAt (a .c) (a .cells) (a .js)) (a .js .count) (l .j) (c .before .before .before .loop-test .taken)
-      (ap (λ (z : Call). callAccepted (a .c) (a .cells) (callOf z)) (sym (c .before .before .call-at .ensures .0))
-      ∙ passed (c .before .call-fits .result) _ (c .before .call-fits .ensures) (c .if1 .left)),
+  l .inv .2 ∙ rest-next (CallAt (a .c) (a .cells) (a .t3)) (a .t3 .count) (l .j) (c .before .before .before .loop-test .taken)
+      (passed (c .before .call-fits .result) _ (c .before .call-fits .ensures) (c .if1 .left)),
 )
 
 returns-2 : tie.Need-returns-2 Inv-loop μ-loop
-returns-2 c = let a = c .before .before .args in let l = c .before .loop in sym (l .inv .2 ∙ rest-end (CallAt (a .c) (a .cells) (a .js)) (a .js .count) (l .j) (c .loop-test .left))
+returns-2 c = let a = c .before .before .args in let l = c .before .loop in sym (l .inv .2 ∙ rest-end (CallAt (a .c) (a .cells) (a .t3)) (a .t3 .count) (l .j) (c .loop-test .left))
 
 pub calls-fit-spec : {M : Type 1} → statement M
 calls-fit-spec =
@@ -60,7 +59,8 @@ calls-fit-spec =
     Inv-loop
     μ-loop
     loop-holds
-    call-at-requires
+    mul-x
+    element-copy-out-x
     call-fits-requires
     returns
     add-j

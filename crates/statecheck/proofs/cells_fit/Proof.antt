@@ -7,9 +7,7 @@ use Rattle.table.specs.Store.{typesIn}
 use Rattle.tablecheck.proofs.Each.{rest-next, rest-broken, rest-end}
 use Rattle.tablecheck.proofs.Steps.{refused, passed}
 use Rattle.tablecheck.specs.Parts.{eachFrom}
-use Rattle.state.specs.View.{cellOf}
-use Rattle.state.specs.declared.Cell.{Cell}
-use Rattle.statecheck.specs.Parts.{cellAccepted, cellsAccepted}
+use Rattle.statecheck.specs.Parts.{cellsAccepted}
 use Rattle.statecheck.proofs.Steps.{CellAt}
 use Rattle.statecheck.proofs.cells_fit.Statement.{statement}
 use Rattle.statecheck.proofs.cells_fit.Tie as tie
@@ -22,19 +20,21 @@ abbrev μ-loop : tie.MeasureT-loop
 
 loop-holds : tie.Need-loop-holds Inv-loop μ-loop
 unfolding cellsAccepted
-loop-holds c = let a = c .args in let e : a .cs .count ≡ a .cs .count - 0 = omega arith in (omega arith, refl, ap (λ (z : ℕ). eachFrom z 0 (CellAt (a .b .now) (a .c) (a .places) (a .cs))) e)
+loop-holds c = let a = c .args in let e : a .t4 .count ≡ a .t4 .count - 0 = omega arith in (omega arith, refl, ap (λ (z : ℕ). eachFrom z 0 (CellAt (a .b .now) (a .c) (a .places) (a .t4))) e)
 
-cell-at-requires : tie.Need-cell-at-requires Inv-loop μ-loop
-cell-at-requires c κs = omega (arith, c .loop-test .taken, c .before .before .pre .1)
+mul-x : tie.Need-mul-x Inv-loop μ-loop
+mul-x c = search needs
+
+element-copy-out-x : tie.Need-element-copy-out-x Inv-loop μ-loop
+element-copy-out-x c = search needs
 
 cell-fits-requires : tie.Need-cell-fits-requires Inv-loop μ-loop
 cell-fits-requires c κs = c .before .before .before .pre .0
 
 returns : tie.Need-returns Inv-loop μ-loop
 returns c = let a = c .before .before .before .before .before .args in let l = c .before .before .before .before .loop in
-    sym (l .inv .2 ∙ rest-broken (CellAt (a .b .now) (a .c) (a .places) (a .cs)) (a .cs .count) (l .k) (c .before .before .before .loop-test .taken)
-    (ap (λ (z : Cell). cellAccepted (typesIn (a .b .now)) (a .c) (a .places) (cellOf z)) (sym (c .before .before .cell-at .ensures .0))
-    ∙ refused (c .before .cell-fits .result) _ (c .before .cell-fits .ensures) (c .if1 .taken)))
+    sym (l .inv .2 ∙ rest-broken (CellAt (a .b .now) (a .c) (a .places) (a .t4)) (a .t4 .count) (l .k) (c .before .before .before .loop-test .taken)
+    (refused (c .before .cell-fits .result) _ (c .before .cell-fits .ensures) (c .if1 .taken)))
 
 add-k : tie.Need-add-k Inv-loop μ-loop
 add-k c = search needs
@@ -46,13 +46,12 @@ loop-again : tie.Need-loop-again Inv-loop μ-loop
 loop-again c = let a = c .before .before .before .before .before .args in let l = c .before .before .before .before .loop in (
   omega arith,
   refl,
-  l .inv .2 ∙ rest-next (CellAt (a .b .now) (a .c) (a .places) (a .cs)) (a .cs .count) (l .k) (c .before .before .before .loop-test .taken)
-      (ap (λ (z : Cell). cellAccepted (typesIn (a .b .now)) (a .c) (a .places) (cellOf z)) (sym (c .before .before .cell-at .ensures .0))
-      ∙ passed (c .before .cell-fits .result) _ (c .before .cell-fits .ensures) (c .if1 .left)),
+  l .inv .2 ∙ rest-next (CellAt (a .b .now) (a .c) (a .places) (a .t4)) (a .t4 .count) (l .k) (c .before .before .before .loop-test .taken)
+      (passed (c .before .cell-fits .result) _ (c .before .cell-fits .ensures) (c .if1 .left)),
 )
 
 returns-2 : tie.Need-returns-2 Inv-loop μ-loop
-returns-2 c = let a = c .before .before .args in let l = c .before .loop in sym (l .inv .2 ∙ rest-end (CellAt (a .b .now) (a .c) (a .places) (a .cs)) (a .cs .count) (l .k) (c .loop-test .left))
+returns-2 c = let a = c .before .before .args in let l = c .before .loop in sym (l .inv .2 ∙ rest-end (CellAt (a .b .now) (a .c) (a .places) (a .t4)) (a .t4 .count) (l .k) (c .loop-test .left))
 
 pub cells-fit-spec : {M : Type 1} → statement M
 cells-fit-spec =
@@ -61,7 +60,8 @@ cells-fit-spec =
     Inv-loop
     μ-loop
     loop-holds
-    cell-at-requires
+    mul-x
+    element-copy-out-x
     cell-fits-requires
     returns
     add-k
