@@ -46,8 +46,10 @@ module _ (f : Flat) (k : ℕ) (ws : List ℤ) where
     run-refused h = subst (λ x. RunsOut x (r .refusal) (lentRun f old served) (lentRun (withBytes f (r .state .types)) new served)) (same fits) (go (runHanded (rawState (stateFrom f)) k ws) w)
       where
         go : (x : Res (List Outcome × System)) → Runs (stateFrom f) old new x r → RunsOut x (r .refusal) (lentRun f old served) (lentRun (withBytes f (r .state .types)) new served)
-        go (refuse e) v = (ap (λ (z : Ran). z .refusal) (v .0),
-          ap (λ (z : Ran). lentRun (withBytes f (z .state .types)) new served) (v .0) ∙ ap (λ (z : List ℤ). lentRun f z served) (v .1))
+        go (refuse e) v = (
+          ap (λ (z : Ran). z .refusal) (v .0),
+          ap (λ (z : Ran). lentRun (withBytes f (z .state .types)) new served) (v .0) ∙ ap (λ (z : List ℤ). lentRun f z served) (v .1),
+        )
         go (ok x) v = absurd (h (v .refusal))
 
     -- taken: the state is stored in the arrays, g

@@ -127,7 +127,13 @@ fn either(a: bool, b: bool) -> bool
 }
 
 // The end of a run: where no request was taken, the types are given back, every byte (Q14).
-fn ended(types: &mut [u8; TYPE_BYTES], old: &[u8; TYPE_BYTES], any: bool, served: usize, state: State) -> Ran
+fn ended(
+    types: &mut [u8; TYPE_BYTES],
+    old: &[u8; TYPE_BYTES],
+    any: bool,
+    served: usize,
+    state: State,
+) -> Ran
     ensures { λ r. ⌜ (r ≡ record { refusal = 0; served = served; state = state }) × (now (types .exit) ≡ cond any (now (types .entry)) (now (old .entry))) ⌝ }
 {
     if any {
@@ -146,7 +152,13 @@ fn ended(types: &mut [u8; TYPE_BYTES], old: &[u8; TYPE_BYTES], any: bool, served
 }
 
 // Each on the state that those before it left, as long as there is room for an answer (U9).
-fn run_checked(types: &mut [u8; TYPE_BYTES], old: &[u8; TYPE_BYTES], s: State, words: &[i64], answers: &mut [i64]) -> Ran
+fn run_checked(
+    types: &mut [u8; TYPE_BYTES],
+    old: &[u8; TYPE_BYTES],
+    s: State,
+    words: &[i64],
+    answers: &mut [i64],
+) -> Ran
     requires { ⌜ Sound (whole (now types) s) × (now old ≡ now types) ⌝ }
     ensures { λ r. ⌜ Runs (whole (now (types .entry)) s) (now (answers .entry)) (now (answers .exit)) (ok (runAsked (systemIn (whole (now (types .entry)) s)) (requests (room (now (answers .entry))) (now (words .entry))))) (over (now (types .exit)) r) ⌝ }
 {
