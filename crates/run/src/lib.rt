@@ -14,10 +14,12 @@ ghost use Rattle.state.specs.Sound.{Sound};
 ghost use Rattle.steps.specs.Served.{outcomeOf, Step, done};
 ghost use Rattle.coded.specs.Coded.{serveAsked};
 ghost use Rattle.run.specs.Requested.{request, requests, runAsked, runHanded};
-ghost use Rattle.run.specs.Ran.{wordsOf, room, over, Runs, SmallAnswer, leftAt, countAt, askedAt, nextAt};
+ghost use Rattle.run.specs.Ran.{wordsOf, room, over, Runs};
+ghost use Rattle.run.specs.Loop.{SmallAnswer, leftAt, countAt, askedAt, nextAt};
 use coded::CODES;
 use coded::serve_coded;
 use operand::index_of;
+use serve::copied;
 use state::State;
 use steps::Answer;
 use steps::Served;
@@ -180,13 +182,6 @@ fn run_checked(
         at = next(words, at);
     }
     ended(types, old, any, served, state)
-}
-
-// A copy of lent bytes. Bytes that are held have their length, of lent ones nothing says it.
-fn copied(b: [u8; TYPE_BYTES]) -> [u8; TYPE_BYTES]
-    ensures { λ r. ⌜ (r ≡ b) × (length b ≡ 16384) ⌝ }
-{
-    b
 }
 
 // On any state handed in: 2 before all else, and nothing is served (U1).
