@@ -58,30 +58,6 @@ pub struct Carried {
     pub types: usize,
 }
 
-fn layer_at(l: Layers, i: usize) -> u8
-    requires { ⌜ i < 128 ⌝ }
-    ensures { λ r. ⌜ (r ≡ getD (l .list) i 0) × (length (l .list) ≡ 128) ⌝ }
-{
-    let list = l.list;
-    list[i]
-}
-
-fn type_at(w: Way, i: usize) -> usize
-    requires { ⌜ i < 129 ⌝ }
-    ensures { λ r. ⌜ (r ≡ getD (w .list) i 0) × (length (w .list) ≡ 129) ⌝ }
-{
-    let list = w.list;
-    wide(list[i])
-}
-
-fn target_in(x: Targets, i: usize) -> usize
-    requires { ⌜ i < 129 ⌝ }
-    ensures { λ r. ⌜ (r ≡ getD (x .list) i 0) × (length (x .list) ≡ 129) ⌝ }
-{
-    let list = x.list;
-    list[i]
-}
-
 pub fn way_of(sort: u8, l: Layers) -> Way
     requires { ⌜ l .count ≤ 128 ⌝ }
     ensures { λ r. ⌜ (wayIn r ≡ sort ∷ layersIn l) × (r .count ≡ suc (l .count)) ⌝ }
@@ -90,7 +66,7 @@ pub fn way_of(sort: u8, l: Layers) -> Way
     let mut list = [sort; Way::TYPES];
     let mut i: usize = 0;
     while i < n {
-        list[i + 1] = layer_at(l, i);
+        list[i + 1] = l.list[i];
         i += 1;
     }
     Way { list, count: n + 1 }
@@ -160,7 +136,7 @@ pub fn targets_of(types: &[u8; TYPE_BYTES], c: Counts, m: usize, s: Slot, w: Way
     let mut list = [0usize; Way::TYPES];
     let mut i: usize = 0;
     while i < n {
-        list[i] = target_at(types, c, m, s, type_at(w, i));
+        list[i] = target_at(types, c, m, s, wide(w.list[i]));
         i += 1;
     }
     Targets { list, count: n }
@@ -175,7 +151,7 @@ pub fn reversed(x: Targets) -> Targets
     let mut list = [0usize; Way::TYPES];
     let mut i: usize = 0;
     while i < n {
-        list[i] = target_in(x, n - i - 1);
+        list[i] = x.list[n - i - 1];
         i += 1;
     }
     Targets { list, count: n }
@@ -250,7 +226,7 @@ pub fn pass(types: &[u8; TYPE_BYTES], c: Counts, v: i64, targets: Targets) -> us
     let n = targets.count;
     let mut i: usize = 0;
     while i < n {
-        let e = pass_one(types, c, v, target_in(targets, i), i);
+        let e = pass_one(types, c, v, targets.list[i], i);
         if e != 0 {
             return e;
         }
@@ -348,7 +324,7 @@ pub fn carry(
     let n = targets.count;
     let mut i: usize = 0;
     while i < n {
-        x = carry_one(types, links, c, x, target_in(targets, i), r, i);
+        x = carry_one(types, links, c, x, targets.list[i], r, i);
         if x.refusal != 0 {
             return x;
         }

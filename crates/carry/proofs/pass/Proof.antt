@@ -5,6 +5,9 @@ use mir.Val.{toZ, ofZ}
 use mathlib.Core.List.{List}
 use Prim.Native.Nat.{ℕ, _-_, _≤_}
 use native.Mathlib.Omega.{arith}
+use borrow.Author.Needs.{needs}
+use lib.ListN.{length}
+use mathlib.Core.Path.{_≡_, refl}
 use Rattle.table.specs.Store.{tableIn}
 use Rattle.carry.proofs.Laws.{PassRest, pass-starts, pass-stops, pass-next, pass-ends}
 use Rattle.carry.proofs.pass.Statement.{statement}
@@ -16,11 +19,18 @@ Inv-loop types c v targets n i₀ i = (i ≤ targets .count) × ((l : List ℕ) 
 abbrev μ-loop : tie.MeasureT-loop
 μ-loop types c v targets n i₀ i = targets .count - i
 
-loop-holds : tie.Need-loop-holds Inv-loop μ-loop
-loop-holds c = let a = c .args in (omega arith, λ l. pass-starts (tableIn (a .types .now) l (a .c)) (toZ w64 (ofZ w64 (a .v))) (a .targets .list) (a .targets .count))
+-- the array has 129 elements
+long : (c : tie.Start Inv-loop μ-loop) → length (c .args .t4 .list) ≡ 129
+long c = search needs
 
-target-in-requires : tie.Need-target-in-requires Inv-loop μ-loop
-target-in-requires c κs = omega (arith, c .loop-test .taken, c .before .before .pre .1)
+loop-holds : tie.Need-loop-holds Inv-loop μ-loop
+loop-holds c = let a = c .args in (omega arith, λ l. pass-starts (tableIn (a .types .now) l (a .c)) (toZ w64 (ofZ w64 (a .v))) (a .t4 .list) (a .t4 .count))
+
+mul-pass-one : tie.Need-mul-pass-one Inv-loop μ-loop
+mul-pass-one c = omega (arith, c .loop-test .taken, c .before .before .pre .1)
+
+element-copy-out-pass-one : tie.Need-element-copy-out-pass-one Inv-loop μ-loop
+element-copy-out-pass-one c = omega (arith, c .loop-test .taken, c .before .before .pre .1)
 
 pass-one-requires : tie.Need-pass-one-requires Inv-loop μ-loop
 pass-one-requires c κs = c .before .before .before .pre .0
@@ -29,10 +39,9 @@ returns : tie.Need-returns Inv-loop μ-loop
 returns c =
     let a = c .before .before .before .before .before .args in
     let w = c .before .before .before .before .loop in
-    let y = c .before .before .target-in .ensures in
-    λ l. rw (toZ-ofZ (c .before .before .before .before .before .fits .v)) at (pass-stops (tableIn (a .types .now) l (a .c)) (toZ w64 (ofZ w64 (a .v))) (a .targets .list)
-    (a .targets .count) (y .1) (c .before .before .before .before .before .pre .1) (w .i) (c .before .before .before .loop-test .taken) (w .inv .1 l)
-    (c .before .before .target-in .result) (y .0) (c .before .pass-one .result) (c .before .pass-one .ensures l) (c .if1 .taken))
+    λ l. rw (toZ-ofZ (c .before .before .before .before .before .fits .v)) at (pass-stops (tableIn (a .types .now) l (a .c)) (toZ w64 (ofZ w64 (a .v))) (a .t4 .list)
+    (a .t4 .count) (long (c .before .before .before .before .before)) (c .before .before .before .before .before .pre .1) (w .i) (c .before .before .before .loop-test .taken) (w .inv .1 l)
+    _ refl (c .before .pass-one .result) (c .before .pass-one .ensures l) (c .if1 .taken))
 
 add-i : tie.Need-add-i Inv-loop μ-loop
 add-i c = omega (arith, c .before .before .before .loop-test .taken, c .before .before .before .before .before .pre .1)
@@ -43,19 +52,18 @@ loop-less c = omega (arith, c .before .before .before .loop-test .taken)
 loop-again : tie.Need-loop-again Inv-loop μ-loop
 loop-again c =
     let a = c .before .before .before .before .before .args in
-    let w = c .before .before .before .before .loop in
-    let y = c .before .before .target-in .ensures in (
+    let w = c .before .before .before .before .loop in (
       omega (arith, c .before .before .before .loop-test .taken),
-      λ l. pass-next (tableIn (a .types .now) l (a .c)) (toZ w64 (ofZ w64 (a .v))) (a .targets .list) (a .targets .count) (y .1) (c .before .before .before .before .before .pre .1) (w .i)
-          (c .before .before .before .loop-test .taken) (w .inv .1 l) (c .before .before .target-in .result) (y .0) (c .before .pass-one .result) (c .before .pass-one .ensures l)
+      λ l. pass-next (tableIn (a .types .now) l (a .c)) (toZ w64 (ofZ w64 (a .v))) (a .t4 .list) (a .t4 .count) (long (c .before .before .before .before .before)) (c .before .before .before .before .before .pre .1) (w .i)
+          (c .before .before .before .loop-test .taken) (w .inv .1 l) _ refl (c .before .pass-one .result) (c .before .pass-one .ensures l)
           (c .if1 .left),
     )
 
 returns-2 : tie.Need-returns-2 Inv-loop μ-loop
 returns-2 c =
     let a = c .before .before .args in
-    λ l. rw (toZ-ofZ (c .before .before .fits .v)) at (pass-ends (tableIn (a .types .now) l (a .c)) (toZ w64 (ofZ w64 (a .v))) (a .targets .list) (a .targets .count) (c .before .loop .i)
+    λ l. rw (toZ-ofZ (c .before .before .fits .v)) at (pass-ends (tableIn (a .types .now) l (a .c)) (toZ w64 (ofZ w64 (a .v))) (a .t4 .list) (a .t4 .count) (c .before .loop .i)
     (c .loop-test .left) (c .before .loop .inv .1 l))
 
 pub pass-spec : {M : Type 1} → statement M
-pass-spec = tie.close (tie.spec Inv-loop μ-loop loop-holds target-in-requires pass-one-requires returns add-i loop-less loop-again returns-2)
+pass-spec = tie.close (tie.spec Inv-loop μ-loop loop-holds mul-pass-one element-copy-out-pass-one pass-one-requires returns add-i loop-less loop-again returns-2)

@@ -4,6 +4,7 @@ use mathlib.Core.List.{_∷_}
 use Prim.Native.Nat.{_+_, _-_, _≤_}
 use native.Mathlib.Numerals.{add-one}
 use native.Mathlib.Omega.{arith}
+use borrow.Author.Needs.{needs}
 use lib.ListN.{length, take, length-set}
 use Rattle.carry.proofs.Laws.{way-next, way-ends}
 use Rattle.carry.proofs.way_of.Statement.{statement}
@@ -15,11 +16,15 @@ Inv-loop sort l n list₀ i₀ list i = (i ≤ l .count) × (length list ≡ 129
 abbrev μ-loop : tie.MeasureT-loop
 μ-loop sort l n list₀ i₀ list i = l .count - i
 
+-- the array has 128 elements
+long : (c : tie.Start Inv-loop μ-loop) → length (c .args .t2 .list) ≡ 128
+long c = search needs
+
 loop-holds : tie.Need-loop-holds Inv-loop μ-loop
 loop-holds c = (omega arith, refl, refl)
 
-layer-at-requires : tie.Need-layer-at-requires Inv-loop μ-loop
-layer-at-requires c κs = omega (arith, c .loop-test .taken, c .before .before .pre)
+element-copy-out-list : tie.Need-element-copy-out-list Inv-loop μ-loop
+element-copy-out-list c = omega (arith, c .loop-test .taken, c .before .before .pre)
 
 add-list : tie.Need-add-list Inv-loop μ-loop
 add-list c = omega (arith, c .before .loop-test .taken, c .before .before .before .pre)
@@ -35,23 +40,22 @@ loop-less c = omega (arith, c .before .loop-test .taken)
 
 loop-again : tie.Need-loop-again Inv-loop μ-loop
 loop-again c =
-    let w = c .before .before .loop in
-    let y = c .layer-at .ensures in (
+    let w = c .before .before .loop in (
       omega (arith, c .before .loop-test .taken),
       length-set (w .list) (w .i + 1) _ ∙ w .inv .1,
-      way-next (w .list) (c .before .before .before .args .l .list) (c .before .before .before .args .sort) (w .i) _ (w .inv .1)
-          (omega (arith, c .before .loop-test .taken, c .before .before .before .pre)) (y .1) (y .0) (w .inv .2),
+      way-next (w .list) (c .before .before .before .args .t2 .list) (c .before .before .before .args .sort) (w .i) _ (w .inv .1)
+          (omega (arith, c .before .loop-test .taken, c .before .before .before .pre)) (long (c .before .before .before)) refl (w .inv .2),
     )
 
-add-t12 : tie.Need-add-t12 Inv-loop μ-loop
-add-t12 c = omega (arith, c .before .before .pre)
+add-t15 : tie.Need-add-t15 Inv-loop μ-loop
+add-t15 c = omega (arith, c .before .before .pre)
 
 returns : tie.Need-returns Inv-loop μ-loop
 returns c = (
-  way-ends (c .before .loop .list) (c .before .before .args .l .list) (c .before .before .args .sort) (c .before .before .args .l .count) (c .before .loop .i)
+  way-ends (c .before .loop .list) (c .before .before .args .t2 .list) (c .before .before .args .sort) (c .before .before .args .t2 .count) (c .before .loop .i)
       (c .before .loop .inv .0) (c .loop-test .left) (c .before .loop .inv .2),
-  add-one (c .before .before .args .l .count),
+  add-one (c .before .before .args .t2 .count),
 )
 
 pub way-of-spec : {M : Type 1} → statement M
-way-of-spec = tie.close (tie.spec Inv-loop μ-loop loop-holds layer-at-requires add-list array-write-list add-i loop-less loop-again add-t12 returns)
+way-of-spec = tie.close (tie.spec Inv-loop μ-loop loop-holds element-copy-out-list add-list array-write-list add-i loop-less loop-again add-t15 returns)
