@@ -9,6 +9,7 @@ use numbers::least;
 use requestread::Asked;
 use requestread::read_request;
 use state::State;
+use steps::Answer;
 use steps::Served;
 use steps::refused;
 use table::TYPE_BYTES;
@@ -98,7 +99,11 @@ fn serve_lines(buf: &mut [u8], types: &mut [u8; TYPE_BYTES], s: State, rest: &[u
     ensures is { λ r. ⌜ Lined (now (buf .entry)) (now (buf .exit)) (linesFrom (systemIn (whole (now (types .entry)) s)) (split (now (rest .entry)))) r ⌝ }
     ensures few { λ r. ⌜ r ≤ 2392064 ⌝ }
 {
-    let mut state = s;
+    // what came of the last line, kept whole: a state taken out of it would be copied once more
+    let mut r = Served {
+        answer: Answer::Nothing,
+        state: s,
+    };
     let mut written: usize = 0;
     let mut at: usize = 0;
     while at < rest.len() {
@@ -107,12 +112,11 @@ fn serve_lines(buf: &mut [u8], types: &mut [u8; TYPE_BYTES], s: State, rest: &[u
         let l = between(rest, c, d);
         let q = read_request(l);
         let right = q.right;
-        let r = serve_asked(types, state, q);
+        r = serve_asked(types, r.state, q);
         let answer = r.answer;
         let k = least(written, buf.len());
         let more = write_answer(&mut buf[k..], answer);
         written += more;
-        state = r.state;
         at = behind(right, d.at, rest.len());
     }
     written

@@ -11,10 +11,10 @@ use Rattle.scripttext.proofs.serve_lines.Statement.{statement}
 use Rattle.scripttext.proofs.serve_lines.Tie as tie
 
 abbrev Inv-loop : tie.InvT-loop
-Inv-loop buf₀ types₀ rest state₀ written₀ at₀ buf types state written at = Going (whole types₀ state₀) rest buf₀ (whole types state) buf written at
+Inv-loop buf₀ types₀ rest r₀ written₀ at₀ buf types r written at = Going (whole types₀ (r₀ .state)) rest buf₀ (whole types (r .state)) buf written at
 
 abbrev μ-loop : tie.MeasureT-loop
-μ-loop buf₀ types₀ rest state₀ written₀ at₀ buf types state written at = length rest - at
+μ-loop buf₀ types₀ rest r₀ written₀ at₀ buf types r written at = length rest - at
 
 loop-holds : tie.Need-loop-holds Inv-loop μ-loop
 loop-holds c = let a = c .before .before in going-starts (whole (a .args .types .now) (a .args .s)) (a .args .rest .now) (a .args .buf .now) (a .pre .0)
@@ -57,33 +57,33 @@ behind-requires c κs = search needs
 
 loop-less : tie.Need-loop-less Inv-loop μ-loop
 loop-less c =
-    let rest = c .before .before .before .before .before .before .before .before .before .before .before .before .before .before .before .before .args .rest .now in
-    let loop = c .before .before .before .before .before .before .before .before .before .before .before .before .before .loop in
-    let h = c .before .before .before .before .before .before .before .before .before .before .between .ensures in
-    let k = c .before .before .before .before .before .before .before .before .before .before .before .before .loop-test .taken in
-    let q = c .before .before .before .before .before .before .before .before .before .read-request in
-    let s = whole (loop .types) (loop .state) in
-    let r = c .before .before .before .before .before .before .before .serve-asked in
+    let rest = c .before .before .before .before .before .before .before .before .before .before .before .before .before .before .before .args .rest .now in
+    let loop = c .before .before .before .before .before .before .before .before .before .before .before .before .loop in
+    let h = c .before .before .before .before .before .before .before .before .before .between .ensures in
+    let k = c .before .before .before .before .before .before .before .before .before .before .before .loop-test .taken in
+    let q = c .before .before .before .before .before .before .before .before .read-request in
+    let s = whole (loop .types) (loop .r .state) in
+    let r = c .before .before .before .before .before .before .serve-asked in
     let n =
-    c .behind .ensures ∙ passed-line rest (loop .at) _ h k (q .result) (q .ensures) _ (c .before .before .before .before .before .before .before .before .before .before .before .next-line .ensures) in
+    c .behind .ensures ∙ passed-line rest (loop .at) _ h k (q .result) (q .ensures) _ (c .before .before .before .before .before .before .before .before .before .before .next-line .ensures) in
     let u = next-behind s rest (loop .at) _ h k (q .result) (q .ensures) (done (r .last .0) (r .result)) (r .ensures) (c .behind .result) n in
     omega (arith, u .0, u .1)
 
 loop-again : tie.Need-loop-again Inv-loop μ-loop
 loop-again c =
-    let a = c .before .before .before .before .before .before .before .before .before .before .before .before .before .before .before .before .args in
-    let loop = c .before .before .before .before .before .before .before .before .before .before .before .before .before .loop in
-    let h = c .before .before .before .before .before .before .before .before .before .before .between .ensures in
-    let k = c .before .before .before .before .before .before .before .before .before .before .before .before .loop-test .taken in
-    let q = c .before .before .before .before .before .before .before .before .before .read-request in
-    let s = whole (loop .types) (loop .state) in
-    let r = c .before .before .before .before .before .before .before .serve-asked in
+    let a = c .before .before .before .before .before .before .before .before .before .before .before .before .before .before .before .args in
+    let loop = c .before .before .before .before .before .before .before .before .before .before .before .before .loop in
+    let h = c .before .before .before .before .before .before .before .before .before .between .ensures in
+    let k = c .before .before .before .before .before .before .before .before .before .before .before .loop-test .taken in
+    let q = c .before .before .before .before .before .before .before .before .read-request in
+    let s = whole (loop .types) (loop .r .state) in
+    let r = c .before .before .before .before .before .before .serve-asked in
     let n = c .behind .ensures ∙ passed-line (a .rest .now) (loop .at) _ h k (q .result) (q .ensures) _
-    (c .before .before .before .before .before .before .before .before .before .before .before .next-line .ensures) in
-    let f = c .before .before .before .before .write-answer .ensures in
+    (c .before .before .before .before .before .before .before .before .before .before .next-line .ensures) in
+    let f = c .before .before .before .write-answer .ensures in
     going-on (whole (a .types .now) (a .s)) (a .rest .now) (a .buf .now) s (loop .buf) (loop .written) (loop .at) (loop .inv) _ h k (q .result) (q .ensures)
     (done (r .last .0) (r .result)) (r .ensures)
-    (c .behind .result) n (c .before .before .before .before .before .before .least .ensures .0) (f .0) (f .1)
+    (c .behind .result) n (c .before .before .before .before .before .least .ensures .0) (f .0) (f .1)
 
 same-length : tie.Need-same-length Inv-loop μ-loop
 same-length c = c .before .loop .inv .lined .filled .size
@@ -94,7 +94,7 @@ returns c =
     let loop = c .before .loop in
     let l = c .loop-test .left in
     let inv = loop .inv in (
-      going-done (whole (a .types .now) (a .s)) (a .rest .now) (a .buf .now) (whole (loop .types) (loop .state)) (loop .buf) (loop .written) (loop .at) inv l,
+      going-done (whole (a .types .now) (a .s)) (a .rest .now) (a .buf .now) (whole (loop .types) (loop .r .state)) (loop .buf) (loop .written) (loop .at) inv l,
       omega (arith, inv .few, inv .within, c .before .before .before .before .pre .1),
     )
 
