@@ -20,7 +20,7 @@ use Rattle.model.specs.Chains.{Permits}
 use Rattle.model.specs.Book.{Note, Book, opened, noteAt, pageAt, pageWay, lastType, copyPage, copyArguments, copyAnswer, enter}
 use Rattle.model.specs.Claim.{accepted, feed, follow, reached}
 use Rattle.model.proofs.Tests.{ltb-so, so-ltb}
-use Rattle.model.proofs.Rules.{never, first, second, applied}
+use Rattle.model.proofs.Rules.{never, both, first, second, applied}
 use Rattle.model.proofs.States.{each, each₂}
 use Rattle.model.proofs.Largest.{keeps-related, related-inside}
 use Rattle.model.proofs.Order.{same-sort}
@@ -101,7 +101,7 @@ answer-tested s subject j v =
     go p (ok x) = p
 
 -- what a call is tested for is permitted: by the cell's type and the place's, so by the page's class and trail (L21)
-pub tested-permitted : (t : Table) → So (validSheet t) → (qs : List Request) (k m : ℤ) → Tested (reached t qs .0) k m → Permitted (reached t qs .1) k m
+pub tested-permitted : (t : Table) → So (validSheet t) → (qs : List Request) (k m : ℤ) → Tested (reached t qs .0) k m → Permitted (reached t qs .1) k (m ∷ [])
 tested-permitted t v qs k m h =
     let s = reached t qs .0 in let n = named k in
     let j = reached-together t (sheet-good t v) (sheet-fitting t v .0 .sheet) qs in
@@ -109,7 +109,7 @@ tested-permitted t v qs k m h =
     let tr = j .2 .track n l in
     let isr : So (isRef (typeAt (s .table) (cellAt s n .type) .rep)) = fits-bounded s (reached-fits t v qs) .cells n l .isref in
     let p = tr .chains (named m ∷ []) .0 (avail-permits (s .table) _ _ (tr .below) (named m) isr (h .avail)) in
-    subst (λ b. Permitted b k m) (sym (j .1)) (record { page = subst (λ i. So (names k i)) (sym (j .2 .long)) (h .cell); method = h .method; class = p .0; trail = p .1 })
+    subst (λ b. Permitted b k (m ∷ [])) (sym (j .1)) (record { page = subst (λ i. So (names k i)) (sym (j .2 .long)) (h .cell); methods = both (h .method) refl; class = p .0; trail = p .1 })
 
 -- ---- What a call was tested for stays so: no cell, no type and no method changes.
 names-more : (a : ℤ) (n n′ : ℕ) → n ≤ n′ → So (names a n) → So (names a n′)

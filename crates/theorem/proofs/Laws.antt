@@ -106,8 +106,8 @@ module _ (t : Table) (v : So (validSheet t)) where
           last (refuse n) p z = never z
           last (ok y) p z = p
 
-      pub means-called : (subject k m : ℤ) (vs : List ℤ) → Returns r (call subject k m vs) o r′ → Permitted b k m
-      means-called subject k m vs w = subst (λ x. Permitted x k m) (sym (h .book))
+      pub means-called : (subject k m : ℤ) (vs : List ℤ) → Returns r (call subject k m vs) o r′ → Permitted b k (m ∷ [])
+      means-called subject k m vs w = subst (λ x. Permitted x k (m ∷ [])) (sym (h .book))
           (tested-permitted t v (h .requests) k m (if-taken (call subject k m vs) w (call-tested (reached t (h .requests) .0) subject k m vs)))
 
       pub means-answered : (subject j : ℤ) (x : Option ℤ) → Returns r (answer subject j x) o r′ → So (names j (length (b .calls)))

@@ -2,4 +2,9 @@ pub mod Runs
 pub mod Calls
 pub mod Laws
 pub mod Shown
+pub mod Answers
+pub mod Offers
+pub mod Writes
+pub mod OfStates
+pub mod OfBytes
 pub mod Scripted

@@ -46,7 +46,7 @@ added-on t u w a b = record { sound = b .sound; grown = grown-trans (a .grown) (
     go i l k (no h) = b .each i (omega arith) k
 
 module _ (t : Table) (v : So (validSheet t)) where
-  follow-added : (qs : List Request) (s : System) (b : Book) → ((ps : List Request) → So (systemFits (follow s b ps .0))) → Added (s .table) (follow s b qs .0 .table)
+  pub follow-added : (qs : List Request) (s : System) (b : Book) → ((ps : List Request) → So (systemFits (follow s b ps .0))) → Added (s .table) (follow s b qs .0 .table)
   unfolding follow
   follow-added [] s b f = record { sound = fits-bounded s (f []) .table; grown = grown-refl (s .table); each = λ i l k. absurd (omega arith) }
   follow-added (q ∷ qs) s b f = let a = serve s q in

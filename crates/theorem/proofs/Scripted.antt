@@ -31,10 +31,11 @@ use Rattle.requestread.specs.Asked.{requestLine}
 use Rattle.answerwrite.specs.Answers.{integerText, outcomeText}
 use Rattle.scripttext.specs.Output.{maxInput, sheetPart, requestPart, asked, servedLines, printedLines, scriptOutput}
 use Rattle.scripttext.specs.Answer.{writtenOf}
+use Rattle.exports.specs.Codes.{WrittenIs}
 use Rattle.scripttext.proofs.Short.{output-short, output-fits}
 use Rattle.scripttext.proofs.Whole.{lastLine}
 use Rattle.theorem.specs.Shown.{Permitted}
-use Rattle.theorem.specs.Scripted.{Fits, TooShort, lineOf, requestsOf, endsMalformed, stateAfter, bookAfter, Served, ShownOfScripts}
+use Rattle.theorem.specs.Scripted.{Fits, TooShort, lineOf, requestsOf, endsMalformed, stateAfter, bookAfter, Served, Script, ShownOfScripts, writtenIn, ShownOfScriptBytes}
 use Rattle.theorem.proofs.Calls.{call-tested, tested-permitted}
 
 -- ---- the buffer
@@ -177,7 +178,7 @@ module _ (input : List ℕ) where
     prints k q h = ap (λ z. firstLine (drop k z)) lines-are ∙ line-prints qs k q h (start t) (opened t) (lastLine (endsMalformed input))
 
     calls : (k : ℕ) (subject cell method : ℤ) (vs : List ℤ) → getElem? qs k ≡ some (call subject cell method vs)
-        → So (starts (bytes "got=") (lineOf (scriptOutput input) k)) → Permitted (bookAfter input t k) cell method
+        → So (starts (bytes "got=") (lineOf (scriptOutput input) k)) → Permitted (bookAfter input t k) cell (method ∷ [])
     calls k subject cell method vs h g = let m = serve (stateAfter input t k) (call subject cell method vs) in
         tested-permitted t (loaded-valid (sheetPart input) t e) (take k qs) cell method
         (if-accepted m (call-tested (stateAfter input t k) subject cell method vs) (got-accepted m (subst (λ z. So (starts (bytes "got=") z)) (prints k (call subject cell method vs) h) g)))
@@ -198,8 +199,8 @@ enough : (input old : List ℕ) (w : Written) → Fits (scriptOutput input) old 
 enough input old w (inl f) h = f
 enough input old w (inr s) h = absurd (omega (arith, s .short))
 
-pub shown-of-scripts : ShownOfScripts
-shown-of-scripts input old new r e = let w = writtenOf r new in
+script-is : (input old : List ℕ) (w : Written) → w ≡ writeText (scriptOutput input) old → Script input old w
+script-is input old w e =
     let b = subst (λ z. Fits (scriptOutput input) old z ⊎ TooShort (scriptOutput input) old z) (sym e) (written (scriptOutput input) old) in record {
       buffer = b;
       room = λ h. enough input old w b (omega (arith, output-short input));
@@ -208,3 +209,24 @@ shown-of-scripts input old new r e = let w = writtenOf r new in
       refused = λ small n at r. output-is input small (malformed n at) r;
       served = served input;
     }
+
+pub shown-of-scripts : ShownOfScripts
+shown-of-scripts input old new r e = script-is input old (writtenOf r new) e
+
+-- number, length and buffer are all that the writer leaves
+written-in : (text old new : List ℕ) (n before len : ℕ) → WrittenIs (writeText text old) n before len new → writtenIn n len new ≡ writeText text old
+unfolding writeText
+written-in text old new n before len = go (leb (length text) (length old))
+  where
+    full : Written
+    full = record { answer = ok (length text); buffer = text ++ drop (length text) old }
+
+    short : Written
+    short = record { answer = refuse 4; buffer = old }
+
+    go : (b : Bool) → WrittenIs (cond b full short) n before len new → writtenIn n len new ≡ cond b full short
+    go true w = rw (w .number, w .length, w .bytes)
+    go false w = rw (w .number, w .bytes)
+
+pub shown-of-script-bytes : ShownOfScriptBytes
+shown-of-script-bytes input old new n before len w = script-is input old (writtenIn n len new) (written-in (scriptOutput input) old new n before len w)

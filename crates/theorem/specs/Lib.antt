@@ -1,2 +1,4 @@
 pub mod Shown
+pub mod OfStates
+pub mod OfBytes
 pub mod Scripted

@@ -1,12 +1,14 @@
 -- The theorem of the program `script`, from bytes to bytes: `ShownOfScripts`. For every input and every buffer that is lent, it says what stands in the buffer after the entry
 -- point, line by line; and what is known of every state on the way: demand 3 (L19 to L23), and that a call that is printed as accepted is of a permitted method.
--- The code comes in by the contract of its entry point alone (crate scripttext, `script`): `Written` is the answer and the buffer that it leaves. Proof: proofs/Scripted.
+-- The code comes in by the contract of its entry point alone (crate scripttext, `script`): `Written` is the answer and the buffer that it leaves. `ShownOfScriptBytes` says the
+-- same of the C function. Proof: proofs/Scripted.
 use mathlib.Core.Path.{_≡_}
 use mathlib.Core.Logic.{_⊎_}
 use mathlib.Core.Bool.{Bool, false, So, cond}
 use mathlib.Core.List.{List, [], _∷_}
 use mathlib.Core.Option.{none, some}
 use Prim.Native.Nat.{ℕ, _+_, _≤_, _<_}
+use lib.Dec.{eqb}
 use lib.IntN.{ℤ}
 use lib.ListN.{length, take, drop, getElem?}
 use Rattle.model.specs.Basics.{refuse, ok}
@@ -22,6 +24,7 @@ use Rattle.answerwrite.specs.Answers.{outcomeText}
 use Rattle.scripttext.specs.Output.{maxInput, sheetPart, requestPart, asked, scriptOutput}
 use Rattle.scripttext.specs.declared.Wrote.{Wrote}
 use Rattle.scripttext.specs.Answer.{writtenOf}
+use Rattle.exports.specs.Codes.{WrittenIs}
 use Rattle.theorem.specs.Shown.{Permitted}
 
 -- ---- The buffer, which was `old`
@@ -72,7 +75,7 @@ pub record Served (input : List ℕ) (t : Table) : Type 0 where
   -- The referee's question: where request k is a call and line k of the output begins with `got=`, the class and every type of the trail of the page of the called cell permit
   -- the method.
   pub calls : (k : ℕ) (subject cell method : ℤ) (vs : List ℤ) → getElem? (requestsOf input) k ≡ some (call subject cell method vs)
-      → So (starts (bytes "got=") (lineOf (scriptOutput input) k)) → Permitted (bookAfter input t k) cell method
+      → So (starts (bytes "got=") (lineOf (scriptOutput input) k)) → Permitted (bookAfter input t k) cell (method ∷ [])
 
 -- ---- The theorem
 pub record Script (input old : List ℕ) (w : Written) : Type 0 where
@@ -88,3 +91,10 @@ pub record Script (input old : List ℕ) (w : Written) : Type 0 where
 -- r and new are the answer and the buffer of `script`, by its contract.
 abbrev pub ShownOfScripts : Type 0
 ShownOfScripts = (input old new : List ℕ) (r : Wrote) → writtenOf r new ≡ writeText (scriptOutput input) old → Script input old (writtenOf r new)
+
+-- The same of `pilgonca_script`, by the number that it returned, the length that it stored and the buffer.
+abbrev pub writtenIn : ℕ → ℕ → List ℕ → Written
+writtenIn n len new = record { answer = cond (eqb n 0) (ok len) (refuse n); buffer = new }
+
+abbrev pub ShownOfScriptBytes : Type 0
+ShownOfScriptBytes = (input old new : List ℕ) (n before after : ℕ) → WrittenIs (writeText (scriptOutput input) old) n before after new → Script input old (writtenIn n after new)

@@ -1,0 +1,94 @@
+-- The answers of a run tell the book what its outcomes do: the first word of an answer is 0 exactly where the request was accepted.
+use mathlib.Core.Path.{_≡_, refl, ap, _∙_}
+use mathlib.Core.Bool.{Bool, true, false, cond}
+use mathlib.Core.List.{List, [], _∷_, _++_}
+use mathlib.Core.Option.{Option, none, some}
+use Prim.Native.Nat.{ℕ, zero, suc, _+_, _*_, _≤_, _<_}
+use native.Mathlib.Omega.{arith}
+use lib.Dec.{eqb}
+use lib.IntN.{ℤ, pos}
+use lib.ListN.{length, getD, take, drop, length-append}
+use lib.Seq.{sets, sets-eq}
+use Rattle.model.specs.Basics.{Res, refuse, ok, names, named}
+use Rattle.model.specs.Requests.{System, Request, Result, pair, number, nothing, Outcome, got, refused, outcome, serve, after, run}
+use Rattle.model.specs.Book.{Book}
+use Rattle.model.specs.Claim.{feed}
+use Rattle.model.proofs.Tests.{eqb-so}
+use Rattle.returned.proofs.Small.{Small, Named, small-serve}
+use Rattle.run.specs.Requested.{request, requests, asked, placed, runAsked}
+use Rattle.run.specs.Ran.{wordsOf, answersOf, room}
+use Rattle.theorem.specs.Shown.{taken, told}
+use Rattle.theorem.specs.OfStates.{isZero, toldBy}
+
+-- the number of a refusal is not 0
+pub not-zero : (n : ℕ) → 0 < n → eqb n 0 ≡ false
+not-zero n h = go (eqb n 0) refl
+  where
+    go : (c : Bool) → eqb n 0 ≡ c → eqb n 0 ≡ false
+    go false e = e
+    go true e = let z : n ≡ 0 = eqb-so e in absurd (omega arith)
+
+-- ---- the words of one answer
+module _ (ws rest : List ℤ) where
+  behind : (o : Outcome) → drop 4 ((wordsOf o ++ ws) ++ rest) ≡ ws ++ rest
+  behind (refused e) = refl
+  behind (got (pair a b)) = refl
+  behind (got (number v)) = refl
+  behind (got nothing) = refl
+
+  first-got : (x : Result) → isZero (getD ((wordsOf (got x) ++ ws) ++ rest) 0 (pos 1)) ≡ true
+  first-got (pair a b) = refl
+  first-got (number v) = refl
+  first-got nothing = refl
+
+  first-word : (s : System) (m : Res (System × Result)) → Small (λ (x : System × Result). Named s (x .0) (x .1)) m
+      → isZero (getD ((wordsOf (outcome m) ++ ws) ++ rest) 0 (pos 1)) ≡ taken (outcome m)
+  first-word s (refuse e) h = not-zero e (h .0)
+  first-word s (ok x) h = first-got (x .1)
+
+told-words : (qs : List (Option Request)) (s : System) (b : Book) (rest : List ℤ) → let os = placed qs (run s (asked qs) .0) in toldBy b qs (answersOf os ++ rest) ≡ told b qs os
+unfolding run answersOf
+told-words [] s b rest = refl
+told-words (none ∷ qs) s b rest = told-words qs s b rest
+told-words (some q ∷ qs) s b rest =
+    let a = serve s q in
+    let os = placed qs (run (after s a) (asked qs) .0) in
+    let ws = answersOf os in
+    ap (λ c. toldBy (feed b q c) qs (drop 4 ((wordsOf (outcome a) ++ ws) ++ rest))) (first-word ws rest s a (small-serve s q))
+    ∙ ap (λ z. toldBy (feed b q (taken (outcome a))) qs z) (behind ws rest (outcome a)) ∙ told-words qs (after s a) (feed b q (taken (outcome a))) rest
+
+-- ---- all of them: there is room
+pub outcomes-length : (qs : List (Option Request)) (s : System) → length (placed qs (run s (asked qs) .0)) ≡ length qs
+unfolding run
+outcomes-length [] s = refl
+outcomes-length (none ∷ qs) s = ap suc (outcomes-length qs s)
+outcomes-length (some q ∷ qs) s = ap suc (outcomes-length qs (after s (serve s q)))
+
+words-length : (o : Outcome) → length (wordsOf o) ≡ 4
+words-length (refused e) = refl
+words-length (got (pair a b)) = refl
+words-length (got (number v)) = refl
+words-length (got nothing) = refl
+
+answers-length : (os : List Outcome) → length (answersOf os) ≡ length os * 4
+unfolding answersOf
+answers-length [] = refl
+answers-length (o ∷ os) = omega (arith, length-append (wordsOf o) (answersOf os), words-length o, answers-length os)
+
+requests-few : (f : ℕ) (ws : List ℤ) → length (requests f ws) ≤ f
+unfolding requests
+requests-few zero ws = omega arith
+requests-few (suc f) [] = omega arith
+requests-few (suc f) (code ∷ []) = omega arith
+requests-few (suc f) (code ∷ n ∷ ws) = go (names n (suc (length ws))) (requests-few f (drop (named n) ws))
+  where
+    go : (c : Bool) → length (requests f (drop (named n) ws)) ≤ f → length (cond c (request code (take (named n) ws) ∷ requests f (drop (named n) ws)) (none ∷ [])) ≤ suc f
+    go true l = omega arith
+    go false l = omega arith
+
+pub answers-told : (words old : List ℤ) (s : System) (b : Book) → let qs = requests (room old) words in let os = runAsked s qs .0 in toldBy b qs (sets old 0 (answersOf os)) ≡ told b qs os
+answers-told words old s b =
+    let qs = requests (room old) words in
+    let os = runAsked s qs .0 in
+    let n : length (answersOf os) ≤ length old = omega (arith, answers-length os, outcomes-length qs s, requests-few (room old) words) in
+    ap (toldBy b qs) (sets-eq (answersOf os) old 0 (omega arith)) ∙ told-words qs s b (drop (0 + length (answersOf os)) old)

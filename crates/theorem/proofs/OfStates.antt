@@ -1,0 +1,87 @@
+-- The theorem of a caller in Rattle (specs/OfStates): each contract is a step of a history, or says what the book says.
+use mathlib.Core.Path.{_≡_, refl, ap, sym, subst, _∙_}
+use mathlib.Core.Logic.{_↔_}
+use mathlib.Core.Bool.{Bool, true, false, So}
+use mathlib.Core.List.{List}
+use mathlib.Core.Option.{Option}
+use lib.IntN.{ℤ}
+use lib.ListN.{length}
+use Rattle.model.specs.Basics.{Res, refuse, ok, need, from}
+use Rattle.model.specs.Requests.{Request}
+use Rattle.model.specs.Check.{RawSystem, systemOf, systemAccepted}
+use Rattle.model.specs.Handed.{counted, storedFrom}
+use Rattle.model.specs.Book.{Book}
+use Rattle.model.proofs.Rules.{never}
+use Rattle.sheetread.specs.declared.Sheet.{Sheet}
+use Rattle.state.specs.Whole.{Whole as State}
+use Rattle.state.specs.Whole.{whole}
+use Rattle.state.specs.View.{rawState, systemIn, stateLoaded}
+use Rattle.steps.specs.Served.{outcomeOf}
+use Rattle.serve.proofs.Stored.{counted-stored}
+use Rattle.run.specs.Requested.{requests, runAsked, runHanded}
+use Rattle.run.specs.Ran.{Over as Ran}
+use Rattle.run.specs.Ran.{room, RanAs, Runs}
+use Rattle.offers.specs.declared.Offered.{Offered}
+use Rattle.offers.specs.declared.Offered.the-variants.{Unfit, Yes, No}
+use Rattle.offers.specs.Chained.{offersNamed, offeredAs}
+use Rattle.theorem.specs.Shown.{first, RunReturns, History, begins, asks, runs, alike, Holds, Permitted}
+use Rattle.theorem.specs.OfStates.{toldBy, ShownOfStates}
+use Rattle.theorem.proofs.Shown.{shown}
+use Rattle.theorem.proofs.Answers.{outcomes-length, answers-told}
+use Rattle.theorem.proofs.Offers.{offers-is, offers-yes, offers-no}
+use Rattle.theorem.proofs.Writes.{written-back}
+
+-- no record of a loaded state is counted but the table's
+loaded-counted : (f : Sheet) → counted (rawState (whole (f .types) (stateLoaded (f .links) (f .counts)))) ≡ counted (first f)
+unfolding counted from
+loaded-counted f = refl
+
+-- ---- a run on a state that passes the check
+module _ (s : State) (words old new : List ℤ) (y : Ran) (p : So (systemAccepted (rawState s))) (w : Runs s old new (runHanded (rawState s) (room old) words) y) where
+  abbrev qs : List (Option Request)
+  qs = requests (room old) words
+
+  ran : RanAs s old new (runAsked (systemIn s) qs .0) (runAsked (systemIn s) qs .1) y
+  unfolding runHanded systemIn
+  ran = let m = runAsked (systemIn s) qs in subst (λ (b : Bool). Runs s old new (need b 2 λ _. ok m) y) p w
+
+  run-returns : RunReturns (rawState s) qs (runAsked (systemIn s) qs .0) (rawState (y .state))
+  unfolding systemIn
+  run-returns = record { outcomes = refl; records = counted-stored s (y .state) (ran .stored) ∙ ap (λ x. counted (storedFrom (rawState s) x)) (ran .is) }
+
+  run-goes-on : (f : Sheet) (b : Book) → History f (rawState s) b → (y .refusal ≡ 0) × (y .served ≡ length qs) × History f (rawState (y .state)) (toldBy b qs new)
+  run-goes-on f b h = let os = runAsked (systemIn s) qs .0 in (
+    ran .refusal,
+    ran .served ∙ outcomes-length qs (systemIn s),
+    subst (λ z. History f (rawState (y .state)) z) (sym (ap (toldBy b qs) (ran .answers) ∙ answers-told words old (systemIn s) b)) (runs {qs = qs} {os = os} h run-returns),
+  )
+
+-- ---- the code's three answers to Offers
+value : {a c : Bool} → ok a ≡ ok c → a ≡ c
+value p = cc
+
+abbrev isOk : Res Bool → Bool
+isOk (refuse n) = false
+isOk (ok c) = true
+
+abbrev isYes : Offered → Bool
+isYes Unfit = false
+isYes Yes = true
+isYes No = false
+
+module _ (r : RawSystem) (b : Book) (x : Holds r b) (k : ℤ) (w : List ℤ) where
+  said : (o : Offered) → offeredAs o ≡ ok (offersNamed (systemOf r) k w) → ((o ≡ Yes) ↔ Permitted b k w) × ((o ≡ No) ↔ (Permitted b k w → ⊥))
+  said Unfit e = never (ap isOk e)
+  said Yes e = let y = offers-yes r b x k w .0 (sym (value e)) in ((λ z. y, λ h. refl), (λ z. never (sym (ap isYes z)), λ h. absurd (h y)))
+  said No e = let n = offers-no r b x k w .0 (sym (value e)) in ((λ z. never (ap isYes z), λ h. absurd (n h)), (λ z. n, λ h. refl))
+
+pub shown-of-states : ShownOfStates
+shown-of-states bytes f a = record {
+  begins = alike begins (loaded-counted f);
+  serves = λ s b q y h w. asks h (w .returns);
+  calls = λ s b subject k m vs y h w e. shown bytes f a (rawState s) b h .calls subject k m vs (outcomeOf (y .answer)) (rawState (y .state)) (w .returns) e;
+  answers = λ s b subject j v y h w e. shown bytes f a (rawState s) b h .answers subject j v (outcomeOf (y .answer)) (rawState (y .state)) (w .returns) e;
+  runs = λ s b words old new y h w. run-goes-on s words old new y (shown bytes f a (rawState s) b h .passes) w f b h;
+  offers = λ s b k w o h e. let x = shown bytes f a (rawState s) b h in said (rawState s) b x k w o (e ∙ offers-is (rawState s) b x k w);
+  writes = λ s b w old new h e. e ∙ written-back bytes f a (rawState s) b h old;
+}
