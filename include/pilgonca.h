@@ -109,7 +109,11 @@ struct pilgonca_state {
 #define PILGONCA_TABLE_OF(table) (table)->types, (table)->links, (table)->counts
 #define PILGONCA_STATE_OF(state) (state)->types, (state)->links, (state)->cells, (state)->places, (state)->calls, (state)->counts
 
-/* ---- a table ---- */
+/* ---- a table ----
+ *
+ * Compare, write and pairs only read, so they also take the arrays of a state. The reader stores a table of its own: lent the arrays of a state it would put other types under
+ * its cells and places, and nothing that is proved of a state would be true of what stands there. A state is begun by pilgonca_load.
+ */
 
 /* Compare (R14): 2 or 7; else 16 plus the sum of 1 for subtype, 2 strict, 4 loose and 8 free. */
 size_t pilgonca_compare(
@@ -144,19 +148,10 @@ size_t pilgonca_pairs(
     const size_t counts[PILGONCA_TABLE_COUNTS],
     uint8_t out[PILGONCA_PAIR_BYTES]);
 
-/* A derivation (E10), for tests and tools: kind 0 Sub, 1 Sup, 2 Closed; the types that there are now, and the number of the one asked for. 2, 7, 11. */
-size_t pilgonca_derive(
-    uint8_t types[PILGONCA_TYPE_BYTES],
-    const uint8_t links[PILGONCA_LINK_BYTES],
-    size_t counts[PILGONCA_TABLE_COUNTS],
-    size_t kind,
-    int64_t t,
-    int64_t s,
-    size_t *number);
-
 /* ---- a state ----
  *
  * A request that is accepted stores the new state in the arrays lent, and three values: how many there are of it (0, 1 or 2), the first and the second, 0 where there is none.
+ * What is proved of references (L19 to L23) is proved of a state that pilgonca_load began, and that only the functions below have changed since, refused calls included.
  */
 
 /* The state of a sheet (Q10): as pilgonca_read, with no cells, places or calls. */

@@ -79,7 +79,7 @@ pub fn derive(
         links: &mut table.broader,
         counts,
     };
-    raw::derive(lent, asked.kind, asked.t, asked.s, number)
+    raw::tools::derive(lent, asked.kind, asked.t, asked.s, number)
 }
 
 /// Where a sheet is read to.

@@ -2,6 +2,7 @@
 //! arrays have their full length, so that nothing outside them is read or written. B has the layout, E12 what is returned: 0, or a refusal's number with nothing stored.
 //!
 //! Arrays are lent one by one ([`TableRef`], [`StateMut`] and their likes), so that they may stand wherever their owner keeps them; [`Table`] and [`State`] are owners.
+//! The feature `tools` adds `tools`, a derivation on a table, which no visit needs and no state should meet.
 
 mod functions;
 #[cfg(feature = "visits")]
@@ -9,7 +10,9 @@ mod state;
 
 #[cfg(feature = "visits")]
 pub use functions::states::{answer, call, load, move_reference, new_object, offers, run, script};
-pub use functions::{compare, derive, pairs, read, write};
+#[cfg(feature = "tools")]
+pub use functions::tools;
+pub use functions::{compare, pairs, read, write};
 #[cfg(feature = "visits")]
 pub use state::{
     CALL_RECORD, CELL_RECORD, Calls, Cells, MAX_CALLS, MAX_CELLS, MAX_PLACES, PLACE_RECORD, Places,

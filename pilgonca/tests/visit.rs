@@ -1,4 +1,4 @@
-//! examples/visit.c, compiled without a warning by the system's C compiler, prints what examples/visit.out has.
+//! The headers, and examples/visit.c, compile without a warning with the system's C compiler; the example prints what examples/visit.out has.
 
 use std::path::{Path, PathBuf};
 use std::process::Command;
@@ -7,22 +7,35 @@ fn root() -> PathBuf {
     Path::new(env!("CARGO_MANIFEST_DIR")).join("..")
 }
 
+/// The compiler accepts what it is told to compile, and says nothing.
+fn compile(tell: impl FnOnce(&mut Command) -> &mut Command) {
+    let mut cc = Command::new("cc");
+    cc.args(["-std=c99", "-Wall", "-Wextra", "-Werror", "-pedantic"])
+        .arg("-I")
+        .arg(root().join("include"));
+    let output = tell(&mut cc).output().expect("a C compiler, cc");
+    let said = String::from_utf8_lossy(&output.stderr);
+    assert!(output.status.success() && said.is_empty(), "cc: {said}");
+}
+
 /// Compiles the example; the path of the program.
 fn compiled() -> PathBuf {
     let program = Path::new(env!("CARGO_TARGET_TMPDIR")).join("visit");
-    let output = Command::new("cc")
-        .args(["-std=c99", "-Wall", "-Wextra", "-Werror", "-pedantic"])
-        .arg("-I")
-        .arg(root().join("include"))
-        .arg(root().join("examples/visit.c"))
-        .args(env!("PILGONCA_LIBRARIES").split(':'))
-        .arg("-o")
-        .arg(&program)
-        .output()
-        .expect("a C compiler, cc");
-    let said = String::from_utf8_lossy(&output.stderr);
-    assert!(output.status.success() && said.is_empty(), "cc: {said}");
+    compile(|cc| {
+        cc.arg(root().join("examples/visit.c"))
+            .args(env!("PILGONCA_LIBRARIES").split(':'))
+            .arg("-o")
+            .arg(&program)
+    });
     program
+}
+
+#[test]
+fn each_header_stands_alone() {
+    for name in ["pilgonca.h", "pilgonca_tools.h"] {
+        let header = root().join("include").join(name);
+        compile(|cc| cc.args(["-fsyntax-only", "-x", "c"]).arg(header));
+    }
 }
 
 #[test]

@@ -5,6 +5,8 @@
 
 #[cfg(feature = "visits")]
 pub mod states;
+#[cfg(feature = "tools")]
+pub mod tools;
 
 use super::{Links, PairTable, TableCounts, TableMut, TableRef, Types};
 
@@ -40,16 +42,6 @@ unsafe extern "C" {
         links: &Links,
         counts: &TableCounts,
         out: &mut PairTable,
-    ) -> usize;
-
-    fn pilgonca_derive(
-        types: &mut Types,
-        links: &Links,
-        counts: &mut TableCounts,
-        kind: usize,
-        t: i64,
-        s: i64,
-        number: &mut usize,
     ) -> usize;
 }
 
@@ -87,20 +79,7 @@ pub fn pairs(table: TableRef, out: &mut PairTable) -> usize {
     on_table!(pilgonca_pairs(table, out))
 }
 
-/// A derivation (E10): kind 0 is Sub, 1 Sup, 2 Closed; stores the type's number.
-///
-/// ```
-/// use pilgonca::{raw, EXAMPLE};
-/// let (mut table, mut at, mut number) = (raw::Table::default(), 0, 0);
-/// raw::read(EXAMPLE, table.lend_mut(), &mut at);
-/// assert_eq!(raw::derive(table.lend_mut(), 0, 3, 2, &mut number), 0);
-/// assert_eq!((number, table.counts[4]), (6, 7));
-/// ```
-pub fn derive(table: TableMut, kind: usize, t: i64, s: i64, number: &mut usize) -> usize {
-    on_table!(pilgonca_derive(table, kind, t, s, number))
-}
-
-/// Sheet read (S): refused, the offset is in `at`, and the table is empty (S32).
+/// Sheet read (S): refused, the offset is in `at`, and the table is empty (S32). It begins a table: lend it no array of a state, which `load` begins.
 ///
 /// ```
 /// use pilgonca::{raw, EXAMPLE};

@@ -1,4 +1,4 @@
-//! include/pilgonca.h and the declarations of the crate say what the Rattle source says: names, parameters in order, widths, constness, lengths of arrays, numbers.
+//! The headers in include/ and the declarations of the crate say what the Rattle source says: names, parameters in order, widths, constness, lengths of arrays, numbers.
 
 mod declarations;
 
@@ -17,6 +17,12 @@ fn read(path: &Path) -> String {
 
 fn header() -> Header {
     Header::of(&read(&root().join("include/pilgonca.h")))
+}
+
+/// Both headers, as the one for tools takes the other in.
+fn with_tools() -> Header {
+    let names = ["include/pilgonca.h", "include/pilgonca_tools.h"];
+    Header::of(&names.map(|name| read(&root().join(name))).concat())
 }
 
 /// The Rattle source of a crate, all files of it.
@@ -89,6 +95,7 @@ fn declared() -> Functions {
     let texts = [
         include_str!("../../src/raw/functions.rs"),
         include_str!("../../src/raw/functions/states.rs"),
+        include_str!("../../src/raw/functions/tools.rs"),
     ];
     let blocks = texts.map(|text| {
         let found = between(text, "extern \"C\" {", "\n}\n");
@@ -112,8 +119,28 @@ fn same(theirs: &Functions, exported: &Functions, whose: &str) {
 fn every_function_is_declared_as_it_is() {
     let exported = exported();
     println!("{} functions", exported.len());
-    same(&header().functions(), &exported, "the header");
+    same(&with_tools().functions(), &exported, "the headers");
     same(&declared(), &exported, "the crate");
+}
+
+/// What pilgonca.h offers to a caller who keeps a state changes it by a load, a request or a run, of which the claim speaks (L19 to L23). Beside these only the reader stores
+/// types, and its comment says what for.
+#[test]
+fn a_state_is_changed_by_requests_alone() {
+    let functions = header().functions();
+    let stores = |name: &&str| {
+        let parameters = &functions[*name].parameters;
+        parameters.iter().any(|(parameter, passed)| {
+            parameter == "types" && matches!(passed, Passed::Pointer { stored: true, .. })
+        })
+    };
+    let storing: Vec<&str> = functions
+        .keys()
+        .map(String::as_str)
+        .filter(stores)
+        .collect();
+    let steps = ["answer", "call", "load", "move", "new", "read", "run"];
+    assert_eq!(storing, steps.map(|step| format!("pilgonca_{step}")));
 }
 
 /// The numbers of the header by the crate that has each, and those of this crate.
