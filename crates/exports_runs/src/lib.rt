@@ -11,6 +11,7 @@ use flat::CALL_BYTES;
 use flat::CELL_BYTES;
 use flat::PLACE_BYTES;
 use offers::Offered;
+use state::State;
 use table::LINK_BYTES;
 use table::TYPE_BYTES;
 
@@ -42,9 +43,10 @@ pub extern "C" fn pilgonca_load(
     let c = r.counts;
     *types = t;
     *links = l;
-    *counts = [c.subjects, c.methods, c.cats, c.sheet, c.types, 0, 0, 0];
     *at = r.at;
     clear(cells, places, calls);
+    let s = State::loaded(l, c);
+    handing::store(s, cells, places, calls, counts);
     r.refusal
 }
 

@@ -28,9 +28,9 @@ use Rattle.state.specs.Whole.{Whole as State}
 use Rattle.state.specs.View.{cellOf, placeOf, callOf, blankCell, blankPlace, blankCall, rawState}
 use Rattle.flat.specs.Flat.{Flat, countsIn, cellCount, placeCount, callCount, rawCellAt, rawPlaceAt, rawCallAt, rawCells, rawPlaces, rawCalls, rawFlat}
 use Rattle.flat.specs.Records.{placeCodes, callCodes, cellFrom, placeBy, placeFrom, callFrom, upTo, cellsFrom, placesFrom, callsFrom, stateFrom, cellBytes, placeBytes, callBytes}
-use Rattle.flat.specs.Records.{cellRecords, placeRecords, callRecords, Behind, CellsTo, PlacesTo, CallsTo}
+use Rattle.flat.specs.Records.{cellRecords, placeRecords, callRecords, CellsTo, PlacesTo, CallsTo}
 use Rattle.flat.proofs.Filling.{below-least}
-use Rattle.flat.proofs.Rows.{Rows, row-first}
+use Rattle.flat.proofs.Rows.{Rows, rows-behind, row-first}
 
 -- ---- Written: each record's row is its bytes.
 abbrev pub recOf : PlaceRec → RawPlace
@@ -85,7 +85,7 @@ module _ (old b : List ℕ) (k : ℕ) where
         let l : i < k = below-least (cs .count) 256 k i m p q in
         from-first (λ i. rawCellAt b (i * 3)) 256 i noCell q
         ∙ rw (row-first 3 (cellRow cs) old k b rows i l (omega arith), rows .are i l 1 (omega arith), rows .are i l 2 (omega arith)) (sym (List·getD-map cellOf (cs .list) i blankCell)));
-    behind = λ i p. rows .behind i (omega (arith, p, few));
+    behind = rows-behind 3 (cellRow cs) old (cs .count * 3) k b (omega (arith, few)) rows;
   }
 
   pub places-written : (ps : Places) → length (ps .list) ≡ 128 → k ≡ min (ps .count) 128 → k ≤ ps .count → Rows 3 (placeRow ps) old k b → PlacesTo ps old b
@@ -96,7 +96,7 @@ module _ (old b : List ℕ) (k : ℕ) where
         from-first (λ i. rawPlaceAt b (i * 3)) 128 i noRawPlace q
         ∙ rw (row-first 3 (placeRow ps) old k b rows i l (omega arith), rows .are i l 1 (omega arith), rows .are i l 2 (omega arith))
         (place-read x ∙ sym (List·getD-map recOf (ps .list) i blankPlace)));
-    behind = λ i p. rows .behind i (omega (arith, p, few));
+    behind = rows-behind 3 (placeRow ps) old (ps .count * 3) k b (omega (arith, few)) rows;
   }
 
   pub calls-written : (js : Calls) → length (js .list) ≡ 256 → k ≡ min (js .count) 256 → k ≤ js .count → Rows 4 (callRow js) old k b → CallsTo js old b
@@ -107,7 +107,7 @@ module _ (old b : List ℕ) (k : ℕ) where
         from-first (λ i. rawCallAt b (i * 4)) 256 i noRawCall q
         ∙ rw (row-first 4 (callRow js) old k b rows i l (omega arith), rows .are i l 1 (omega arith), rows .are i l 2 (omega arith), rows .are i l 3 (omega arith))
         (sym (List·getD-map callRec (js .list) i blankCall)));
-    behind = λ i p. rows .behind i (omega (arith, p, few));
+    behind = rows-behind 4 (callRow js) old (js .count * 4) k b (omega (arith, few)) rows;
   }
 
 -- ---- Read: counted cells are the records of the bytes; a place or call is so where its code names something.

@@ -2,13 +2,12 @@
 use mathlib.Core.Path.{_≡_, refl, ap, sym, _∙_, subst}
 use mathlib.Core.List.{List, [], _∷_}
 use mathlib.Core.Logic.{⊎-elim}
-use Prim.Native.Nat.{ℕ, suc, _+_, _*_, _≤_, _<_}
+use Prim.Native.Nat.{ℕ, suc, _+_, _-_, _*_, _≤_, _<_}
 use native.Mathlib.Nat.{not-suc-le-zero}
 use native.Mathlib.Omega.{arith}
-use lib.ListN.{length, getD, set}
-use lib.Seq.{sets, length-sets}
+use lib.ListN.{length, getD, set, drop, length-drop}
+use lib.Seq.{sets, length-sets, getD-drop, ext-getD}
 use Rattle.table.proofs.Lists.{same-or, getD-sets-below, getD-sets-above, getD-sets-in}
-use Rattle.flat.specs.Records.{Behind}
 
 -- four stores, as the code has them
 pub four : (b : List ℕ) (at x₀ x₁ x₂ x₃ : ℕ) → set (set (set (set b at x₀) (at + 1) x₁) (at + 2) x₂) (at + 3) x₃ ≡ sets b at (x₀ ∷ x₁ ∷ x₂ ∷ x₃ ∷ [])
@@ -23,10 +22,15 @@ module _ (w : ℕ) (f : ℕ → List ℕ) (old : List ℕ) where
   pub record Rows (k : ℕ) (b : List ℕ) : Type 0 where
     pub long : length b ≡ length old
     pub are : (i : ℕ) → i < k → (j : ℕ) → j < w → getD b (i * w + j) 0 ≡ getD (f i) j 0
-    pub behind : Behind (k * w) old b
+    pub behind : (i : ℕ) → k * w ≤ i → getD b i 0 ≡ getD old i 0
 
   pub rows-none : Rows 0 old
   rows-none = record { long = refl; are = λ i h. absurd (not-suc-le-zero h); behind = λ i h. refl }
+
+  -- all that lies behind the rows, from n on
+  pub rows-behind : (n k : ℕ) (b : List ℕ) → k * w ≤ n → Rows k b → drop n b ≡ drop n old
+  rows-behind n k b h rows = ext-getD 0 (drop n b) (drop n old) (length-drop n b ∙ ap (λ (l : ℕ). l - n) (rows .long) ∙ sym (length-drop n old))
+      (λ i p. getD-drop n b i 0 ∙ rows .behind (n + i) (omega (arith, h)) ∙ sym (getD-drop n old i 0))
 
   -- the first byte of a row
   pub row-first : (k : ℕ) (b : List ℕ) → Rows k b → (i : ℕ) → i < k → 0 < w → getD b (i * w) 0 ≡ getD (f i) 0 0

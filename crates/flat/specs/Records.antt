@@ -2,9 +2,9 @@
 use mathlib.Core.Path.{_≡_}
 use mathlib.Core.Bool.{Bool, cond}
 use mathlib.Core.List.{List, [], _∷_, map}
-use Prim.Native.Nat.{ℕ, zero, suc, _+_, _*_, _≤_}
+use Prim.Native.Nat.{ℕ, zero, suc, _+_, _*_}
 use lib.Dec.{eqb, ltb}
-use lib.ListN.{getD}
+use lib.ListN.{getD, drop}
 use Rattle.model.specs.Basics.{from, all}
 use Rattle.model.specs.Relations.{bit}
 use Rattle.model.specs.Requests.{Cell as Cellᵐ, noCell}
@@ -89,18 +89,15 @@ placeRecords ps = map (λ p. placeRecord (placeOf (p .place))) (ps .list)
 abbrev pub callRecords : Calls → List RawCall
 callRecords js = map (λ c. callRecord (callOf c)) (js .list)
 
--- Written into an array: the counted records are these, and every byte from `at` on, behind them, is as it was.
-abbrev pub Behind : ℕ → List ℕ → List ℕ → Type 0
-Behind at old new = (i : ℕ) → at ≤ i → getD new i 0 ≡ getD old i 0
-
+-- Written into an array: the counted records are these, and every byte behind them is as it was.
 pub record CellsTo (cs : Cells) (old new : List ℕ) : Type 0 where
   pub counted : firstOf (cs .count) noCell (rawCells new) ≡ firstOf (cs .count) noCell (cellRecords cs)
-  pub behind : Behind (cs .count * 3) old new
+  pub behind : drop (cs .count * 3) new ≡ drop (cs .count * 3) old
 
 pub record PlacesTo (ps : Places) (old new : List ℕ) : Type 0 where
   pub counted : firstOf (ps .count) noRawPlace (rawPlaces new) ≡ firstOf (ps .count) noRawPlace (placeRecords ps)
-  pub behind : Behind (ps .count * 3) old new
+  pub behind : drop (ps .count * 3) new ≡ drop (ps .count * 3) old
 
 pub record CallsTo (js : Calls) (old new : List ℕ) : Type 0 where
   pub counted : firstOf (js .count) noRawCall (rawCalls new) ≡ firstOf (js .count) noRawCall (callRecords js)
-  pub behind : Behind (js .count * 4) old new
+  pub behind : drop (js .count * 4) new ≡ drop (js .count * 4) old

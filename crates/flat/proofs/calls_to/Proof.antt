@@ -1,6 +1,6 @@
 -- The bytes are written row by row, up to the count or the array's end (Rows); what they then say is `calls-written`.
 use mathlib.Core.Path.{_≡_, refl, _∙_}
-use Prim.Native.Nat.{ℕ, _-_, _≤_}
+use Prim.Native.Nat.{_-_, _≤_}
 use lib.ListN.{length, length-map}
 use Rattle.flat.proofs.Rows.{Rows, rows-none, rows-more}
 use Rattle.flat.proofs.Laws.{callRow, below-4, next-4, calls-written}

@@ -1,7 +1,7 @@
 -- The bytes are written row by row, up to the count or the array's end (Rows); what they then say is `places-written`.
 use Rattle.state.specs.View.{blankPlace}
 use mathlib.Core.Path.{_≡_, _∙_}
-use Prim.Native.Nat.{ℕ, _-_, _≤_}
+use Prim.Native.Nat.{_-_, _≤_}
 use lib.ListN.{length, getD, length-map}
 use Rattle.flat.proofs.Rows.{Rows, rows-none, rows-more}
 use Rattle.flat.proofs.Laws.{placeRow, below-3, next-3, places-written, place-wide}

@@ -6,7 +6,6 @@ use Prim.Native.Nat.{ℕ, _-_}
 use Rattle.state.specs.Whole.{whole}
 use Rattle.steps.specs.Served.{done}
 use Rattle.run.specs.Ran.{room, over}
-use Rattle.run.specs.declared.Ran.{Ran}
 use Rattle.run.proofs.Laws.{Going, going-starts, going-full, going-done, going-on}
 use Rattle.run.proofs.Small.{step-small}
 use borrow.Author.Needs.{needs}
