@@ -1,4 +1,5 @@
-// A request by its code and operands (U2 to U6), which the run's words and the script's lines come down to. What it comes to is the definition `serveAsked` in specs/Coded.antt.
+// A request by its code and operands (U2 to U6), which the run's words, the script's lines and the C functions of single requests come down to. What it comes
+// to is the definition `serveAsked` in specs/Coded.antt.
 ghost use Rattle.state.specs.Whole.{whole};
 ghost use Rattle.state.specs.View.{systemIn};
 ghost use Rattle.state.specs.Sound.{Sound};
@@ -44,8 +45,8 @@ fn serve_move(types: &mut [u8; TYPE_BYTES], s: State, ops: &[i64]) -> Served
     moves::move_step(types, s, ops[0], ops[1], ops[2], ops[3])
 }
 
-// Call: three, and its arguments (U4). The step is called in two places, since the compiler makes what is called once a part of its caller: the stack of a call, the largest of
-// the four requests', would be taken by every other request too.
+// Call: three, and its arguments (U4). The step is called in two places, since the compiler makes what is called once a part of its caller: the stack of a
+// call, the largest of the four requests', would be taken by every other request too.
 fn serve_call(types: &mut [u8; TYPE_BYTES], s: State, ops: &[i64]) -> Served
     requires { ⌜ Sound (whole (now types) s) ⌝ }
     ensures { λ r. ⌜ Step (whole (now (types .entry)) s) (serveAsked (systemIn (whole (now (types .entry)) s)) (byCode 2 (now (ops .entry)))) (done (now (types .exit)) r) ⌝ }
@@ -74,7 +75,7 @@ fn serve_answer(types: &mut [u8; TYPE_BYTES], s: State, ops: &[i64]) -> Served
     answering::answer_step(types, s, ops[0], ops[1], Given::Value(v))
 }
 
-// The request of a code and its operands: 1 where there is none such (U6). The run and the script both serve by it.
+// The request of a code and its operands: 1 where there is none such (U6). Every request is served by it.
 pub fn serve_coded(types: &mut [u8; TYPE_BYTES], s: State, k: usize, ops: &[i64]) -> Served
     requires { ⌜ Sound (whole (now types) s) ⌝ }
     ensures { λ r. ⌜ Step (whole (now (types .entry)) s) (serveAsked (systemIn (whole (now (types .entry)) s)) (byCode k (now (ops .entry)))) (done (now (types .exit)) r) ⌝ }

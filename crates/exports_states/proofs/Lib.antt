@@ -1,1 +1,3 @@
-pub mod Giving
+pub mod Listing
+pub mod Cut
+pub mod Handing

@@ -1,9 +1,29 @@
--- What the C functions of the requests take, beside what crate `handing` says of a request.
+-- What the C functions of the requests take, beside what crate `handing` says of a request, and the operands that they make of it.
+use mathlib.Core.Path.{_≡_}
+use mathlib.Core.List.{List, _∷_}
 use mathlib.Core.Option.{Option, none, some}
-use Prim.Native.Nat.{ℕ, zero, suc}
+use Prim.Native.Nat.{ℕ, zero, suc, _≤_}
 use lib.IntN.{ℤ}
+use lib.ListN.{length, take}
+use Rattle.model.specs.Table.{maxArguments}
+use Rattle.exports_states.specs.declared.Operands.{Operands}
 
 -- what is given as an answer: nothing for 0, else the value
 abbrev pub givenIn : ℕ → ℤ → Option ℤ
 givenIn zero v = none
 givenIn (suc n) v = some v
+
+-- ---- The operands.
+-- how many an answer has
+abbrev pub answerOperands : ℕ → ℕ
+answerOperands zero = 2
+answerOperands (suc n) = 3
+
+-- those of a call: one argument more than a signature may have is as many as matter
+abbrev pub callOperands : ℤ → ℤ → ℤ → List ℤ → List ℤ
+callOperands subject cell method vs = subject ∷ cell ∷ method ∷ take (suc maxArguments) vs
+
+-- o has these operands
+pub record Listed (ws : List ℤ) (o : Operands) : Type 0 where
+  pub is : take (o .count) (o .items) ≡ ws
+  pub fits : o .count ≤ length (o .items)

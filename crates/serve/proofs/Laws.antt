@@ -1,8 +1,9 @@
 -- A step on a state that passes the check of 2 serves the request, and so does a refusal with 2 on any other: what the entry points end with. And what `Serves` says of
 -- the meaning of the state that comes back.
 use mathlib.Core.Path.{_≡_, refl, ap, sym, subst, _∙_}
-use mathlib.Core.Bool.{Bool, true, false, So}
+use mathlib.Core.Bool.{Bool, true, false, So, cond}
 use mathlib.Core.List.{List, _++_, map, flatten, append-nil}
+use mathlib.Core.Option.{Option, none, some}
 use Prim.Native.Nat.{ℕ, _*_, _≤_}
 use native.Mathlib.Omega.{arith}
 use lib.ListN.{take, drop, drop-of-length-le}
@@ -27,7 +28,9 @@ use Rattle.steps.specs.declared.Served.{Served as Answered}
 use Rattle.steps.specs.Served.{Done as Served, refusalOf as refusal}
 use Rattle.steps.specs.Served.{outcomeOf, servedWith, servedAs, done, Step}
 use Rattle.steps.proofs.Laws.{refuses}
-use Rattle.serve.specs.Serves.{defined, leaves, givenBack, Serves}
+use Rattle.coded.specs.Coded.{serveAsked}
+use Rattle.coded.proofs.Laws.{outcome-is}
+use Rattle.serve.specs.Serves.{defined, leaves, givenBack, Serves, ServesAsked}
 use Rattle.serve.proofs.Stored.{sized, counted-stored, counts-stored, bytes-stored}
 
 -- the answers that are refusals
@@ -102,9 +105,13 @@ module _ (s : State) (q : Request) (r : Served) (h : So (systemAccepted (rawStat
   }
 
 -- a step on a state that was taken, its types given back
-pub back-serves : (b t t′ : List ℕ) (s : Rest) (q : Request) (r : Answered) → Sound (whole b s) → So (systemAccepted (rawState (whole b s)))
-    → Step (whole b s) (serve (systemIn (whole b s)) q) (done t r) → t′ ≡ givenBack b t (r .answer) → Serves (whole b s) q (done t′ r)
-back-serves b t t′ s q r h k w e = step-serves (whole b s) q (done t′ r) k (back-step h w e) (back-stays h w e)
+pub back-serves : (b t t′ : List ℕ) (s : Rest) (q : Option Request) (r : Answered) → Sound (whole b s) → So (systemAccepted (rawState (whole b s)))
+    → Step (whole b s) (serveAsked (systemIn (whole b s)) q) (done t r) → t′ ≡ givenBack b t (r .answer) → ServesAsked (whole b s) q (done t′ r)
+unfolding serveAsked
+back-serves b t t′ s none r h k w e = let z = refused-answer (r .answer) 1 (sym (outcome-is (whole b s) (refuse 1) (done t r) w)) in
+    ap (λ (x : State). record { answer = r .answer; state = x }) (back-stays h w e 1 z) ∙ ap (λ (a : Answer). record { answer = a; state = whole b s }) z
+    ∙ ap (λ (x : Bool). refusal (whole b s) (cond x 1 2)) (sym k)
+back-serves b t t′ s (some q) r h k w e = step-serves (whole b s) q (done t′ r) k (back-step h w e) (back-stays h w e)
 
 -- ---- a refusal with 2
 module _ (s : State) (q : Request) (no : systemAccepted (rawState s) ≡ false) where
@@ -136,8 +143,10 @@ module _ (s : State) (q : Request) (no : systemAccepted (rawState s) ≡ false) 
         (sym untouched) (ap (λ (n : ℕ). take (n * 128) (s .types)) (sized s) ∙ all-old);
   }
 
-  pub refused-serves : (r : Served) → r ≡ refusal s 2 → Serves s q r
-  refused-serves r e = subst (λ x. Serves s q x) (sym e) two-serves
+-- of a request or of none
+pub refused-serves : (s : State) (q : Option Request) → systemAccepted (rawState s) ≡ false → (r : Served) → r ≡ refusal s 2 → ServesAsked s q r
+refused-serves s none h r e = e ∙ ap (λ (x : Bool). refusal s (cond x 1 2)) (sym h)
+refused-serves s (some q) h r e = subst (λ x. Serves s q x) (sym e) (two-serves s q h)
 
 -- ---- what `Serves` says in the words of the model: the answer, and the meaning of the state that comes back
 module _ (s : State) (q : Request) (r : Served) (w : Serves s q r) where

@@ -2,6 +2,7 @@
 use mathlib.Core.Path.{_≡_}
 use mathlib.Core.Bool.{cond}
 use mathlib.Core.List.{List, _++_, map, flatten}
+use mathlib.Core.Option.{Option, none, some}
 use Prim.Native.Nat.{ℕ, _*_}
 use lib.ListN.{take, drop}
 use Rattle.model.specs.Basics.{Res, need}
@@ -16,7 +17,7 @@ use Rattle.state.specs.View.{rawState, systemIn}
 use Rattle.steps.specs.declared.Answer.{Answer}
 use Rattle.steps.specs.declared.Answer.the-variants.{Refused}
 use Rattle.steps.specs.Served.{Done as Served}
-use Rattle.steps.specs.Served.{outcomeOf}
+use Rattle.steps.specs.Served.{outcomeOf, refusalOf}
 use Rattle.sending.specs.Sent.{isAccepted}
 
 -- What the definition makes of the request: 2 before all else (Q13). And the state that it leaves: the one handed in where it refuses.
@@ -42,3 +43,8 @@ pub record Serves (s : State) (q : Request) (r : Served) : Type 0 where
   pub counts : r .state .counts ≡ withCount (s .counts) (size (leaves s q .table))
   -- Every counted byte of the types: those that there were, and behind them the record that stands for each new one (B22).
   pub types : take (size (leaves s q .table) * 128) (r .state .types) ≡ take (s .counts .types * 128) (s .types) ++ flatten (map bytesOf (drop (s .counts .types) (leaves s q .table .types)))
+
+-- The same of a code and its operands, which may name no request: that is refused with 1, behind 2, and the state that comes back is the one handed in, every byte of it (U6).
+abbrev pub ServesAsked : State → Option Request → Served → Type 0
+ServesAsked s none r = r ≡ refusalOf s (cond (systemAccepted (rawState s)) 1 2)
+ServesAsked s (some q) r = Serves s q r

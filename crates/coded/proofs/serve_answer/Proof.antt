@@ -30,7 +30,8 @@ refused-requires c κs = search needs
 
 returns-2 : tie.Need-returns-2
 returns-2 c = let a = c .before .before .before .args in let s = whole (a .types .now) (a .s) in let w = a .ops .now in
-    refuses s (byCode 3 w) (done (a .types .now) (c .refused .result)) (c .before .before .before .pre) (answer-none (systemIn s) w (c .before .before .if1 .left) (c .before .if2 .taken)) (ap (done (a .types .now)) (c .refused .ensures))
+    refuses s (byCode 3 w) (done (a .types .now) (c .refused .result)) (c .before .before .before .pre) (answer-none (systemIn s) w (c .before .before .if1 .left) (c .before .if2 .taken))
+    (ap (done (a .types .now)) (c .refused .ensures))
 
 shared-slice-copy-out-v : tie.Need-shared-slice-copy-out-v
 shared-slice-copy-out-v c = search needs
@@ -47,7 +48,8 @@ answer-step-requires-2 c κs = search needs
 returns-3 : tie.Need-returns-3
 returns-3 c = let a = c .before .before .before .before .before .before .before .args in let s = whole (a .types .now) (a .s) in let w = a .ops .now in
     step-as (sym (answer-is (systemIn s) w (c .before .before .before .before .before .before .if1 .left) (c .before .before .before .before .before .if2 .left)))
-    (rw (is-read w 0 (c .before .before .answer-step-arg5 .given), is-read w 1 (c .before .answer-step-arg6 .given), is-read w 2 (c .before .before .before .before .v .given)) at (c .answer-step2 .ensures))
+    (rw (is-read w 0 (c .before .before .answer-step-arg5 .given), is-read w 1 (c .before .answer-step-arg6 .given), is-read w 2 (c .before .before .before .before .v .given)) at
+    (c .answer-step2 .ensures))
 
 pub serve-answer-spec : {M : Type 1} → statement M
 serve-answer-spec =

@@ -1,67 +1,43 @@
--- The C function hands back what `serve::answer` comes to on the state that the bytes mean; on a refusal every array is as it was (crate handing).
-use mathlib.Core.Path.{refl}
+-- Its operands are the request, two or three of them (`answer-is`); a signed number is kept as 64 bits (`toZ-ofZ`).
+use mathlib.Core.Path.{sym}
+use lib.Seq.{length-take-le}
 use mir.Facts.{toZ-ofZ}
-use Rattle.model.specs.Requests.{answer}
-use Rattle.flat.specs.Flat.{flat}
-use Rattle.handing.proofs.Small.{served-small}
-use Rattle.handing.proofs.Handing.{request-unfit, request-handed}
-use Rattle.exports_states.specs.States.{givenIn}
 use borrow.Author.Needs.{needs}
-use Rattle.state.specs.Whole.{whole}
-use Rattle.steps.specs.Served.{done}
+use Rattle.model.specs.Requests.{answer}
+use Rattle.exports_states.specs.States.{givenIn}
+use Rattle.exports_states.proofs.Listing.{answer-few, answer-is}
 use Rattle.exports_states.proofs.pilgonca_answer.Statement.{statement}
 use Rattle.exports_states.proofs.pilgonca_answer.Tie as tie
 
-element-copy-out-codes-fit : tie.Need-element-copy-out-codes-fit
-element-copy-out-codes-fit c = search needs
+answer-count-requires : tie.Need-answer-count-requires
+answer-count-requires c κs = search needs
 
-element-copy-out-codes-fit-2 : tie.Need-element-copy-out-codes-fit-2
-element-copy-out-codes-fit-2 c = search needs
+array-share-prefix-ops : tie.Need-array-share-prefix-ops
+array-share-prefix-ops c =
+    let n = c .before .before .before .before .before .answer-count in
+    search (needs, answer-few (c .before .before .before .before .before .before .args .given) (n .result) (n .ensures))
 
-codes-fit-requires : tie.Need-codes-fit-requires
-codes-fit-requires c κs = search needs
+slice-aggregate-serve-bytes : tie.Need-slice-aggregate-serve-bytes
+slice-aggregate-serve-bytes c = let a = c .before .before .before .before .before .before .before .args in let n = c .before .before .before .before .before .before .answer-count in
+    sym (length-take-le (n .result) _ (answer-few (a .given) (n .result) (n .ensures)))
+
+serve-bytes-requires : tie.Need-serve-bytes-requires
+serve-bytes-requires c κs = search needs
 
 returns : tie.Need-returns
-returns c = let a = c .before .before .before .before .before .before .args in
-    request-unfit (flat (a .types .now) (a .links .now) (a .cells .now) (a .places .now) (a .calls .now) (a .counts .now)) _ (a .values .now) _ (c .before .codes-fit .ensures) (c .if1 .taken)
-
-state-from-requires : tie.Need-state-from-requires
-state-from-requires c κs = search needs
-
-given-of-requires : tie.Need-given-of-requires
-given-of-requires c κs = search needs
-
-answer-requires : tie.Need-answer-requires
-answer-requires c κs = search needs
-
-hand-back-requires : tie.Need-hand-back-requires
-hand-back-requires c κs = served-small _ _ _ (c .before .before .before .before .before .answer .ensures)
-
-returns-2 : tie.Need-returns-2
-returns-2 c =
-    let a = c .before .before .before .before .before .before .before .before .before .before .before .before .before .before .before .before .before .before .before .before .args in
-    let f = flat (a .types .now) (a .links .now) (a .cells .now) (a .places .now) (a .calls .now) (a .counts .now) in
-    let q = answer (a .subject) (a .call) (givenIn (a .given) (a .value)) in
-    let t = c .before .before .before .before .before .before .before .before .before .before .before .before .before .before .before .before .before .before .before .before .fits in
-    let r = c .before .before .before .before .before .before .answer in
-    let g = rw (toZ-ofZ (t .value)) at (c .before .before .before .before .before .before .before .before .given-of .ensures) in
-    let w = rw (toZ-ofZ (t .subject), toZ-ofZ (t .call), g) at (r .ensures) in
-    let s = c .before .before .before .before .before .before .before .before .before .state-from in
-    request-handed f q (a .values .now) _ (c .before .before .before .before .before .before .before .before .before .before .before .before .before .before .before .codes-fit .ensures)
-    (c .before .before .before .before .before .before .before .before .before .before .before .before .before .before .if1 .left) (whole (a .types .now) (s .result)) (s .ensures (a .types .now))
-    (done (r .last .0) (r .result)) w _ _ _ refl
-    (c .hand-back .ensures (r .last .0) (a .links .now))
+returns c =
+    let a = c .before .before .before .before .before .before .before .before .before .args in
+    let f = c .before .before .before .before .before .before .before .before .before .fits in
+    let n = c .before .before .before .before .before .before .before .before .answer-count in
+    c .serve-bytes .ensures (answer (a .subject) (a .call) (givenIn (a .given) (a .value)))
+    (rw (toZ-ofZ (f .subject), toZ-ofZ (f .call), toZ-ofZ (f .value)) (answer-is (a .given) (n .result) (n .ensures) (a .subject) (a .call) (a .value)))
 
 pub pilgonca-answer-spec : {M : Type 1} → statement M
 pilgonca-answer-spec =
     tie.close
     (tie.spec
-    element-copy-out-codes-fit
-    element-copy-out-codes-fit-2
-    codes-fit-requires
-    returns
-    state-from-requires
-    given-of-requires
-    answer-requires
-    hand-back-requires
-    returns-2)
+    answer-count-requires
+    array-share-prefix-ops
+    slice-aggregate-serve-bytes
+    serve-bytes-requires
+    returns)
