@@ -1,5 +1,5 @@
 -- Laws over plain values for the line kinds: words, broader categories, signatures and methods. The proofs of the functions cite them.
-use mathlib.Core.Path.{_≡_, refl, sym, ap, _∙_}
+use mathlib.Core.Path.{_≡_, refl, sym, ap, _∙_, subst}
 use mathlib.Core.Bool.{Bool, true, false, _&&_, cond}
 use mathlib.Core.List.{List, [], _∷_, _++_}
 use mathlib.Core.Option.{Option, none, some}
@@ -9,19 +9,22 @@ use native.Mathlib.Numerals.{add-one}
 use lib.Dec.{eqb, ltb, leb}
 use lib.ListN.{length, getD, set, take, drop}
 use lib.Seq.{length-take-le, take-suc-set, take-suc, getD-take, getD-set-other}
-use borrow.Author.Tests.{leb-true, leb-false, lt-ltb, le-ltb, eq-eqb, ne-eqb}
+use borrow.Author.Tests.{ltb-true, leb-true, leb-false, lt-ltb, le-ltb, eq-eqb, ne-eqb}
 use Rattle.model.specs.Basics.{Res, refuse, ok, try, need, all, unlessMissing}
 use Rattle.model.specs.Table.{State, denied, optional, avail, unavail, Rep, ref, w32, w64, Method, permit, bare}
 use Rattle.model.specs.Check.{RawLinks, stateOf, answerOf, methodOf, linksOf}
 use Rattle.model.specs.Records.{linksRecord}
-use Rattle.model.proofs.Rules.{never}
+use Rattle.model.proofs.Rules.{never, first, second}
 use Rattle.sheet.specs.Lines.{bytes, starts, same, keyed, choice}
-use Rattle.sheet.specs.Numbers.{Scan, fail, took, bindScan, whole, number, numbers}
+use Rattle.sheet.specs.Numbers.{Scan, fail, took, bindScan, whole, number, comma, numbers}
 use Rattle.sheet.specs.Text.{repText, ownText, stateText, endText}
 use Rattle.sheet.specs.Sheet.{repLine, ownLine, endLine, underLine, closing, arguments, answer, below, signature, methodLine}
-use Rattle.textread.specs.View.{result}
-use Rattle.textread.proofs.Laws.{from-here, at-end}
-use Rattle.lineread.specs.View.{LinksExact}
+use Rattle.textread.specs.View.{scanned, result}
+use Rattle.textread.proofs.Laws.{from-here, at-end, scan-none}
+use Rattle.lineread.specs.View.{LinksExact, argsOf, ArgsWithin, NoArgs, bareLine, Opens}
+use Rattle.lineread.specs.declared.Args.{Args}
+use Rattle.lineread.specs.declared.Opening.{Opening}
+use Rattle.lineread.specs.declared.Opening.the-variants.{Other, Signed}
 
 -- a refusal's number isn't 0
 pub result-refused : {A : Type 0} (nr : ℕ) (x : A) → 0 < nr → result nr x ≡ refuse nr
@@ -253,21 +256,34 @@ module _ (l : List ℕ) (at : ℕ) (h : at < length l) where
     args-list : arguments (drop at l) ≡ bindScan (numbers 2 [] (drop at l)) closing
     args-list = args-here ∙ ap (λ z. cond z (took [] (drop (at + 1) l)) (bindScan (numbers 2 [] (drop at l)) closing)) (ne-eqb (getD l at 0) 41 ne)
 
-    pub args-wrong : fail ≡ numbers 2 [] (drop at l) → fail ≡ arguments (drop at l)
-    args-wrong q = sym (args-list ∙ ap (λ z. bindScan z closing) (sym q))
+    pub args-wrong : fail ≡ number (drop at l) → fail ≡ arguments (drop at l)
+    unfolding numbers
+    args-wrong q = ap (λ z. bindScan (bindScan z (λ a r. comma (a ∷ []) (λ p. numbers 1 (a ∷ []) p) r)) closing) q ∙ sym args-list
 
-    module _ (xs : List ℕ) (e : ℕ) (q : took xs (drop e l) ≡ numbers 2 [] (drop at l)) where
-      listed : arguments (drop at l) ≡ closing xs (drop e l)
-      listed = args-list ∙ ap (λ z. bindScan z closing) (sym q)
+    module _ (x e : ℕ) (q : took x (drop e l) ≡ number (drop at l)) where
+      first-taken : bindScan (comma (x ∷ []) (λ p. numbers 1 (x ∷ []) p) (drop e l)) closing ≡ arguments (drop at l)
+      unfolding numbers
+      first-taken = ap (λ z. bindScan (bindScan z (λ a r. comma (a ∷ []) (λ p. numbers 1 (a ∷ []) p) r)) closing) q ∙ sym args-list
 
       pub args-open : e ≡ length l → fail ≡ arguments (drop at l)
-      args-open b = sym (listed ∙ ap (closing xs) (at-end l e (omega arith)))
+      args-open b = ap (λ z. bindScan (comma (x ∷ []) (λ p. numbers 1 (x ∷ []) p) z) closing) (sym (at-end l e (omega arith))) ∙ first-taken
 
-      pub args-other : e < length l → (getD l e 0 ≡ 41 → ⊥) → fail ≡ arguments (drop at l)
-      args-other b w = sym (listed ∙ ap (closing xs) (from-here l e b) ∙ ap (λ z. cond z (took xs (drop (e + 1) l)) fail) (ne-eqb (getD l e 0) 41 w))
+      module _ (b : e < length l) where
+        behind-first : (w : ℕ) → getD l e 0 ≡ w → bindScan (comma (x ∷ []) (λ p. numbers 1 (x ∷ []) p) (w ∷ drop (e + 1) l)) closing ≡ arguments (drop at l)
+        behind-first w g =
+            ap (λ z. bindScan (comma (x ∷ []) (λ p. numbers 1 (x ∷ []) p) z) closing) (ap (λ z. z ∷ drop (e + 1) l) (sym g) ∙ sym (from-here l e b)) ∙ first-taken
 
-      pub args-closed : e < length l → getD l e 0 ≡ 41 → took xs (drop (e + 1) l) ≡ arguments (drop at l)
-      args-closed b w = sym (listed ∙ ap (closing xs) (from-here l e b) ∙ ap (λ z. cond z (took xs (drop (e + 1) l)) fail) (eq-eqb (getD l e 0) 41 w))
+        pub args-closed : getD l e 0 ≡ 41 → took (x ∷ []) (drop (e + 1) l) ≡ arguments (drop at l)
+        args-closed g = behind-first 41 g
+
+        pub args-comma : getD l e 0 ≡ 44 → bindScan (numbers 1 (x ∷ []) (drop (e + 1) l)) closing ≡ arguments (drop at l)
+        args-comma g = behind-first 44 g
+
+        pub args-other : (getD l e 0 ≡ 41 → ⊥) → (getD l e 0 ≡ 44 → ⊥) → fail ≡ arguments (drop at l)
+        args-other v w =
+            ap (λ z. cond z (took (x ∷ []) (drop (e + 1) l)) fail) (sym (ne-eqb (getD l e 0) 41 v))
+            ∙ ap (λ z. bindScan (cond z (numbers 1 (x ∷ []) (drop (e + 1) l)) (took (x ∷ []) (getD l e 0 ∷ drop (e + 1) l))) closing) (sym (ne-eqb (getD l e 0) 44 w))
+            ∙ behind-first (getD l e 0) refl
 
   -- its answer
   answer-here : answer (drop at l) ≡ cond (eqb (getD l at 0) 45) (took none (drop (at + 1) l)) (bindScan (number (drop at l)) (λ n r. took (some n) r))
@@ -290,6 +306,102 @@ module _ (l : List ℕ) (at : ℕ) (h : at < length l) where
 pub answer-none : (l : List ℕ) (at : ℕ) → at ≡ length l → fail ≡ answer (drop at l)
 unfolding answer
 answer-none l at h = sym (ap answer (at-end l at (omega arith)))
+
+-- No arguments, since the form is wrong.
+pub none-scanned : (l : List ℕ) (a : Args) (S : Scan (List ℕ)) → NoArgs a → fail ≡ S → (scanned l (a .right) (argsOf a) (a .next) ≡ S) × ArgsWithin (length l) a
+none-scanned l a S h q = (scan-none l (a .right) (argsOf a) (a .next) S (h .0) q, (omega (arith, h .4), omega (arith, h .1), λ k. h .2, λ k. h .3))
+
+-- The second argument, behind x.
+module _ (l : List ℕ) (at x : ℕ) where
+  pub second-wrong : fail ≡ number (drop at l) → fail ≡ bindScan (numbers 1 (x ∷ []) (drop at l)) closing
+  unfolding numbers
+  second-wrong q = ap (λ z. bindScan (bindScan z (λ a r. comma (x ∷ a ∷ []) (λ p. fail) r)) closing) q
+
+  module _ (y e : ℕ) (q : took y (drop e l) ≡ number (drop at l)) where
+    second-taken : bindScan (comma (x ∷ y ∷ []) (λ p. fail) (drop e l)) closing ≡ bindScan (numbers 1 (x ∷ []) (drop at l)) closing
+    unfolding numbers
+    second-taken = ap (λ z. bindScan (bindScan z (λ a r. comma (x ∷ a ∷ []) (λ p. fail) r)) closing) q
+
+    pub second-open : e ≡ length l → fail ≡ bindScan (numbers 1 (x ∷ []) (drop at l)) closing
+    second-open b = ap (λ z. bindScan (comma (x ∷ y ∷ []) (λ p. fail) z) closing) (sym (at-end l e (omega arith))) ∙ second-taken
+
+    module _ (b : e < length l) where
+      behind-second : (w : ℕ) → getD l e 0 ≡ w → bindScan (comma (x ∷ y ∷ []) (λ p. fail) (w ∷ drop (e + 1) l)) closing ≡ bindScan (numbers 1 (x ∷ []) (drop at l)) closing
+      behind-second w g = ap (λ z. bindScan (comma (x ∷ y ∷ []) (λ p. fail) z) closing) (ap (λ z. z ∷ drop (e + 1) l) (sym g) ∙ sym (from-here l e b)) ∙ second-taken
+
+      pub second-closed : getD l e 0 ≡ 41 → took (x ∷ y ∷ []) (drop (e + 1) l) ≡ bindScan (numbers 1 (x ∷ []) (drop at l)) closing
+      second-closed g = behind-second 41 g
+
+      pub second-other : (getD l e 0 ≡ 41 → ⊥) → fail ≡ bindScan (numbers 1 (x ∷ []) (drop at l)) closing
+      second-other v = go (eqb (getD l e 0) 44) ∙ behind-second (getD l e 0) refl
+        where
+          go : (k : Bool) → fail ≡ bindScan (cond k fail (took (x ∷ y ∷ []) (getD l e 0 ∷ drop (e + 1) l))) closing
+          go true = refl
+          go false = ap (λ z. cond z (took (x ∷ y ∷ []) (drop (e + 1) l)) fail) (sym (ne-eqb (getD l e 0) 41 v))
+
+-- Whether the arguments that are there are below n.
+module _ (a : Args) (n : ℕ) where
+  pub below-none : a .count ≡ 0 → true ≡ all (below n) (argsOf a)
+  below-none e = ap (λ z. all (below n) (take z (a .first ∷ a .second ∷ []))) (sym e)
+
+  pub below-first-not : (a .count ≡ 0 → ⊥) → n ≤ a .first → false ≡ all (below n) (argsOf a)
+  below-first-not h k = go (a .count) h
+    where
+      go : (c : ℕ) → (c ≡ 0 → ⊥) → false ≡ all (below n) (take c (a .first ∷ a .second ∷ []))
+      go zero h = absurd (h refl)
+      go (suc c) h = ap (λ z. z && all (below n) (take c (a .second ∷ []))) (sym (le-ltb (a .first) n k))
+
+  module _ (k : a .first < n) where
+    pub below-one : a .count ≡ 1 → true ≡ all (below n) (argsOf a)
+    below-one e = ap (λ z. z && true) (sym (lt-ltb (a .first) n k)) ∙ ap (λ z. all (below n) (take z (a .first ∷ a .second ∷ []))) (sym e)
+
+    module _ (two : a .count ≡ 2) where
+      below-second : ltb (a .second) n && true ≡ all (below n) (argsOf a)
+      below-second =
+          ap (λ z. z && (ltb (a .second) n && true)) (sym (lt-ltb (a .first) n k)) ∙ ap (λ z. all (below n) (take z (a .first ∷ a .second ∷ []))) (sym two)
+
+      pub below-second-not : n ≤ a .second → false ≡ all (below n) (argsOf a)
+      below-second-not j = ap (λ z. z && true) (sym (le-ltb (a .second) n j)) ∙ below-second
+
+      pub below-both : a .second < n → true ≡ all (below n) (argsOf a)
+      below-both j = ap (λ z. z && true) (sym (lt-ltb (a .second) n j)) ∙ below-second
+
+-- Arguments as bytes: those that are there are below n, the others are 0.
+module _ (size n : ℕ) (t : Args) (within : ArgsWithin size t) where
+  pub first-small : all (below n) (argsOf t) ≡ true → n ≤ 48 → t .first < 256
+  first-small h k = go (t .count) (within .2) h
+    where
+      go : (c : ℕ) → (c < 1 → t .first ≡ 0) → all (below n) (take c (t .first ∷ t .second ∷ [])) ≡ true → t .first < 256
+      go zero z h = let e : t .first ≡ 0 = z (omega arith) in omega arith
+      go (suc c) z h = let e : t .first < n = ltb-true (t .first) n (first (ltb (t .first) n) (all (below n) (take c (t .second ∷ []))) h) in omega arith
+
+  pub second-small : all (below n) (argsOf t) ≡ true → n ≤ 48 → t .second < 256
+  second-small h k = go (t .count) (within .1) (within .3) h
+    where
+      go : (c : ℕ) → c ≤ 2 → (c < 2 → t .second ≡ 0) → all (below n) (take c (t .first ∷ t .second ∷ [])) ≡ true → t .second < 256
+      go zero f z h = let e : t .second ≡ 0 = z (omega arith) in omega arith
+      go (suc zero) f z h = let e : t .second ≡ 0 = z (omega arith) in omega arith
+      go (suc (suc zero)) f z h =
+          let e : t .second < n = ltb-true (t .second) n (first (ltb (t .second) n) true (second (ltb (t .first) n) (ltb (t .second) n && true) h)) in
+          omega arith
+      go (suc (suc (suc c))) f z h = absurd (omega arith)
+
+  module _ (a b : ℕ) (p : a ≡ t .first) (q : b ≡ t .second) where
+    pub args-taken : take (t .count) (a ∷ b ∷ 0 ∷ 0 ∷ []) ≡ argsOf t
+    args-taken = go (t .count) (within .1)
+      where
+        go : (c : ℕ) → c ≤ 2 → take c (a ∷ b ∷ 0 ∷ 0 ∷ []) ≡ take c (t .first ∷ t .second ∷ [])
+        go zero f = refl
+        go (suc zero) f = ap (λ z. z ∷ []) p
+        go (suc (suc zero)) f = ap (λ z. z ∷ b ∷ []) p ∙ ap (λ z. t .first ∷ z ∷ []) q
+        go (suc (suc (suc c))) f = absurd (omega arith)
+
+    pub args-rest : (k : ℕ) → t .count ≤ k → getD (a ∷ b ∷ 0 ∷ 0 ∷ []) k 0 ≡ 0
+    args-rest zero h = p ∙ within .2 (omega arith)
+    args-rest (suc zero) h = q ∙ within .3 (omega arith)
+    args-rest (suc (suc zero)) h = refl
+    args-rest (suc (suc (suc zero))) h = refl
+    args-rest (suc (suc (suc (suc k)))) h = refl
 
 -- an answer among n types
 answer-low : (a n : ℕ) → a ≤ n → unlessMissing (answerOf a) (below n) ≡ true
@@ -382,48 +494,54 @@ permits-below (suc zero) p = omega arith
 permits-below (suc (suc zero)) p = omega arith
 permits-below (suc (suc (suc s))) p = never p
 
--- An `m=` line.
+-- An `m=` line, by its beginning.
 module _ (n : ℕ) (l : List ℕ) where
-  fourth : Res Method
-  fourth = cond (same (stateText unavail) l) (ok (bare unavail)) (refuse 1)
-
-  third : Res Method
-  third = cond (same (stateText denied) l) (ok (bare denied)) fourth
-
-  second : Res Method
-  second = cond (starts (stateText optional) l) (signature n optional (drop 11 l)) third
+  after-avail : Res Method
+  after-avail = cond (starts (stateText optional) l) (signature n optional (drop 11 l)) (bareLine l)
 
   pub method-avail : starts (stateText avail) l ≡ true → signature n avail (drop 8 l) ≡ methodLine n l
-  unfolding methodLine second third fourth
-  method-avail e = ap (λ z. cond z (signature n avail (drop 8 l)) second) (sym e)
+  unfolding methodLine after-avail
+  method-avail e = ap (λ z. cond z (signature n avail (drop 8 l)) after-avail) (sym e)
 
   module _ (a : starts (stateText avail) l ≡ false) where
-    to-second′ : second ≡ methodLine n l
-    unfolding methodLine second third fourth
-    to-second′ = ap (λ z. cond z (signature n avail (drop 8 l)) second) (sym a)
+    not-avail : after-avail ≡ methodLine n l
+    unfolding methodLine after-avail
+    not-avail = ap (λ z. cond z (signature n avail (drop 8 l)) after-avail) (sym a)
 
     pub method-optional : starts (stateText optional) l ≡ true → signature n optional (drop 11 l) ≡ methodLine n l
-    unfolding second
-    method-optional e = ap (λ z. cond z (signature n optional (drop 11 l)) third) (sym e) ∙ to-second′
+    unfolding after-avail
+    method-optional e = ap (λ z. cond z (signature n optional (drop 11 l)) (bareLine l)) (sym e) ∙ not-avail
 
-    module _ (b : starts (stateText optional) l ≡ false) where
-      to-third′ : third ≡ methodLine n l
-      unfolding second
-      to-third′ = ap (λ z. cond z (signature n optional (drop 11 l)) third) (sym b) ∙ to-second′
+    pub method-bare : starts (stateText optional) l ≡ false → bareLine l ≡ methodLine n l
+    unfolding after-avail
+    method-bare e = ap (λ z. cond z (signature n optional (drop 11 l)) (bareLine l)) (sym e) ∙ not-avail
 
-      pub method-denied : same (stateText denied) l ≡ true → ok (bare denied) ≡ methodLine n l
-      unfolding third
-      method-denied e = ap (λ z. cond z (ok (bare denied)) fourth) (sym e) ∙ to-third′
+-- by the case of its beginning
+pub signed-opens : (l : List ℕ) (o : Opening) (s at : ℕ) → o ≡ Signed s at → Opens l o
+    → (at ≤ length l) × (permit (stateOf s) ≡ true) × ((n : ℕ) → signature n (stateOf s) (drop at l) ≡ methodLine n l)
+signed-opens l o s at e h = subst (Opens l) e h
 
-      module _ (d : same (stateText denied) l ≡ false) where
-        to-fourth : fourth ≡ methodLine n l
-        unfolding third
-        to-fourth = ap (λ z. cond z (ok (bare denied)) fourth) (sym d) ∙ to-third′
+pub other-opens : (l : List ℕ) (o : Opening) → o ≡ Other → Opens l o → (n : ℕ) → bareLine l ≡ methodLine n l
+other-opens l o e h = subst (Opens l) e h
 
-        pub method-unavail : same (stateText unavail) l ≡ true → ok (bare unavail) ≡ methodLine n l
-        unfolding fourth
-        method-unavail e = ap (λ z. cond z (ok (bare unavail)) (refuse 1)) (sym e) ∙ to-fourth
+-- one without a signature
+module _ (l : List ℕ) where
+  not-denied : Res Method
+  not-denied = cond (same (stateText unavail) l) (ok (bare unavail)) (refuse 1)
 
-        pub method-none : same (stateText unavail) l ≡ false → refuse 1 ≡ methodLine n l
-        unfolding fourth
-        method-none e = ap (λ z. cond z (ok (bare unavail)) (refuse 1)) (sym e) ∙ to-fourth
+  pub bare-denied : same (stateText denied) l ≡ true → ok (bare denied) ≡ bareLine l
+  unfolding not-denied
+  bare-denied e = ap (λ z. cond z (ok (bare denied)) not-denied) (sym e)
+
+  module _ (d : same (stateText denied) l ≡ false) where
+    past-denied : not-denied ≡ bareLine l
+    unfolding not-denied
+    past-denied = ap (λ z. cond z (ok (bare denied)) not-denied) (sym d)
+
+    pub bare-unavail : same (stateText unavail) l ≡ true → ok (bare unavail) ≡ bareLine l
+    unfolding not-denied
+    bare-unavail e = ap (λ z. cond z (ok (bare unavail)) (refuse 1)) (sym e) ∙ past-denied
+
+    pub bare-none : same (stateText unavail) l ≡ false → refuse 1 ≡ bareLine l
+    unfolding not-denied
+    bare-none e = ap (λ z. cond z (ok (bare unavail)) (refuse 1)) (sym e) ∙ past-denied

@@ -1,15 +1,21 @@
--- What the answers for an `own=` and an `under=` line say, in the words of crate `sheet` (textread's View has those of a number, and of answers that hold an array).
+-- What the answers for an `own=`, an `under=` and an `m=` line say, in the words of crate `sheet` (textread's View has those of a number, and of answers that hold an array).
 use mathlib.Core.Path.{_≡_}
-use mathlib.Core.Bool.{Bool}
-use mathlib.Core.List.{List}
-use Prim.Native.Nat.{ℕ}
+use mathlib.Core.Bool.{Bool, true, false, cond}
+use mathlib.Core.List.{List, [], _∷_}
+use Prim.Native.Nat.{ℕ, _≤_, _<_}
 use lib.Dec.{eqb}
-use lib.ListN.{drop}
+use lib.ListN.{length, take, drop}
 use Rattle.model.specs.Basics.{Res, refuse, ok}
-use Rattle.model.specs.Check.{RawLinks, linksOf}
+use Rattle.model.specs.Table.{denied, unavail, Method, bare, permit}
+use Rattle.model.specs.Check.{RawLinks, linksOf, stateOf}
 use Rattle.model.specs.Records.{linksRecord}
 use Rattle.table.specs.Store.{rawLinks}
-use Rattle.sheet.specs.Lines.{Reading, refused, got, split}
+use Rattle.sheet.specs.Lines.{Reading, refused, got, split, same}
+use Rattle.sheet.specs.Text.{stateText}
+use Rattle.sheet.specs.Sheet.{signature, methodLine}
+use Rattle.lineread.specs.declared.Args.{Args}
+use Rattle.lineread.specs.declared.Opening.{Opening}
+use Rattle.lineread.specs.declared.Opening.the-variants.{Other, Signed}
 use Rattle.lineread.specs.declared.Under.{Under}
 use Rattle.lineread.specs.declared.Under.the-variants.{Refused as Refusedᵘ, Are}
 use Rattle.lineread.specs.declared.UnderGot.{UnderGot}
@@ -38,3 +44,24 @@ UnderExact (Are x) = LinksExact (rawLinks x)
 abbrev pub UnderGotExact : UnderGot → Type 0
 UnderGotExact (Refused k) = Unit {0}
 UnderGotExact (At x c) = LinksExact (rawLinks x)
+
+-- the arguments that are there
+abbrev pub argsOf : Args → List ℕ
+argsOf a = take (a .count) (a .first ∷ a .second ∷ [])
+
+-- Where they end in a line of this length; there are at most two, and those that are not there are 0.
+abbrev pub ArgsWithin : ℕ → Args → Type 0
+ArgsWithin size a = (a .next ≤ size) × (a .count ≤ 2) × (a .count < 1 → a .first ≡ 0) × (a .count < 2 → a .second ≡ 0)
+
+-- none, since the form is wrong
+abbrev pub NoArgs : Args → Type 0
+NoArgs a = (a .right ≡ false) × (a .count ≡ 0) × (a .first ≡ 0) × (a .second ≡ 0) × (a .next ≡ 0)
+
+-- the lines of the two states without a signature
+abbrev pub bareLine : List ℕ → Res Method
+bareLine l = cond (same (stateText denied) l) (ok (bare denied)) (cond (same (stateText unavail) l) (ok (bare unavail)) (refuse 1))
+
+-- What is left to be read of an `m=` line, by its beginning.
+abbrev pub Opens : List ℕ → Opening → Type 0
+Opens l Other = (n : ℕ) → bareLine l ≡ methodLine n l
+Opens l (Signed s at) = (at ≤ length l) × (permit (stateOf s) ≡ true) × ((n : ℕ) → signature n (stateOf s) (drop at l) ≡ methodLine n l)

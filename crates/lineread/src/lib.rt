@@ -3,6 +3,7 @@
 // `is` says what is read, `exact` that the record is the one that stands for it: a state by its own code, unused slots 0 (B13).
 ghost use mathlib.Core.Path.{_≡_};
 ghost use mathlib.Core.Bool.{true, false};
+ghost use mathlib.Core.List.{[], _∷_};
 ghost use Prim.Native.Nat.{ℕ, _≤_, _<_};
 ghost use lib.ListN.{length, getD, take, drop};
 ghost use Rattle.model.specs.Basics.{refuse, ok, all};
@@ -11,21 +12,20 @@ ghost use Rattle.model.specs.Check.{stateOf, repOf, answerOf, methodOf};
 ghost use Rattle.table.specs.Store.{rawMethod};
 ghost use Rattle.table.specs.Records.{MethodExact};
 ghost use Rattle.sheet.specs.Lines.{split, line};
-ghost use Rattle.sheet.specs.Sheet.{repLine, ownLine, endLine, underLine, arguments, answer, below, signature, methodLine};
+ghost use Rattle.sheet.specs.Numbers.{bindScan, numbers};
+ghost use Rattle.sheet.specs.Sheet.{repLine, ownLine, endLine, underLine, closing, arguments, answer, below, signature, methodLine};
 ghost use Rattle.textread.specs.View.{scanned, scanBy, valueBy, AtMost, readBy, GotAtMost, result, reading};
-ghost use Rattle.lineread.specs.View.{yesOf, underBy, underRead, UnderExact, UnderGotExact};
+ghost use Rattle.lineread.specs.View.{yesOf, underBy, underRead, UnderExact, UnderGotExact, argsOf, ArgsWithin, NoArgs, bareLine, Opens};
 use cursor::Cursor;
 use cursor::between;
 use cursor::next_line;
 use numbers::narrow;
-use table::Counts;
 use table::Head;
 use table::Links;
 use table::Method;
 use textread::Got;
 use textread::NUMBERS;
 use textread::Number;
-use textread::Numbers;
 use textread::Value;
 
 // Numbers that are stored as bytes, if each is below a bound.
@@ -44,6 +44,22 @@ pub enum Under {
 pub enum UnderGot {
     Refused(usize),
     At(Links, Cursor),
+}
+
+// The arguments of a signature, scanned: whether the form is right, how many, the numbers, and where the bytes behind them start.
+// They are no list, and a method is made of them at one place: a copy in words of what was just stored in bytes has to wait for the stores.
+pub struct Args {
+    pub right: bool,
+    pub count: usize,
+    pub first: usize,
+    pub second: usize,
+    pub next: usize,
+}
+
+// How an `m=` line begins: with the state of a method that has a signature, which starts at an offset of the line, or otherwise.
+pub enum Opening {
+    Other,
+    Signed(u8, usize),
 }
 
 // An `m=` line: the number of a refusal, or 0 and the method. (A method holds an array, so these are no enums.)
@@ -200,41 +216,101 @@ pub fn next_under(s: &[u8], c: Cursor, cats: usize, k: usize) -> UnderGot
     }
 }
 
-// The arguments of a signature, to the bracket that closes them (S26). More than two are a fault of form (S11).
-fn args_at(l: &[u8], at: usize) -> Numbers
+fn no_args() -> Args
+    ensures { λ r. ⌜ NoArgs r ⌝ }
+{
+    Args {
+        right: false,
+        count: 0,
+        first: 0,
+        second: 0,
+        next: 0,
+    }
+}
+
+// The second argument, behind a comma, and the bracket that closes them: a third one is a fault of form (S11).
+fn second_at(l: &[u8], at: usize, first: usize) -> Args
     requires { ⌜ at ≤ length (now l) ⌝ }
-    ensures is { λ r. ⌜ scanned (now (l .entry)) (r .right) (take (r .count) (r .items)) (r .next) ≡ arguments (drop at (now (l .entry))) ⌝ }
-    ensures within { λ r. ⌜ (r .next ≤ length (now (l .entry))) × (r .count ≤ 2) × (length (r .items) ≡ 4) ⌝ }
+    ensures is { λ r. ⌜ scanned (now (l .entry)) (r .right) (argsOf r) (r .next) ≡ bindScan (numbers 1 (first ∷ []) (drop at (now (l .entry)))) closing ⌝ }
+    ensures within { λ r. ⌜ ArgsWithin (length (now (l .entry))) r ⌝ }
+{
+    let t = textread::number_at(l, at);
+    let Number::Right(second, e) = t else {
+        return no_args();
+    };
+    if e == l.len() {
+        return no_args();
+    }
+    if l[e] != b')' {
+        return no_args();
+    }
+    Args {
+        right: true,
+        count: 2,
+        first,
+        second,
+        next: e + 1,
+    }
+}
+
+// The arguments of a signature, to the bracket that closes them (S26).
+fn args_at(l: &[u8], at: usize) -> Args
+    requires { ⌜ at ≤ length (now l) ⌝ }
+    ensures is { λ r. ⌜ scanned (now (l .entry)) (r .right) (argsOf r) (r .next) ≡ arguments (drop at (now (l .entry))) ⌝ }
+    ensures within { λ r. ⌜ ArgsWithin (length (now (l .entry))) r ⌝ }
 {
     if at == l.len() {
-        return textread::no_numbers(at);
+        return no_args();
     }
     if l[at] == b')' {
-        return Numbers {
+        return Args {
             right: true,
             count: 0,
-            items: [0usize; NUMBERS],
+            first: 0,
+            second: 0,
             next: at + 1,
         };
     }
-    let t = textread::numbers_at(l, at, Counts::ARGUMENTS);
-    if !t.right {
-        return textread::no_numbers(at);
-    }
-    let e = t.next;
+    let t = textread::number_at(l, at);
+    let Number::Right(first, e) = t else {
+        return no_args();
+    };
     if e == l.len() {
-        return textread::no_numbers(at);
+        return no_args();
     }
-    if l[e] != b')' {
-        return textread::no_numbers(at);
+    if l[e] == b')' {
+        return Args {
+            right: true,
+            count: 1,
+            first,
+            second: 0,
+            next: e + 1,
+        };
     }
-    let items = t.items;
-    Numbers {
-        right: true,
-        count: t.count,
-        items,
-        next: e + 1,
+    if l[e] != b',' {
+        return no_args();
     }
+    second_at(l, e + 1, first)
+}
+
+// Whether every argument is below n.
+fn args_below(a: Args, n: usize) -> bool
+    requires { ⌜ a .count ≤ 2 ⌝ }
+    ensures { λ r. ⌜ r ≡ all (below n) (argsOf a) ⌝ }
+{
+    if a.count == 0 {
+        return true;
+    }
+    if n <= a.first {
+        return false;
+    }
+    if a.count == 1 {
+        return true;
+    }
+    if n <= a.second {
+        return false;
+    }
+    true
 }
 
 // The answer of a signature: 0 for `-`, else the number plus 1 (B10).
@@ -296,22 +372,46 @@ fn read_signature(l: &[u8], at: usize, state: u8, n: usize) -> MethodLine
     if next < l.len() {
         return no_method(1);
     }
-    let items = t.items;
-    let p = pack(items, t.count, n);
-    if !p.right {
+    if !args_below(t, n) {
         return no_method(2);
     }
     if n < a {
         return no_method(2);
     }
-    let args = p.items;
     let m = Method {
         state,
         count: narrow(t.count),
-        args,
+        args: [narrow(t.first), narrow(t.second), 0, 0],
         answer: narrow(a),
     };
     MethodLine { refusal: 0, m }
+}
+
+// How an `m=` line begins: behind `avail(` and `optional(` a signature starts.
+fn opened(l: &[u8]) -> Opening
+    ensures { λ r. ⌜ Opens (now (l .entry)) r ⌝ }
+{
+    if textread::begins(l, b"m=avail(") {
+        return Opening::Signed(Method::AVAIL, 8);
+    }
+    if textread::begins(l, b"m=optional(") {
+        return Opening::Signed(Method::OPTIONAL, 11);
+    }
+    Opening::Other
+}
+
+// An `m=` line without a signature.
+fn read_bare(l: &[u8]) -> MethodLine
+    ensures is { λ r. ⌜ result (r .refusal) (methodOf (rawMethod (r .m))) ≡ bareLine (now (l .entry)) ⌝ }
+    ensures exact { λ r. ⌜ MethodExact (rawMethod (r .m)) ⌝ }
+{
+    if textread::is_word(l, b"m=denied") {
+        return read_unsigned(Method::DENIED);
+    }
+    if textread::is_word(l, b"m=unavail") {
+        return read_unsigned(Method::UNAVAIL);
+    }
+    no_method(1)
 }
 
 // An `m=` line of a sheet with n types (S26).
@@ -320,19 +420,11 @@ fn read_method(l: &[u8], n: usize) -> MethodLine
     ensures is { λ r. ⌜ result (r .refusal) (methodOf (rawMethod (r .m))) ≡ methodLine n (now (l .entry)) ⌝ }
     ensures exact { λ r. ⌜ MethodExact (rawMethod (r .m)) ⌝ }
 {
-    if textread::begins(l, b"m=avail(") {
-        return read_signature(l, 8, Method::AVAIL, n);
+    let o = opened(l);
+    match o {
+        Opening::Other => read_bare(l),
+        Opening::Signed(state, at) => read_signature(l, at, state, n),
     }
-    if textread::begins(l, b"m=optional(") {
-        return read_signature(l, 11, Method::OPTIONAL, n);
-    }
-    if textread::is_word(l, b"m=denied") {
-        return read_unsigned(Method::DENIED);
-    }
-    if textread::is_word(l, b"m=unavail") {
-        return read_unsigned(Method::UNAVAIL);
-    }
-    no_method(1)
 }
 
 pub fn next_method(s: &[u8], c: Cursor, n: usize) -> MethodGot
