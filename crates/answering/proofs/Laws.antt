@@ -44,7 +44,8 @@ use Rattle.sending.proofs.OtherCalls.{callsLeft, calls-step}
 use Rattle.answering.specs.declared.Given.{Given}
 use Rattle.answering.specs.declared.Given.the-variants as given
 use Rattle.answering.specs.declared.Given.the-variants.{Value}
-use Rattle.answering.specs.Given.{givenAs, answersMet, dueFor, giveReference, giveValue, answerCall, Called}
+use Rattle.answering.specs.Given.{givenAs}
+use Rattle.answering.specs.Parts.{answersMet, dueFor, giveReference, giveValue, answerCall, Called}
 
 -- ---- The flag.
 module _ (s : State) (h : Sound s) (j : ℕ) (low : j < s .calls .count) (calls : Calls) (e : calls ≡ callAnswered (s .calls) j)

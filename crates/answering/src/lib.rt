@@ -12,7 +12,8 @@ ghost use Rattle.state.specs.Sound.{Sound};
 ghost use Rattle.carry.specs.Carried.{targetsIn};
 ghost use Rattle.steps.specs.Served.{outcomeOf, Step, done};
 ghost use Rattle.sending.specs.Sent.{isAccepted};
-ghost use Rattle.answering.specs.Given.{givenAs, answersMet, dueFor, giveReference, giveValue, answerCall, Called};
+ghost use Rattle.answering.specs.Given.{givenAs};
+ghost use Rattle.answering.specs.Parts.{answersMet, dueFor, giveReference, giveValue, answerCall, Called};
 use carry::Slot;
 use carry::Targets;
 use numbers::wide;
@@ -63,7 +64,14 @@ fn answers_met(types: &[u8; TYPE_BYTES], s: State, j: usize, x: Call, c: Cell) -
 }
 
 // A reference crosses to the caller, and then the call is answered (A8, A10, A11).
-fn give_reference(types: &mut [u8; TYPE_BYTES], s: State, j: usize, r: usize, v: i64, targets: Targets) -> Served
+fn give_reference(
+    types: &mut [u8; TYPE_BYTES],
+    s: State,
+    j: usize,
+    r: usize,
+    v: i64,
+    targets: Targets,
+) -> Served
     requires { ⌜ Sound (whole (now types) s) × (j < s .calls .count) × (0 < s .places .count) × (0 < s .counts .types) × (r < 256) × (targets .count ≤ 129) ⌝ }
     ensures { λ q. ⌜ Step (whole (now (types .entry)) s) (giveReference (systemIn (whole (now (types .entry)) s)) j r v (targetsIn targets)) (done (now (types .exit)) q) ⌝ }
 {
@@ -76,7 +84,16 @@ fn give_reference(types: &mut [u8; TYPE_BYTES], s: State, j: usize, r: usize, v:
 }
 
 // A value v where type a is due (A6 to A12).
-fn give_value(types: &mut [u8; TYPE_BYTES], s: State, who: usize, j: usize, x: Call, c: Cell, a: usize, v: i64) -> Served
+fn give_value(
+    types: &mut [u8; TYPE_BYTES],
+    s: State,
+    who: usize,
+    j: usize,
+    x: Call,
+    c: Cell,
+    a: usize,
+    v: i64,
+) -> Served
     requires { ⌜ Sound (whole (now types) s) × Called (whole (now types) s) j x c ⌝ }
     ensures { λ r. ⌜ ((subject : ℤ) → named subject ≡ who → Step (whole (now (types .entry)) s) (giveValue (systemIn (whole (now (types .entry)) s)) subject j a v) (done (now (types .exit)) r)) ⌝ }
 {
@@ -98,7 +115,15 @@ fn give_value(types: &mut [u8; TYPE_BYTES], s: State, who: usize, j: usize, x: C
 }
 
 // What is due and what is given (A4, A5, A13).
-fn give(types: &mut [u8; TYPE_BYTES], s: State, who: usize, j: usize, x: Call, c: Cell, given: Given) -> Served
+fn give(
+    types: &mut [u8; TYPE_BYTES],
+    s: State,
+    who: usize,
+    j: usize,
+    x: Call,
+    c: Cell,
+    given: Given,
+) -> Served
     requires { ⌜ Sound (whole (now types) s) × Called (whole (now types) s) j x c ⌝ }
     ensures { λ r. ⌜ ((subject : ℤ) → named subject ≡ who → Step (whole (now (types .entry)) s) (give (systemIn (whole (now (types .entry)) s)) subject j (dueFor (systemIn (whole (now (types .entry)) s)) j) (givenAs given)) (done (now (types .exit)) r)) ⌝ }
 {
@@ -139,7 +164,13 @@ fn answer_call(types: &mut [u8; TYPE_BYTES], s: State, who: usize, j: usize, giv
 }
 
 // Answer (A).
-pub fn answer_step(types: &mut [u8; TYPE_BYTES], s: State, subject: i64, call: i64, given: Given) -> Served
+pub fn answer_step(
+    types: &mut [u8; TYPE_BYTES],
+    s: State,
+    subject: i64,
+    call: i64,
+    given: Given,
+) -> Served
     requires { ⌜ Sound (whole (now types) s) ⌝ }
     ensures { λ r. ⌜ Step (whole (now (types .entry)) s) (answerRequest (systemIn (whole (now (types .entry)) s)) subject call (givenAs given)) (done (now (types .exit)) r) ⌝ }
 {

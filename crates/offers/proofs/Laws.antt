@@ -31,7 +31,8 @@ use Rattle.operand.specs.Index.{indexOf}
 use Rattle.operand.proofs.Laws.{index-unknown, index-known}
 use Rattle.carry.proofs.Methods.{method-is}
 use Rattle.offers.specs.declared.Offered.the-variants.{Unfit}
-use Rattle.offers.specs.Chained.{methodsNamed, offersNamed, offersHanded, offeredAs, permitsNamed, stepOf, stepCode}
+use Rattle.offers.specs.Chained.{methodsNamed, offersNamed, offersHanded, offeredAs}
+use Rattle.offers.specs.Steps.{permitsNamed, stepOf, stepCode}
 
 -- ---- One method, as it is stored.
 module _ (b l : List ℕ) (c : Counts) where

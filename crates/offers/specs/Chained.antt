@@ -1,14 +1,12 @@
 -- What is offered to one who hands in a state, the number of a cell and a chain, all of them any numbers (E11).
-use mathlib.Core.Bool.{Bool, true, false, _&&_, cond}
+use mathlib.Core.Bool.{Bool, true, false, _&&_}
 use mathlib.Core.List.{List, map}
-use Prim.Native.Nat.{ℕ, suc}
 use lib.IntN.{ℤ}
 use lib.ListN.{length}
 use Rattle.model.specs.Basics.{Res, refuse, ok, need, all, names, named}
-use Rattle.model.specs.Table.{Table, Method, typeAt, methodAt, isRef, permit}
-use Rattle.model.specs.Records.{answerCode}
+use Rattle.model.specs.Table.{Table}
 use Rattle.model.specs.Requests.{System}
-use Rattle.model.specs.Chains.{permits, offered}
+use Rattle.model.specs.Chains.{offered}
 use Rattle.model.specs.Check.{RawSystem, systemOf, systemAccepted}
 use Rattle.offers.specs.declared.Offered.{Offered}
 use Rattle.offers.specs.declared.Offered.the-variants.{Unfit, Yes, No}
@@ -32,16 +30,3 @@ abbrev pub offeredAs : Offered → Res Bool
 offeredAs Unfit = refuse 2
 offeredAs Yes = ok true
 offeredAs No = ok false
-
--- ---- What the functions find on the way.
--- a type's part in it
-unfoldable pub permitsNamed : Table → ℕ → List ℤ → Bool
-unfolding permits
-permitsNamed t n w = methodsNamed t w && permits t n (map named w)
-
--- One method of a chain: 0 where it names none or the type does not permit it; else 1 more than the code of its answer type, which is 0 for none.
-abbrev pub stepOf : Bool → Bool → Method → ℕ
-stepOf known ref m = cond (known && (ref && permit (m .state))) (suc (answerCode (m .answer))) 0
-
-abbrev pub stepCode : Table → ℕ → ℤ → ℕ
-stepCode t n z = stepOf (names z (t .methods)) (isRef (typeAt t n .rep)) (methodAt t n (named z))

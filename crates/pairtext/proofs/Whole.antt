@@ -26,7 +26,8 @@ use Rattle.sheetread.specs.View.{answered}
 use Rattle.sheetread.proofs.Accepted.{read-loaded, read-malformed, read-accepted}
 use Rattle.textwrite.specs.Fill.{Filled}
 use Rattle.pairtext.specs.Output.{maxInput, answerBits, pairLine, pairLines, answerLines, pairsOutput}
-use Rattle.pairwrite.specs.Parts.{spaced, answersIn, codeLine, rowLines, codeLines}
+use Rattle.pairwrite.specs.Spaced.{spaced}
+use Rattle.pairwrite.specs.Parts.{answersIn, codeLine, rowLines, codeLines}
 
 -- ---- the pairs
 bit-low : (b : Bool) → bit b ≤ 1

@@ -11,7 +11,7 @@ use Rattle.relation.specs.Answered.{answersAt}
 use Rattle.sheet.specs.Lines.{bytes, join}
 use Rattle.sheet.specs.Numbers.{decimalIn}
 use Rattle.sheet.specs.Text.{numberText}
-use Rattle.pairwrite.specs.Parts.{spaced}
+use Rattle.pairwrite.specs.Spaced.{spaced}
 use Rattle.sheet.specs.Sheet.{SheetAnswer, malformed, loaded, read}
 
 -- a sheet of at most so many bytes (P1)

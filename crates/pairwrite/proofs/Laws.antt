@@ -13,7 +13,8 @@ use Rattle.sheet.specs.Lines.{bytes, join}
 use Rattle.sheet.specs.Numbers.{decimal}
 use Rattle.sheet.specs.Text.{numberText}
 use Rattle.sheet.proofs.Numbers.{decimal-one, decimal-more}
-use Rattle.pairwrite.specs.Parts.{spaces, answersIn, answersText, codeLine, rowLines, codeLines}
+use Rattle.pairwrite.specs.Spaced.{spaces}
+use Rattle.pairwrite.specs.Parts.{answersIn, answersText, codeLine, rowLines, codeLines}
 
 abbrev word : ℕ → List ℕ
 word n = numberText (bytes " ") n

@@ -3,18 +3,9 @@ use mathlib.Core.List.{List, [], _∷_, _++_, flatten}
 use Prim.Native.Nat.{ℕ, _+_, _*_, _/_, _%_}
 use lib.ListN.{getD}
 use Rattle.model.specs.Basics.{from}
-use Rattle.sheet.specs.Lines.{bytes}
-use Rattle.sheet.specs.Numbers.{decimal, decimalIn}
+use Rattle.sheet.specs.Numbers.{decimalIn}
 use Rattle.sheet.specs.Text.{numberText}
-
--- numbers, each behind a space; and with single spaces between
-abbrev pub spaces : List ℕ → List ℕ
-spaces [] = []
-spaces (n ∷ r) = numberText (bytes " ") n ++ spaces r
-
-abbrev pub spaced : List ℕ → List ℕ
-spaced [] = []
-spaced (n ∷ r) = decimal n ++ spaces r
+use Rattle.pairwrite.specs.Spaced.{spaces, spaced}
 
 -- the four answers in a pair's byte (B24)
 abbrev pub answersIn : ℕ → List ℕ

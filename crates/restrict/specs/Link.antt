@@ -1,32 +1,26 @@
 -- What the code's answers and its bytes mean, in the words of the model.
 use mathlib.Core.Path.{_≡_}
 use mathlib.Core.Bool.{So}
-use mathlib.Core.List.{List, _++_, map, flatten}
+use mathlib.Core.List.{List}
 use mathlib.Core.Option.{Option, none, some}
-use Prim.Native.Nat.{ℕ, _+_, _*_, _≤_, _<_}
-use lib.ListN.{length, getD, take, drop}
+use Prim.Native.Nat.{ℕ, _+_, _≤_, _<_}
+use lib.ListN.{length, getD}
 use Rattle.model.specs.Basics.{Res, refuse, ok}
-use Rattle.model.specs.Table.{Kind, Table, size}
+use Rattle.model.specs.Table.{Kind, Table}
 use Rattle.model.specs.Restriction.{derive, derived}
-use Rattle.model.specs.Check.{noRawType, typeOf, rawTypeFits, codesFit}
+use Rattle.model.specs.Check.{noRawType, rawTypeFits, codesFit}
 use Rattle.table.specs.declared.Counts.{Counts}
 use Rattle.table.specs.Store.{typesIn, rawTable, tableIn, withCount}
 use Rattle.table.specs.Limits.{Limits}
-use Rattle.table.specs.Records.{bytesOf}
 use Rattle.deriving.specs.declared.Derived.{Derived}
 use Rattle.deriving.specs.declared.Derived.the-variants.{Full, At}
 use Rattle.deriving.specs.Begins.{Below, tabled}
+pub use Rattle.restrict.specs.Bytes.{Writes, recordAt, Kept, ExactAt, Exact}
 
 -- The public answer: a full table is refused with 11; else the number, and the table with so many types.
 abbrev pub derivationIn : List ℕ → List ℕ → Counts → Derived → Res (Table × ℕ)
 derivationIn b l c Full = refuse 11
 derivationIn b l c (At i m) = ok (tableIn b l (withCount c m), i)
-
--- What a derivation writes, n types being there before: the bytes of these stay, each new type's record stands behind them, and that is every counted byte.
--- Where the table is full, what it leaves past the count is open.
-abbrev pub Writes : ℕ → List ℕ → List ℕ → Res (Table × ℕ) → Type 0
-Writes n b b′ (refuse e) = take (n * 128) b′ ≡ take (n * 128) b
-Writes n b b′ (ok p) = take (size (p .0) * 128) b′ ≡ take (n * 128) b ++ flatten (map bytesOf (drop n (p .0 .types)))
 
 -- What a derivation asks: counts within their limits, n being the types so far, and numbers that a byte can hold.
 pub record Ready (c : Counts) (n t s : ℕ) (b : List ℕ) : Type 0 where
@@ -35,20 +29,7 @@ pub record Ready (c : Counts) (n t s : ℕ) (b : List ℕ) : Type 0 where
   pub right : s < 256
   pub long : length b ≡ 16384
 
--- The 128 bytes of type i. Those below the count n stay as they are, also where the table is full.
-abbrev pub recordAt : List ℕ → ℕ → List ℕ
-recordAt b i = take 128 (drop (i * 128) b)
-
-abbrev pub Kept : ℕ → List ℕ → List ℕ → Type 0
-Kept n b b′ = (i : ℕ) → i < n → recordAt b′ i ≡ recordAt b i
-
--- Each type from n to m is stored as the record that stands for it.
-abbrev pub ExactAt : Counts → List ℕ → ℕ → Type 0
-ExactAt c b i = recordAt b i ≡ bytesOf (typeOf (c .methods) (c .sheet) i (getD (typesIn b) i noRawType))
-
-abbrev pub Exact : Counts → ℕ → ℕ → List ℕ → Type 0
-Exact c n m b = (i : ℕ) → n ≤ i → i < m → ExactAt c b i
-
+-- the same up to the new count
 abbrev pub ExactTo : Counts → ℕ → List ℕ → Derived → Type 0
 ExactTo c n b Full = Unit {0}
 ExactTo c n b (At i m) = Exact c n m b

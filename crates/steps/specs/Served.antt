@@ -9,39 +9,24 @@ use lib.ListN.{length}
 use Rattle.model.specs.Basics.{Res, refuse, ok, names, named}
 use Rattle.model.specs.Table.{Table, typeAt, isClass}
 use Rattle.model.specs.Crossing.{Reference}
-use Rattle.model.specs.Requests.{System, Result, pair, number, nothing, Outcome, got, refused}
+use Rattle.model.specs.Requests.{System, Result, Outcome, got, refused}
 use Rattle.table.specs.Store.{tableIn, withCount}
 use Rattle.restrict.specs.Link.{Kept}
 use Rattle.state.specs.declared.Places.{Places}
 use Rattle.state.specs.declared.State.{State as Rest}
 use Rattle.state.specs.Whole.{Whole as State}
-use Rattle.state.specs.Whole.{whole, withTypes}
+use Rattle.state.specs.Whole.{withTypes}
 use Rattle.state.specs.View.{placesIn, systemIn}
 use Rattle.state.specs.Sound.{Falling, Typed, Sound}
 use Rattle.cross.specs.Crossed.{Grew, reference}
-use Rattle.steps.specs.declared.Answer.{Answer}
-use Rattle.steps.specs.declared.Answer.the-variants.{Refused, Pair, Number, Nothing}
+use Rattle.steps.specs.declared.Answer.the-variants.{Refused}
 use Rattle.steps.specs.declared.Served.{Served}
-
--- the number of the refusal, or the values, for each case
-abbrev pub outcomeOf : Answer → Outcome
-outcomeOf (Refused e) = refused e
-outcomeOf (Pair a b) = got (pair a b)
-outcomeOf (Number v) = got (number v)
-outcomeOf Nothing = got nothing
+pub use Rattle.steps.specs.Outcome.{outcomeOf, Done, done, Stored}
 
 -- what the answer and the state left say together
 abbrev pub servedWith : System → Outcome → Res (System × Result)
 servedWith s (refused e) = refuse e
 servedWith s (got x) = ok (s, x)
-
--- an answer with the whole state that is left: the types as they are now, and the rest that comes back
-pub record Done : Type 0 where
-  pub answer : Answer
-  pub state : State
-
-abbrev pub done : List ℕ → Served → Done
-done b r = record { answer = r .answer; state = whole b (r .state) }
 
 abbrev pub servedAs : Done → Res (System × Result)
 servedAs r = servedWith (systemIn (r .state)) (outcomeOf (r .answer))
@@ -52,14 +37,6 @@ refusal s e = record { answer = Refused e; state = s }
 
 abbrev pub refusalOf : State → ℕ → Done
 refusalOf s e = record { answer = Refused e; state = s }
-
--- What is left of the table: links and counts as they were but for the count of types, every byte of the types that there were, and each new type stored as the
--- record that stands for it (B22).
-pub record Stored (s s′ : State) : Type 0 where
-  pub links : s′ .links ≡ s .links
-  pub counts : s′ .counts ≡ withCount (s .counts) (s′ .counts .types)
-  pub grew : Grew (s .counts) (s′ .counts .types) (s′ .types)
-  pub kept : Kept (s .counts .types) (s .types) (s′ .types)
 
 -- The step's answer is the model's; a refusal leaves all that was handed in, but for bytes of the types that are not counted (`stored`); the state left is one that the
 -- next step can start from.

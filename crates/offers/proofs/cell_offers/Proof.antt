@@ -9,7 +9,7 @@ use borrow.Author.Tests.{not-true, not-false}
 use Rattle.model.specs.Crossing.{placeAt, placeType}
 use Rattle.table.specs.Store.{tableIn}
 use Rattle.state.specs.View.{cellOf, placesIn}
-use Rattle.offers.specs.Chained.{permitsNamed}
+use Rattle.offers.specs.Steps.{permitsNamed}
 use Rattle.offers.proofs.Laws.{blank, blank-long, offers-unknown, offers-not, offers-by-place, place-known}
 use Rattle.offers.proofs.cell_offers.Statement.{statement}
 use Rattle.offers.proofs.cell_offers.Tie as tie
