@@ -9,7 +9,8 @@ use Rattle.model.specs.Requests.{System}
 use Rattle.model.specs.Check.{systemOf, systemAccepted}
 use Rattle.returned.proofs.Counted.{means-same, accepted-same}
 use Rattle.state.specs.View.{rawState}
-use Rattle.flat.specs.Flat.{Flat, rawFlat, stateFrom}
+use Rattle.flat.specs.Flat.{Flat, rawFlat}
+use Rattle.flat.specs.Records.{stateFrom}
 use Rattle.flat.proofs.Laws.{codesIn, read-counted, codes-refused}
 use Rattle.offers.specs.Chained.{offersNamed, offersHanded}
 use Rattle.exports_runs.specs.Results.{offeredOut}

@@ -1,23 +1,23 @@
 -- What a run leaves of what was lent to it, from what it promises of the state that was read out of it.
 use mathlib.Core.Path.{_≡_, refl, ap, sym, subst, _∙_}
-use mathlib.Core.Bool.{Bool, true, false, So}
+use mathlib.Core.Bool.{Bool, true, false}
 use mathlib.Core.List.{List}
-use Prim.Native.Nat.{ℕ}
+use Prim.Native.Nat.{ℕ, _*_}
 use native.Mathlib.Omega.{arith}
 use lib.IntN.{ℤ}
+use lib.ListN.{take}
 use Rattle.model.specs.Basics.{Res, refuse, ok, need}
+use Rattle.model.specs.Table.{size}
 use Rattle.model.specs.Requests.{System, Outcome}
-use Rattle.model.specs.Check.{systemOf, systemAccepted, stateCodesFit}
-use Rattle.returned.proofs.Counted.{means-same, accepted-same}
-use Rattle.table.specs.declared.Counts.{Counts}
-use Rattle.table.specs.Store.{withCount}
-use Rattle.restrict.specs.Link.{Kept}
-use Rattle.cross.specs.Crossed.{Grew}
-use Rattle.state.specs.View.{rawState, systemIn}
-use Rattle.statecheck.proofs.Laws.{codes-hold}
-use Rattle.flat.specs.Flat.{Flat, countsIn, rawFlat, stateFrom}
-use Rattle.flat.proofs.Laws.{codesIn, read-counted, codes-refused, written-is}
-use Rattle.handing.specs.States.{Stored}
+use Rattle.model.specs.Check.{systemOf, systemAccepted}
+use Rattle.model.specs.Handed.{counted}
+use Rattle.returned.proofs.Counted.{means-same, accepted-same, stored-same}
+use Rattle.state.specs.View.{rawState}
+use Rattle.flat.specs.Flat.{Flat, rawFlat}
+use Rattle.flat.specs.Records.{stateFrom}
+use Rattle.flat.proofs.Laws.{codesIn, read-counted, codes-refused}
+use Rattle.handing.specs.Stored.{Stored}
+use Rattle.handing.proofs.Handing.{stored-counted}
 use Rattle.run.specs.Requested.{requests, runAsked, runHanded}
 use Rattle.run.specs.Ran.{Over as Ran, Runs, RanAs}
 use Rattle.exports_runs.specs.Results.{LentRun, lentRun, RanOut, RunsOut}
@@ -46,30 +46,24 @@ module _ (f : Flat) (k : ℕ) (ws : List ℤ) where
     run-refused h = subst (λ x. RunsOut x (r .refusal) (lentRun f old served) (lentRun (withBytes f (r .state .types)) new served)) (same fits) (go (runHanded (rawState (stateFrom f)) k ws) w)
       where
         go : (x : Res (List Outcome × System)) → Runs (stateFrom f) old new x r → RunsOut x (r .refusal) (lentRun f old served) (lentRun (withBytes f (r .state .types)) new served)
-        go (refuse e) v = (ap (λ (z : Ran). z .refusal) (v .0),
-          ap (λ (z : Ran). lentRun (withBytes f (z .state .types)) new served) (v .0) ∙ ap (λ (z : List ℤ). lentRun f z served) (v .1))
+        go (refuse e) v = (
+          ap (λ (z : Ran). z .refusal) (v .0),
+          ap (λ (z : Ran). lentRun (withBytes f (z .state .types)) new served) (v .0) ∙ ap (λ (z : List ℤ). lentRun f z served) (v .1),
+        )
         go (ok x) v = absurd (h (v .refusal))
 
     -- taken: the state is stored in the arrays, g
-    module _ (g : Flat) (links : g .links ≡ f .links) (z : Stored (r .state) (g .types) (g .cells) (g .places) (g .calls) (g .counts)) where
+    module _ (was g : Flat) (links : g .links ≡ f .links) (z : Stored (r .state) was g) where
       taken-as : (os : List Outcome) (m : System) → RanAs (stateFrom f) old new os m r → RanOut os m 0 (lentRun f old served) (lentRun g new (r .served))
-      unfolding systemIn
-      taken-as os m v =
-          let e : rawFlat g ≡ rawState (r .state) =
-          written-is (r .state) g (z .types) (links ∙ sym (v .stored .links)) (z .counts) (z .cellNumber, z .placeNumber, z .callNumber) (z .cells) (z .places) (z .calls) in
-          let n : countsIn (g .counts) .types ≡ r .state .counts .types = ap (λ (c : Counts). c .types) (z .counts) in
-          record {
-            number = refl;
-            served = v .served;
-            answers = v .answers;
-            means = ap systemOf e ∙ v .is;
-            codes = subst (λ x. So (stateCodesFit x)) (sym e) (codes-hold (r .state));
-            links = links;
-            counts = z .counts ∙ v .stored .counts ∙ ap (withCount (countsIn (f .counts))) (sym n);
-            kept = subst (λ (b : List ℕ). Kept (countsIn (f .counts) .types) (f .types) b) (sym (z .types)) (v .stored .kept);
-            grew = subst (λ (b : List ℕ). Grew (countsIn (f .counts)) (countsIn (g .counts) .types) b) (sym (z .types))
-                (subst (λ (k : ℕ). Grew (countsIn (f .counts)) k (r .state .types)) (sym n) (v .stored .grew));
-          }
+      taken-as os m v = record {
+        number = refl;
+        served = v .served;
+        answers = v .answers;
+        records = stored-counted (r .state) was g z (links ∙ sym (v .links)) ∙ v .records ∙ ap counted (stored-same (rawState (stateFrom f)) (rawFlat f) (read-counted f fits) m);
+        links = links;
+        counts = z .counts ∙ v .counts;
+        types = ap (take (size (m .table) * 128)) (z .types) ∙ v .types;
+      }
 
       pub run-taken : r .refusal ≡ 0 → RunsOut (runHanded (rawFlat f) k ws) 0 (lentRun f old served) (lentRun g new (r .served))
       unfolding runHanded

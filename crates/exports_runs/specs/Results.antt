@@ -1,18 +1,18 @@
 -- What the C functions hand out that load a state, ask what it offers and run requests on it.
 use mathlib.Core.Path.{_≡_}
-use mathlib.Core.Bool.{Bool, So}
-use mathlib.Core.List.{List}
-use Prim.Native.Nat.{ℕ}
+use mathlib.Core.Bool.{Bool}
+use mathlib.Core.List.{List, _++_, map, flatten}
+use Prim.Native.Nat.{ℕ, _*_}
 use lib.IntN.{ℤ}
-use lib.ListN.{length, replicate}
+use lib.ListN.{length, replicate, take, drop}
 use lib.Seq.{sets}
 use Rattle.model.specs.Basics.{Res, refuse, ok}
 use Rattle.model.specs.Relations.{bit}
+use Rattle.model.specs.Table.{size}
 use Rattle.model.specs.Requests.{System, Outcome}
-use Rattle.model.specs.Check.{systemOf, stateCodesFit}
+use Rattle.model.specs.Handed.{counted, storedFrom}
 use Rattle.table.specs.Store.{withCount}
-use Rattle.restrict.specs.Link.{Kept}
-use Rattle.cross.specs.Crossed.{Grew}
+use Rattle.table.specs.Records.{bytesOf}
 use Rattle.flat.specs.Flat.{Flat, countsIn, cellCount, placeCount, callCount, rawFlat}
 use Rattle.run.specs.Ran.{answersOf}
 use Rattle.sheet.specs.Sheet.{SheetAnswer}
@@ -44,18 +44,20 @@ pub record LentRun : Type 0 where
 abbrev pub lentRun : Flat → List ℤ → ℕ → LentRun
 lentRun f answers served = record { state = f; answers = answers; served = served }
 
--- What a run leaves of it that was taken, `os` and `m` being what the model's run comes to: the answers stand from the front on (U8); the state means the model's, and every code
--- of it names something; the links stay, and so does every byte of the types that there were; new ones are stored as the records that stand for them.
+-- What a run leaves of it that was taken, `os` and `m` being what the model's run comes to.
 pub record RanOut (os : List Outcome) (m : System) (n : ℕ) (old new : LentRun) : Type 0 where
   pub number : n ≡ 0
   pub served : new .served ≡ length os
+  -- the answers stand from the front on; what is behind them is as it was (U8, U9)
   pub answers : new .answers ≡ sets (old .answers) 0 (answersOf os)
-  pub means : systemOf (rawFlat (new .state)) ≡ m
-  pub codes : So (stateCodesFit (rawFlat (new .state)))
+  -- what is counted of table, cells, places and calls is the model's: how many, and each record (U10, Q15)
+  pub records : counted (rawFlat (new .state)) ≡ counted (storedFrom (rawFlat (old .state)) m)
+  -- the links stay, and every count of the table but that of its types
   pub links : new .state .links ≡ old .state .links
-  pub counts : countsIn (new .state .counts) ≡ withCount (countsIn (old .state .counts)) (countsIn (new .state .counts) .types)
-  pub kept : Kept (countsIn (old .state .counts) .types) (old .state .types) (new .state .types)
-  pub grew : Grew (countsIn (old .state .counts)) (countsIn (new .state .counts) .types) (new .state .types)
+  pub counts : countsIn (new .state .counts) ≡ withCount (countsIn (old .state .counts)) (size (m .table))
+  -- Every counted byte of the types: those that there were, and behind them the record that stands for each new one (B22).
+  pub types : take (size (m .table) * 128) (new .state .types)
+      ≡ take (countsIn (old .state .counts) .types * 128) (old .state .types) ++ flatten (map bytesOf (drop (countsIn (old .state .counts) .types) (m .table .types)))
 
 -- One that is refused changes nothing (Q14).
 abbrev pub RunsOut : Res (List Outcome × System) → ℕ → LentRun → LentRun → Type 0

@@ -11,7 +11,8 @@ use Rattle.model.specs.Check.{RawPlace, RawCall, noRawPlace, noRawCall}
 use Rattle.model.proofs.Lists.{length-from, from-first}
 use Rattle.tablecheck.specs.Parts.{eachFrom}
 use Rattle.tablecheck.proofs.Each.{all-each}
-use Rattle.flat.specs.Flat.{rawPlaceAt, rawCallAt, rawPlaces, rawCalls, placeCodes, callCodes}
+use Rattle.flat.specs.Flat.{rawPlaceAt, rawCallAt, rawPlaces, rawCalls}
+use Rattle.flat.specs.Records.{placeCodes, callCodes}
 
 abbrev pub PlaceFits : List ℕ → ℕ → Bool
 PlaceFits b p = ltb (getD (rawPlaces b) p noRawPlace .code) 2

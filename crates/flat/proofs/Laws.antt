@@ -1,20 +1,22 @@
 -- What is read out of the bytes and written back, as records of numbers: the same state, but for what lies past a count.
 use mathlib.Core.Path.{_≡_, refl, ap, sym, _∙_, subst}
-use mathlib.Core.Bool.{Bool, true, false, _&&_, So}
+use mathlib.Core.Bool.{Bool, true, false, _&&_, So, cond}
 use mathlib.Core.List.{List, map}
-use Prim.Native.Nat.{ℕ, zero, suc, _+_, _*_, _≤_, _<_}
+use mathlib.Core.Logic.{⊎-elim}
+use Prim.Native.Nat.{ℕ, zero, suc, _+_, _*_, _≤_, _<_, min}
 use native.Mathlib.Omega.{arith}
 use lib.Dec.{ltb}
-use lib.ListN.{length, getD, length-map, List·getD-map}
-use borrow.Author.Tests.{ltb-true}
-use Rattle.model.specs.Basics.{all}
+use lib.ListN.{length, getD, length-map, List·getD-map, List·getD-eq-default}
+use borrow.Author.Tests.{ltb-true, lt-ltb}
+use Rattle.model.specs.Basics.{from, all}
 use Rattle.model.specs.Requests.{noCell}
 use Rattle.model.specs.Check.{RawPlace, RawCall, noRawPlace, noRawCall, firstOf, stateCodesFit, systemFits, systemOf, codesFit, systemAccepted}
 use Rattle.model.specs.Check.{placeOf as placeMeant, callOf as callMeant}
 use Rattle.model.specs.Handed.{placeRecord, callRecord, counted}
 use Rattle.model.proofs.Rules.{first, second}
-use Rattle.model.proofs.Lists.{is-from, from-same, from-first, length-from, map-from}
+use Rattle.model.proofs.Lists.{from-same, from-first, length-from, map-from}
 use Rattle.modellaws.proofs.Fitting.{all-at}
+use Rattle.table.proofs.Lists.{lt-or-ge}
 use Rattle.state.specs.declared.Place.{Place}
 use Rattle.state.specs.declared.Place.the-variants.{Object, Adapter}
 use Rattle.state.specs.declared.PlaceRec.{PlaceRec}
@@ -24,9 +26,10 @@ use Rattle.state.specs.declared.Places.{Places}
 use Rattle.state.specs.declared.Calls.{Calls}
 use Rattle.state.specs.Whole.{Whole as State}
 use Rattle.state.specs.View.{cellOf, placeOf, callOf, blankCell, blankPlace, blankCall, rawState}
-use Rattle.flat.specs.Flat.{Flat, countsIn, cellCount, placeCount, callCount, rawCellAt, rawPlaceAt, rawCallAt, rawCells, rawPlaces, rawCalls, rawFlat, placeCodes, callCodes}
-use Rattle.flat.specs.Flat.{cellFrom, placeBy, placeFrom, callFrom, cellsFrom, placesFrom, callsFrom, stateFrom, cellBytes, placeBytes, callBytes, cellRecords, placeRecords}
-use Rattle.flat.specs.Flat.{callRecords}
+use Rattle.flat.specs.Flat.{Flat, countsIn, cellCount, placeCount, callCount, rawCellAt, rawPlaceAt, rawCallAt, rawCells, rawPlaces, rawCalls, rawFlat}
+use Rattle.flat.specs.Records.{placeCodes, callCodes, cellFrom, placeBy, placeFrom, callFrom, upTo, cellsFrom, placesFrom, callsFrom, stateFrom, cellBytes, placeBytes, callBytes}
+use Rattle.flat.specs.Records.{cellRecords, placeRecords, callRecords, Behind, CellsTo, PlacesTo, CallsTo}
+use Rattle.flat.proofs.Filling.{below-least}
 use Rattle.flat.proofs.Rows.{Rows, row-first}
 
 -- ---- Written: each record's row is its bytes.
@@ -52,6 +55,12 @@ place-wide (Adapter b t) = refl
 pub below-3 : (i k j : ℕ) → i < k → j < 3 → i * 3 + j < k * 3
 below-3 i k j p q = omega arith
 
+pub next-3 : (k : ℕ) → (k + 1) * 3 ≡ k * 3 + 3
+next-3 k = omega arith
+
+pub next-4 : (k : ℕ) → (k + 1) * 4 ≡ k * 4 + 4
+next-4 k = omega arith
+
 pub below-4 : (i k j : ℕ) → i < k → j < 4 → i * 4 + j < k * 4
 below-4 i k j p q = omega arith
 
@@ -59,29 +68,58 @@ place-read : (x : Place) → _≡_ {A = RawPlace} (record { code = getD (placeBy
 place-read (Object c o) = refl
 place-read (Adapter b t) = refl
 
-pub cells-written : (cs : Cells) (n : ℕ) (b : List ℕ) → length (cs .list) ≡ 256 → 256 ≤ n → Rows 3 (cellRow cs) 768 n b → rawCells b ≡ cellRecords cs
-unfolding rawCells
-cells-written cs n b e h rows = is-from (λ k. rawCellAt b (k * 3)) 256 noCell (cellRecords cs) (length-map (cs .list) cellOf ∙ e)
-    (λ i p. let l : i < n = omega arith in
-    List·getD-map cellOf (cs .list) i blankCell ∙ rw (row-first 3 (cellRow cs) 768 n b rows i l (omega arith), rows .are i l 1 (omega arith), rows .are i l 2 (omega arith)))
+-- counted records of two arrays of one size are the same where those are that lie in the array
+counted-alike : {A : Type 0} (d : A) (size n : ℕ) (xs ys : List A) → length xs ≡ size → length ys ≡ size → ((k : ℕ) → k < n → k < size → getD xs k d ≡ getD ys k d)
+    → firstOf n d xs ≡ firstOf n d ys
+counted-alike d size n xs ys lx ly h = from-same _ _ n 0 (λ k p q. ⊎-elim
+    (λ (l : k < size). h k (omega arith) l)
+    (λ (l : size ≤ k). List·getD-eq-default xs d (omega (arith, lx, l)) ∙ sym (List·getD-eq-default ys d (omega (arith, ly, l))))
+    (lt-or-ge k size))
 
-pub places-written : (ps : Places) (n : ℕ) (b : List ℕ) → length (ps .list) ≡ 128 → 128 ≤ n → Rows 3 (placeRow ps) 384 n b → rawPlaces b ≡ placeRecords ps
-unfolding rawPlaces
-places-written ps n b e h rows = is-from (λ p. rawPlaceAt b (p * 3)) 128 noRawPlace (placeRecords ps) (length-map (ps .list) recOf ∙ e)
-    (λ i p. let l : i < n = omega arith in let x = getD (ps .list) i blankPlace .place in
-    List·getD-map recOf (ps .list) i blankPlace ∙ rw (row-first 3 (placeRow ps) 384 n b rows i l (omega arith), rows .are i l 1 (omega arith), rows .are i l 2 (omega arith)) (sym (place-read x)))
+-- k rows were written: as many as are counted, or all that the array has
+module _ (old b : List ℕ) (k : ℕ) where
+  pub cells-written : (cs : Cells) → length (cs .list) ≡ 256 → k ≡ min (cs .count) 256 → k ≤ cs .count → Rows 3 (cellRow cs) old k b → CellsTo cs old b
+  unfolding rawCells
+  cells-written cs e m few rows = record {
+    counted = counted-alike noCell 256 (cs .count) (rawCells b) (cellRecords cs) (length-from (λ i. rawCellAt b (i * 3)) 256 0) (length-map (cs .list) cellOf ∙ e) (λ i p q.
+        let l : i < k = below-least (cs .count) 256 k i m p q in
+        from-first (λ i. rawCellAt b (i * 3)) 256 i noCell q
+        ∙ rw (row-first 3 (cellRow cs) old k b rows i l (omega arith), rows .are i l 1 (omega arith), rows .are i l 2 (omega arith)) (sym (List·getD-map cellOf (cs .list) i blankCell)));
+    behind = λ i p. rows .behind i (omega (arith, p, few));
+  }
 
-pub calls-written : (js : Calls) (n : ℕ) (b : List ℕ) → length (js .list) ≡ 256 → 256 ≤ n → Rows 4 (callRow js) 1024 n b → rawCalls b ≡ callRecords js
-unfolding rawCalls
-calls-written js n b e h rows = is-from (λ j. rawCallAt b (j * 4)) 256 noRawCall (callRecords js) (length-map (js .list) callRec ∙ e)
-    (λ i p. let l : i < n = omega arith in
-    List·getD-map callRec (js .list) i blankCall
-    ∙ rw (row-first 4 (callRow js) 1024 n b rows i l (omega arith), rows .are i l 1 (omega arith), rows .are i l 2 (omega arith), rows .are i l 3 (omega arith)))
+  pub places-written : (ps : Places) → length (ps .list) ≡ 128 → k ≡ min (ps .count) 128 → k ≤ ps .count → Rows 3 (placeRow ps) old k b → PlacesTo ps old b
+  unfolding rawPlaces
+  places-written ps e m few rows = record {
+    counted = counted-alike noRawPlace 128 (ps .count) (rawPlaces b) (placeRecords ps) (length-from (λ i. rawPlaceAt b (i * 3)) 128 0) (length-map (ps .list) recOf ∙ e) (λ i p q.
+        let l : i < k = below-least (ps .count) 128 k i m p q in let x = getD (ps .list) i blankPlace .place in
+        from-first (λ i. rawPlaceAt b (i * 3)) 128 i noRawPlace q
+        ∙ rw (row-first 3 (placeRow ps) old k b rows i l (omega arith), rows .are i l 1 (omega arith), rows .are i l 2 (omega arith))
+        (place-read x ∙ sym (List·getD-map recOf (ps .list) i blankPlace)));
+    behind = λ i p. rows .behind i (omega (arith, p, few));
+  }
 
--- ---- Read: cells are the records of the bytes; a place or call is so where its code names something.
-cells-read : (b : List ℕ) (n : ℕ) → cellRecords (cellsFrom b n) ≡ rawCells b
+  pub calls-written : (js : Calls) → length (js .list) ≡ 256 → k ≡ min (js .count) 256 → k ≤ js .count → Rows 4 (callRow js) old k b → CallsTo js old b
+  unfolding rawCalls
+  calls-written js e m few rows = record {
+    counted = counted-alike noRawCall 256 (js .count) (rawCalls b) (callRecords js) (length-from (λ i. rawCallAt b (i * 4)) 256 0) (length-map (js .list) callRec ∙ e) (λ i p q.
+        let l : i < k = below-least (js .count) 256 k i m p q in
+        from-first (λ i. rawCallAt b (i * 4)) 256 i noRawCall q
+        ∙ rw (row-first 4 (callRow js) old k b rows i l (omega arith), rows .are i l 1 (omega arith), rows .are i l 2 (omega arith), rows .are i l 3 (omega arith))
+        (sym (List·getD-map callRec (js .list) i blankCall)));
+    behind = λ i p. rows .behind i (omega (arith, p, few));
+  }
+
+-- ---- Read: counted cells are the records of the bytes; a place or call is so where its code names something.
+-- the counted records of an array that was read up to its count, seen through h
+read-first : {A B : Type 0} (h : A → B) (d : A) (f : ℕ → A) (g : ℕ → B) → ((k : ℕ) → h (f k) ≡ g k) → (size n : ℕ) → firstOf n (h d) (map h (upTo size n d f)) ≡ firstOf n (h d) (from size 0 g)
+read-first h d f g e size n = counted-alike (h d) size n (map h (upTo size n d f)) (from size 0 g) (length-map (upTo size n d f) h ∙ length-from (λ k. cond (ltb k n) (f k) d) size 0)
+    (length-from g size 0) (λ k p q.
+    List·getD-map h (upTo size n d f) k d ∙ ap h (from-first (λ k. cond (ltb k n) (f k) d) size k d q ∙ ap (λ (b : Bool). cond b (f k) d) (lt-ltb k n p)) ∙ e k ∙ sym (from-first g size k (h d) q))
+
+cells-read : (b : List ℕ) (n : ℕ) → firstOf n noCell (cellRecords (cellsFrom b n)) ≡ firstOf n noCell (rawCells b)
 unfolding cellsFrom rawCells
-cells-read b n = map-from cellOf (cellFrom b) 256 0
+cells-read b n = read-first cellOf blankCell (cellFrom b) (λ k. rawCellAt b (k * 3)) (λ k. refl) 256 n
 
 -- what a code is read as
 abbrev placeAgain : RawPlace → RawPlace
@@ -99,15 +137,15 @@ place-by : (c x y : ℕ) → placeRecord (placeOf (placeBy c x y)) ≡ placeAgai
 place-by zero x y = refl
 place-by (suc c) x y = refl
 
-places-read : (b : List ℕ) (n : ℕ) → placeRecords (placesFrom b n) ≡ map placeAgain (rawPlaces b)
+places-read : (b : List ℕ) (n : ℕ) → firstOf n noRawPlace (placeRecords (placesFrom b n)) ≡ firstOf n noRawPlace (map placeAgain (rawPlaces b))
 unfolding placesFrom rawPlaces
-places-read b n = map-from recOf (placeFrom b) 128 0
-    ∙ from-same (λ p. recOf (placeFrom b p)) (λ p. placeAgain (rawPlaceAt b (p * 3))) 128 0 (λ p h l. place-by (getD b (p * 3) 0) (getD b (p * 3 + 1) 0) (getD b (p * 3 + 2) 0))
-    ∙ sym (map-from placeAgain (λ p. rawPlaceAt b (p * 3)) 128 0)
+places-read b n =
+    read-first recOf blankPlace (placeFrom b) (λ p. placeAgain (rawPlaceAt b (p * 3))) (λ p. place-by (getD b (p * 3) 0) (getD b (p * 3 + 1) 0) (getD b (p * 3 + 2) 0)) 128 n
+    ∙ ap (firstOf n noRawPlace) (sym (map-from placeAgain (λ p. rawPlaceAt b (p * 3)) 128 0))
 
-calls-read : (b : List ℕ) (n : ℕ) → callRecords (callsFrom b n) ≡ map callAgain (rawCalls b)
+calls-read : (b : List ℕ) (n : ℕ) → firstOf n noRawCall (callRecords (callsFrom b n)) ≡ firstOf n noRawCall (map callAgain (rawCalls b))
 unfolding callsFrom rawCalls
-calls-read b n = map-from callRec (callFrom b) 256 0 ∙ sym (map-from callAgain (λ j. rawCallAt b (j * 4)) 256 0)
+calls-read b n = read-first callRec blankCall (callFrom b) (λ j. callAgain (rawCallAt b (j * 4))) (λ j. refl) 256 n ∙ ap (firstOf n noRawCall) (sym (map-from callAgain (λ j. rawCallAt b (j * 4)) 256 0))
 
 place-same : (x : RawPlace) → So (ltb (x .code) 2) → placeAgain x ≡ x
 place-same x h = go (x .code) (x .first) (x .second) (ltb-true (x .code) 2 h)
@@ -158,8 +196,12 @@ module _ (f : Flat) where
       go true b c e = rw e
       go false b c e = refl
 
--- A state that is written back is the one written, every record of it.
-pub written-is : (s : State) (f : Flat) → f .types ≡ s .types → f .links ≡ s .links → countsIn (f .counts) ≡ s .counts
+-- A state that is written back is the one written: its counted records.
+pub written-counted : (s : State) (f : Flat) → f .types ≡ s .types → f .links ≡ s .links → countsIn (f .counts) ≡ s .counts
     → (cellCount (f .counts) ≡ s .cells .count) × (placeCount (f .counts) ≡ s .places .count) × (callCount (f .counts) ≡ s .calls .count)
-    → rawCells (f .cells) ≡ cellRecords (s .cells) → rawPlaces (f .places) ≡ placeRecords (s .places) → rawCalls (f .calls) ≡ callRecords (s .calls) → rawFlat f ≡ rawState s
-written-is s f t l n m cs ps js = rw (t, l, ← n, m .0, m .1, m .2, cs, ps, js)
+    → firstOf (s .cells .count) noCell (rawCells (f .cells)) ≡ firstOf (s .cells .count) noCell (cellRecords (s .cells))
+    → firstOf (s .places .count) noRawPlace (rawPlaces (f .places)) ≡ firstOf (s .places .count) noRawPlace (placeRecords (s .places))
+    → firstOf (s .calls .count) noRawCall (rawCalls (f .calls)) ≡ firstOf (s .calls .count) noRawCall (callRecords (s .calls))
+    → counted (rawFlat f) ≡ counted (rawState s)
+unfolding counted
+written-counted s f t l n m cs ps js = rw (t, l, ← n, m .0, m .1, m .2, cs, ps, js)

@@ -1,13 +1,16 @@
 // A state in arrays of bytes, as it is handed in at the C boundary (B25 to B29): out of the bytes into the records of crate `state`, and back. Only this crate knows where
-// in the bytes a cell, a place or a call stands. Whole arrays are read and written, whatever the counts are: none of them is used as an index.
+// in the bytes a cell, a place or a call stands. Only counted records are read and written, and none past an array's end: a count above the limit is the check's to refuse (H1).
 ghost use mathlib.Core.Path.{_≡_};
 ghost use mathlib.Core.Bool.{_&&_};
 ghost use mathlib.Core.List.{List, [], _∷_};
 ghost use Prim.Native.Nat.{ℕ, _*_, _<_};
+ghost use lib.ListN.{length};
 ghost use lib.Seq.{sets};
 ghost use Rattle.model.specs.Relations.{bit};
 ghost use Rattle.state.specs.Whole.{whole};
-ghost use Rattle.flat.specs.Flat.{flat, countsIn, cellCount, placeCount, callCount, cellFrom, placeFrom, callFrom, cellsFrom, placesFrom, callsFrom, stateFrom, placeCodes, callCodes, placeBy, cellBytes, placeBytes, callBytes, rawCells, rawPlaces, rawCalls, cellRecords, placeRecords, callRecords};
+ghost use Rattle.flat.specs.Flat.{flat, countsIn, cellCount, placeCount, callCount};
+ghost use Rattle.flat.specs.Records.{cellFrom, placeFrom, callFrom, cellsFrom, placesFrom, callsFrom, stateFrom, placeCodes, callCodes, placeBy, cellBytes, placeBytes, callBytes, CellsTo, PlacesTo, CallsTo};
+use numbers::least;
 use state::Call;
 use state::Calls;
 use state::Cell;
@@ -48,8 +51,9 @@ pub fn cells_from(b: &[u8; CELL_BYTES], count: usize) -> Cells
         place: 0,
     };
     let mut list = [blank; State::CELLS];
+    let n = least(count, State::CELLS);
     let mut k: usize = 0;
-    while k < State::CELLS {
+    while k < n {
         list[k] = cell_from(b, k);
         k += 1;
     }
@@ -88,8 +92,9 @@ pub fn places_from(b: &[u8; PLACE_BYTES], count: usize) -> Places
         place: Place::Object { class: 0, owner: 0 },
     };
     let mut list = [blank; State::PLACES];
+    let n = least(count, State::PLACES);
     let mut p: usize = 0;
-    while p < State::PLACES {
+    while p < n {
         list[p] = place_from(b, p);
         p += 1;
     }
@@ -121,8 +126,9 @@ pub fn calls_from(b: &[u8; CALL_BYTES], count: usize) -> Calls
         answered: false,
     };
     let mut list = [blank; State::CALLS];
+    let n = least(count, State::CALLS);
     let mut j: usize = 0;
-    while j < State::CALLS {
+    while j < n {
         list[j] = call_from(b, j);
         j += 1;
     }
@@ -172,6 +178,19 @@ pub fn codes_fit(places: &[u8; PLACE_BYTES], calls: &[u8; CALL_BYTES], pn: usize
     call_codes(calls, cn)
 }
 
+// An array that is held has its length, of a lent one nothing says it; the copy goes when these are inlined.
+fn cell_bytes(b: [u8; CELL_BYTES])
+    ensures { λ _. ⌜ length b ≡ 768 ⌝ }
+{}
+
+fn place_bytes(b: [u8; PLACE_BYTES])
+    ensures { λ _. ⌜ length b ≡ 384 ⌝ }
+{}
+
+fn call_bytes(b: [u8; CALL_BYTES])
+    ensures { λ _. ⌜ length b ≡ 1024 ⌝ }
+{}
+
 // The bytes of a cell, at its place in the array.
 fn put_cell(b: &mut [u8; CELL_BYTES], k: usize, c: Cell)
     requires { ⌜ k < 256 ⌝ }
@@ -183,17 +202,18 @@ fn put_cell(b: &mut [u8; CELL_BYTES], k: usize, c: Cell)
     b[at + 2] = c.place;
 }
 
-pub fn cells_to(cs: Cells) -> [u8; CELL_BYTES]
-    ensures { λ r. ⌜ rawCells r ≡ cellRecords cs ⌝ }
+// The counted cells; every byte behind them stays.
+pub fn cells_to(b: &mut [u8; CELL_BYTES], cs: Cells)
+    ensures { λ _. ⌜ CellsTo cs (now (b .entry)) (now (b .exit)) ⌝ }
 {
-    let mut b = [0u8; CELL_BYTES];
+    cell_bytes(*b);
+    let n = least(cs.count, State::CELLS);
     let mut k: usize = 0;
-    while k < State::CELLS {
+    while k < n {
         let c = cs.list[k];
-        put_cell(&mut b, k, c);
+        put_cell(b, k, c);
         k += 1;
     }
-    b
 }
 
 fn put_three(b: &mut [u8; PLACE_BYTES], p: usize, code: u8, first: u8, second: u8)
@@ -217,18 +237,19 @@ fn put_place(b: &mut [u8; PLACE_BYTES], p: usize, x: Place)
     }
 }
 
-pub fn places_to(ps: Places) -> [u8; PLACE_BYTES]
-    ensures { λ r. ⌜ rawPlaces r ≡ placeRecords ps ⌝ }
+// The counted places; every byte behind them stays.
+pub fn places_to(b: &mut [u8; PLACE_BYTES], ps: Places)
+    ensures { λ _. ⌜ PlacesTo ps (now (b .entry)) (now (b .exit)) ⌝ }
 {
-    let mut b = [0u8; PLACE_BYTES];
+    place_bytes(*b);
+    let n = least(ps.count, State::PLACES);
     let mut p: usize = 0;
-    while p < State::PLACES {
+    while p < n {
         let x = ps.list[p];
         let y = x.place;
-        put_place(&mut b, p, y);
+        put_place(b, p, y);
         p += 1;
     }
-    b
 }
 
 fn flag(answered: bool) -> u8
@@ -252,17 +273,18 @@ fn put_call(b: &mut [u8; CALL_BYTES], j: usize, c: Call)
     b[at + 3] = flag(c.answered);
 }
 
-pub fn calls_to(js: Calls) -> [u8; CALL_BYTES]
-    ensures { λ r. ⌜ rawCalls r ≡ callRecords js ⌝ }
+// The counted calls; every byte behind them stays.
+pub fn calls_to(b: &mut [u8; CALL_BYTES], js: Calls)
+    ensures { λ _. ⌜ CallsTo js (now (b .entry)) (now (b .exit)) ⌝ }
 {
-    let mut b = [0u8; CALL_BYTES];
+    call_bytes(*b);
+    let n = least(js.count, State::CALLS);
     let mut j: usize = 0;
-    while j < State::CALLS {
+    while j < n {
         let c = js.list[j];
-        put_call(&mut b, j, c);
+        put_call(b, j, c);
         j += 1;
     }
-    b
 }
 
 // The state that stands in the bytes, its types aside; what `codes_fit` says of them is asked by itself.

@@ -21,8 +21,9 @@ use Rattle.table.specs.Records.{bytesOf}
 use Rattle.table.proofs.Tables.{size-is}
 use Rattle.state.specs.Whole.{Whole as State}
 use Rattle.state.specs.View.{rawState, systemIn}
-use Rattle.flat.specs.Flat.{Flat, countsIn, rawFlat, stateFrom}
-use Rattle.flat.proofs.Laws.{codesIn, read-counted, codes-refused, written-is}
+use Rattle.flat.specs.Flat.{Flat, countsIn, rawFlat}
+use Rattle.flat.specs.Records.{stateFrom}
+use Rattle.flat.proofs.Laws.{codesIn, read-counted, codes-refused, written-counted}
 use Rattle.steps.specs.declared.Answer.{Answer}
 use Rattle.steps.specs.declared.Answer.the-variants.{Refused, Pair, Number, Nothing}
 use Rattle.steps.specs.Served.{Done as Served}
@@ -30,7 +31,8 @@ use Rattle.steps.specs.Served.{outcomeOf}
 use Rattle.sending.specs.Sent.{isAccepted}
 use Rattle.serve.specs.Serves.{Serves}
 use Rattle.serve.specs.Serves.{leaves as leavesState}
-use Rattle.handing.specs.States.{LentState, lentState, outcomeNumber, outcomeValues, leaves, outcomeOn, Handed, Stored, Back}
+use Rattle.handing.specs.States.{LentState, lentState, outcomeNumber, outcomeValues, leaves, outcomeOn, Handed}
+use Rattle.handing.specs.Stored.{Stored, Back}
 
 -- Every counted byte of the types: the equation of `Handed`, of the state x that is left, types b before and b′ after, n of them before.
 abbrev Bytes : System → ℕ → List ℕ → List ℕ → Type 0
@@ -51,6 +53,11 @@ no-refusal (Refused n) e h p = never h
 no-refusal (Pair a b) e h p = let z : _≡_ {A = ℕ} 0 1 = cc in omega arith
 no-refusal (Number v) e h p = let z : _≡_ {A = ℕ} 0 1 = cc in omega arith
 no-refusal Nothing e h p = let z : _≡_ {A = ℕ} 0 1 = cc in omega arith
+
+-- a state stored in the arrays is the one that they hold, as far as it is counted
+pub stored-counted : (s : State) (old new : Flat) → Stored s old new → new .links ≡ s .links → counted (rawFlat new) ≡ counted (rawState s)
+stored-counted s old new z links =
+    written-counted s new (z .types) links (z .counts) (z .cellNumber, z .placeNumber, z .callNumber) (z .cells .counted) (z .places .counted) (z .calls .counted)
 
 -- ---- A code that names nothing: 2, and nothing else is looked at.
 module _ (f : Flat) (q : Request) (v : List ℤ) (bad : codesIn f ≡ false) where
@@ -124,10 +131,8 @@ module _ (f : Flat) (q : Request) (v : List ℤ) (fits : codesIn f ≡ true) (r 
           (subst (λ (x : System). Bytes x (countsIn (f .counts) .types) (f .types) (r .state .types)) left (w .types));
     }
 
-    accepted-handed : isAccepted (r .answer) ≡ true → g .links ≡ f .links → Stored (r .state) (g .types) (g .cells) (g .places) (g .calls) (g .counts)
-        → Handed q n (lentState f v) (lentState g u)
-    accepted-handed h links z = handed
-        (ap counted (written-is (r .state) g (z .types) (links ∙ sym (w .links)) (z .counts) (z .cellNumber, z .placeNumber, z .callNumber) (z .cells) (z .places) (z .calls)))
+    accepted-handed : isAccepted (r .answer) ≡ true → g .links ≡ f .links → (old : Flat) → Stored (r .state) old g → Handed q n (lentState f v) (lentState g u)
+    accepted-handed h links old z = handed (stored-counted (r .state) old g z (links ∙ sym (w .links)))
         (λ e p. absurd (no-refusal (r .answer) e h p)) links (z .counts) (z .types)
 
     refused-handed : isAccepted (r .answer) ≡ false → g ≡ f → Handed q n (lentState f v) (lentState g u)
@@ -151,7 +156,7 @@ module _ (f : Flat) (q : Request) (v : List ℤ) (fits : codesIn f ≡ true) (r 
     where
       go : (x : Bool) → isAccepted (r .answer) ≡ x → Handed q n (lentState f v) (lentState g u)
       go false h = refused-handed g n u (b .number) (b .values) h (b .refused h ∙ back-same h)
-      go true h = accepted-handed g n u (b .number) (b .values) h links (b .accepted h)
+      go true h = accepted-handed g n u (b .number) (b .values) h links f′ (b .accepted h)
 
 -- ---- As the C functions use it: b says whether the codes fit, s is the state that was read.
 module _ (f : Flat) (q : Request) (v : List ℤ) (b : Bool) (tested : b ≡ codesIn f) where

@@ -20,7 +20,7 @@ use Rattle.steps.specs.Served.{Done as Served}
 use Rattle.steps.specs.Served.{outcomeOf}
 use Rattle.serve.specs.Serves.{defined, Serves}
 use Rattle.serve.proofs.Laws.{serves-answer}
-use Rattle.handing.specs.States.{Small}
+use Rattle.handing.specs.Stored.{Small}
 
 abbrev SmallResult : Result → Type 0
 SmallResult (pair a b) = (a < 65536) × (b < 65536)

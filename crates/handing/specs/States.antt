@@ -1,8 +1,7 @@
--- What the C functions on a state hand out: the number returned, the values, and all that was lent.
+-- What the C functions on a state hand out: the number returned, the values, and all that was lent. All of this is believed; what only helps proofs is in Stored.
 use mathlib.Core.Path.{_≡_}
-use mathlib.Core.Bool.{true, false}
 use mathlib.Core.List.{List, [], _∷_, _++_, map, flatten}
-use Prim.Native.Nat.{ℕ, _*_, _<_}
+use Prim.Native.Nat.{ℕ, _*_}
 use lib.IntN.{ℤ, pos}
 use lib.ListN.{take, drop}
 use Rattle.model.specs.Basics.{Res, need}
@@ -12,13 +11,7 @@ use Rattle.model.specs.Check.{RawSystem, systemOf, systemAccepted}
 use Rattle.model.specs.Handed.{serveHanded, Returns}
 use Rattle.table.specs.Store.{withCount}
 use Rattle.table.specs.Records.{bytesOf}
-use Rattle.state.specs.Whole.{Whole as State}
-use Rattle.flat.specs.Flat.{Flat, countsIn, cellCount, placeCount, callCount, rawCells, rawPlaces, rawCalls, cellRecords, placeRecords, callRecords, rawFlat}
-use Rattle.steps.specs.declared.Answer.{Answer}
-use Rattle.steps.specs.declared.Answer.the-variants.{Refused, Pair, Number, Nothing}
-use Rattle.steps.specs.Served.{Done as Served}
-use Rattle.steps.specs.Served.{outcomeOf}
-use Rattle.sending.specs.Sent.{isAccepted}
+use Rattle.flat.specs.Flat.{Flat, countsIn, rawFlat}
 
 -- what a caller lends to a request: the state, and where the values go
 pub record LentState : Type 0 where
@@ -68,29 +61,3 @@ pub record Handed (q : Request) (n : ℕ) (old new : LentState) : Type 0 where
   -- Every counted byte of the types: those that there were, and behind them the record that stands for each new one (B22).
   pub types : take (size (leaves (rawFlat (old .state)) q .table) * 128) (new .state .types)
       ≡ take (countsIn (old .state .counts) .types * 128) (old .state .types) ++ flatten (map bytesOf (drop (countsIn (old .state .counts) .types) (leaves (rawFlat (old .state)) q .table .types)))
-
--- ---- On the way: what is stored of an answer and its state.
--- two numbers that are small enough to be signed
-abbrev pub Small : Answer → Type 0
-Small (Refused e) = Unit
-Small (Pair a b) = (a < 65536) × (b < 65536)
-Small (Number v) = Unit
-Small Nothing = Unit
-
--- the state is stored in these arrays
-pub record Stored (s : State) (t c p j n : List ℕ) : Type 0 where
-  pub types : t ≡ s .types
-  pub counts : countsIn n ≡ s .counts
-  pub cellNumber : cellCount n ≡ s .cells .count
-  pub placeNumber : placeCount n ≡ s .places .count
-  pub callNumber : callCount n ≡ s .calls .count
-  pub cells : rawCells c ≡ cellRecords (s .cells)
-  pub places : rawPlaces p ≡ placeRecords (s .places)
-  pub calls : rawCalls j ≡ callRecords (s .calls)
-
--- what the answer r leaves of what was lent
-pub record Back (r : Served) (n : ℕ) (old new : LentState) : Type 0 where
-  pub number : n ≡ outcomeNumber (outcomeOf (r .answer))
-  pub values : new .values ≡ outcomeValues (old .values) (outcomeOf (r .answer))
-  pub refused : isAccepted (r .answer) ≡ false → new .state ≡ old .state
-  pub accepted : isAccepted (r .answer) ≡ true → Stored (r .state) (new .state .types) (new .state .cells) (new .state .places) (new .state .calls) (new .state .counts)

@@ -8,7 +8,8 @@ ghost use lib.IntN.{pos};
 ghost use Rattle.state.specs.Whole.{whole};
 ghost use Rattle.flat.specs.Flat.{flat};
 ghost use Rattle.steps.specs.Served.{outcomeOf, done};
-ghost use Rattle.handing.specs.States.{outcomeNumber, outcomeValues, Small, Stored, Back, lentState};
+ghost use Rattle.handing.specs.States.{outcomeNumber, outcomeValues, lentState};
+ghost use Rattle.handing.specs.Stored.{Small, Stored, Back};
 use flat::CALL_BYTES;
 use flat::CELL_BYTES;
 use flat::PLACE_BYTES;
@@ -57,7 +58,7 @@ fn answer_out(a: Answer, values: &mut [i64; 3]) -> usize
     }
 }
 
-// The state in the arrays.
+// The state in the arrays: its counts and its counted records.
 pub fn store(
     s: State,
     cells: &mut [u8; CELL_BYTES],
@@ -65,15 +66,15 @@ pub fn store(
     calls: &mut [u8; CALL_BYTES],
     counts: &mut [usize; 8],
 )
-    ensures { λ _. ⌜ ((t : List ℕ) → Stored (whole t s) t (now (cells .exit)) (now (places .exit)) (now (calls .exit)) (now (counts .exit))) ⌝ }
+    ensures { λ _. ⌜ ((t l : List ℕ) → Stored (whole t s) (flat t l (now (cells .entry)) (now (places .entry)) (now (calls .entry)) (now (counts .entry))) (flat t l (now (cells .exit)) (now (places .exit)) (now (calls .exit)) (now (counts .exit)))) ⌝ }
 {
     let cs = s.cells;
     let ps = s.places;
     let js = s.calls;
     *counts = flat::counts_to(s.counts, cs.count, ps.count, js.count);
-    *cells = flat::cells_to(cs);
-    *places = flat::places_to(ps);
-    *calls = flat::calls_to(js);
+    flat::cells_to(cells, cs);
+    flat::places_to(places, ps);
+    flat::calls_to(calls, js);
 }
 
 // What comes back of a request: refused, nothing is stored (Q14).

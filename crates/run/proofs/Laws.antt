@@ -1,18 +1,22 @@
 -- A request by its code as a word, and what has been served so far.
 use mathlib.Core.Path.{_≡_, refl, sym, ap, subst, _∙_}
 use mathlib.Core.Bool.{Bool, true, false, cond, _||_}
-use mathlib.Core.List.{List, [], _∷_}
+use mathlib.Core.List.{List, [], _∷_, _++_, map, flatten}
 use mathlib.Core.Option.{Option}
 use Prim.Native.Nat.{ℕ, zero, suc, _+_, _-_, _*_, _≤_, _<_}
 use native.Mathlib.Omega.{arith}
 use lib.IntN.{ℤ}
-use lib.ListN.{length, drop, drop-of-length-le}
+use lib.ListN.{length, take, drop, drop-of-length-le}
 use lib.Seq.{sets, length-sets}
 use Rattle.model.specs.Basics.{ok, need, names}
 use Rattle.model.proofs.Rules.{never}
+use Rattle.model.specs.Table.{size}
 use Rattle.model.specs.Requests.{System, Request, Outcome, after}
 use Rattle.model.specs.Check.{systemOf, systemAccepted}
+use Rattle.model.specs.Handed.{counted, storedFrom}
 use Rattle.operand.specs.Index.{indexOf}
+use Rattle.table.specs.Store.{withCount}
+use Rattle.table.specs.Records.{bytesOf}
 use Rattle.state.specs.Whole.{Whole as State}
 use Rattle.state.specs.Whole.{withTypes}
 use Rattle.state.specs.View.{rawState, systemIn}
@@ -27,7 +31,9 @@ use Rattle.operand.specs.Coded.{byCode}
 use Rattle.coded.specs.Coded.{serveAsked}
 use Rattle.coded.proofs.Laws.{outcome-is, after-is}
 use Rattle.run.specs.Requested.{request, requests, runAsked, runHanded}
-use Rattle.run.specs.Ran.{Over as Ran, wordsOf, answersOf, room, AllRefused, RanAs, Runs, askedAt, nextAt}
+use Rattle.serve.proofs.Stored.{counted-stored, counts-stored, bytes-stored}
+use Rattle.run.specs.Ran.{Over as Ran, wordsOf, answersOf, room, AllRefused, RanAs, Runs}
+use Rattle.run.specs.Loop.{askedAt, nextAt}
 use Rattle.run.proofs.Words.{request-at, words-next}
 use Rattle.run.proofs.Whole.{serveEach, each-is-run}
 
@@ -42,6 +48,10 @@ code-is code ws = go (names code 4) refl
 neither : (a b : Bool) → (a || b) ≡ false → (a ≡ false) × (b ≡ false)
 neither true b h = never (sym h)
 neither false b h = (refl, h)
+
+-- every counted byte of the types, the equation of `RanAs`
+abbrev Bytes : State → System → List ℕ → Type 0
+Bytes s m b = take (size (m .table) * 128) b ≡ take (s .counts .types * 128) (s .types) ++ flatten (map bytesOf (drop (s .counts .types) (m .table .types)))
 
 -- ---- The run so far: `i` requests are served, the words from `at` on are still to come.
 abbrev rest : State → List ℤ → ℕ → ℕ → List Outcome × System
@@ -97,12 +107,12 @@ module _ (s₀ : State) (ws old : List ℤ) where
           go false z = ap systemIn (back-same z)
               ∙ sym (ap systemIn (g .quiet z) ∙ system-kept s₀ (s .types) (omega (arith, g .stored .grew .more, g .stored .grew .room)) (g .stored .kept))
 
-      back-left : Stored s₀ (withTypes s t) × Sound (withTypes s t)
+      back-left : Stored s₀ (withTypes s t)
       back-left = go any refl
         where
-          go : (b : Bool) → any ≡ b → Stored s₀ (withTypes s t) × Sound (withTypes s t)
-          go true z = subst (λ (x : State). Stored s₀ x × Sound x) (sym (back-any z)) (g .stored, g .sound)
-          go false z = subst (λ (x : State). Stored s₀ x × Sound x) (sym (back-same z)) (stored-self s₀ h₀, h₀)
+          go : (b : Bool) → any ≡ b → Stored s₀ (withTypes s t)
+          go true z = subst (Stored s₀) (sym (back-any z)) (g .stored)
+          go false z = subst (Stored s₀) (sym (back-same z)) (stored-self s₀ h₀)
 
     -- nothing comes any more: no room, or no words
     ended : rest s ws (room old - i) at ≡ ([], systemIn s) → Sound s₀ → (t : List ℕ) → t ≡ cond any (s .types) (s₀ .types)
@@ -111,15 +121,19 @@ module _ (s₀ : State) (ws old : List ℤ) where
     unfolding answersOf
     ended e h₀ t back out k r y =
         let z : i + 0 ≡ i = omega arith in
+        let st : State = withTypes s t in
+        let is : systemIn st ≡ rest s₀ ws (room old) 0 .1 = back-means h₀ t back ∙ ap (λ (p : List Outcome × System). p .1) (sym e) ∙ g .system in
+        let w : Stored s₀ st = back-left h₀ t back in
         subst (RanAs s₀ old out (whole .0) (whole .1)) (sym y)
         (subst (λ (m : List Outcome × System). RanAs s₀ old out (m .0) (m .1) (record { refusal = 0; served = i; state = withTypes s t })) (each-is-run (systemIn s₀) (requests (room old) ws)) (record {
           refusal = refl;
           served = sym z ∙ ap (λ (p : List Outcome × System). i + length (p .0)) (sym e) ∙ g .count;
           answers = k ∙ ap (λ (p : List Outcome × System). sets cur (i * 4) (answersOf (p .0))) (sym e) ∙ g .words;
-          is = back-means h₀ t back ∙ ap (λ (p : List Outcome × System). p .1) (sym e) ∙ g .system;
+          records = counted-stored s₀ st w ∙ ap (λ (m : System). counted (storedFrom (rawState s₀) m)) is;
           untouched = λ a. back-same h₀ t back (g .untouched a .0);
-          stored = back-left h₀ t back .0;
-          sound = back-left h₀ t back .1;
+          links = w .links;
+          counts = counts-stored s₀ st w ∙ ap (λ (m : System). withCount (s₀ .counts) (size (m .table))) is;
+          types = subst (λ (m : System). Bytes s₀ m (st .types)) is (bytes-stored s₀ st w);
         }))
 
     pub going-full : room old ≤ i → Sound s₀ → (t : List ℕ) → t ≡ cond any (s .types) (s₀ .types)

@@ -18,7 +18,7 @@ use Rattle.steps.specs.Served.{Done as Served}
 use Rattle.steps.specs.Served.{outcomeOf, servedWith, Step}
 use Rattle.steps.proofs.Laws.{cells-are, places-are}
 use Rattle.coded.specs.Coded.{serveAsked}
-use Rattle.run.specs.Ran.{SmallAnswer}
+use Rattle.run.specs.Loop.{SmallAnswer}
 
 small-asked : (s : System) (q : Option Request) → Small (λ (x : System × Result). Named s (x .0) (x .1)) (serveAsked s q)
 unfolding serveAsked

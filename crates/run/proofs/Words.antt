@@ -17,7 +17,8 @@ use Rattle.run.specs.Requested.{request, requests}
 use Rattle.steps.specs.declared.Answer.{Answer}
 use Rattle.steps.specs.declared.Answer.the-variants.{Refused, Pair, Number, Nothing}
 use Rattle.steps.specs.Served.{outcomeOf}
-use Rattle.run.specs.Ran.{wordsOf, SmallAnswer, leftAt, countAt, askedAt, nextAt}
+use Rattle.run.specs.Ran.{wordsOf}
+use Rattle.run.specs.Loop.{SmallAnswer, leftAt, countAt, askedAt, nextAt}
 
 -- ---- The request in front of a list.
 abbrev frontCount : List ℤ → ℕ

@@ -1,2 +1,3 @@
 pub mod Requested
 pub mod Ran
+pub mod Loop

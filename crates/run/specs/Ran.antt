@@ -1,25 +1,20 @@
--- What a run answers and leaves.
+-- What a run answers and leaves. All of this is believed; what only helps proofs is in Loop.
 use mathlib.Core.Path.{_≡_}
-use mathlib.Core.Bool.{cond}
-use mathlib.Core.List.{List, [], _∷_, _++_}
-use mathlib.Core.Option.{Option, none}
-use Prim.Native.Nat.{ℕ, _+_, _-_, _/_, _<_}
-use lib.Dec.{ltb}
+use mathlib.Core.List.{List, [], _∷_, _++_, map, flatten}
+use Prim.Native.Nat.{ℕ, _*_, _/_}
 use lib.IntN.{ℤ, pos}
-use lib.ListN.{length, getD, take, drop}
+use lib.ListN.{length, take, drop}
 use lib.Seq.{sets}
 use Rattle.model.specs.Basics.{Res, refuse, ok}
-use Rattle.model.specs.Requests.{System, Request, pair, number, nothing, Outcome, got, refused}
-use Rattle.operand.specs.Index.{indexOf}
+use Rattle.model.specs.Table.{size}
+use Rattle.model.specs.Requests.{System, pair, number, nothing, Outcome, got, refused}
+use Rattle.model.specs.Handed.{counted, storedFrom}
+use Rattle.table.specs.Store.{withCount}
+use Rattle.table.specs.Records.{bytesOf}
 use Rattle.state.specs.Whole.{Whole as State}
 use Rattle.state.specs.Whole.{whole}
-use Rattle.state.specs.View.{systemIn}
-use Rattle.state.specs.Sound.{Sound}
-use Rattle.steps.specs.declared.Answer.{Answer}
-use Rattle.steps.specs.declared.Answer.the-variants.{Refused, Pair, Number, Nothing}
-use Rattle.steps.specs.Served.{Stored}
+use Rattle.state.specs.View.{rawState}
 use Rattle.run.specs.declared.Ran.{Ran}
-use Rattle.run.specs.Requested.{request}
 
 -- Four words for each request: the refusal or 0, how many values there are, and the values (U8).
 abbrev pub wordsOf : Outcome → List ℤ
@@ -51,41 +46,23 @@ AllRefused [] = Unit
 AllRefused (refused e ∷ os) = AllRefused os
 AllRefused (got x ∷ os) = ⊥
 
--- A run that was taken, of which `os` and `m` are what the model's run comes to (`runAsked`): the state means the model's, and the answers stand from the front on; what is
--- behind them is as it was. Where every request is refused, so is every byte of the state (Q14).
+-- A run that was taken, of which `os` and `m` are what the model's run comes to (`runAsked`).
 pub record RanAs (s : State) (old new : List ℤ) (os : List Outcome) (m : System) (r : Over) : Type 0 where
   pub refusal : r .refusal ≡ 0
   pub served : r .served ≡ length os
+  -- the answers stand from the front on; what is behind them is as it was (U8, U9)
   pub answers : new ≡ sets old 0 (answersOf os)
-  pub is : systemIn (r .state) ≡ m
+  -- what is counted of table, cells, places and calls is the model's: how many, and each record (U10, Q15)
+  pub records : counted (rawState (r .state)) ≡ counted (storedFrom (rawState s) m)
+  -- where every request is refused, the state is as it was, every byte of it (Q14)
   pub untouched : AllRefused os → r .state ≡ s
-  pub stored : Stored s (r .state)
-  pub sound : Sound (r .state)
+  -- Every byte of the links stays, and every count of the table but that of its types.
+  pub links : r .state .links ≡ s .links
+  pub counts : r .state .counts ≡ withCount (s .counts) (size (m .table))
+  -- Every counted byte of the types: those that there were, and behind them the record that stands for each new one (B22).
+  pub types : take (size (m .table) * 128) (r .state .types) ≡ take (s .counts .types * 128) (s .types) ++ flatten (map bytesOf (drop (s .counts .types) (m .table .types)))
 
 -- Where the state handed in is not taken, nothing changes (Q14).
 abbrev pub Runs : State → List ℤ → List ℤ → Res (List Outcome × System) → Over → Type 0
 Runs s old new (refuse e) r = (r ≡ record { refusal = e; served = 0; state = s }) × (new ≡ old)
 Runs s old new (ok x) r = RanAs s old new (x .0) (x .1) r
-
--- ---- The numbers of an answer, small enough to be words as they are; those of a sound state are (proofs/Small.antt).
-abbrev pub SmallAnswer : Answer → Type 0
-SmallAnswer (Refused e) = e < 65536
-SmallAnswer (Pair a b) = (a < 65536) × (b < 65536)
-SmallAnswer (Number v) = Unit
-SmallAnswer Nothing = Unit
-
--- ---- The request that begins at a word, as the functions find it.
--- the words behind the code
-abbrev pub leftAt : List ℤ → ℕ → ℕ
-leftAt ws at = length ws - at - 1
-
--- how many operands it has: as many as the words behind its code where there are not so many
-abbrev pub countAt : List ℤ → ℕ → ℕ
-countAt ws at = indexOf (getD ws (at + 1) (pos 0)) (leftAt ws at)
-
-abbrev pub askedAt : List ℤ → ℕ → Option Request
-askedAt ws at = cond (ltb (countAt ws at) (leftAt ws at)) (request (getD ws at (pos 0)) (take (countAt ws at) (drop (at + 2) ws))) none
-
--- where the next one begins
-abbrev pub nextAt : List ℤ → ℕ → ℕ
-nextAt ws at = cond (ltb (countAt ws at) (leftAt ws at)) (at + 2 + countAt ws at) (length ws)

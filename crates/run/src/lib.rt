@@ -14,10 +14,12 @@ ghost use Rattle.state.specs.Sound.{Sound};
 ghost use Rattle.steps.specs.Served.{outcomeOf, Step, done};
 ghost use Rattle.coded.specs.Coded.{serveAsked};
 ghost use Rattle.run.specs.Requested.{request, requests, runAsked, runHanded};
-ghost use Rattle.run.specs.Ran.{wordsOf, room, over, Runs, SmallAnswer, leftAt, countAt, askedAt, nextAt};
+ghost use Rattle.run.specs.Ran.{wordsOf, room, over, Runs};
+ghost use Rattle.run.specs.Loop.{SmallAnswer, leftAt, countAt, askedAt, nextAt};
 use coded::CODES;
 use coded::serve_coded;
 use operand::index_of;
+use serve::copied;
 use state::State;
 use steps::Answer;
 use steps::Served;
@@ -127,7 +129,13 @@ fn either(a: bool, b: bool) -> bool
 }
 
 // The end of a run: where no request was taken, the types are given back, every byte (Q14).
-fn ended(types: &mut [u8; TYPE_BYTES], old: &[u8; TYPE_BYTES], any: bool, served: usize, state: State) -> Ran
+fn ended(
+    types: &mut [u8; TYPE_BYTES],
+    old: &[u8; TYPE_BYTES],
+    any: bool,
+    served: usize,
+    state: State,
+) -> Ran
     ensures { λ r. ⌜ (r ≡ record { refusal = 0; served = served; state = state }) × (now (types .exit) ≡ cond any (now (types .entry)) (now (old .entry))) ⌝ }
 {
     if any {
@@ -146,7 +154,13 @@ fn ended(types: &mut [u8; TYPE_BYTES], old: &[u8; TYPE_BYTES], any: bool, served
 }
 
 // Each on the state that those before it left, as long as there is room for an answer (U9).
-fn run_checked(types: &mut [u8; TYPE_BYTES], old: &[u8; TYPE_BYTES], s: State, words: &[i64], answers: &mut [i64]) -> Ran
+fn run_checked(
+    types: &mut [u8; TYPE_BYTES],
+    old: &[u8; TYPE_BYTES],
+    s: State,
+    words: &[i64],
+    answers: &mut [i64],
+) -> Ran
     requires { ⌜ Sound (whole (now types) s) × (now old ≡ now types) ⌝ }
     ensures { λ r. ⌜ Runs (whole (now (types .entry)) s) (now (answers .entry)) (now (answers .exit)) (ok (runAsked (systemIn (whole (now (types .entry)) s)) (requests (room (now (answers .entry))) (now (words .entry))))) (over (now (types .exit)) r) ⌝ }
 {
@@ -168,13 +182,6 @@ fn run_checked(types: &mut [u8; TYPE_BYTES], old: &[u8; TYPE_BYTES], s: State, w
         at = next(words, at);
     }
     ended(types, old, any, served, state)
-}
-
-// A copy of lent bytes. Bytes that are held have their length, of lent ones nothing says it.
-fn copied(b: [u8; TYPE_BYTES]) -> [u8; TYPE_BYTES]
-    ensures { λ r. ⌜ (r ≡ b) × (length b ≡ 16384) ⌝ }
-{
-    b
 }
 
 // On any state handed in: 2 before all else, and nothing is served (U1).

@@ -14,17 +14,13 @@ use Rattle.model.specs.Handed.{counted, handBack, serveHanded}
 use Rattle.modellaws.proofs.Returned.{Before, handed-is}
 use Rattle.returned.proofs.Laws.{returns-means}
 use Rattle.returned.proofs.Before.{returns-before}
-use Rattle.table.specs.declared.Counts.{Counts}
-use Rattle.table.specs.Store.{typesIn, typesTo, withCount}
+use Rattle.table.specs.Store.{withCount}
 use Rattle.table.specs.Records.{bytesOf}
-use Rattle.table.proofs.Tables.{size-is, types-of}
-use Rattle.restrict.proofs.Bytes.{exact-take}
 use Rattle.state.specs.declared.State.{State as Rest}
 use Rattle.state.specs.Whole.{Whole as State}
 use Rattle.state.specs.Whole.{whole, withTypes}
 use Rattle.state.specs.Sound.{Sound}
 use Rattle.state.specs.View.{rawState, systemIn}
-use Rattle.state.proofs.Laws.{system-is}
 use Rattle.steps.specs.declared.Answer.{Answer}
 use Rattle.steps.specs.declared.Answer.the-variants.{Refused, Pair, Number, Nothing}
 use Rattle.steps.specs.declared.Served.{Served as Answered}
@@ -32,7 +28,7 @@ use Rattle.steps.specs.Served.{Done as Served, refusalOf as refusal}
 use Rattle.steps.specs.Served.{outcomeOf, servedWith, servedAs, done, Step}
 use Rattle.steps.proofs.Laws.{refuses}
 use Rattle.serve.specs.Serves.{defined, leaves, givenBack, Serves}
-use Rattle.serve.proofs.Stored.{counted-stored}
+use Rattle.serve.proofs.Stored.{sized, counted-stored, counts-stored, bytes-stored}
 
 -- the answers that are refusals
 refused-answer : (a : Answer) (e : ℕ) → outcomeOf a ≡ refused e → a ≡ Refused e
@@ -44,14 +40,6 @@ refused-answer (Refused n) e p = ap Refused (ap number p)
 refused-answer (Pair a b) e p = let z : _≡_ {A = ℕ} 0 1 = cc in absurd (omega arith)
 refused-answer (Number v) e p = let z : _≡_ {A = ℕ} 0 1 = cc in absurd (omega arith)
 refused-answer Nothing e p = let z : _≡_ {A = ℕ} 0 1 = cc in absurd (omega arith)
-
--- the types of the state are those of its table, as many as are counted
-module _ (s : State) where
-  sized : size (systemIn s .table) ≡ s .counts .types
-  sized = ap (λ (x : System). size (x .table)) (system-is s) ∙ size-is (s .types) (s .links) (s .counts)
-
-  typed : systemIn s .table .types ≡ typesTo (s .counts .methods) (s .counts .sheet) (s .counts .types) (typesIn (s .types))
-  typed = ap (λ (x : System). x .table .types) (system-is s) ∙ types-of (s .types) (s .links) (s .counts)
 
 -- ---- What a step leaves, t, and what is left of it once a refused one has given back the types: t′.
 module _ {b t t′ : List ℕ} {s : Rest} {m : Res (System × Result)} {r : Answered} (h : Sound (whole b s)) (w : Step (whole b s) m (done t r)) (e : t′ ≡ givenBack b t (r .answer)) where
@@ -98,11 +86,6 @@ module _ (s : State) (q : Request) (r : Served) (h : So (systemAccepted (rawStat
   left : leaves s q ≡ systemIn s′
   left = ap (after (systemIn s)) (defined-is ∙ sym (w .is)) ∙ left-with (outcomeOf (r .answer)) refl
 
-  wrote : take (s′ .counts .types * 128) (s′ .types) ≡ take (s .counts .types * 128) (s .types) ++ flatten (map bytesOf (drop (s .counts .types) (systemIn s′ .table .types)))
-  wrote = exact-take (s .counts) (s .counts .types) (s′ .counts .types) (s .types) (s′ .types) (w .stored .grew .more) (w .stored .kept) (w .stored .grew .exact)
-      ∙ ap (λ (xs : List Ty). take (s .counts .types * 128) (s .types) ++ flatten (map bytesOf (drop (s .counts .types) xs)))
-      (sym (typed s′ ∙ ap (λ (c : Counts). typesTo (c .methods) (c .sheet) (s′ .counts .types) (typesIn (s′ .types))) (w .stored .counts)))
-
   step-serves : Serves s q r
   step-serves = record {
     returns = record {
@@ -112,10 +95,10 @@ module _ (s : State) (q : Request) (r : Served) (h : So (systemAccepted (rawStat
     };
     stays = stays;
     links = w .stored .links;
-    counts = w .stored .counts ∙ ap (withCount (s .counts)) (sym (ap (λ (x : System). size (x .table)) left ∙ sized s′));
+    counts = counts-stored s s′ (w .stored) ∙ ap (λ (x : System). withCount (s .counts) (size (x .table))) (sym left);
     types = subst
         (λ (x : System). take (size (x .table) * 128) (s′ .types) ≡ take (s .counts .types * 128) (s .types) ++ flatten (map bytesOf (drop (s .counts .types) (x .table .types))))
-        (sym left) (ap (λ (n : ℕ). take (n * 128) (s′ .types)) (sized s′) ∙ wrote);
+        (sym left) (bytes-stored s s′ (w .stored));
   }
 
 -- a step on a state that was taken, its types given back

@@ -1,15 +1,15 @@
--- What a step stores is what the definition stores: the counted records of the state left are those of `storedFrom`.
+-- What a step stores is what the definition stores: the counted records of the state left are those of `storedFrom`, its counts and every counted byte of its types besides.
 use mathlib.Core.Path.{_≡_, refl, ap, sym, _∙_}
 use mathlib.Core.Bool.{Bool, true, false, cond}
-use mathlib.Core.List.{List, map}
+use mathlib.Core.List.{List, _++_, map, flatten}
 use Prim.Native.Nat.{ℕ, zero, suc, _+_, _*_, _<_}
 use native.Mathlib.Omega.{arith}
 use lib.Dec.{ltb}
-use lib.ListN.{getD, drop, List·getD-map}
+use lib.ListN.{getD, take, drop, List·getD-map}
 use lib.Seq.{getD-take, getD-drop}
 use Rattle.model.specs.Basics.{from}
-use Rattle.model.specs.Table.{Ty, Table, typeAt}
-use Rattle.model.specs.Requests.{Cell as Cellᵐ, noCell}
+use Rattle.model.specs.Table.{Ty, Table, size, typeAt}
+use Rattle.model.specs.Requests.{Cell as Cellᵐ, System, noCell}
 use Rattle.model.specs.Check.{RawTable, RawPlace, RawCall, RawSystem, noRawType, noRawPlace, noRawCall, typeOf, firstOf}
 use Rattle.model.specs.Records.{typeRecord}
 use Rattle.model.specs.Handed.{placeRecord, callRecord, countedTable, counted, storedTable, storedFrom}
@@ -17,13 +17,13 @@ use Rattle.model.proofs.Tests.{ltb-so, ltb-no}
 use Rattle.model.proofs.Lists.{from-same}
 use Rattle.modellaws.proofs.Returned.{stored-counted}
 use Rattle.table.specs.declared.Counts.{Counts}
-use Rattle.table.specs.Store.{typesIn, rawTable, tableIn}
+use Rattle.table.specs.Store.{typesIn, typesTo, rawTable, tableIn, withCount}
 use Rattle.table.specs.Records.{bytesOf}
 use Rattle.table.proofs.Laws.{Agree, type-in, type-agree, record-own}
-use Rattle.table.proofs.Tables.{size-is, type-is}
+use Rattle.table.proofs.Tables.{size-is, type-is, types-of}
 use Rattle.tablelaws.proofs.Whole.{record-shaped}
 use Rattle.restrict.specs.Link.{recordAt}
-use Rattle.restrict.proofs.Bytes.{record-same}
+use Rattle.restrict.proofs.Bytes.{record-same, exact-take}
 use Rattle.state.specs.declared.Cells.{Cells}
 use Rattle.state.specs.declared.Places.{Places}
 use Rattle.state.specs.declared.Calls.{Calls}
@@ -60,6 +60,14 @@ record-exact b i x h e =
     (λ p l. let z : 0 + p ≡ p = omega arith in
     sym (getD-take 128 (drop (i * 128) b) p 0 l ∙ getD-drop (i * 128) b p 0) ∙ ap (λ (r : List ℕ). getD r p 0) e ∙ ap (λ (k : ℕ). getD (bytesOf x) k 0) (sym z))
     ∙ record-own (typeRecord x) (record-shaped x)
+
+-- the types of the state are those of its table, as many as are counted
+module _ (s : State) where
+  pub sized : size (systemIn s .table) ≡ s .counts .types
+  sized = ap (λ (x : System). size (x .table)) (system-is s) ∙ size-is (s .types) (s .links) (s .counts)
+
+  typed : systemIn s .table .types ≡ typesTo (s .counts .methods) (s .counts .sheet) (s .counts .types) (typesIn (s .types))
+  typed = ap (λ (x : System). x .table .types) (system-is s) ∙ types-of (s .types) (s .links) (s .counts)
 
 module _ (s s′ : State) (w : Stored s s′) where
   abbrev c : Counts
@@ -103,3 +111,12 @@ module _ (s s′ : State) (w : Stored s s′) where
           → _≡_ {A = RawSystem} (record { table = t; cells = a; places = b; calls = c; cellRecords = x; placeRecords = y; callRecords = z })
           (record { table = t₂; cells = a₂; places = b₂; calls = c₂; cellRecords = x₂; placeRecords = y₂; callRecords = z₂ })
       by-parts p₀ p₁ p₂ p₃ p₄ p₅ p₆ = cc
+
+  pub counts-stored : s′ .counts ≡ withCount (s .counts) (size (systemIn s′ .table))
+  counts-stored = w .counts ∙ ap (withCount (s .counts)) (sym (sized s′))
+
+  pub bytes-stored : take (size (systemIn s′ .table) * 128) (s′ .types) ≡ take (c .types * 128) (s .types) ++ flatten (map bytesOf (drop (c .types) (systemIn s′ .table .types)))
+  bytes-stored = ap (λ (n : ℕ). take (n * 128) (s′ .types)) (sized s′)
+      ∙ exact-take c (c .types) n′ (s .types) (s′ .types) (w .grew .more) (w .kept) (w .grew .exact)
+      ∙ ap (λ (xs : List Ty). take (c .types * 128) (s .types) ++ flatten (map bytesOf (drop (c .types) xs)))
+      (sym (typed s′ ∙ ap (λ (d : Counts). typesTo (d .methods) (d .sheet) n′ (typesIn (s′ .types))) (w .counts)))

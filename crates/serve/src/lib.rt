@@ -23,7 +23,7 @@ fn is_taken(types: &[u8; TYPE_BYTES], s: State) -> bool
 }
 
 // A copy of lent bytes. Bytes that are held have their length, of lent ones nothing says it.
-fn copied(b: [u8; TYPE_BYTES]) -> [u8; TYPE_BYTES]
+pub fn copied(b: [u8; TYPE_BYTES]) -> [u8; TYPE_BYTES]
     ensures { λ r. ⌜ (r ≡ b) × (length b ≡ 16384) ⌝ }
 {
     b

@@ -61,7 +61,7 @@ returns-3 c =
     run-taken f (room (a .answers .now)) (a .words .now)
     (passed _ _ (c .before .before .before .before .before .before .before .before .before .before .before .before .before .before .before .before .before .before .codes-fit .ensures)
     (c .before .before .before .before .before .before .before .before .before .before .before .before .before .before .before .before .before .if1 .left)) (a .answers .now)
-    (r .last .1 .1 .1 .0) (over (r .last .0) (r .result)) w (a .served .now) _ refl (c .store .ensures (r .last .0)) (c .before .before .before .before .before .before .if2 .left)
+    (r .last .1 .1 .1 .0) (over (r .last .0) (r .result)) w (a .served .now) _ _ refl (c .store .ensures (r .last .0) (a .links .now)) (c .before .before .before .before .before .before .if2 .left)
 
 pub pilgonca-run-spec : {M : Type 1} → statement M
 pilgonca-run-spec =

@@ -4,7 +4,7 @@ use Prim.Native.Nat.{_+_, _*_, _-_, _≤_}
 use lib.ListN.{getD}
 use Rattle.tablecheck.specs.Parts.{eachFrom}
 use Rattle.tablecheck.proofs.Each.{rest-next, rest-broken, rest-end}
-use Rattle.flat.specs.Flat.{callCodes}
+use Rattle.flat.specs.Records.{callCodes}
 use Rattle.flat.proofs.Codes.{CallFits, calls-each, call-fits, calls-past, too-large, small-enough}
 use native.Mathlib.Omega.{arith}
 use borrow.Author.Needs.{needs}

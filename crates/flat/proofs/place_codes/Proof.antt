@@ -4,7 +4,7 @@ use Prim.Native.Nat.{_*_, _-_, _≤_}
 use lib.ListN.{getD}
 use Rattle.tablecheck.specs.Parts.{eachFrom}
 use Rattle.tablecheck.proofs.Each.{rest-next, rest-broken, rest-end}
-use Rattle.flat.specs.Flat.{placeCodes}
+use Rattle.flat.specs.Records.{placeCodes}
 use Rattle.flat.proofs.Codes.{PlaceFits, places-each, place-fits, places-past, too-large, small-enough}
 use native.Mathlib.Omega.{arith}
 use borrow.Author.Needs.{needs}

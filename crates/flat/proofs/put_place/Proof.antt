@@ -2,7 +2,7 @@
 use mathlib.Core.Path.{ap, sym, _∙_}
 use Prim.Native.Nat.{_*_}
 use lib.Seq.{sets}
-use Rattle.flat.specs.Flat.{placeBytes}
+use Rattle.flat.specs.Records.{placeBytes}
 use borrow.Author.Needs.{needs}
 use Rattle.flat.proofs.put_place.Statement.{statement}
 use Rattle.flat.proofs.put_place.Tie as tie

@@ -4,7 +4,8 @@ use mir.Syntax.{w64}
 use mir.Val.{SFits}
 use mathlib.Core.Path.{ap, sym, subst, _∙_}
 use Rattle.steps.specs.Served.{outcomeOf}
-use Rattle.handing.specs.States.{outcomeNumber, outcomeValues, Small}
+use Rattle.handing.specs.States.{outcomeNumber, outcomeValues}
+use Rattle.handing.specs.Stored.{Small}
 use borrow.Author.Needs.{needs}
 use Rattle.handing.proofs.answer_out.Statement.{statement}
 use Rattle.handing.proofs.answer_out.Tie as tie

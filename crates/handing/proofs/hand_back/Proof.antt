@@ -32,7 +32,7 @@ returns-2 c = λ t l. let c8 = c .before .before .before .before .before .before
   number = c .answer-out2 .ensures .0;
   values = c .answer-out2 .ensures .1;
   refused = λ h. never (sym h ∙ passed _ _ (c8 .before .accepted .ensures) (c8 .if1 .left));
-  accepted = λ _. c .before .before .store .ensures t;
+  accepted = λ _. c .before .before .store .ensures t l;
 }
 
 pub hand-back-spec : {M : Type 1} → statement M

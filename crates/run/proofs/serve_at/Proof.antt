@@ -5,7 +5,7 @@ use Rattle.state.specs.View.{systemIn}
 use Rattle.coded.specs.Coded.{serveAsked}
 use Rattle.coded.proofs.Words.{is-read}
 use Rattle.coded.proofs.Laws.{refuses}
-use Rattle.run.specs.Ran.{askedAt}
+use Rattle.run.specs.Loop.{askedAt}
 use Rattle.run.proofs.Words.{asked-none, asked-is}
 use native.Mathlib.Omega.{arith}
 use borrow.Author.Needs.{needs}
