@@ -12,24 +12,19 @@ use lib.ListN.{length}
 use Rattle.model.specs.Basics.{ok, need, from}
 use Rattle.model.specs.Relations.{bit}
 use Rattle.model.specs.Requests.{Cell, System, Request, call, answer, Outcome, got, refused}
-use Rattle.model.specs.Check.{RawTable, RawPlace, RawCall, RawSystem, systemOf, stateCodesFit, systemAccepted}
-use Rattle.model.specs.Handed.{rawLoaded, counted, storedFrom}
+use Rattle.model.specs.Check.{RawTable, RawPlace, RawCall, RawSystem, systemOf, systemAccepted}
+use Rattle.model.specs.Handed.{rawLoaded, counted}
 use Rattle.model.specs.Book.{Book}
 use Rattle.model.specs.Claim.{feed}
-use Rattle.returned.proofs.Counted.{means-same}
 use Rattle.returned.proofs.Small.{refusal-number}
 use Rattle.table.specs.Store.{rawTable}
 use Rattle.sheet.specs.Sheet.{read}
 use Rattle.sheet.specs.Text.{write}
 use Rattle.sheetread.specs.declared.Sheet.{Sheet}
-use Rattle.state.specs.View.{rawState, systemIn}
-use Rattle.steps.specs.Served.{Stored}
-use Rattle.serve.proofs.Stored.{counted-stored}
 use Rattle.run.specs.Requested.{requests, runAsked, runHanded}
 use Rattle.run.specs.Ran.{room}
 use Rattle.offers.specs.Chained.{offersNamed, offersHanded}
-use Rattle.flat.specs.Flat.{Flat, countsIn, rawCells, rawPlaces, rawCalls, rawFlat, placeCodes, callCodes, stateFrom}
-use Rattle.flat.proofs.Laws.{codesIn, read-counted}
+use Rattle.flat.specs.Flat.{Flat, countsIn, rawCells, rawPlaces, rawCalls, rawFlat}
 use Rattle.handing.specs.States.{outcomeNumber, outcomeOn}
 use Rattle.exports.specs.Codes.{WrittenIs}
 use Rattle.exports_runs.specs.Results.{offeredOut, LoadedIs, LentRun, RanOut, RunsOut}
@@ -88,23 +83,8 @@ module _ (words : List ℤ) (n : ℕ) (old new : LentRun) (p : So (systemAccepte
     unfolding runHanded
     ran = subst (λ (c : Bool). RunsOut (need c 2 λ _. ok (os, m)) n old new) p w
 
-    codes : codesIn x′ ≡ true
-    unfolding stateCodesFit placeCodes callCodes
-    codes = ran .codes
-
-    means : systemIn (stateFrom x′) ≡ m
-    unfolding systemIn
-    means = means-same (rawState (stateFrom x′)) (rawFlat x′) (read-counted x′ codes) ∙ ran .means
-
-    stored : Stored (stateFrom x) (stateFrom x′)
-    stored = record { links = ran .links; counts = ran .counts; grew = ran .grew; kept = ran .kept }
-
     run-returns : RunReturns (rawFlat x) qs os (rawFlat x′)
-    unfolding storedFrom
-    run-returns = record {
-      outcomes = refl;
-      records = sym (read-counted x′ codes) ∙ counted-stored (stateFrom x) (stateFrom x′) stored ∙ ap (λ z. counted (storedFrom (rawState (stateFrom x)) z)) means;
-    }
+    run-returns = record { outcomes = refl; records = ran .records }
 
     run-goes-on : (f : Sheet) (b : Book) → History f (rawFlat x) b → (n ≡ 0) × (new .served ≡ length qs) × History f (rawFlat x′) (toldBy b qs (new .answers))
     run-goes-on f b h = (

@@ -9,7 +9,7 @@ use lib.ListN.{length}
 use Rattle.model.specs.Basics.{Res, refuse, ok, need, from}
 use Rattle.model.specs.Requests.{Request}
 use Rattle.model.specs.Check.{RawSystem, systemOf, systemAccepted}
-use Rattle.model.specs.Handed.{counted, storedFrom}
+use Rattle.model.specs.Handed.{counted}
 use Rattle.model.specs.Book.{Book}
 use Rattle.model.proofs.Rules.{never}
 use Rattle.sheetread.specs.declared.Sheet.{Sheet}
@@ -17,7 +17,6 @@ use Rattle.state.specs.Whole.{Whole as State}
 use Rattle.state.specs.Whole.{whole}
 use Rattle.state.specs.View.{rawState, systemIn, stateLoaded}
 use Rattle.steps.specs.Served.{outcomeOf}
-use Rattle.serve.proofs.Stored.{counted-stored}
 use Rattle.run.specs.Requested.{requests, runAsked, runHanded}
 use Rattle.run.specs.Ran.{Over as Ran}
 use Rattle.run.specs.Ran.{room, RanAs, Runs}
@@ -47,7 +46,7 @@ module _ (s : State) (words old new : List ℤ) (y : Ran) (p : So (systemAccepte
 
   run-returns : RunReturns (rawState s) qs (runAsked (systemIn s) qs .0) (rawState (y .state))
   unfolding systemIn
-  run-returns = record { outcomes = refl; records = counted-stored s (y .state) (ran .stored) ∙ ap (λ x. counted (storedFrom (rawState s) x)) (ran .is) }
+  run-returns = record { outcomes = refl; records = ran .records }
 
   run-goes-on : (f : Sheet) (b : Book) → History f (rawState s) b → (y .refusal ≡ 0) × (y .served ≡ length qs) × History f (rawState (y .state)) (toldBy b qs new)
   run-goes-on f b h = let os = runAsked (systemIn s) qs .0 in (
