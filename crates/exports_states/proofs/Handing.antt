@@ -5,7 +5,7 @@ use Rattle.model.specs.Requests.{Request}
 use Rattle.state.specs.Whole.{Whole as State}
 use Rattle.steps.specs.Served.{Done as Served}
 use Rattle.serve.specs.Serves.{ServesAsked}
-use Rattle.handing.specs.States.{Small}
+use Rattle.handing.specs.Stored.{Small}
 use Rattle.handing.proofs.Small.{served-small}
 
 pub asked-small : (s : State) (q : Option Request) (r : Served) → ServesAsked s q r → Small (r .answer)
