@@ -32,9 +32,9 @@ pub queue-at : (b : List ℕ) (i v : ℕ) → v ≡ getD b i 0 → getD (queueIn
 unfolding queueIn
 queue-at b i v e = List·getD-map (λ (v : ℕ). v % 32768) b i 0 ∙ ap (λ (v : ℕ). v % 32768) (sym e)
 
-pub buffer-length : (n : ℕ) (b : List ℕ) (t : ℕ) → ListedIn n b t → length b ≡ 16384
+pub buffer-length : (b : List ℕ) → length (marksIn b) ≡ length b
 unfolding marksIn
-buffer-length n b t h = sym (length-map b (λ (v : ℕ). leb 32768 v)) ∙ h .slots
+buffer-length b = length-map b (λ (v : ℕ). leb 32768 v)
 
 -- ---- no pair is found
 pub none-found : (n : ℕ) → marksIn (replicate n 0) ≡ replicate n false

@@ -15,7 +15,7 @@ use Rattle.model.proofs.Tests.{so-ltb}
 use Rattle.model.proofs.Rules.{never, both, rule-test, rule-says}
 use Rattle.model.proofs.Largest.{largest, keeps-related}
 use Rattle.table.proofs.Lists.{same-or}
-use Rattle.relation.specs.Found.{found, Within, Pair, Listed, Grew, Broke, marksIn, queueIn, Added}
+use Rattle.relation.specs.Found.{found, Within, Pair, Listed, Grew, Broke, marksIn, queueIn, Added, Clear}
 use Rattle.relation.proofs.Pairs.{found-says, found-test, pair-as, yeses-set}
 use Rattle.relation.proofs.Buffer.{none-found, none-queued}
 
@@ -30,42 +30,46 @@ none-marked zero p h = never h
 none-marked (suc n) zero h = never h
 none-marked (suc n) (suc p) h = none-marked n p h
 
-module _ (n t s : ℕ) (l : n ≤ 128) (p : t < n) (q : s < n) where
+module _ (m n t s : ℕ) (l : n ≤ 128) (lo : n * 128 ≤ m) (hi : m ≤ 16384) (p : t < n) (q : s < n) where
   abbrev marks₀ : List Bool
-  marks₀ = set (replicate 16384 false) (t * 128 + s) true
+  marks₀ = set (replicate m false) (t * 128 + s) true
 
   abbrev queue₀ : List ℕ
-  queue₀ = set (replicate 16384 0) 0 (t * 128 + s)
+  queue₀ = set (replicate m 0) 0 (t * 128 + s)
 
-  slot : t * 128 + s < length (replicate 16384 false)
+  slot : t * 128 + s < length (replicate m false)
   slot = rw length-replicate (omega arith)
 
   root-marked : So (getD marks₀ (t * 128 + s) false)
-  root-marked = getD-set-same (replicate 16384 false) (t * 128 + s) true false slot
+  root-marked = getD-set-same (replicate m false) (t * 128 + s) true false slot
 
   root-queued : getD queue₀ 0 0 ≡ t * 128 + s
-  root-queued = getD-set-same (replicate 16384 0) 0 (t * 128 + s) 0 (rw length-replicate (omega arith))
+  root-queued = getD-set-same (replicate m 0) 0 (t * 128 + s) 0 (rw length-replicate (omega arith))
 
   only-root : (u : ℕ) → So (getD marks₀ u false) → u ≡ t * 128 + s
   only-root u h = ⊎-elim (λ (e : u ≡ t * 128 + s). e) (λ (e : u ≡ t * 128 + s → ⊥). absurd
-      (none-marked 16384 u (sym (getD-set-other (replicate 16384 false) (t * 128 + s) u true false e) ∙ h))) (same-or u (t * 128 + s))
+      (none-marked m u (sym (getD-set-other (replicate m false) (t * 128 + s) u true false e) ∙ h))) (same-or u (t * 128 + s))
 
   root-listed : Listed n marks₀ queue₀ 1
   root-listed = record {
     small = l;
-    slots = length-set (replicate 16384 false) (t * 128 + s) true ∙ length-replicate 16384 false;
-    room = length-set (replicate 16384 0) 0 (t * 128 + s) ∙ length-replicate {A = ℕ} 16384 0;
+    slots = let z : length marks₀ ≡ m = marks-length in omega arith;
+    few = let z : length marks₀ ≡ m = marks-length in omega arith;
+    room = length-set (replicate m 0) 0 (t * 128 + s) ∙ length-replicate {A = ℕ} m 0 ∙ sym marks-length;
     first = omega arith;
-    tally = yeses-set (replicate 16384 false) (t * 128 + s) slot (getD-none (t * 128 + s)) ∙ ap suc (yeses-none 16384);
+    tally = yeses-set (replicate m false) (t * 128 + s) slot (getD-none (t * 128 + s)) ∙ ap suc (yeses-none m);
     back = λ i k. (let e : i ≡ 0 = omega arith in rw (e, root-queued) (let o : Pair n marks₀ (t * 128 + s) = record { low = omega arith; high = omega arith; known = root-marked } in o));
     forth = λ x y h. (let g = found-says n marks₀ x y h in record { place = 0; below = omega arith; there = root-queued ∙ sym (only-root (x * 128 + y) (g .2)) });
   }
     where
-      getD-none : (u : ℕ) → getD (replicate 16384 false) u false ≡ false
-      getD-none u = go (getD (replicate 16384 false) u false) refl
+      marks-length : length marks₀ ≡ m
+      marks-length = length-set (replicate m false) (t * 128 + s) true ∙ length-replicate m false
+
+      getD-none : (u : ℕ) → getD (replicate m false) u false ≡ false
+      getD-none u = go (getD (replicate m false) u false) refl
         where
-          go : (b : Bool) → getD (replicate 16384 false) u false ≡ b → b ≡ false
-          go true e = absurd (none-marked 16384 u e)
+          go : (b : Bool) → getD (replicate m false) u false ≡ b → b ≡ false
+          go true e = absurd (none-marked m u e)
           go false e = refl
 
 -- ---- a turn
@@ -82,21 +86,21 @@ unfolding Within
 rule-up k T M N a b p q i w = rule-test k T (λ x y. So (M x y)) N i a b (rule-says k T M a b p q w)
 
 module _ (k : Relation) (T : Table) (n t s : ℕ) (e : size T ≡ n) where
-  pub start : n ≤ 128 → t < n → s < n → Going k T n t s (set (replicate 16384 false) (t * 128 + s) true) (set (replicate 16384 0) 0 (t * 128 + s)) 1 0
+  pub start : (m : ℕ) → n ≤ 128 → n * 128 ≤ m → m ≤ 16384 → t < n → s < n → Going k T n t s (set (replicate m false) (t * 128 + s) true) (set (replicate m 0) 0 (t * 128 + s)) 1 0
   unfolding Within
-  start l p q = record {
-    listed = root-listed n t s l p q;
+  start m l lo hi p q = record {
+    listed = root-listed m n t s l lo hi p q;
     within = omega arith;
-    root = found-test n (set (replicate 16384 false) (t * 128 + s) true) t s p q (root-marked n t s l p q);
+    root = found-test n (set (replicate m false) (t * 128 + s) true) t s p q (root-marked m n t s l lo hi p q);
     done = λ i h. (let z : ⊥ = omega arith in absurd z);
-    only = λ r x y h. (let g = found-says n (set (replicate 16384 false) (t * 128 + s) true) x y h in
-        let d : x * 128 + y ≡ t * 128 + s = only-root n t s l p q (x * 128 + y) (g .2) in
+    only = λ r x y h. (let g = found-says n (set (replicate m false) (t * 128 + s) true) x y h in
+        let d : x * 128 + y ≡ t * 128 + s = only-root m n t s l lo hi p q (x * 128 + y) (g .2) in
         let a : t ≡ x = omega (arith, g .1) in let b : s ≡ y = omega (arith, g .1) in rw (← a, ← b) r);
   }
 
   -- the first pair is added to an array that says nothing
-  pub start-at : (b : List ℕ) (r : ℕ) → (r ≡ 1) × Added (replicate 16384 0) 0 (t * 128 + s) b → n ≤ 128 → t < n → s < n → Going k T n t s (marksIn b) (queueIn b) r 0
-  start-at b r h l p q = rw (h .0, h .1 .0, h .1 .1, none-found 16384, none-queued 16384) (start l p q)
+  pub start-at : (a b : List ℕ) (r : ℕ) → Clear n a → (r ≡ 1) × Added a 0 (t * 128 + s) b → n ≤ 128 → t < n → s < n → Going k T n t s (marksIn b) (queueIn b) r 0
+  start-at a b r z h l p q = rw (h .0, h .1 .0, h .1 .1, ap marksIn (z .none) ∙ none-found (length a), ap queueIn (z .none) ∙ none-queued (length a)) (start (length a) l (z .long) (z .few) p q)
 
   -- what is related keeps its rule, and is of the table
   kept : (a b : ℕ) → So (related k T a b) → So (rule k T (related k T) a b)

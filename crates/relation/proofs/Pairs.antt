@@ -50,16 +50,18 @@ yeses-set [] p l h = absurd (not-suc-le-zero l)
 yeses-set (b ∷ s) zero l h = let e : bit b ≡ 0 = ap bit h in omega arith
 yeses-set (b ∷ s) (suc p) l h = let e : yeses (set s p true) ≡ suc (yeses s) = yeses-set s p (le-of-suc-le-suc l) h in omega arith
 
-pub fits : (n : ℕ) (s : List Bool) (l : List ℕ) (t : ℕ) → Listed n s l t → t ≤ 16384
-fits n s l t h = let e = yeses-le s in omega (arith, h .tally, h .slots)
+pub counted : (n : ℕ) (s : List Bool) (l : List ℕ) (t : ℕ) → Listed n s l t → t ≤ length s
+counted n s l t h = let e = yeses-le s in omega (arith, h .tally)
 
-pub room : (n : ℕ) (s : List Bool) (l : List ℕ) (t p : ℕ) → Listed n s l t → p < 16384 → getD s p false ≡ false → t < 16384
-room n s l t p h q e =
-    let k : p < length s = omega (arith, h .slots) in
+pub fits : (n : ℕ) (s : List Bool) (l : List ℕ) (t : ℕ) → Listed n s l t → t ≤ 16384
+fits n s l t h = let e = counted n s l t h in omega (arith, h .few)
+
+pub room : (n : ℕ) (s : List Bool) (l : List ℕ) (t p : ℕ) → Listed n s l t → p < length s → getD s p false ≡ false → t < length s
+room n s l t p h k e =
     let a : yeses (set s p true) ≡ suc (yeses s) = yeses-set s p k e in
     let b : yeses (set s p true) ≤ length (set s p true) = yeses-le (set s p true) in
     let c : length (set s p true) ≡ length s = length-set s p true in
-    omega (arith, h .tally, h .slots)
+    omega (arith, h .tally)
 
 -- ---- one pair
 pub stay : (n : ℕ) (W : (ℕ → ℕ → Bool) → Bool) (s : List Bool) (l : List ℕ) (t : ℕ) → Listed n s l t → So (W (found n s)) → Grew n W s l t s l t
@@ -88,7 +90,7 @@ module _ (n : ℕ) (s : List Bool) (l : List ℕ) (t x y : ℕ) (h : Listed n s 
   at-slot = omega (arith, h .slots, h .small)
 
   at-room : t < length l
-  at-room = let a : t < 16384 = room n s l t (x * 128 + y) h (omega (arith, h .small)) e in omega (arith, h .room)
+  at-room = let a : t < length s = room n s l t (x * 128 + y) h at-slot e in omega (arith, h .room)
 
   new-back : (i : ℕ) → i < t + 1 → Pair n (set s (x * 128 + y) true) (getD (set l t (x * 128 + y)) i 0)
   new-back i k =
@@ -118,8 +120,9 @@ module _ (n : ℕ) (s : List Bool) (l : List ℕ) (t x y : ℕ) (h : Listed n s 
   new-listed : Listed n (set s (x * 128 + y) true) (set l t (x * 128 + y)) (t + 1)
   new-listed = record {
     small = h .small;
-    slots = length-set s (x * 128 + y) true ∙ h .slots;
-    room = length-set l t (x * 128 + y) ∙ h .room;
+    slots = let z : length (set s (x * 128 + y) true) ≡ length s = length-set s (x * 128 + y) true in omega (arith, h .slots);
+    few = let z : length (set s (x * 128 + y) true) ≡ length s = length-set s (x * 128 + y) true in omega (arith, h .few);
+    room = length-set l t (x * 128 + y) ∙ h .room ∙ sym (length-set s (x * 128 + y) true);
     first = omega arith;
     tally = (let a = yeses-set s (x * 128 + y) at-slot e in omega (arith, h .tally));
     back = new-back;

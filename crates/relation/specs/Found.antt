@@ -5,7 +5,7 @@ use mathlib.Core.Bool.{Bool, true, false, _&&_, So}
 use mathlib.Core.List.{List, map}
 use Prim.Native.Nat.{ℕ, zero, suc, _+_, _*_, _/_, _%_, _≤_, _<_}
 use lib.Dec.{leb, ltb}
-use lib.ListN.{length, getD, set}
+use lib.ListN.{length, getD, set, replicate}
 use Rattle.model.specs.Relations.{yeses}
 use Rattle.relation.specs.declared.Step.{Step}
 use Rattle.relation.specs.declared.Step.the-variants.{Broken, Tail}
@@ -32,8 +32,9 @@ pub record Pair (n : ℕ) (marks : List Bool) (p : ℕ) : Type 0 where
 -- t pairs are found, at least one, and the first t numbers in the queue are theirs
 pub record Listed (n : ℕ) (marks : List Bool) (queue : List ℕ) (t : ℕ) : Type 0 where
   pub small : n ≤ 128
-  pub slots : length marks ≡ 16384
-  pub room : length queue ≡ 16384
+  pub slots : n * 128 ≤ length marks
+  pub few : length marks ≤ 16384
+  pub room : length queue ≡ length marks
   pub first : 0 < t
   pub tally : yeses marks ≡ t
   pub back : (i : ℕ) → i < t → Pair n marks (getD queue i 0)
@@ -81,3 +82,9 @@ ListedIn n b t = Listed n (marksIn b) (queueIn b) t
 
 abbrev pub MetIn : ℕ → ((ℕ → ℕ → Bool) → Bool) → List ℕ → ℕ → List ℕ → Step → Type 0
 MetIn n W b t b′ r = Met n W (marksIn b) (queueIn b) t (marksIn b′) (queueIn b′) r
+
+-- an array that says nothing yet, with an entry for each pair of n types
+pub record Clear (n : ℕ) (b : List ℕ) : Type 0 where
+  pub none : b ≡ replicate (length b) 0
+  pub long : n * 128 ≤ length b
+  pub few : length b ≤ 16384

@@ -1,5 +1,6 @@
-// A relation at a pair of types (R3). The pair is related unless a pair that breaks its rule can be reached from it through signatures that both sides permit, so pairs are found in a queue, each once, and the rule of each is asked (specs/Found.antt). One array has the queue and says
-// which pairs are found, so a relation at a pair takes time linear in the pairs that can be reached, no heap, and never visits a pair twice.
+// A relation at a pair of types (R3). The pair is related unless a pair that breaks its rule can be reached from it through signatures that both sides permit, so
+// pairs are found in a queue, each once, and the rule of each is asked (specs/Found.antt). One array has the queue and says which pairs are found, so a relation
+// at a pair takes time linear in the pairs that can be reached, no heap, and never visits a pair twice.
 ghost use mathlib.Core.Path.{_≡_};
 ghost use mathlib.Core.List.{List};
 ghost use Prim.Native.Nat.{ℕ, _+_, _/_, _%_, _≤_, _<_};
@@ -12,7 +13,7 @@ ghost use Rattle.table.specs.Limits.{Checked};
 ghost use Rattle.rules.specs.Asked.{relationOf};
 ghost use Rattle.rules.specs.Parts.{Says};
 ghost use Rattle.relation.specs.Answered.{answersOf, answersAt};
-ghost use Rattle.relation.specs.Found.{eachBelow, queueIn, Added, ListedIn, MetIn};
+ghost use Rattle.relation.specs.Found.{eachBelow, queueIn, Added, ListedIn, MetIn, Clear};
 use numbers::least;
 use numbers::wide;
 use numbers::wide16;
@@ -29,7 +30,15 @@ enum Step {
     Tail(usize),
 }
 
-// The pairs of 128 types: as many entries has the array of a search.
+// The types that few and some are, and the entries of the array for a search among so many: 128 for each type, so that a pair's number says both.
+const FEW: usize = 16;
+
+const FEW_PAIRS: usize = 2048;
+
+const SOME: usize = 72;
+
+const SOME_PAIRS: usize = 9216;
+
 const PAIRS: usize = 16384;
 
 // Whether an entry of the array says that the pair of its number is found: its top bit.
@@ -40,8 +49,8 @@ fn is_found(entry: u16) -> bool
 }
 
 // The pair of number p is found, and joins the queue behind the `tail` pairs in it: the top bit of entry p, and the rest of entry `tail`.
-fn add_pair(found: &mut [u16; PAIRS], tail: usize, p: usize) -> usize
-    requires { ⌜ (length (now found) ≡ 16384) × (tail < 16384) × (p < 16384) ⌝ }
+fn add_pair(found: &mut [u16], tail: usize, p: usize) -> usize
+    requires { ⌜ (tail < length (now found)) × (p < length (now found)) × (length (now found) ≤ 16384) ⌝ }
     ensures { λ r. ⌜ (r ≡ tail + 1) × Added (now (found .entry)) tail p (now (found .exit)) ⌝ }
 {
     found[p] = found[p] % 32768 + 32768;
@@ -51,7 +60,7 @@ fn add_pair(found: &mut [u16; PAIRS], tail: usize, p: usize) -> usize
 }
 
 // The pair (x, y) joins those found, of which there are `tail`, unless it is one of them. It breaks its rule if x or y is not in the table.
-fn find_pair(found: &mut [u16; PAIRS], tail: usize, n: usize, x: usize, y: usize) -> Step
+fn find_pair(found: &mut [u16], tail: usize, n: usize, x: usize, y: usize) -> Step
     requires { ⌜ ListedIn n (now found) tail ⌝ }
     ensures { λ r. ⌜ MetIn n (λ M. M x y) (now (found .entry)) tail (now (found .exit)) r ⌝ }
 {
@@ -77,7 +86,7 @@ fn slots_used(count: u8) -> usize
 }
 
 // R4 and R6: as many arguments, and each related with the sides exchanged.
-fn find_arguments(found: &mut [u16; PAIRS], tail: usize, n: usize, x: Method, y: Method) -> Step
+fn find_arguments(found: &mut [u16], tail: usize, n: usize, x: Method, y: Method) -> Step
     requires { ⌜ ListedIn n (now found) tail ⌝ }
     ensures { λ r. ⌜ MetIn n (λ M. argsRule M (take (x .count) (x .args)) (take (y .count) (y .args))) (now (found .entry)) tail (now (found .exit)) r ⌝ }
 {
@@ -101,7 +110,7 @@ fn find_arguments(found: &mut [u16; PAIRS], tail: usize, n: usize, x: Method, y:
 }
 
 // R4 and R5: both have an answer or neither, and then they are related in the direction of the pair.
-fn find_answer(found: &mut [u16; PAIRS], tail: usize, n: usize, x: u8, y: u8) -> Step
+fn find_answer(found: &mut [u16], tail: usize, n: usize, x: u8, y: u8) -> Step
     requires { ⌜ ListedIn n (now found) tail ⌝ }
     ensures { λ r. ⌜ MetIn n (λ M. answerRule M (answerOf x) (answerOf y)) (now (found .entry)) tail (now (found .exit)) r ⌝ }
 {
@@ -121,7 +130,7 @@ fn find_answer(found: &mut [u16; PAIRS], tail: usize, n: usize, x: u8, y: u8) ->
 
 // One method of T and of S.
 fn find_method(
-    found: &mut [u16; PAIRS],
+    found: &mut [u16],
     tail: usize,
     n: usize,
     k: Relation,
@@ -149,7 +158,7 @@ fn find_method(
 // All methods of the reference types a and d.
 fn find_methods(
     b: &[u8; TYPE_BYTES],
-    found: &mut [u16; PAIRS],
+    found: &mut [u16],
     tail: usize,
     n: usize,
     methods: usize,
@@ -179,7 +188,7 @@ fn find_methods(
 fn find_types(
     b: &[u8; TYPE_BYTES],
     l: &[u8; LINK_BYTES],
-    found: &mut [u16; PAIRS],
+    found: &mut [u16],
     tail: usize,
     c: Counts,
     k: Relation,
@@ -206,7 +215,7 @@ fn find_types(
 fn find_next(
     b: &[u8; TYPE_BYTES],
     l: &[u8; LINK_BYTES],
-    found: &mut [u16; PAIRS],
+    found: &mut [u16],
     tail: usize,
     head: usize,
     c: Counts,
@@ -220,7 +229,33 @@ fn find_next(
     find_types(b, l, found, tail, c, k, square, p / 128, p % 128)
 }
 
-// The search from (t, s) for a pair that breaks its rule.
+// The search from (t, s) for a pair that breaks its rule, in an array that says nothing yet and has an entry for each pair.
+fn search_in(
+    b: &[u8; TYPE_BYTES],
+    l: &[u8; LINK_BYTES],
+    found: &mut [u16],
+    c: Counts,
+    k: Relation,
+    square: [[bool; 4]; 4],
+    t: usize,
+    s: usize,
+) -> bool
+    requires { ⌜ Says (relationOf k) square × Checked (now l) c × (t < c .types) × (s < c .types) × Clear (c .types) (now found) ⌝ }
+    ensures { λ r. ⌜ r ≡ related (relationOf k) (tableIn (now (b .entry)) (now (l .entry)) c) t s ⌝ }
+{
+    let mut tail = add_pair(found, 0, t * 128 + s);
+    let mut head: usize = 0;
+    while head < tail {
+        let Step::Tail(r) = find_next(b, l, found, tail, head, c, k, square) else {
+            return false;
+        };
+        tail = r;
+        head += 1;
+    }
+    true
+}
+
+// The same, in an array that is long enough for the table and no longer than it need be: to clear a long one takes more than most searches do.
 fn search(
     b: &[u8; TYPE_BYTES],
     l: &[u8; LINK_BYTES],
@@ -233,17 +268,16 @@ fn search(
     requires { ⌜ Says (relationOf k) square × Checked (now l) c × (t < c .types) × (s < c .types) ⌝ }
     ensures { λ r. ⌜ r ≡ related (relationOf k) (tableIn (now (b .entry)) (now (l .entry)) c) t s ⌝ }
 {
-    let mut found = [0u16; PAIRS];
-    let mut tail = add_pair(&mut found, 0, t * 128 + s);
-    let mut head: usize = 0;
-    while head < tail {
-        let Step::Tail(r) = find_next(b, l, &mut found, tail, head, c, k, square) else {
-            return false;
-        };
-        tail = r;
-        head += 1;
+    if c.types <= FEW {
+        let mut few = [0u16; FEW_PAIRS];
+        return search_in(b, l, &mut few, c, k, square, t, s);
     }
-    true
+    if c.types <= SOME {
+        let mut some = [0u16; SOME_PAIRS];
+        return search_in(b, l, &mut some, c, k, square, t, s);
+    }
+    let mut all = [0u16; PAIRS];
+    search_in(b, l, &mut all, c, k, square, t, s)
 }
 
 // Whether S is a subtype of T, or, in the other relations, whether T is related from S.

@@ -9,8 +9,8 @@ use Rattle.relation.proofs.add_pair.Tie as tie
 mul-found : tie.Need-mul-found
 mul-found c = search needs
 
-element-copy-out-found : tie.Need-element-copy-out-found
-element-copy-out-found c = search needs
+slice-read-found : tie.Need-slice-read-found
+slice-read-found c = search needs
 
 add-found : tie.Need-add-found
 add-found c = search needs
@@ -18,14 +18,14 @@ add-found c = search needs
 mul-found-2 : tie.Need-mul-found-2
 mul-found-2 c = search needs
 
-element-write-found : tie.Need-element-write-found
-element-write-found c = search needs
+slice-write-found : tie.Need-slice-write-found
+slice-write-found c = search needs
 
 mul-wide16 : tie.Need-mul-wide16
 mul-wide16 c = search needs
 
-element-copy-out-wide16 : tie.Need-element-copy-out-wide16
-element-copy-out-wide16 c = search needs
+slice-read-wide16 : tie.Need-slice-read-wide16
+slice-read-wide16 c = search needs
 
 wide16-requires : tie.Need-wide16-requires
 wide16-requires c κs = search needs
@@ -42,15 +42,18 @@ cast-found c = search needs
 mul-found-4 : tie.Need-mul-found-4
 mul-found-4 c = search needs
 
-element-write-found-2 : tie.Need-element-write-found-2
-element-write-found-2 c = search needs
+slice-write-found-2 : tie.Need-slice-write-found-2
+slice-write-found-2 c = search needs
 
 add-result : tie.Need-add-result
 add-result c = search needs
 
+same-length : tie.Need-same-length
+same-length c = search needs
+
 returns : tie.Need-returns
 returns c =
-    let a = c .before .before .before .args in
+    let a = c .before .before .before .before .args in
     let wide16 = c .wide16 in
     (refl, added (a .found .now) (a .tail) (a .p) (omega arith) (wide16 .result) (wide16 .ensures .0))
 
@@ -59,17 +62,18 @@ add-pair-spec =
     tie.close
     (tie.spec
     mul-found
-    element-copy-out-found
+    slice-read-found
     add-found
     mul-found-2
-    element-write-found
+    slice-write-found
     mul-wide16
-    element-copy-out-wide16
+    slice-read-wide16
     wide16-requires
     mul-found-3
     add-found-2
     cast-found
     mul-found-4
-    element-write-found-2
+    slice-write-found-2
     add-result
+    same-length
     returns)

@@ -1,103 +1,53 @@
--- Invariant `Going`: every pair before `head` passes its rule by what is found, and what is found is related if the first pair is.
-use Prim.Native.Nat.{ℕ, _-_}
+-- The array that is chosen says nothing yet (by computing), and has an entry for each pair of a table of so many types.
+use mathlib.Core.Path.{refl}
 use native.Mathlib.Omega.{arith}
-use lib.ListN.{length-replicate}
 use borrow.Author.Needs.{needs}
-use Rattle.table.specs.Store.{tableIn}
-use Rattle.table.proofs.Tables.{size-is}
-use Rattle.rules.specs.Asked.{relationOf}
-use Rattle.relation.specs.Found.{marksIn, queueIn}
-use Rattle.relation.proofs.Pairs.{fits}
-use Rattle.relation.proofs.Loop.{Going, start-at, again, broken, ended}
 use Rattle.relation.proofs.search.Statement.{statement}
 use Rattle.relation.proofs.search.Tie as tie
 
-abbrev Inv-loop : tie.InvT-loop
-Inv-loop b l c k square t s found₀ tail₀ head₀ found tail head = Going (relationOf k) (tableIn b l c) (c .types) t s (marksIn found) (queueIn found) tail head
+slice-aggregate-search-in : tie.Need-slice-aggregate-search-in
+slice-aggregate-search-in c = search needs
 
-abbrev μ-loop : tie.MeasureT-loop
-μ-loop b l c k square t s found₀ tail₀ head₀ found tail head = 16384 - head
+search-in-requires : tie.Need-search-in-requires
+search-in-requires c κs =
+    let pre = c .before .before .before .pre in
+    (pre .0, pre .1, pre .2, pre .3, record { none = refl; long = omega (arith, c .before .if1 .taken); few = omega arith })
 
-mul-add-pair : tie.Need-mul-add-pair Inv-loop μ-loop
-mul-add-pair c = let pre = c .before .pre in omega (arith, pre .1 .limits .types, pre .2)
+returns : tie.Need-returns
+returns c = search needs
 
-add-add-pair : tie.Need-add-add-pair Inv-loop μ-loop
-add-add-pair c = let pre = c .before .pre in omega (arith, pre .1 .limits .types, pre .2, pre .3)
+slice-aggregate-search-in-2 : tie.Need-slice-aggregate-search-in-2
+slice-aggregate-search-in-2 c = search needs
 
-add-pair-requires : tie.Need-add-pair-requires Inv-loop μ-loop
-add-pair-requires c κs =
-    let pre = c .before .pre in
-    (length-replicate {A = ℕ} 16384 0, omega arith, omega (arith, pre .1 .limits .types, pre .2, pre .3))
+search-in-requires-2 : tie.Need-search-in-requires-2
+search-in-requires-2 c κs =
+    let pre = c .before .before .before .before .before .pre in
+    (pre .0, pre .1, pre .2, pre .3, record { none = refl; long = omega (arith, c .before .if2 .taken); few = omega arith })
 
-loop-holds : tie.Need-loop-holds Inv-loop μ-loop
-loop-holds c =
-    let a = c .before .before .args in
-    let pre = c .before .before .pre in
-    let root = c .add-pair in
-    start-at (relationOf (a .k)) (tableIn (a .b .now) (a .l .now) (a .c)) (a .c .types) (a .t) (a .s) (size-is (a .b .now) (a .l .now) (a .c)) (root .last .0) (root .result)
-    (root .ensures) (pre .1 .limits .types) (pre .2) (pre .3)
+returns-2 : tie.Need-returns-2
+returns-2 c = search needs
 
-find-next-requires : tie.Need-find-next-requires Inv-loop μ-loop
-find-next-requires c κs = let pre = c .before .before .before .before .before .pre in (c .before .before .loop .inv .listed, pre .0, pre .1, c .before .loop-test .taken)
+slice-aggregate-search-in-3 : tie.Need-slice-aggregate-search-in-3
+slice-aggregate-search-in-3 c = search needs
 
-enum-known-r : tie.Need-enum-known-r Inv-loop μ-loop
-enum-known-r c = search needs
+search-in-requires-3 : tie.Need-search-in-requires-3
+search-in-requires-3 c κs =
+    let pre = c .before .before .before .before .before .pre in
+    (pre .0, pre .1, pre .2, pre .3, record { none = refl; long = omega (arith, pre .1 .limits .types); few = omega arith })
 
-enum-told : tie.Need-enum-told Inv-loop μ-loop
-enum-told c = search needs
-
-returns : tie.Need-returns Inv-loop μ-loop
-returns c =
-    let a = c .before .before .before .before .before .before .before .before .args in
-    let loop = c .before .before .before .before .before .loop in
-    broken (relationOf (a .k)) (tableIn (a .b .now) (a .l .now) (a .c)) (a .c .types) (a .t) (a .s) (size-is (a .b .now) (a .l .now) (a .c)) (marksIn (loop .found))
-    (queueIn (loop .found)) (loop .tail) (loop .head) (loop .inv)
-    (c .before .before .before .before .loop-test .taken) (rw (c .enum-told .given .1) at (c .before .before .find-next .ensures))
-
-add-head : tie.Need-add-head Inv-loop μ-loop
-add-head c =
-    let loop = c .before .before .before .before .before .before .loop in
-    let f = fits (c .before .before .before .before .before .before .before .before .before .args .c .types) (marksIn (loop .found)) (queueIn (loop .found)) (loop .tail) (loop .inv .listed) in
-    omega (arith, c .before .before .before .before .before .loop-test .taken)
-
-loop-less : tie.Need-loop-less Inv-loop μ-loop
-loop-less c =
-    let loop = c .before .before .before .before .before .before .loop in
-    let f = fits (c .before .before .before .before .before .before .before .before .before .args .c .types) (marksIn (loop .found)) (queueIn (loop .found)) (loop .tail) (loop .inv .listed) in
-    omega (arith, c .before .before .before .before .before .loop-test .taken)
-
-loop-again : tie.Need-loop-again Inv-loop μ-loop
-loop-again c =
-    let a = c .before .before .before .before .before .before .before .before .before .args in
-    let loop = c .before .before .before .before .before .before .loop in
-    let next = c .before .before .before .find-next in
-    again (relationOf (a .k)) (tableIn (a .b .now) (a .l .now) (a .c)) (a .c .types) (a .t) (a .s) (size-is (a .b .now) (a .l .now) (a .c)) (marksIn (loop .found))
-    (queueIn (loop .found)) (loop .tail) (loop .head) (loop .inv)
-    (c .before .before .before .before .before .loop-test .taken) (marksIn (next .last .1 .1 .0)) (queueIn (next .last .1 .1 .0)) (c .before .r .given .0 .0)
-    (rw (c .before .r .given .1) at (next .ensures))
-
-returns-2 : tie.Need-returns-2 Inv-loop μ-loop
-returns-2 c =
-    let a = c .before .before .before .before .args in
-    let loop = c .before .loop in
-    ended (relationOf (a .k)) (tableIn (a .b .now) (a .l .now) (a .c)) (a .c .types) (a .t) (a .s) (size-is (a .b .now) (a .l .now) (a .c)) (marksIn (loop .found))
-    (queueIn (loop .found)) (loop .tail) (loop .head) (loop .inv) (c .loop-test .left)
+returns-3 : tie.Need-returns-3
+returns-3 c = search needs
 
 pub search-spec : {M : Type 1} → statement M
 search-spec =
     tie.close
     (tie.spec
-    Inv-loop
-    μ-loop
-    mul-add-pair
-    add-add-pair
-    add-pair-requires
-    loop-holds
-    find-next-requires
-    enum-known-r
-    enum-told
+    slice-aggregate-search-in
+    search-in-requires
     returns
-    add-head
-    loop-less
-    loop-again
-    returns-2)
+    slice-aggregate-search-in-2
+    search-in-requires-2
+    returns-2
+    slice-aggregate-search-in-3
+    search-in-requires-3
+    returns-3)
