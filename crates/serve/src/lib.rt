@@ -2,23 +2,14 @@
 // any state and any numbers: 2 where the state does not pass, before all else; then the step that the run and the script take too.
 ghost use mathlib.Core.Path.{_≡_};
 ghost use lib.ListN.{length};
-ghost use Rattle.model.specs.Check.{systemAccepted};
 ghost use Rattle.operand.specs.Coded.{byCode};
 ghost use Rattle.state.specs.Whole.{whole};
-ghost use Rattle.state.specs.View.{rawState};
 ghost use Rattle.steps.specs.Served.{done};
 ghost use Rattle.serve.specs.Serves.{givenBack, ServesAsked};
 use state::State;
 use steps::Answer;
 use steps::Served;
 use table::TYPE_BYTES;
-
-// Whether the state that is handed in is taken: what every request asks first (Q13).
-fn is_taken(types: &[u8; TYPE_BYTES], s: State) -> bool
-    ensures { λ r. ⌜ r ≡ systemAccepted (rawState (whole (now (types .entry)) s)) ⌝ }
-{
-    statecheck::state_fits(types, s)
-}
 
 // A copy of lent bytes. Bytes that are held have their length, of lent ones nothing says it.
 pub fn copied(b: [u8; TYPE_BYTES]) -> [u8; TYPE_BYTES]
@@ -41,7 +32,7 @@ fn give_back(types: &mut [u8; TYPE_BYTES], old: &[u8; TYPE_BYTES], a: Answer)
 pub fn serve(types: &mut [u8; TYPE_BYTES], s: State, code: usize, ops: &[i64]) -> Served
     ensures { λ r. ⌜ ServesAsked (whole (now (types .entry)) s) (byCode code (now (ops .entry))) (done (now (types .exit)) r) ⌝ }
 {
-    if !is_taken(types, s) {
+    if !statecheck::state_fits(types, s) {
         return steps::refused(s, 2);
     }
     let old = copied(*types);

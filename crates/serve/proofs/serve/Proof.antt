@@ -13,14 +13,14 @@ use Rattle.serve.proofs.Laws.{back-serves, refused-serves}
 use Rattle.serve.proofs.serve.Statement.{statement}
 use Rattle.serve.proofs.serve.Tie as tie
 
-is-taken-requires : tie.Need-is-taken-requires
-is-taken-requires c κs = search needs
+state-fits-requires : tie.Need-state-fits-requires
+state-fits-requires c κs = search needs
 
 refused-requires : tie.Need-refused-requires
 refused-requires c κs = search needs
 
 returns : tie.Need-returns
-returns c = let a = c .before .before .before .before .args in let check = c .before .before .is-taken in let b = a .types .now in
+returns c = let a = c .before .before .before .before .args in let check = c .before .before .state-fits in let b = a .types .now in
     refused-serves (whole b (a .s)) (byCode (a .code) (a .ops .now)) (refused (check .result) _ (check .ensures) (c .before .if1 .taken))
     (done b (c .refused .result)) (ap (done b) (c .refused .ensures))
 
@@ -28,7 +28,7 @@ copied-requires : tie.Need-copied-requires
 copied-requires c κs = search needs
 
 serve-coded-requires : tie.Need-serve-coded-requires
-serve-coded-requires c κs = let a = c .before .before .before .before .before .before .args in let check = c .before .before .before .before .is-taken in
+serve-coded-requires c κs = let a = c .before .before .before .before .before .before .args in let check = c .before .before .before .before .state-fits in
     accepted-sound (whole (a .types .now) (a .s)) (passed (check .result) _ (check .ensures) (c .before .before .before .if1 .left)) (c .before .copied .ensures .1)
 
 give-back-requires : tie.Need-give-back-requires
@@ -37,7 +37,7 @@ give-back-requires c κs = search needs
 returns-2 : tie.Need-returns-2
 returns-2 c =
     let a = c .before .before .before .before .before .before .before .before .before .before .args in let b = a .types .now in
-    let check = c .before .before .before .before .before .before .before .before .is-taken in
+    let check = c .before .before .before .before .before .before .before .before .state-fits in
     let old = c .before .before .before .before .before .copied in
     let step = c .before .before .before .serve-coded in
     let taken = passed (check .result) _ (check .ensures) (c .before .before .before .before .before .before .before .if1 .left) in
@@ -45,4 +45,4 @@ returns-2 c =
     (step .ensures) (c .give-back .ensures ∙ ap (λ (x : List ℕ). givenBack x (step .last .0) (step .result .answer)) (old .ensures .0))
 
 pub serve-spec : {M : Type 1} → statement M
-serve-spec = tie.close (tie.spec is-taken-requires refused-requires returns copied-requires serve-coded-requires give-back-requires returns-2)
+serve-spec = tie.close (tie.spec state-fits-requires refused-requires returns copied-requires serve-coded-requires give-back-requires returns-2)
