@@ -130,14 +130,12 @@ fn put_script(buf: &mut [u8], s: &[u8]) -> usize
         return write_word(buf, b"no=2");
     }
     let e = sheet_end(s);
-    let x = sheetread::read(&s[..e]);
+    let mut x = sheetread::read(&s[..e]);
     if x.refusal != 0 {
         return write_number(buf, b"no=", x.refusal);
     }
-    let mut types = x.types;
-    let links = x.links;
-    let state = State::loaded(links, x.counts);
-    serve_lines(buf, &mut types, state, &s[e..])
+    let state = State::loaded(x.links, x.counts);
+    serve_lines(buf, &mut x.types, state, &s[e..])
 }
 
 // What the program prints for any input, in front of a buffer of any length: 4 where it does not fit, and then the buffer stays as it was.

@@ -42,10 +42,10 @@ same-length-2 c = search needs
 
 returns-2 : tie.Need-returns-2
 returns-2 c =
-    let s = c .before .before .before .before .before .before .before .before .before .before .before .before .before .args .s .now in
-    let e = c .before .before .before .before .before .before .before .before .before .sheet-end in
-    let x = c .before .before .before .before .before .before .before .read in
-    let l = c .before .before .before .before .before .before .before .before .before .before .if1 .left in
+    let s = c .before .before .before .before .before .before .before .before .before .before .before .before .args .s .now in
+    let e = c .before .before .before .before .before .before .before .before .sheet-end in
+    let x = c .before .before .before .before .before .before .read in
+    let l = c .before .before .before .before .before .before .before .before .before .if1 .left in
     let f = c .before .before .write-number .ensures in
     fill-is (refused-prints s (e .result) (e .ensures .0) (x .result) (x .ensures) l (c .before .before .before .before .before .if2 .taken)) (f .0 .filled)
 
@@ -63,10 +63,10 @@ part-serve-lines-end c = search needs
 
 serve-lines-requires : tie.Need-serve-lines-requires
 serve-lines-requires c κs =
-    let s = c .before .before .before .before .before .before .before .before .before .before .before .before .before .before .args .s .now in
-    let e = c .before .before .before .before .before .before .before .before .before .before .sheet-end in
-    let l = c .before .before .before .before .before .before .before .before .before .before .before .if1 .left in
-    let x = c .before .before .before .before .before .before .before .before .read in
+    let s = c .before .before .before .before .before .before .before .before .before .before .before .before .before .args .s .now in
+    let e = c .before .before .before .before .before .before .before .before .before .sheet-end in
+    let l = c .before .before .before .before .before .before .before .before .before .before .if1 .left in
+    let x = c .before .before .before .before .before .before .before .read in
     let z = c .before .before .before .before .before .before .if2 .left in
     let st = c .before .before .before .loaded in
     (served-sound s (e .result) (e .ensures .0) (x .result) (x .ensures) l z (search needs) (st .result) (st .ensures), rest-short s (e .result) l)
@@ -76,10 +76,10 @@ same-length-3 c = search needs
 
 returns-3 : tie.Need-returns-3
 returns-3 c =
-    let s = c .before .before .before .before .before .before .before .before .before .before .before .before .before .before .before .before .before .args .s .now in
-    let e = c .before .before .before .before .before .before .before .before .before .before .before .before .before .sheet-end in
-    let l = c .before .before .before .before .before .before .before .before .before .before .before .before .before .before .if1 .left in
-    let x = c .before .before .before .before .before .before .before .before .before .before .before .read in
+    let s = c .before .before .before .before .before .before .before .before .before .before .before .before .before .before .before .before .args .s .now in
+    let e = c .before .before .before .before .before .before .before .before .before .before .before .before .sheet-end in
+    let l = c .before .before .before .before .before .before .before .before .before .before .before .before .before .if1 .left in
+    let x = c .before .before .before .before .before .before .before .before .before .before .read in
     let z = c .before .before .before .before .before .before .before .before .before .if2 .left in
     let st = c .before .before .before .before .before .before .loaded in
     let f = c .before .before .serve-lines .ensures in
