@@ -60,7 +60,7 @@ fn in_bytes(input: &[u8]) -> Vec<u8> {
                 print("no=1".to_string());
                 break;
             };
-            print(match requests::serve(&mut state, &request) {
+            print(match requests::step(&mut state, &request) {
                 Ok(got) => got_line(got),
                 Err(number) => format!("no={number}"),
             });
