@@ -1,6 +1,7 @@
 //! cargo run --profile speed -p bench: the proved core against safe Rust of the same algorithm, in one run.
-//! Prints ratios (proved time over Rust time): below 1 the proved core is faster. Buffers are cleared by both sides in each search, as the algorithm asks.
-//! With the argument `scripts` it measures whole scripts alone.
+//! Prints tables of times and ratios (proved time over Rust time): below 1 the proved core is faster. A ratio is the median of seven, both
+//! sides in turn; one above 1 is marked. Buffers are cleared by both sides in each search, as the algorithm asks.
+//! With the argument `requests`, `scripts`, `sheets` or `tables` it measures these alone.
 
 mod fits;
 mod heavy;
@@ -15,7 +16,7 @@ mod sheets;
 
 use conformance::inputs::{with_48_types, worst};
 use conformance::{chains, compare, counts, Asked, Loaded, PAIRS_LENGTH};
-use measure::ratio;
+use measure::{head, ratio};
 use reference::raw::{RawTable, BROADER_LENGTH, TYPES_LENGTH};
 use reference::relations::RELATIONS;
 use reference::sheet;
@@ -211,26 +212,45 @@ fn derivations() {
     derivation("48 generated types", &random, most.expect("a pair"));
 }
 
-fn main() {
-    if std::env::args().nth(1).as_deref() == Some("scripts") {
-        return scripts::all();
-    }
-    served::all();
-    scripts::all();
-    comparisons();
-    let random = with_48_types();
-    let generated = sheet::text(&random);
+/// Reading, refusing and writing sheets.
+fn all_sheets(generated: &[u8]) {
+    head("sheets");
     let example = include_bytes!("../../examples/types-48.sheet");
     for (name, text) in [
-        ("48 generated types", &generated[..]),
+        ("48 generated types", generated),
         ("examples/types-48.sheet", &example[..]),
     ] {
         reading(name, text);
         reading(&format!("{name} without its last LF"), without_end(text));
         writing(name, text);
     }
-    pair_table("48 generated types", &RawTable::of(&random));
+}
+
+/// Compare, the pair table and derivations on tables.
+fn all_tables(table: &RawTable) {
+    head("tables");
+    comparisons();
+    pair_table("48 generated types", table);
     derivations();
+}
+
+fn main() {
+    let asked = std::env::args().nth(1);
+    let wanted = |part: &str| asked.as_deref().is_none_or(|asked| asked == part);
+    let random = with_48_types();
+    if wanted("requests") {
+        served::all();
+    }
+    if wanted("scripts") {
+        scripts::all();
+    }
+    if wanted("sheets") {
+        all_sheets(&sheet::text(&random));
+    }
+    if wanted("tables") {
+        all_tables(&RawTable::of(&random));
+    }
+    measure::end();
 }
 
 #[cfg(test)]

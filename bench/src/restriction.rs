@@ -1,5 +1,5 @@
 //! Sub, Sup and Closed in safe Rust, by the algorithm of crates/deriving, restrict and closed: two functions that call each other over the bytes of
-//! the table. A derivation works on a copy, so that a refusal leaves the table as it was.
+//! the table. It works in the bytes, which are kept first and put back on a refusal, as the core does it.
 
 use crate::fits;
 use reference::raw::{RawTable, METHODS_AT, METHOD_BYTES, TYPE_BYTES};
@@ -24,14 +24,16 @@ pub fn derive(raw: &mut RawTable, kind: usize, t: usize, s: usize) -> Result<usi
     if kind == CLOSED && !both_ref(raw, t, s) {
         return Err(7);
     }
-    let mut table = raw.clone();
+    let old = raw.clone();
     let number = match kind {
-        SUB => sub(&mut table, t, s),
-        SUP => sup(&mut table, t, s),
-        _ => closed(&mut table, t, s),
-    }?;
-    *raw = table;
-    Ok(number)
+        SUB => sub(raw, t, s),
+        SUP => sup(raw, t, s),
+        _ => closed(raw, t, s),
+    };
+    if number.is_err() {
+        *raw = old;
+    }
+    number
 }
 
 fn both_ref(raw: &RawTable, t: usize, s: usize) -> bool {

@@ -2,7 +2,7 @@
 //! against safe Rust of the same algorithm as the proved core's.
 
 use crate::heavy::crowded;
-use crate::measure::measured;
+use crate::measure::{head, measured, row, row_without_goal};
 use crate::{requests, sheets};
 use conformance::inputs::{table, with_48_types};
 use conformance::states::of_table;
@@ -60,7 +60,7 @@ fn in_bytes(input: &[u8]) -> Vec<u8> {
                 print("no=1".to_string());
                 break;
             };
-            print(match requests::serve(&mut state, &request) {
+            print(match requests::step(&mut state, &request) {
                 Ok(got) => got_line(got),
                 Err(number) => format!("no={number}"),
             });
@@ -77,18 +77,18 @@ fn measure(name: &str, input: &[u8]) {
     let proved = || drop(black_box(printed(black_box(input))));
     let reference = measured(proved, || drop(black_box(script::run(black_box(input)))));
     let bytes = measured(proved, || drop(black_box(in_bytes(black_box(input)))));
-    println!(
-        "script, {name}, {} bytes, {lines} requests: against the reference {reference}",
-        input.len()
+    let name = format!("script, {name}, {} bytes, {lines} requests", input.len());
+    row(
+        &format!("{name}: a request"),
+        bytes.time / lines as u32,
+        &bytes,
     );
-    println!(
-        "  {:?} a request; against safe Rust in bytes {bytes}",
-        bytes.time / lines as u32
-    );
+    row_without_goal(&format!("{name}: all, to `reference`"), &reference);
 }
 
 /// Ordinary sheets, and the worst known.
 pub fn all() {
+    head("scripts");
     let case = include_bytes!("../../examples/case-p.sheet");
     let case = sheet::read(case).expect("a sheet");
     measure("Case P", &filled(&case, &MEDIUM));

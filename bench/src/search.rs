@@ -81,20 +81,13 @@ fn outer(raw: &RawTable, relation: Relation, x: &[u8], y: &[u8]) -> bool {
 
 /// The pairs found, each once. Entry i has the i-th pair of the queue in its low 15 bits, and in its top bit whether the pair
 /// of number i is found.
-struct Found {
-    entries: [u16; MAX_TYPES * MAX_TYPES],
+struct Found<'a> {
+    entries: &'a mut [u16],
     count: usize,
 }
 
-impl Found {
+impl Found<'_> {
     const TOP: u16 = 1 << 15;
-
-    fn none() -> Found {
-        Found {
-            entries: [0; MAX_TYPES * MAX_TYPES],
-            count: 0,
-        }
-    }
 
     /// The pair (x, y) is found, and joins the queue if it was not.
     fn add(&mut self, x: usize, y: usize) {
@@ -141,11 +134,26 @@ fn methods(found: &mut Found, states: &States, count: usize, x: &[u8], y: &[u8])
     of_x.zip(of_y).all(|(m, n)| method(found, states, m, n))
 }
 
-/// How many pairs are found from a pair, itself among them, if all keep the rules of the relation: then the pair is related.
+/// How many pairs are found from a pair, itself among them, if all keep the rules of the relation: then the pair is related. What is
+/// cleared for a search goes by the size of the table, in the steps of crates/relation.
 pub fn reached(raw: &RawTable, relation: Relation, t: usize, s: usize) -> Option<usize> {
+    match raw.types {
+        ..=16 => reached_in(&mut [0; 16 * MAX_TYPES], raw, relation, t, s),
+        ..=72 => reached_in(&mut [0; 72 * MAX_TYPES], raw, relation, t, s),
+        _ => reached_in(&mut [0; MAX_TYPES * MAX_TYPES], raw, relation, t, s),
+    }
+}
+
+fn reached_in(
+    entries: &mut [u16],
+    raw: &RawTable,
+    relation: Relation,
+    t: usize,
+    s: usize,
+) -> Option<usize> {
     let states = states(relation);
     let count = raw.methods as usize;
-    let mut found = Found::none();
+    let mut found = Found { entries, count: 0 };
     found.add(t, s);
     let mut head = 0;
     while head < found.count {

@@ -1,6 +1,6 @@
 //! The four requests measured, each on the state that it meets.
 
-use crate::measure::ratio;
+use crate::measure::{head, ratio};
 use crate::scenes::{calling, populated, scenes, Scene};
 use crate::{heavy, requests};
 use conformance::inputs::table;
@@ -108,6 +108,7 @@ fn generated() -> RawState {
 /// All scenes. (No adapters like those of the 48 types are made on a loaded sheet: there all are passed as they are. Through 40 such,
 /// a call is dearer than any known on a loaded one.)
 pub fn all() {
+    head("requests");
     let example = sheet::read(include_bytes!("../../examples/case-p.sheet")).expect("a sheet");
     let case = populated(of_table(RawTable::of(&example)), 8);
     let generated = generated();
