@@ -18,6 +18,7 @@ use Rattle.sheetread.specs.declared.Done.the-variants.{Refused, At}
 use Rattle.sheetread.specs.declared.Front.{Front}
 use Rattle.sheetread.specs.declared.First.{First}
 use Rattle.sheetread.specs.declared.First.the-variants.{Refused as Refusedᶠ, At as Atᶠ}
+use Rattle.sheetread.specs.declared.Outcome.{Outcome}
 use Rattle.sheetread.specs.declared.Sheet.{Sheet}
 
 -- Several lines of s, read as x; and what holds where they are accepted.
@@ -98,3 +99,7 @@ answered (loaded t) = record { refusal = 0; at = 0; types = typeBytes (t .types)
 -- that answer from its parts, where each of them is handed out by itself: number, offset, bytes and counts
 abbrev pub sheetOf : ℕ → ℕ → List ℕ → List ℕ → Counts → Sheet
 sheetOf n at types links counts = record { refusal = n; at = at; types = types; links = links; counts = counts }
+
+-- that answer where the bytes are lent
+abbrev pub outcomeOf : Outcome → List ℕ → List ℕ → Sheet
+outcomeOf r types links = sheetOf (r .refusal) (r .at) types links (r .counts)
