@@ -175,7 +175,8 @@ fn unwrap(
         return refused(ps, 8);
     }
     let owner = state::base_owner(ps, x.place);
-    if owner != x.receiver {
+    let receiver = x.receiver;
+    if owner != receiver {
         return refused(ps, 9);
     }
     let base = state::base_of(ps, x.place);

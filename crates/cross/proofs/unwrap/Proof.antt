@@ -30,18 +30,18 @@ refused-requires-2 : tie.Need-refused-requires-2
 refused-requires-2 c κs = search needs
 
 returns-2 : tie.Need-returns-2
-returns-2 c = let a = c .before .before .before .before .before .before .before .args in let h = c .before .before .before .before .before .before .before .pre in let o = c .before .before .before .base-owner in
-    unwrap-9 (a .types .now) (a .links .now) (a .c) (h .0) (a .ps) (a .x) (h .2) (met (c .before .before .before .before)) (o .result) (o .ensures .0) (c .before .if2 .taken) (c .refused2 .result) (c .refused2 .ensures)
+returns-2 c = let a = c .before .before .before .before .before .before .args in let h = c .before .before .before .before .before .before .pre in let o = c .before .before .base-owner in
+    unwrap-9 (a .types .now) (a .links .now) (a .c) (h .0) (a .ps) (a .x) (h .2) (met (c .before .before .before)) (o .result) (o .ensures .0) (c .before .if2 .taken) (c .refused2 .result) (c .refused2 .ensures)
 
 base-of-requires : tie.Need-base-of-requires
-base-of-requires c κs = let h = c .before .before .before .before .before .before .pre in (h .1 .falling, h .1 .place)
+base-of-requires c κs = let h = c .before .before .before .before .before .pre in (h .1 .falling, h .1 .place)
 
 meet-requires : tie.Need-meet-requires
-meet-requires c κs = let h = c .before .before .before .before .before .before .before .before .pre in (h .0, record { falling = h .1 .falling; place = c .before .base-of .ensures .below })
+meet-requires c κs = let h = c .before .before .before .before .before .before .before .pre in (h .0, record { falling = h .1 .falling; place = c .before .base-of .ensures .below })
 
 returns-3 : tie.Need-returns-3
-returns-3 c = let a = c .before .before .before .before .before .before .before .before .before .args in let h = c .before .before .before .before .before .before .before .before .before .pre in let o = c .before .before .before .before .before .base-owner in let m = c .meet in
-    unwrap-meets (a .types .now) (a .links .now) (a .c) (h .0) (a .ps) (a .x) (h .2) (met (c .before .before .before .before .before .before)) (o .result) (o .ensures .0) (c .before .before .before .if2 .left) (c .before .before .base-of .result) (c .before .before .base-of .ensures)
+returns-3 c = let a = c .before .before .before .before .before .before .before .before .args in let h = c .before .before .before .before .before .before .before .before .pre in let o = c .before .before .before .before .base-owner in let m = c .meet in
+    unwrap-meets (a .types .now) (a .links .now) (a .c) (h .0) (a .ps) (a .x) (h .2) (met (c .before .before .before .before .before)) (o .result) (o .ensures .0) (c .before .before .before .if2 .left) (c .before .before .base-of .result) (c .before .before .base-of .ensures)
     (m .last .0) (m .result) (m .ensures .0) (m .ensures .1)
 
 pub unwrap-spec : {M : Type 1} → statement M
