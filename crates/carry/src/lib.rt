@@ -14,8 +14,10 @@ ghost use Rattle.table.specs.Store.{rawMethod, tableIn, withCount};
 ghost use Rattle.table.specs.Limits.{Limits};
 ghost use Rattle.state.specs.View.{placesIn};
 ghost use Rattle.state.specs.Sound.{layersIn};
-ghost use Rattle.cross.specs.Crossed.{Ready, Stands, reference};
-ghost use Rattle.carry.specs.Carried.{wayIn, targetsIn, argumentOf, slotIn, slotAt, widthAt, passTo, passedOf, crossTo, referenceOf, carriedOf, Carries};
+ghost use Rattle.cross.specs.Crossed.{Ready, Stands, reference, referenceOf, crossedOf, Leaves};
+ghost use Rattle.carry.specs.Carried.{wayIn, targetsIn, argumentOf, slotIn, slotAt, widthAt, passTo, passedOf, crossTo};
+use cross::Crossed;
+use cross::Crossing;
 use numbers::least;
 use numbers::wide;
 use state::Layers;
@@ -49,15 +51,6 @@ pub struct Targets {
     pub count: usize,
 }
 
-// A reference on its way: its static type, its place, the places, and how many types there are now. `refusal` is its number, or 0.
-pub struct Carried {
-    pub refusal: usize,
-    pub sort: usize,
-    pub place: usize,
-    pub places: Places,
-    pub types: usize,
-}
-
 pub fn way_of(sort: u8, l: Layers) -> Way
     requires { ⌜ l .count ≤ 128 ⌝ }
     ensures { λ r. ⌜ (wayIn r ≡ sort ∷ layersIn l) × (r .count ≡ suc (l .count)) ⌝ }
@@ -72,20 +65,12 @@ pub fn way_of(sort: u8, l: Layers) -> Way
     Way { list, count: n + 1 }
 }
 
-fn argument(x: Method, i: usize) -> usize
-    requires { ⌜ i < 4 ⌝ }
-    ensures { λ r. ⌜ (r ≡ getD (x .args) i 0) × (r < 256) × (length (x .args) ≡ 4) ⌝ }
-{
-    let args = x.args;
-    wide(args[i])
-}
-
 // Argument i of a signature. A count above the four that a record has room for uses all of them.
 pub fn argument_in(x: Method, i: usize) -> usize
     ensures { λ r. ⌜ r ≡ answerCode (argumentOf x i) ⌝ }
 {
     let n = wide(x.count);
-    let a = argument(x, least(i, 3));
+    let a = wide(x.args[least(i, 3)]);
     if n <= i {
         return 0;
     }
@@ -235,68 +220,34 @@ pub fn pass(types: &[u8; TYPE_BYTES], c: Counts, v: i64, targets: Targets) -> us
     0
 }
 
-// The counts, with so many types.
-fn grown(c: Counts, types: usize) -> Counts
-    ensures { λ q. ⌜ q ≡ withCount c types ⌝ }
-{
-    Counts {
-        subjects: c.subjects,
-        methods: c.methods,
-        cats: c.cats,
-        sheet: c.sheet,
-        types,
-    }
-}
-
-// A reference that is refused with e.
-fn stopped(x: Carried, e: usize) -> Carried
-    ensures { λ q. ⌜ q ≡ record { refusal = e; sort = x .sort; place = x .place; places = x .places; types = x .types } ⌝ }
-{
-    let places = x.places;
-    Carried {
-        refusal: e,
-        sort: x.sort,
-        place: x.place,
-        places,
-        types: x.types,
-    }
-}
-
 // A reference crosses at layer i to the target that is coded (C11, C13, C15).
 fn carry_one(
     types: &mut [u8; TYPE_BYTES],
     links: &[u8; LINK_BYTES],
     c: Counts,
-    x: Carried,
+    x: Crossed,
     target: usize,
     r: usize,
     i: usize,
-) -> Carried
+) -> Crossed
     requires { ⌜ Ready (now links) (withCount c (x .types)) (now types) × Stands (x .places) (x .place) ⌝ }
-    ensures is { λ q. ⌜ carriedOf (now (types .exit)) (now (links .entry)) c q ≡ crossTo (eqb i 0) (referenceOf (now (types .entry)) (now (links .entry)) c x) r (answerOf target) ⌝ }
-    ensures leaves { λ q. ⌜ Carries (withCount c (x .types)) (x .places) (x .sort) (now (types .entry)) (now (types .exit)) q ⌝ }
+    ensures is { λ q. ⌜ crossedOf (now (types .exit)) (now (links .entry)) c q ≡ crossTo (eqb i 0) (referenceOf (now (types .entry)) (now (links .entry)) c x) r (answerOf target) ⌝ }
+    ensures leaves { λ q. ⌜ Leaves (withCount c (x .types)) (x .places) (x .sort) (now (types .entry)) (now (types .exit)) q ⌝ }
 {
-    if target == 0 {
-        return stopped(x, at_layer(i, 8));
-    }
-    let to = target - 1;
-    let d = grown(c, x.types);
     let ps = x.places;
-    let y = cross::land(
-        ps,
-        cross::cross(types, links, d, ps, x.sort, x.place, to, r),
-    );
-    if y.refusal != 0 {
-        return stopped(x, at_layer(i, y.refusal));
+    if target == 0 {
+        return cross::refused(ps, at_layer(i, 8));
     }
-    let places = y.places;
-    Carried {
-        refusal: 0,
-        sort: to,
-        place: y.place,
-        places,
-        types: y.types,
-    }
+    let d = cross::grown(c, x.types);
+    let next = Crossing {
+        from: x.sort,
+        place: x.place,
+        to: target - 1,
+        receiver: r,
+    };
+    let mut y = cross::cross(types, links, d, ps, next);
+    y.refusal = at_layer(i, y.refusal);
+    y
 }
 
 // A reference of static type s that leads to place p crosses to each target in turn, received by r (C11, A8).
@@ -309,12 +260,12 @@ pub fn carry(
     p: usize,
     targets: Targets,
     r: usize,
-) -> Carried
+) -> Crossed
     requires { ⌜ Ready (now links) c (now types) × Stands ps p × (targets .count ≤ 129) ⌝ }
-    ensures is { λ q. ⌜ carriedOf (now (types .exit)) (now (links .entry)) c q ≡ crossLayers true (reference (tableIn (now (types .entry)) (now (links .entry)) c) (placesIn ps) s p) r (targetsIn targets) ⌝ }
-    ensures leaves { λ q. ⌜ Carries c ps s (now (types .entry)) (now (types .exit)) q ⌝ }
+    ensures is { λ q. ⌜ crossedOf (now (types .exit)) (now (links .entry)) c q ≡ crossLayers true (reference (tableIn (now (types .entry)) (now (links .entry)) c) (placesIn ps) s p) r (targetsIn targets) ⌝ }
+    ensures leaves { λ q. ⌜ Leaves c ps s (now (types .entry)) (now (types .exit)) q ⌝ }
 {
-    let mut x = Carried {
+    let mut x = Crossed {
         refusal: 0,
         sort: s,
         place: p,

@@ -3,17 +3,17 @@ use mathlib.Core.Path.{_≡_, refl, sym, ap, _∙_, subst}
 use mathlib.Core.Logic.{_⊎_, inl, inr}
 use mathlib.Core.Bool.{Bool, true, false, So, not, _&&_}
 use mathlib.Core.List.{List, [], _∷_, _++_}
-use Prim.Native.Nat.{ℕ, _+_, _≤_, _<_}
+use Prim.Native.Nat.{ℕ, _≤_, _<_}
 use native.Mathlib.Omega.{arith}
 use lib.Dec.{eqb, ltb}
-use lib.ListN.{length, getD, List·getD-append}
-use lib.Seq.{getD-append-seam}
+use lib.ListN.{length, getD}
+use lib.Seq.{getD-set-other}
 use borrow.Author.Tests.{eq-eqb, ne-eqb, lt-ltb, le-ltb}
 use Rattle.model.specs.Basics.{Res, refuse, ok, need, try}
 use Rattle.model.specs.Table.{Kind, Table, Ty, isRef, typeAt, sub, closed}
 use Rattle.model.specs.Relations.{related, subtype, conforms, strict, loose, free}
 use Rattle.model.specs.Restriction.{derived}
-use Rattle.model.specs.Crossing.{Place, Reference, placeAt, placeType, baseOf, baseOwner, maxPlaces, noPlace, adapter, adapt, cross}
+use Rattle.model.specs.Crossing.{Place, Reference, placeAt, placeType, baseOf, baseOwner, maxPlaces, adapter, adapt, cross}
 use Rattle.model.specs.Check.{noRawType}
 use Rattle.model.proofs.Largest.{keeps-related}
 use Rattle.model.proofs.Order.{strict→loose, loose→free}
@@ -31,15 +31,14 @@ use Rattle.restrict.specs.Link.{Leaves as Left, Ready as Derivable}
 use Rattle.restrict.proofs.Bytes.{exact-same}
 use Rattle.state.specs.declared.Places.{Places}
 use Rattle.state.specs.declared.Place.the-variants.{Adapter}
-use Rattle.state.specs.declared.PlaceRec.{PlaceRec}
-use Rattle.state.specs.View.{placesIn, placeOf, placeAdded, isObject, behindOf}
-use Rattle.state.specs.Sound.{Falling, BaseAt, Typed}
+use Rattle.state.specs.View.{placesIn, blankPlace}
+use Rattle.state.specs.Sound.{Falling, BaseAt}
 use Rattle.state.proofs.Laws.{places-length}
+use Rattle.state.proofs.Kept.{falling-more, typed-more}
+use Rattle.cross.specs.declared.Crossing.{Crossing}
+use Rattle.cross.specs.declared.Landing.the-variants as landing
 use Rattle.cross.specs.declared.Crossed.{Crossed}
-use Rattle.cross.specs.declared.Crossed.the-variants.{Refused, Passes, Adapts}
-use Rattle.cross.specs.declared.Led.{Led}
-use Rattle.cross.specs.declared.Led.the-variants as led
-use Rattle.cross.specs.Crossed.{Ready, ownIn, reference, crossedOf, ledOf, Grew, Types, Lands, Leaves, LedTo, Leads, landed, Landing}
+use Rattle.cross.specs.Crossed.{Ready, ownIn, reference, crossing, referenceOf, crossedOf, Grew, Came, Leaves, stopped, landed}
 
 -- ---- The definitions, case by case.
 module _ (t : Table) (ps : List Place) (s p to r : ℕ) where
@@ -149,9 +148,6 @@ grew-on c m n b b′ g k h = record {
   go i p q (inl l) = let r = g .room in exact-same c b b′ i (omega arith) (k i l) (g .exact i p l)
   go i p q (inr l) = h .exact i l q
 
-kept-led : (c : Counts) (ps : Places) (b : List ℕ) (q : Crossed) → length b ≡ 16384 → Types c b q → Lands ps q → Leaves c ps b b q
-kept-led c ps b q long h k = record { long = long; kept = same-kept (c .types) b; types = h; lands = k }
-
 derives-sized : (n t s : ℕ) {b b′ : List ℕ} {d : Derived} {i m : ℕ} → d ≡ At i m → Left n t s b b′ d → Sized n t s (At i m)
 derives-sized n t s e k = subst (Sized n t s) e (k .sized)
 
@@ -168,55 +164,56 @@ equal {m} {n} h = eq-eqb m n h
 pub ready-on : (l : List ℕ) (c : Counts) (n : ℕ) (b b′ : List ℕ) → Ready l c b → Grew c n b′ → length b′ ≡ 16384 → Ready l (withCount c n) b′
 ready-on l c n b b′ h g long = record { checked = grown-checked l c n (h .checked) (g .more) (g .room); long = long }
 
--- ---- X1 to X5: the table is that of bytes b, and the reference of type s leads to place p.
-module _ (b l : List ℕ) (c : Counts) (h : Ready l c b) (ps : Places) (s p to r : ℕ) (place : p < ps .count) where
-  abbrev T : Table
-  T = tableIn b l c
+-- ---- What came of it.
+abbrev Comes : ℕ → Res Reference → Bool → Res Reference
+Comes e f z = elim z [ false ↦ refuse e | true ↦ f ]
 
-  -- nothing is derived
-  stays : (q : Led) → ledOf b l c (placesIn ps) to p q ≡ cross (reference T (placesIn ps) s p) to r → LedTo c ps b q → Leads l c ps s p to r b b q
-  stays q e k = record { is = e; long = h .long; kept = same-kept (c .types) b; led = k }
+pub refused-is : (b l : List ℕ) (c : Counts) (x : Crossed) → (x .refusal ≡ 0 → ⊥) → crossedOf b l c x ≡ refuse (x .refusal)
+refused-is b l c x h = ap (Comes (x .refusal) (ok (referenceOf b l c x))) (differ h)
 
-  module _ (own : ownIn (c .types) b to ≡ true) where
-    pub unwrap-8 : false ≡ related free T to s → Leads l c ps s p to r b b (led.Refused 8)
-    unwrap-8 e = stays _ (own-8 T (placesIn ps) s p to r (own-table b l c to ∙ own) (sym e)) (omega arith)
+pub came-is : (b l : List ℕ) (c : Counts) (x : Crossed) → x .refusal ≡ 0 → crossedOf b l c x ≡ ok (referenceOf b l c x)
+came-is b l c x h = ap (Comes (x .refusal) (ok (referenceOf b l c x))) (equal h)
 
-    module _ (met : true ≡ related free T to s) (o : ℕ) (is : o ≡ baseOwner (placesIn ps) p) where
-      pub unwrap-9 : (o ≡ r → ⊥) → Leads l c ps s p to r b b (led.Refused 9)
-      unwrap-9 e = stays _ (own-9 T (placesIn ps) s p to r (own-table b l c to ∙ own) (sym met) (differ (λ z. e (is ∙ sym z)))) (omega arith)
+-- a refusal with the number e, of what the model refuses with it
+pub stops : (b b′ l : List ℕ) (c : Counts) (ps : Places) (s e : ℕ) → 0 < e → {m : Res Reference} → refuse e ≡ m → length b′ ≡ 16384 → Kept (c .types) b b′ →
+    (q : Crossed) → q ≡ stopped ps e → (crossedOf b′ l c q ≡ m) × Leaves c ps s b b′ q
+stops b b′ l c ps s e low {m} is long kept q z = subst (λ (x : Crossed). (crossedOf b′ l c x ≡ m) × Leaves c ps s b b′ x) (sym z) (
+  refused-is b′ l c (stopped ps e) (λ y. omega (arith, y, low)) ∙ is,
+  record { long = long; kept = kept; came = λ y. absurd (omega (arith, y, low)) },
+)
 
-      pub unwrap-meets : o ≡ r → (q : ℕ) → BaseAt ps p q → Leads l c ps s p to r b b (led.Meets to q (c .types))
-      unwrap-meets e q base = stays _
-          (ap (adapt T (placesIn ps) to to) (base .is) ∙ own-meets T (placesIn ps) s p to r (own-table b l c to ∙ own) (sym met) (equal (sym e ∙ is)))
-          (none-new c b (h .checked .limits .types), base .below)
+-- the reference leads to a place that stands
+stands : (c : Counts) (ps : Places) (s to p n : ℕ) (b : List ℕ) → Falling ps → p < ps .count → Grew c n b → (s < c .types → to < n) → Came c ps s b (landed ps to (landing.Stands p) n)
+stands c ps s to p n b fall place g sort = record {
+  sort = sort;
+  types = g;
+  falling = fall;
+  place = place;
+  typed = λ t k l. let u = g .more in let v = t k l in omega arith;
+  before = record { more = omega arith; same = λ k l. refl };
+}
 
-  module _ (own : ownIn (c .types) b to ≡ false) where
-    pub restrict-8 : false ≡ related loose T to s → Leads l c ps s p to r b b (led.Refused 8)
-    restrict-8 e = stays _ (other-8 T (placesIn ps) s p to r (own-table b l c to ∙ own) (sym e)) (omega arith)
+-- what is known behind two crossings, or behind what a derivation left and a crossing
+module _ (c : Counts) (ps : Places) (s : ℕ) (b b₁ : List ℕ) (x : Crossed) (h : Leaves c ps s b b₁ x) (z : x .refusal ≡ 0) where
+  came : Came c ps s b₁ x
+  came = h .came z
 
-    module _ (met : true ≡ related loose T to s) where
-      pub restrict-stays : true ≡ related subtype T to s → Leads l c ps s p to r b b led.Stays
-      restrict-stays e = stays _ (other-stays T (placesIn ps) s p to r (own-table b l c to ∙ own) (sym met) (sym e)) tt
-
-      module _ (less : false ≡ related subtype T to s) (b′ : List ℕ) (d : Derived) (g : Derives sub c to s b b′ d) where
-        answer : (x : Derived) → d ≡ x → derivationIn b′ l c x ≡ derived T sub to s
-        answer x e = sym (ap (derivationIn b′ l c) e) ∙ g .is l
-
-        pub restrict-11 : d ≡ Full → Leads l c ps s p to r b b′ (led.Refused 11)
-        restrict-11 e = record {
-          is = other-11 T (placesIn ps) s p to r (own-table b l c to ∙ own) (sym met) (sym less) (answer Full e);
-          long = g .keeps .long;
-          kept = g .keeps .kept;
-          led = omega arith;
-        }
-
-        pub restrict-meets : (i m : ℕ) → d ≡ At i m → Leads l c ps s p to r b b′ (led.Meets i p m)
-        restrict-meets i m e = record {
-          is = other-meets T (placesIn ps) s p to r (own-table b l c to ∙ own) (sym met) (sym less) (tableIn b′ l (withCount c m)) i (answer (At i m) e);
-          long = g .keeps .long;
-          kept = g .keeps .kept;
-          led = (derives-grew c to s e g, place);
-        }
+  pub leaves-on : (b₂ : List ℕ) (q : Crossed) → Leaves (withCount c (x .types)) (x .places) (x .sort) b₁ b₂ q → Leaves c ps s b b₂ q
+  leaves-on b₂ q k = record {
+    long = k .long;
+    kept = λ j y. k .kept j (let u = came .types .more in omega arith) ∙ h .kept j y;
+    came = λ y. let m = k .came y in record {
+      sort = λ g. m .sort (came .sort g);
+      types = grew-on c (x .types) (q .types) b₁ b₂ (came .types) (k .kept) (m .types);
+      falling = m .falling;
+      place = m .place;
+      typed = λ t. m .typed (came .typed t);
+      before = record {
+        more = let u = came .before .more in let v = m .before .more in omega arith;
+        same = λ j g. m .before .same j (let u = came .before .more in omega arith) ∙ came .before .same j g;
+      };
+    };
+  }
 
 -- what a derivation asks, of two types that are related
 derivable : (b l : List ℕ) (c : Counts) → Ready l c b → (t s : ℕ) → So (related free (tableIn b l c) t s) → Derivable c (c .types) t s b
@@ -230,20 +227,23 @@ derivable b l c h t s e =
 pub sub-asked : (b l : List ℕ) (c : Counts) → Ready l c b → (t s : ℕ) → true ≡ related loose (tableIn b l c) t s → Derivable c (c .types) t s b
 sub-asked b l c h t s e = derivable b l c h t s (loose→free (tableIn b l c) t s (sym e))
 
--- ---- X6 to X9: R is r, and the type of place p is v.
-module _ (b l : List ℕ) (c : Counts) (h : Ready l c b) (ps : Places) (r p : ℕ) (place : p < ps .count) (v : ℕ) (is : v ≡ placeType (placeAt (placesIn ps) p)) where
+-- ---- X6 to X10: R is r, and the type of place p is v.
+module _ (b l : List ℕ) (c : Counts) (h : Ready l c b) (ps : Places) (fall : Falling ps) (to r p : ℕ) (place : p < ps .count) (v : ℕ) (is : v ≡ placeType (placeAt (placesIn ps) p)) where
   abbrev U : Table
   U = tableIn b l c
 
-  abbrev Comes : List ℕ → Crossed → Type 0
-  Comes b′ q = ((to : ℕ) → crossedOf b′ l c (placesIn ps) to q ≡ adapt U (placesIn ps) to r p) × Leaves c ps b b′ q
+  abbrev Meets-as : List ℕ → Crossed → Type 0
+  Meets-as b′ q = (crossedOf b′ l c q ≡ adapt U (placesIn ps) to r p) × Leaves c ps to b b′ q
 
-  pub meets-passes : true ≡ related conforms U r v → Comes b (Passes p (c .types))
-  meets-passes e = (λ to. meet-passes U (placesIn ps) to r p v is (sym e), kept-led c ps b _ (h .long) (none-new c b (h .checked .limits .types)) place)
+  pub meets-passes : true ≡ related conforms U r v → (q : Crossed) → q ≡ landed ps to (landing.Stands p) (c .types) → Meets-as b q
+  meets-passes e q z = subst (Meets-as b) (sym z) (
+    meet-passes U (placesIn ps) to r p v is (sym e),
+    record { long = h .long; kept = same-kept (c .types) b; came = λ _. stands c ps to to p (c .types) b fall place (none-new c b (h .checked .limits .types)) (λ k. k) },
+  )
 
   module _ (less : false ≡ related conforms U r v) where
-    pub meets-10 : false ≡ related strict U r v → Comes b (Refused 10)
-    meets-10 e = (λ to. meet-10 U (placesIn ps) to r p v is (sym less) (sym e), kept-led c ps b _ (h .long) tt (omega arith))
+    pub meets-10 : false ≡ related strict U r v → (q : Crossed) → q ≡ stopped ps 10 → Meets-as b q
+    meets-10 e = stops b b l c ps to 10 (omega arith) (meet-10 U (placesIn ps) to r p v is (sym less) (sym e)) (h .long) (same-kept (c .types) b)
 
     module _ (met : true ≡ related strict U r v) where
       meets-free : So (related free U r v)
@@ -268,8 +268,8 @@ module _ (b l : List ℕ) (c : Counts) (h : Ready l c b) (ps : Places) (r p : �
         gives : (x : Derived) → d ≡ x → derivationIn b′ l c x ≡ derived U closed r v
         gives x e = sym (ap (derivationIn b′ l c) e) ∙ g .is l
 
-        pub meets-11 : d ≡ Full → Comes b′ (Refused 11)
-        meets-11 e = (λ to. meet-11 U (placesIn ps) to r p v is (sym less) (sym met) (gives Full e), record { long = g .keeps .long; kept = g .keeps .kept; types = tt; lands = omega arith })
+        pub meets-11 : d ≡ Full → (q : Crossed) → q ≡ stopped ps 11 → Meets-as b′ q
+        meets-11 e = stops b b′ l c ps to 11 (omega arith) (meet-11 U (placesIn ps) to r p v is (sym less) (sym met) (gives Full e)) (g .keeps .long) (g .keeps .kept)
 
         module _ (i m : ℕ) (e : d ≡ At i m) where
           closed-low : i < m
@@ -280,122 +280,118 @@ module _ (b l : List ℕ) (c : Counts) (h : Ready l c b) (ps : Places) (r p : �
           pub closed-byte : i < 256
           closed-byte = let z = derives-sized (c .types) r v e (g .keeps) in let w = closed-low in let u = z .1 in omega arith
 
-          pub meets-12 : 128 ≤ ps .count → Comes b′ (Refused 12)
-          meets-12 f = (
-            λ to. meet-12 U (placesIn ps) to r p v is (sym less) (sym met) (tableIn b′ l (withCount c m)) i (gives (At i m) e)
-                (ap (λ (n : ℕ). ltb n maxPlaces) (places-length ps) ∙ le-ltb (ps .count) 128 f),
-            record { long = g .keeps .long; kept = g .keeps .kept; types = tt; lands = omega arith },
-          )
+          pub meets-12 : 128 ≤ ps .count → (q : Crossed) → q ≡ stopped ps 12 → Meets-as b′ q
+          meets-12 f = stops b b′ l c ps to 12 (omega arith)
+              (meet-12 U (placesIn ps) to r p v is (sym less) (sym met) (tableIn b′ l (withCount c m)) i (gives (At i m) e)
+              (ap (λ (n : ℕ). ltb n maxPlaces) (places-length ps) ∙ le-ltb (ps .count) 128 f))
+              (g .keeps .long) (g .keeps .kept)
 
-          pub meets-adapts : ps .count < 128 → (x y : ℕ) → x ≡ p → y ≡ i → Comes b′ (Adapts (record { place = Adapter x y }) m)
-          meets-adapts f x y ex ey = (
-            λ to. ap (λ (k : ℕ). ok (reference (tableIn b′ l (withCount c m)) (placesIn ps ++ (adapter k y ∷ [])) to (length (placesIn ps)))) ex
-                ∙ ap (λ (k : ℕ). ok (reference (tableIn b′ l (withCount c m)) (placesIn ps ++ (adapter p k ∷ [])) to (length (placesIn ps)))) ey
-                ∙ meet-adapts U (placesIn ps) to r p v is (sym less) (sym met) (tableIn b′ l (withCount c m)) i (gives (At i m) e)
-                (ap (λ (n : ℕ). ltb n maxPlaces) (places-length ps) ∙ lt-ltb (ps .count) 128 f),
-            record {
-              long = g .keeps .long;
-              kept = g .keeps .kept;
-              types = (derives-grew c r v e g, subst (λ (k : ℕ). k < m) (sym ey) closed-low);
-              lands = (f, refl, subst (λ (k : ℕ). k < ps .count) (sym ex) place);
-            },
-          )
+          -- the adapter's record has x and y
+          module _ (f : ps .count < 128) (x y : ℕ) (ex : x ≡ p) (ey : y ≡ i) where
+            abbrev New : Crossed
+            New = landed ps to (landing.Adapter (record { place = Adapter x y })) m
 
--- ---- The whole crossing.
-module _ (b b₁ l : List ℕ) (c : Counts) (h : Ready l c b) (ps : Places) (s p to r : ℕ) (place : p < ps .count) {q : Led} (k : Leads l c ps s p to r b b₁ q) where
+            adapts : placesIn (New .places) ≡ placesIn ps ++ (adapter x y ∷ []) → Meets-as b′ New
+            adapts are = (
+              ap (λ (k : List Place). ok (reference (tableIn b′ l (withCount c m)) k to (ps .count))) (are ∙ ap (λ (k : ℕ). placesIn ps ++ (adapter k y ∷ [])) ex
+                  ∙ ap (λ (k : ℕ). placesIn ps ++ (adapter p k ∷ [])) ey)
+                  ∙ ap (λ (k : ℕ). ok (reference (tableIn b′ l (withCount c m)) (placesIn ps ++ (adapter p i ∷ [])) to k)) (sym (places-length ps))
+                  ∙ meet-adapts U (placesIn ps) to r p v is (sym less) (sym met) (tableIn b′ l (withCount c m)) i (gives (At i m) e)
+                  (ap (λ (n : ℕ). ltb n maxPlaces) (places-length ps) ∙ lt-ltb (ps .count) 128 f),
+              record {
+                long = g .keeps .long;
+                kept = g .keeps .kept;
+                came = λ _. let w = derives-grew c r v e g in record {
+                  sort = λ k. let u = w .more in omega arith;
+                  types = w;
+                  falling = falling-more ps (New .places) (adapter x y) refl are fall f (λ _. omega (arith, ex, place));
+                  place = omega arith;
+                  typed = λ t. typed-more ps (New .places) (adapter x y) refl are (withCount c m) (λ k u. let n = t k u in let o = w .more in omega arith) (omega (arith, ey, closed-low));
+                  before = record { more = omega arith; same = λ k u. getD-set-other (ps .list) (ps .count) k (record { place = Adapter x y }) blankPlace (λ n. omega (arith, n, u)) };
+                };
+              },
+            )
+
+            pub meets-adapts : (q : Crossed) → (q ≡ New) × (placesIn (q .places) ≡ placesIn ps ++ (adapter x y ∷ [])) → Meets-as b′ q
+            meets-adapts q k = subst (Meets-as b′) (sym (k .0)) (adapts (sym (ap (λ (z : Crossed). placesIn (z .places)) (k .0)) ∙ k .1))
+
+-- ---- X1 to X5: the table is that of bytes b, and x crosses.
+module _ (b l : List ℕ) (c : Counts) (h : Ready l c b) (ps : Places) (x : Crossing) where
+  abbrev T : Table
+  T = tableIn b l c
+
   abbrev Crosses : List ℕ → Crossed → Type 0
-  Crosses b′ x = (crossedOf b′ l c (placesIn ps) to x ≡ cross (reference (tableIn b l c) (placesIn ps) s p) to r) × Leaves c ps b b′ x
+  Crosses b′ q = (crossedOf b′ l c q ≡ crossing T ps x) × Leaves c ps (x .from) b b′ q
 
-  goes-on : (x : Led) → q ≡ x → ledOf b₁ l c (placesIn ps) to p x ≡ cross (reference (tableIn b l c) (placesIn ps) s p) to r
-  goes-on x z = sym (ap (ledOf b₁ l c (placesIn ps) to p) z) ∙ k .is
+  -- the target is a type of the table, so what comes of the meeting is known of any static type before it
+  known : So (related free T (x .to) (x .from)) → x .to < c .types
+  known e = subst (λ (n : ℕ). x .to < n) (size-is b l c) (keeps-related free T (x .to) (x .from) e .low)
 
-  pub cross-refused : (e : ℕ) → q ≡ led.Refused e → Crosses b₁ (Refused e)
-  cross-refused e z = (goes-on (led.Refused e) z, record { long = k .long; kept = k .kept; types = tt; lands = subst (LedTo c ps b₁) z (k .led) })
+  module _ (own : ownIn (c .types) b (x .to) ≡ true) where
+    pub unwrap-8 : false ≡ related free T (x .to) (x .from) → (q : Crossed) → q ≡ stopped ps 8 → Crosses b q
+    unwrap-8 e = stops b b l c ps (x .from) 8 (omega arith) (own-8 T (placesIn ps) (x .from) (x .place) (x .to) (x .receiver) (own-table b l c (x .to) ∙ own) (sym e)) (h .long)
+        (same-kept (c .types) b)
 
-  pub cross-stays : q ≡ led.Stays → Crosses b₁ (Passes p (c .types))
-  cross-stays z = (goes-on led.Stays z, record { long = k .long; kept = k .kept; types = none-new c b₁ (h .checked .limits .types); lands = place })
+    module _ (met : true ≡ related free T (x .to) (x .from)) (o : ℕ) (is : o ≡ baseOwner (placesIn ps) (x .place)) where
+      pub unwrap-9 : (o ≡ x .receiver → ⊥) → (q : Crossed) → q ≡ stopped ps 9 → Crosses b q
+      unwrap-9 e = stops b b l c ps (x .from) 9 (omega arith)
+          (own-9 T (placesIn ps) (x .from) (x .place) (x .to) (x .receiver) (own-table b l c (x .to) ∙ own) (sym met) (differ (λ z. e (is ∙ sym z)))) (h .long) (same-kept (c .types) b)
 
-  module _ (right at n : ℕ) (z : q ≡ led.Meets right at n) where
-    pub led-to : Grew c n b₁ × (at < ps .count)
-    led-to = subst (LedTo c ps b₁) z (k .led)
+      pub unwrap-meets : o ≡ x .receiver → (base : ℕ) → BaseAt ps (x .place) base → (b′ : List ℕ) (q : Crossed) →
+          crossedOf b′ l c q ≡ adapt T (placesIn ps) (x .to) (x .to) base → Leaves c ps (x .to) b b′ q → Crosses b′ q
+      unwrap-meets e base at b′ q m k = (
+        m ∙ ap (adapt T (placesIn ps) (x .to) (x .to)) (at .is)
+            ∙ own-meets T (placesIn ps) (x .from) (x .place) (x .to) (x .receiver) (own-table b l c (x .to) ∙ own) (sym met) (equal (sym e ∙ is)),
+        record {
+          long = k .long;
+          kept = k .kept;
+          came = λ z. let w = k .came z in
+              record { sort = λ _. w .sort (known (sym met)); types = w .types; falling = w .falling; place = w .place; typed = w .typed; before = w .before };
+        },
+      )
 
-    pub led-ready : (g : Counts) → g ≡ withCount c n → Ready l g b₁
-    led-ready g e = subst (λ (y : Counts). Ready l y b₁) (sym e) (ready-on l c n b b₁ h (led-to .0) (k .long))
+  module _ (fall : Falling ps) (place : x .place < ps .count) (own : ownIn (c .types) b (x .to) ≡ false) where
+    pub restrict-8 : false ≡ related loose T (x .to) (x .from) → (q : Crossed) → q ≡ stopped ps 8 → Crosses b q
+    restrict-8 e = stops b b l c ps (x .from) 8 (omega arith) (other-8 T (placesIn ps) (x .from) (x .place) (x .to) (x .receiver) (own-table b l c (x .to) ∙ own) (sym e)) (h .long)
+        (same-kept (c .types) b)
 
-    types-on : (b₂ : List ℕ) (x : Crossed) → Kept n b₁ b₂ → Types (withCount c n) b₂ x → Types c b₂ x
-    types-on b₂ (Refused e) w t = tt
-    types-on b₂ (Passes o m) w t = grew-on c n m b₁ b₂ (led-to .0) w t
-    types-on b₂ (Adapts o m) w t = (grew-on c n m b₁ b₂ (led-to .0) w (t .0), t .1)
+    module _ (met : true ≡ related loose T (x .to) (x .from)) where
+      low : x .to < c .types
+      low = known (loose→free T (x .to) (x .from) (sym met))
 
-    same-answer : (b₂ : List ℕ) (x : Crossed) → crossedOf b₂ l c (placesIn ps) to x ≡ crossedOf b₂ l (withCount c n) (placesIn ps) to x
-    same-answer b₂ (Refused e) = refl
-    same-answer b₂ (Passes o m) = refl
-    same-answer b₂ (Adapts o m) = refl
+      pub restrict-stays : true ≡ related subtype T (x .to) (x .from) → (q : Crossed) → q ≡ landed ps (x .to) (landing.Stands (x .place)) (c .types) → Crosses b q
+      restrict-stays e q z = subst (Crosses b) (sym z) (
+        other-stays T (placesIn ps) (x .from) (x .place) (x .to) (x .receiver) (own-table b l c (x .to) ∙ own) (sym met) (sym e),
+        record {
+          long = h .long;
+          kept = same-kept (c .types) b;
+          came = λ _. stands c ps (x .from) (x .to) (x .place) (c .types) b fall place (none-new c b (h .checked .limits .types)) (λ _. low);
+        },
+      )
 
-    pub cross-meets : (g : Counts) → g ≡ withCount c n → (b₂ : List ℕ) (x : Crossed) →
-        ((to : ℕ) → crossedOf b₂ l g (placesIn ps) to x ≡ adapt (tableIn b₁ l g) (placesIn ps) to right at) → Leaves g ps b₁ b₂ x → Crosses b₂ x
-    cross-meets g e b₂ x m w =
-        let w′ = subst (λ (y : Counts). Leaves y ps b₁ b₂ x) e w in
-        let m′ = subst (λ (y : Counts). (to : ℕ) → crossedOf b₂ l y (placesIn ps) to x ≡ adapt (tableIn b₁ l y) (placesIn ps) to right at) e m in (
-          same-answer b₂ x ∙ m′ to ∙ goes-on (led.Meets right at n) z,
-          record { long = w′ .long; kept = λ i y. w′ .kept i (let u = led-to .0 .more in omega arith) ∙ k .kept i y; types = types-on b₂ x (w′ .kept) (w′ .types); lands = w′ .lands },
-        )
+      module _ (less : false ≡ related subtype T (x .to) (x .from)) (b₁ : List ℕ) (d : Derived) (g : Derives sub c (x .to) (x .from) b b₁ d) where
+        answer : (y : Derived) → d ≡ y → derivationIn b₁ l c y ≡ derived T sub (x .to) (x .from)
+        answer y e = sym (ap (derivationIn b₁ l c) e) ∙ g .is l
 
--- ---- A new adapter among the places.
-module _ (ps qs : Places) (x : Place) (one : qs .count ≡ ps .count + 1) (are : placesIn qs ≡ placesIn ps ++ (x ∷ [])) where
-  place-before : (k : ℕ) → k < ps .count → placeAt (placesIn qs) k ≡ placeAt (placesIn ps) k
-  place-before k l = ap (λ (z : List Place). placeAt z k) are ∙ List·getD-append (placesIn ps) (x ∷ []) noPlace k (subst (λ (n : ℕ). k < n) (sym (places-length ps)) l)
+        pub restrict-11 : d ≡ Full → (q : Crossed) → q ≡ stopped ps 11 → Crosses b₁ q
+        restrict-11 e = stops b b₁ l c ps (x .from) 11 (omega arith)
+            (other-11 T (placesIn ps) (x .from) (x .place) (x .to) (x .receiver) (own-table b l c (x .to) ∙ own) (sym met) (sym less) (answer Full e)) (g .keeps .long) (g .keeps .kept)
 
-  place-new : placeAt (placesIn qs) (ps .count) ≡ x
-  place-new = ap (placeAt (placesIn qs)) (sym (places-length ps)) ∙ ap (λ (z : List Place). placeAt z (length (placesIn ps))) are ∙ getD-append-seam (placesIn ps) x [] noPlace
+        module _ (i m : ℕ) (e : d ≡ At i m) (n : Counts) (en : n ≡ withCount c m) where
+          pub restrict-ready : Ready l n b₁
+          restrict-ready = subst (λ (y : Counts). Ready l y b₁) (sym en) (ready-on l c m b b₁ h (derives-grew c (x .to) (x .from) e g) (g .keeps .long))
 
-  falling-added : Falling ps → ps .count < 128 → (isObject x ≡ false → behindOf x < ps .count) → Falling qs
-  falling-added h room low = record { count = omega arith; behind = λ k l. go k l (lt-or-ge k (ps .count)) } where
-    go : (k : ℕ) → k < qs .count → (k < ps .count) ⊎ (ps .count ≤ k) → isObject (placeAt (placesIn qs) k) ≡ false → behindOf (placeAt (placesIn qs) k) < k
-    go k l (inl u) e = subst (λ (z : Place). behindOf z < k) (sym (place-before k u)) (h .behind k u (sym (ap isObject (place-before k u)) ∙ e))
-    go k l (inr u) e =
-        let z : ps .count ≡ k = omega arith in
-        let w : placeAt (placesIn qs) k ≡ x = subst (λ (n : ℕ). placeAt (placesIn qs) n ≡ x) z place-new in
-        subst (λ (y : Place). behindOf y < k) (sym w) (subst (λ (n : ℕ). behindOf x < n) z (low (sym (ap isObject w) ∙ e)))
+          -- the reference of type `to` at its place, with the types that the derivation left
+          half : Leaves c ps (x .from) b b₁ (landed ps (x .to) (landing.Stands (x .place)) m)
+          half = let w = derives-grew c (x .to) (x .from) e g in record {
+            long = g .keeps .long;
+            kept = g .keeps .kept;
+            came = λ _. stands c ps (x .from) (x .to) (x .place) m b₁ fall place w (λ _. let u = w .more in omega (arith, low, u));
+          }
 
-  typed-added : (c : Counts) (b : List ℕ) (n : ℕ) → Typed ps c → Grew c n b → placeType x < n → Typed qs (withCount c n)
-  typed-added c b n t g low k l = go (lt-or-ge k (ps .count)) where
-    go : (k < ps .count) ⊎ (ps .count ≤ k) → placeType (placeAt (placesIn qs) k) < n
-    go (inl u) = subst (λ (z : Place). placeType z < n) (sym (place-before k u)) (let w = t k u in let y = g .more in omega arith)
-    go (inr u) = let z : ps .count ≡ k = omega arith in subst (λ (m : ℕ). placeType (placeAt (placesIn qs) m) < n) z (subst (λ (y : Place). placeType y < n) (sym place-new) low)
-
-module _ (ps : Places) (fall : Falling ps) (x : Crossed) (lands : Lands ps x) where
-  pub land-refused : (e : ℕ) → x ≡ Refused e → Landing ps x (record { refusal = e; places = ps; place = 0; types = 0 })
-  land-refused e z = let low : 0 < e = subst (Lands ps) z lands in record {
-    is = sym (ap (landed ps) z);
-    means = λ b l c to. ap (λ (y : Bool). elim y [ false ↦ refuse e | true ↦ ok (reference (tableIn b l (withCount c 0)) (placesIn ps) to 0) ]) (differ {m = e} {n = 0} (λ y. omega arith))
-        ∙ sym (ap (crossedOf b l c (placesIn ps) to) z);
-    falling = fall;
-    place = λ y. absurd (omega arith);
-    typed = λ b c t w y. absurd (omega arith);
-  }
-
-  pub land-passes : (p n : ℕ) → x ≡ Passes p n → Landing ps x (record { refusal = 0; places = ps; place = p; types = n })
-  land-passes p n z = record {
-    is = sym (ap (landed ps) z);
-    means = λ b l c to. sym (ap (crossedOf b l c (placesIn ps) to) z);
-    falling = fall;
-    place = λ y. subst (Lands ps) z lands;
-    typed = λ b c t w y k l. let g : Grew c n b = subst (Types c b) z w in let u = g .more in let v = t k l in omega arith;
-  }
-
-  module _ (r : PlaceRec) (n : ℕ) (z : x ≡ Adapts r n) where
-    pub land-room : ps .count < 128
-    land-room = subst (Lands ps) z lands .0
-
-    pub land-adapts : (qs : Places) → qs ≡ placeAdded ps r → placesIn qs ≡ placesIn ps ++ (placeOf (r .place) ∷ [])
-        → Landing ps x (record { refusal = 0; places = qs; place = ps .count; types = n })
-    land-adapts qs e are = let one : qs .count ≡ ps .count + 1 = ap (λ (y : Places). y .count) e in record {
-      is = ap (λ (y : Places). record { refusal = 0; places = y; place = ps .count; types = n }) e ∙ sym (ap (landed ps) z);
-      means = λ b l c to. ap (λ (y : List Place). ok (reference (tableIn b l (withCount c n)) y to (ps .count))) are
-          ∙ ap (λ (y : ℕ). ok (reference (tableIn b l (withCount c n)) (placesIn ps ++ (placeOf (r .place) ∷ [])) to y)) (sym (places-length ps))
-          ∙ sym (ap (crossedOf b l c (placesIn ps) to) z);
-      falling = falling-added ps qs (placeOf (r .place)) one are fall land-room (λ _. subst (Lands ps) z lands .2);
-      place = λ y. omega arith;
-      typed = λ b c t w y. let g = subst (Types c b) z w in typed-added ps qs (placeOf (r .place)) one are c b n t (g .0) (g .1);
-    }
+          pub restrict-meets : (b₂ : List ℕ) (q : Crossed) → crossedOf b₂ l n q ≡ adapt (tableIn b₁ l n) (placesIn ps) (x .to) i (x .place) → Leaves n ps (x .to) b₁ b₂ q → Crosses b₂ q
+          restrict-meets b₂ q is k = (
+            subst (λ (y : Counts). crossedOf b₂ l y q ≡ adapt (tableIn b₁ l y) (placesIn ps) (x .to) i (x .place)) en is
+                ∙ other-meets T (placesIn ps) (x .from) (x .place) (x .to) (x .receiver) (own-table b l c (x .to) ∙ own) (sym met) (sym less) (tableIn b₁ l (withCount c m)) i (answer (At i m) e),
+            leaves-on c ps (x .from) b b₁ (landed ps (x .to) (landing.Stands (x .place)) m) half refl b₂ q (subst (λ (y : Counts). Leaves y ps (x .to) b₁ b₂ q) en k),
+          )

@@ -7,7 +7,7 @@ use lib.Dec.{eqb, ltb}
 use lib.ListN.{length, getD}
 use Rattle.model.specs.Basics.{Res, refuse, ok}
 use Rattle.model.specs.Table.{Table, maxTypes}
-use Rattle.model.specs.Crossing.{Reference, maxPlaces, placeType, adapt, cross}
+use Rattle.model.specs.Crossing.{Reference, maxPlaces, cross}
 use Rattle.model.specs.Crossing.{Place as Placeᵐ}
 use Rattle.model.specs.Check.{noRawType}
 use Rattle.table.specs.declared.Counts.{Counts}
@@ -15,13 +15,12 @@ use Rattle.table.specs.Store.{typesIn, tableIn, withCount, ownOf}
 use Rattle.table.specs.Limits.{Checked}
 use Rattle.restrict.specs.Link.{Kept, Exact}
 use Rattle.state.specs.declared.Places.{Places}
-use Rattle.state.specs.View.{placesIn, placeOf, placeAdded, isObject, behindOf}
+use Rattle.state.specs.View.{placesIn, placeOf, placeAdded, blankPlace}
 use Rattle.state.specs.Sound.{Falling, Typed}
+use Rattle.cross.specs.declared.Crossing.{Crossing}
+use Rattle.cross.specs.declared.Landing.{Landing}
+use Rattle.cross.specs.declared.Landing.the-variants as landing
 use Rattle.cross.specs.declared.Crossed.{Crossed}
-use Rattle.cross.specs.declared.Crossed.the-variants.{Refused, Passes, Adapts}
-use Rattle.cross.specs.declared.Led.{Led}
-use Rattle.cross.specs.declared.Led.the-variants as led
-use Rattle.cross.specs.declared.Landed.{Landed}
 
 -- What a crossing needs of a state: links and counts that are checked, and a place among places that end in objects. Nothing is asked of the types, which are taken
 -- at their word (H14), or of the numbers of types and subjects: one that names nothing is met as in the model.
@@ -40,17 +39,32 @@ ownIn n b t = ltb t n && ownOf (getD (typesIn b) t noRawType)
 abbrev pub reference : Table → List Placeᵐ → ℕ → ℕ → Reference
 reference t ps s p = record { table = t; places = ps; type = s; place = p }
 
--- The answer: a refusal, or the reference as it has become, with the table of the bytes left.
-abbrev pub crossedOf : List ℕ → List ℕ → Counts → List Placeᵐ → ℕ → Crossed → Res Reference
-crossedOf b l c ps to (Refused e) = refuse e
-crossedOf b l c ps to (Passes p n) = ok (reference (tableIn b l (withCount c n)) ps to p)
-crossedOf b l c ps to (Adapts r n) = ok (reference (tableIn b l (withCount c n)) (ps ++ (placeOf (r .place) ∷ [])) to (length ps))
+-- the crossing as the model has it
+abbrev pub crossing : Table → Places → Crossing → Res Reference
+crossing t ps x = cross (reference t (placesIn ps) (x .from) (x .place)) (x .to) (x .receiver)
 
--- what is left to do once it is known where the reference is led
-abbrev pub ledOf : List ℕ → List ℕ → Counts → List Placeᵐ → ℕ → ℕ → Led → Res Reference
-ledOf b l c ps to p (led.Refused e) = refuse e
-ledOf b l c ps to p led.Stays = ok (reference (tableIn b l c) ps to p)
-ledOf b l c ps to p (led.Meets r q n) = adapt (tableIn b l (withCount c n)) ps to r q
+-- What came of it: its refusal, or the reference as it has become, with the table of the bytes left.
+abbrev pub referenceOf : List ℕ → List ℕ → Counts → Crossed → Reference
+referenceOf b l c x = reference (tableIn b l (withCount c (x .types))) (placesIn (x .places)) (x .sort) (x .place)
+
+abbrev pub crossedOf : List ℕ → List ℕ → Counts → Crossed → Res Reference
+crossedOf b l c x = elim (eqb (x .refusal) 0) [ false ↦ refuse (x .refusal) | true ↦ ok (referenceOf b l c x) ]
+
+abbrev pub stopped : Places → ℕ → Crossed
+stopped ps e = record { refusal = e; sort = 0; place = 0; places = ps; types = 0 }
+
+-- the places with the new adapter among them, and where the reference leads
+abbrev pub landed : Places → ℕ → Landing → ℕ → Crossed
+landed ps to (landing.Stands p) n = record { refusal = 0; sort = to; place = p; places = ps; types = n }
+landed ps to (landing.Adapter r) n = record { refusal = 0; sort = to; place = ps .count; places = placeAdded ps r; types = n }
+
+abbrev pub placesWith : List Placeᵐ → Landing → List Placeᵐ
+placesWith ps (landing.Stands p) = ps
+placesWith ps (landing.Adapter r) = ps ++ (placeOf (r .place) ∷ [])
+
+abbrev pub Room : Places → Landing → Type 0
+Room ps (landing.Stands p) = Unit {0}
+Room ps (landing.Adapter r) = ps .count < maxPlaces
 
 -- There are m types now, and each new one is stored as the record that stands for it (B13).
 pub record Grew (c : Counts) (m : ℕ) (b : List ℕ) : Type 0 where
@@ -58,50 +72,23 @@ pub record Grew (c : Counts) (m : ℕ) (b : List ℕ) : Type 0 where
   pub room : m ≤ maxTypes
   pub exact : Exact c (c .types) m b
 
--- the types that a crossing leaves; a new adapter's is one of them
-abbrev pub Types : Counts → List ℕ → Crossed → Type 0
-Types c b (Refused e) = Unit {0}
-Types c b (Passes p n) = Grew c n b
-Types c b (Adapts r n) = Grew c n b × (placeType (placeOf (r .place)) < n)
+-- every place that was counted is stored as it was
+pub record Before (ps qs : Places) : Type 0 where
+  pub more : ps .count ≤ qs .count
+  pub same : (k : ℕ) → k < ps .count → getD (qs .list) k blankPlace ≡ getD (ps .list) k blankPlace
 
--- The place is one that is counted; a new adapter has a place left to take, and stands in front of one that is counted.
-abbrev pub Lands : Places → Crossed → Type 0
-Lands ps (Refused e) = 0 < e
-Lands ps (Passes p n) = p < ps .count
-Lands ps (Adapts r n) = (ps .count < maxPlaces) × (isObject (placeOf (r .place)) ≡ false) × (behindOf (placeOf (r .place)) < ps .count)
+-- What is known of a reference that has come through: new types are stored as the records that stand for them, its place is one of places as a
+-- request needs them, and its static type, if it began with one of the table, is one of the table.
+pub record Came (c : Counts) (ps : Places) (s : ℕ) (b : List ℕ) (x : Crossed) : Type 0 where
+  pub sort : s < c .types → x .sort < x .types
+  pub types : Grew c (x .types) b
+  pub falling : Falling (x .places)
+  pub place : x .place < x .places .count
+  pub typed : Typed ps c → Typed (x .places) (withCount c (x .types))
+  pub before : Before ps (x .places)
 
--- What a crossing leaves, refused or not: every byte of the types that there were.
-pub record Leaves (c : Counts) (ps : Places) (b b′ : List ℕ) (q : Crossed) : Type 0 where
+-- What is left, refused or not: every byte of the types that there were.
+pub record Leaves (c : Counts) (ps : Places) (s : ℕ) (b b′ : List ℕ) (x : Crossed) : Type 0 where
   pub long : length b′ ≡ 16384
   pub kept : Kept (c .types) b b′
-  pub types : Types c b′ q
-  pub lands : Lands ps q
-
--- The same half way, the reference of type s leading to place p, and crossing to type `to` with r receiving.
-abbrev pub LedTo : Counts → Places → List ℕ → Led → Type 0
-LedTo c ps b (led.Refused e) = 0 < e
-LedTo c ps b led.Stays = Unit {0}
-LedTo c ps b (led.Meets r q n) = Grew c n b × (q < ps .count)
-
-pub record Leads (l : List ℕ) (c : Counts) (ps : Places) (s p to r : ℕ) (b b′ : List ℕ) (q : Led) : Type 0 where
-  pub is : ledOf b′ l c (placesIn ps) to p q ≡ cross (reference (tableIn b l c) (placesIn ps) s p) to r
-  pub long : length b′ ≡ 16384
-  pub kept : Kept (c .types) b b′
-  pub led : LedTo c ps b′ q
-
--- The places with the new adapter among them, and where the reference leads.
-abbrev pub landed : Places → Crossed → Landed
-landed ps (Refused e) = record { refusal = e; places = ps; place = 0; types = 0 }
-landed ps (Passes p n) = record { refusal = 0; places = ps; place = p; types = n }
-landed ps (Adapts r n) = record { refusal = 0; places = placeAdded ps r; place = ps .count; types = n }
-
-abbrev pub landedOf : List ℕ → List ℕ → Counts → ℕ → Landed → Res Reference
-landedOf b l c to x = elim (eqb (x .refusal) 0) [ false ↦ refuse (x .refusal) | true ↦ ok (reference (tableIn b l (withCount c (x .types))) (placesIn (x .places)) to (x .place)) ]
-
--- What is known of them: the answer's meaning with the new adapter stored, and what the next crossing asks of places.
-pub record Landing (ps : Places) (x : Crossed) (q : Landed) : Type 0 where
-  pub is : q ≡ landed ps x
-  pub means : (b l : List ℕ) (c : Counts) (to : ℕ) → landedOf b l c to q ≡ crossedOf b l c (placesIn ps) to x
-  pub falling : Falling (q .places)
-  pub place : q .refusal ≡ 0 → q .place < q .places .count
-  pub typed : (b : List ℕ) (c : Counts) → Typed ps c → Types c b x → q .refusal ≡ 0 → Typed (q .places) (withCount c (q .types))
+  pub came : x .refusal ≡ 0 → Came c ps s b′ x

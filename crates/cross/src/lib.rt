@@ -1,16 +1,15 @@
 // A reference crosses from one static type to another (X): it may pass as it is, be led to the base of its place, or get an adapter in front of its place.
-// The types are lent and may grow; places are only read, and the record of a new adapter is the answer's. What the answers mean is in specs/Crossed.antt.
+// The types are lent and may grow; a new adapter is stored among the places. What came of a crossing means is in specs/Crossed.antt.
 ghost use mathlib.Core.Path.{_≡_};
 ghost use mathlib.Core.Bool.{true, false};
 ghost use Prim.Native.Nat.{ℕ, _≤_, _<_};
-ghost use Rattle.model.specs.Crossing.{placeAt, placeType, adapt, cross};
-ghost use Rattle.model.specs.Relations.{related, conforms};
+ghost use Rattle.model.specs.Crossing.{adapt};
+ghost use Rattle.model.specs.Relations.{related};
 ghost use Rattle.table.specs.Store.{tableIn, withCount};
 ghost use Rattle.table.specs.Limits.{Checked};
 ghost use Rattle.rules.specs.Asked.{relationOf};
 ghost use Rattle.state.specs.View.{placesIn};
-ghost use Rattle.state.specs.Sound.{Falling};
-ghost use Rattle.cross.specs.Crossed.{Ready, Stands, ownIn, reference, crossedOf, Leads, Leaves, Lands, Landing};
+ghost use Rattle.cross.specs.Crossed.{Ready, Stands, ownIn, crossedOf, crossing, Leaves, stopped, landed, Room, placesWith};
 use deriving::Derived;
 use numbers::narrow;
 use rules::Relation;
@@ -22,30 +21,27 @@ use table::Counts;
 use table::LINK_BYTES;
 use table::TYPE_BYTES;
 
-// What a crossing answers: its refusal; the place that the reference leads to; or the record of a new adapter, which is to be the next place. Beside these, how many
-// types there are now. The static type is the target's, always.
-pub enum Crossed {
-    Refused(usize),
-    Passes { place: usize, types: usize },
-    Adapts { record: PlaceRec, types: usize },
-}
-
-// Where X1 to X5 lead: a refusal; the crossing is over; or R, which meets the type of a place (X6), and how many types there are now.
-enum Led {
-    Refused(usize),
-    Stays,
-    Meets {
-        right: usize,
-        place: usize,
-        types: usize,
-    },
-}
-
-// What becomes of a crossing once its adapter is stored: `refusal` is its number, or 0.
-pub struct Landed {
-    pub refusal: usize,
-    pub places: Places,
+// What crosses: a reference of static type `from` to place `place`, which `receiver` is to have by type `to`.
+pub struct Crossing {
+    pub from: usize,
     pub place: usize,
+    pub to: usize,
+    pub receiver: usize,
+}
+
+// The crossing's result, where it is not refused (F5): the reference leads to a place that stands, or to a new adapter, whose record is to be the next place.
+pub enum Landing {
+    Stands(usize),
+    Adapter(PlaceRec),
+}
+
+// What came of it: `refusal` is its number, or 0. The static type of the reference and its place, the places with a new adapter among them, and how many types there
+// are now. The places stand beside the number, since no enum can hold an array.
+pub struct Crossed {
+    pub refusal: usize,
+    pub sort: usize,
+    pub place: usize,
+    pub places: Places,
     pub types: usize,
 }
 
@@ -77,7 +73,7 @@ fn is_own(types: &[u8; TYPE_BYTES], n: usize, t: usize) -> bool
 }
 
 // The counts, with so many types.
-fn grown(c: Counts, types: usize) -> Counts
+pub fn grown(c: Counts, types: usize) -> Counts
     ensures { λ q. ⌜ q ≡ withCount c types ⌝ }
 {
     Counts {
@@ -89,34 +85,102 @@ fn grown(c: Counts, types: usize) -> Counts
     }
 }
 
-// X1 to X3, the target own: the receiver must own the base, which the reference leads to from here on.
-fn unwrap(
-    types: &[u8; TYPE_BYTES],
+// A crossing that is refused leaves the places as they were.
+pub fn refused(ps: Places, number: usize) -> Crossed
+    ensures { λ q. ⌜ q ≡ stopped ps number ⌝ }
+{
+    Crossed {
+        refusal: number,
+        sort: 0,
+        place: 0,
+        places: ps,
+        types: 0,
+    }
+}
+
+// A new adapter becomes the next place, so that the next crossing and the new cell find it.
+fn land(ps: Places, sort: usize, x: Landing, types: usize) -> Crossed
+    requires { ⌜ Room ps x ⌝ }
+    ensures { λ q. ⌜ (q ≡ landed ps sort x types) × (placesIn (q .places) ≡ placesWith (placesIn ps) x) ⌝ }
+{
+    match x {
+        Landing::Stands(place) => Crossed {
+            refusal: 0,
+            sort,
+            place,
+            places: ps,
+            types,
+        },
+        Landing::Adapter(record) => Crossed {
+            refusal: 0,
+            sort,
+            place: ps.count,
+            places: ps.add(record),
+            types,
+        },
+    }
+}
+
+// X6 to X10: R meets V, the type of place p. A place that has all that R asks for, own aside, passes; else an adapter is made in front of it, of type Closed(R,V).
+// The reference is of type `to` then.
+fn meet(
+    types: &mut [u8; TYPE_BYTES],
     links: &[u8; LINK_BYTES],
     c: Counts,
     ps: Places,
-    s: usize,
-    p: usize,
     to: usize,
-    r: usize,
-) -> Led
-    requires { ⌜ Ready (now links) c (now types) × Stands ps p × (ownIn (c .types) (now types) to ≡ true) ⌝ }
-    ensures { λ q. ⌜ Leads (now (links .entry)) c ps s p to r (now (types .entry)) (now (types .entry)) q ⌝ }
+    right: usize,
+    p: usize,
+) -> Crossed
+    requires { ⌜ Ready (now links) c (now types) × Stands ps p ⌝ }
+    ensures is { λ q. ⌜ crossedOf (now (types .exit)) (now (links .entry)) c q ≡ adapt (tableIn (now (types .entry)) (now (links .entry)) c) (placesIn ps) to right p ⌝ }
+    ensures leaves { λ q. ⌜ Leaves c ps to (now (types .entry)) (now (types .exit)) q ⌝ }
 {
-    let free = asked(types, links, c, Relation::Free, to, s);
+    let v = state::place_type(state::place_at(ps, p));
+    let passes = asked(types, links, c, Relation::Conforms, right, v);
+    if passes {
+        return land(ps, to, Landing::Stands(p), c.types);
+    }
+    let strict = asked(types, links, c, Relation::Strict, right, v);
+    if !strict {
+        return refused(ps, 10);
+    }
+    let Derived::At(closed, count) = closed::closed_any(types, c, right, v) else {
+        return refused(ps, 11);
+    };
+    if State::PLACES <= ps.count {
+        return refused(ps, 12);
+    }
+    let place = Place::Adapter {
+        behind: narrow(p),
+        closed: narrow(closed),
+    };
+    land(ps, to, Landing::Adapter(PlaceRec { place }), count)
+}
+
+// X1 to X3, the target own: the receiver must own the base, which the reference leads to from here on.
+fn unwrap(
+    types: &mut [u8; TYPE_BYTES],
+    links: &[u8; LINK_BYTES],
+    c: Counts,
+    ps: Places,
+    x: Crossing,
+) -> Crossed
+    requires { ⌜ Ready (now links) c (now types) × Stands ps (x .place) × (ownIn (c .types) (now types) (x .to) ≡ true) ⌝ }
+    ensures is { λ q. ⌜ crossedOf (now (types .exit)) (now (links .entry)) c q ≡ crossing (tableIn (now (types .entry)) (now (links .entry)) c) ps x ⌝ }
+    ensures leaves { λ q. ⌜ Leaves c ps (x .from) (now (types .entry)) (now (types .exit)) q ⌝ }
+{
+    let free = asked(types, links, c, Relation::Free, x.to, x.from);
     if !free {
-        return Led::Refused(8);
+        return refused(ps, 8);
     }
-    let owner = state::base_owner(ps, p);
-    if owner != r {
-        return Led::Refused(9);
+    let owner = state::base_owner(ps, x.place);
+    let receiver = x.receiver;
+    if owner != receiver {
+        return refused(ps, 9);
     }
-    let base = state::base_of(ps, p);
-    Led::Meets {
-        right: to,
-        place: base,
-        types: c.types,
-    }
+    let base = state::base_of(ps, x.place);
+    meet(types, links, c, ps, x.to, x.to, base)
 }
 
 // X1, X4 and X5, the target not own: a subtype passes, else R is Sub(T,S).
@@ -124,159 +188,40 @@ fn restrict_to(
     types: &mut [u8; TYPE_BYTES],
     links: &[u8; LINK_BYTES],
     c: Counts,
-    s: usize,
-    p: usize,
-    to: usize,
-) -> Led
-    requires { ⌜ Ready (now links) c (now types) × (ownIn (c .types) (now types) to ≡ false) ⌝ }
-    ensures { λ q. ⌜ ((ps : Places) (r : ℕ) → p < ps .count → Leads (now (links .entry)) c ps s p to r (now (types .entry)) (now (types .exit)) q) ⌝ }
-{
-    let loose = asked(types, links, c, Relation::Loose, to, s);
-    if !loose {
-        return Led::Refused(8);
-    }
-    if asked(types, links, c, Relation::Subtype, to, s) {
-        return Led::Stays;
-    }
-    let Derived::At(right, count) = restrict::sub_type(types, c, to, s) else {
-        return Led::Refused(11);
-    };
-    Led::Meets {
-        right,
-        place: p,
-        types: count,
-    }
-}
-
-// X6: whether the place has all that R asks for, own aside.
-fn conforms(
-    types: &[u8; TYPE_BYTES],
-    links: &[u8; LINK_BYTES],
-    c: Counts,
-    right: usize,
-    v: usize,
-) -> bool
-    requires { ⌜ Checked (now links) c ⌝ }
-    ensures { λ q. ⌜ q ≡ related conforms (tableIn (now (types .entry)) (now (links .entry)) c) right v ⌝ }
-{
-    asked(types, links, c, Relation::Conforms, right, v)
-}
-
-// X6 to X9: R meets V, the type of place p. The place passes, or an adapter is due in front of it, of type Closed(R,V).
-fn meet(
-    types: &mut [u8; TYPE_BYTES],
-    links: &[u8; LINK_BYTES],
-    c: Counts,
     ps: Places,
-    right: usize,
-    p: usize,
-    v: usize,
+    x: Crossing,
 ) -> Crossed
-    requires { ⌜ Ready (now links) c (now types) × Stands ps p × (v ≡ placeType (placeAt (placesIn ps) p)) ⌝ }
-    ensures is { λ q. ⌜ ((to : ℕ) → crossedOf (now (types .exit)) (now (links .entry)) c (placesIn ps) to q ≡ adapt (tableIn (now (types .entry)) (now (links .entry)) c) (placesIn ps) to right p) ⌝ }
-    ensures leaves { λ q. ⌜ Leaves c ps (now (types .entry)) (now (types .exit)) q ⌝ }
+    requires { ⌜ Ready (now links) c (now types) × Stands ps (x .place) × (ownIn (c .types) (now types) (x .to) ≡ false) ⌝ }
+    ensures is { λ q. ⌜ crossedOf (now (types .exit)) (now (links .entry)) c q ≡ crossing (tableIn (now (types .entry)) (now (links .entry)) c) ps x ⌝ }
+    ensures leaves { λ q. ⌜ Leaves c ps (x .from) (now (types .entry)) (now (types .exit)) q ⌝ }
 {
-    if conforms(types, links, c, right, v) {
-        return Crossed::Passes {
-            place: p,
-            types: c.types,
-        };
+    let loose = asked(types, links, c, Relation::Loose, x.to, x.from);
+    if !loose {
+        return refused(ps, 8);
     }
-    let strict = asked(types, links, c, Relation::Strict, right, v);
-    if !strict {
-        return Crossed::Refused(10);
+    if asked(types, links, c, Relation::Subtype, x.to, x.from) {
+        return land(ps, x.to, Landing::Stands(x.place), c.types);
     }
-    let Derived::At(closed, count) = closed::closed_any(types, c, right, v) else {
-        return Crossed::Refused(11);
+    let Derived::At(right, count) = restrict::sub_type(types, c, x.to, x.from) else {
+        return refused(ps, 11);
     };
-    if State::PLACES <= ps.count {
-        return Crossed::Refused(12);
-    }
-    let place = Place::Adapter {
-        behind: narrow(p),
-        closed: narrow(closed),
-    };
-    Crossed::Adapts {
-        record: PlaceRec { place },
-        types: count,
-    }
+    meet(types, links, grown(c, count), ps, x.to, right, x.place)
 }
 
-// X1 to X5.
-fn lead(
-    types: &mut [u8; TYPE_BYTES],
-    links: &[u8; LINK_BYTES],
-    c: Counts,
-    ps: Places,
-    s: usize,
-    p: usize,
-    to: usize,
-    r: usize,
-) -> Led
-    requires { ⌜ Ready (now links) c (now types) × Stands ps p ⌝ }
-    ensures { λ q. ⌜ Leads (now (links .entry)) c ps s p to r (now (types .entry)) (now (types .exit)) q ⌝ }
-{
-    if is_own(types, c.types, to) {
-        return unwrap(types, links, c, ps, s, p, to, r);
-    }
-    restrict_to(types, links, c, s, p, to)
-}
-
-// The crossing of a reference of static type s that leads to place p, to type `to`, received by r.
+// The crossing of a reference to a place of `ps`.
 pub fn cross(
     types: &mut [u8; TYPE_BYTES],
     links: &[u8; LINK_BYTES],
     c: Counts,
     ps: Places,
-    s: usize,
-    p: usize,
-    to: usize,
-    r: usize,
+    x: Crossing,
 ) -> Crossed
-    requires { ⌜ Ready (now links) c (now types) × Stands ps p ⌝ }
-    ensures is { λ q. ⌜ crossedOf (now (types .exit)) (now (links .entry)) c (placesIn ps) to q ≡ cross (reference (tableIn (now (types .entry)) (now (links .entry)) c) (placesIn ps) s p) to r ⌝ }
-    ensures leaves { λ q. ⌜ Leaves c ps (now (types .entry)) (now (types .exit)) q ⌝ }
+    requires { ⌜ Ready (now links) c (now types) × Stands ps (x .place) ⌝ }
+    ensures is { λ q. ⌜ crossedOf (now (types .exit)) (now (links .entry)) c q ≡ crossing (tableIn (now (types .entry)) (now (links .entry)) c) ps x ⌝ }
+    ensures leaves { λ q. ⌜ Leaves c ps (x .from) (now (types .entry)) (now (types .exit)) q ⌝ }
 {
-    match lead(types, links, c, ps, s, p, to, r) {
-        Led::Refused(e) => Crossed::Refused(e),
-        Led::Stays => Crossed::Passes {
-            place: p,
-            types: c.types,
-        },
-        Led::Meets {
-            right,
-            place,
-            types: count,
-        } => {
-            let v = state::place_type(state::place_at(ps, place));
-            meet(types, links, grown(c, count), ps, right, place, v)
-        }
+    if is_own(types, c.types, x.to) {
+        return unwrap(types, links, c, ps, x);
     }
-}
-
-// A new adapter becomes the next place, so that the next crossing and the new cell find it.
-pub fn land(ps: Places, x: Crossed) -> Landed
-    requires { ⌜ Falling ps × Lands ps x ⌝ }
-    ensures { λ q. ⌜ Landing ps x q ⌝ }
-{
-    match x {
-        Crossed::Refused(refusal) => Landed {
-            refusal,
-            places: ps,
-            place: 0,
-            types: 0,
-        },
-        Crossed::Passes { place, types } => Landed {
-            refusal: 0,
-            places: ps,
-            place,
-            types,
-        },
-        Crossed::Adapts { record, types } => Landed {
-            refusal: 0,
-            places: ps.add(record),
-            place: ps.count,
-            types,
-        },
-    }
+    restrict_to(types, links, c, ps, x)
 }

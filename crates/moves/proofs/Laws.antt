@@ -7,14 +7,13 @@ use native.Mathlib.Omega.{arith}
 use lib.Dec.{ltb}
 use lib.IntN.{ℤ}
 use lib.ListN.{length, getD}
-use borrow.Author.Tests.{eq-eqb, ne-eqb, lt-ltb, le-ltb}
-use Rattle.model.specs.Basics.{Res, refuse, ok, try, names, named}
+use borrow.Author.Tests.{lt-ltb, le-ltb}
+use Rattle.model.specs.Basics.{Res, refuse, try, names, named}
 use Rattle.model.specs.Table.{Table}
 use Rattle.model.specs.Crossing.{Reference, object, cross, maxPlaces}
 use Rattle.model.specs.Crossing.{Place as Placeᵐ}
 use Rattle.model.specs.Requests.{System, Result, addCell, held, isSheetRef, noCell, newRequest, moveRequest}
 use Rattle.model.specs.Requests.{Cell as Cellᵐ}
-use Rattle.table.specs.declared.Counts.{Counts}
 use Rattle.table.specs.Store.{tableIn}
 use Rattle.state.specs.declared.Cell.{Cell}
 use Rattle.state.specs.declared.Places.{Places}
@@ -24,55 +23,38 @@ use Rattle.state.specs.View.{cellOf, cellsIn, placesIn, placeAdded, systemIn}
 use Rattle.state.specs.Sound.{Falling, Sound}
 use Rattle.state.proofs.Laws.{places-length, system-is}
 use Rattle.state.proofs.Kept.{falling-more, typed-more}
+use Rattle.cross.specs.declared.Crossing.{Crossing}
 use Rattle.cross.specs.declared.Crossed.{Crossed}
-use Rattle.cross.specs.declared.Crossed.the-variants.{Refused, Passes, Adapts}
-use Rattle.cross.specs.declared.Landed.{Landed}
-use Rattle.cross.specs.Crossed.{reference, Grew, Types, Lands, Leaves, crossedOf, landed, landedOf, Landing}
+use Rattle.cross.specs.Crossed.{reference, crossing, crossedOf, Leaves}
+use Rattle.cross.proofs.Laws.{refused-is, came-is}
 use Rattle.steps.specs.Served.{isSheetClass, arrived, Arrives}
 use Rattle.steps.proofs.Laws.{places-are}
 use Rattle.moves.specs.Sent.{sentTo, Sends, Made}
 
--- ---- The way that both go: the crossing's answer x, and y once its adapter is stored.
-landed-grew : (c : Counts) (b : List ℕ) (ps : Places) (x : Crossed) → Lands ps x → Types c b x → landed ps x .refusal ≡ 0 → Grew c (landed ps x .types) b
-landed-grew c b ps (Refused e) l t z = absurd (omega (arith, l, z))
-landed-grew c b ps (Passes p n) l t z = t
-landed-grew c b ps (Adapts r n) l t z = t .0
+-- ---- The way that both go: y came of the crossing.
+module _ (s : State) (ps : Places) (x : Crossing) (h : Sends s ps x) (types : List ℕ) (y : Crossed)
+    (is : crossedOf types (s .links) (s .counts) y ≡ crossing (tableIn (s .types) (s .links) (s .counts)) ps x) (left : Leaves (s .counts) ps (x .from) (s .types) types y) where
+  abbrev Adds : Res Reference → Res (System × Result)
+  Adds z = try z (λ f. addCell (systemIn s) (x .receiver) f)
 
-landed-more : (ps : Places) (x : Crossed) → ps .count ≤ landed ps x .places .count
-landed-more ps (Refused e) = omega arith
-landed-more ps (Passes p n) = omega arith
-landed-more ps (Adapts r n) = omega arith
-
-module _ (s : State) (ps : Places) (t p to r : ℕ) (h : Sends s ps p to r) (types : List ℕ) (x : Crossed)
-    (is : crossedOf types (s .links) (s .counts) (placesIn ps) to x ≡ cross (reference (tableIn (s .types) (s .links) (s .counts)) (placesIn ps) t p) to r)
-    (left : Leaves (s .counts) ps (s .types) types x) (y : Landed) (lands : Landing ps x y) where
-  sent-is : sentTo s ps t p to r ≡ try (landedOf types (s .links) (s .counts) to y) (λ f. addCell (systemIn s) r f)
-  sent-is = sym (ap (λ (z : Res Reference). try z (λ f. addCell (systemIn s) r f)) (lands .means types (s .links) (s .counts) to ∙ is))
-
-  abbrev Lands-as : Bool → Res (System × Result)
-  Lands-as none = try (elim none [ false ↦ refuse (y .refusal) | true ↦ ok (arrived s types (y .types) (y .places) to (y .place)) ]) (λ f. addCell (systemIn s) r f)
-
-  pub sent-refused : (y .refusal ≡ 0 → ⊥) → sentTo s ps t p to r ≡ refuse (y .refusal)
-  sent-refused e = sent-is ∙ ap Lands-as (ne-eqb (y .refusal) 0 e)
+  pub sent-refused : (y .refusal ≡ 0 → ⊥) → sentTo s ps x ≡ refuse (y .refusal)
+  sent-refused e = ap Adds (sym is ∙ refused-is types (s .links) (s .counts) y e)
 
   module _ (e : y .refusal ≡ 0) where
-    pub sent-lands : sentTo s ps t p to r ≡ addCell (systemIn s) r (arrived s types (y .types) (y .places) to (y .place))
-    sent-lands = sent-is ∙ ap Lands-as (eq-eqb (y .refusal) 0 e)
+    pub sent-lands : sentTo s ps x ≡ addCell (systemIn s) (x .receiver) (arrived s types (y .types) (y .places) (y .sort) (y .place))
+    sent-lands = ap Adds (sym is ∙ came-is types (s .links) (s .counts) y e)
 
-    grew : Grew (s .counts) (y .types) types
-    grew = subst (λ (q : Landed). q .refusal ≡ 0 → Grew (s .counts) (q .types) types) (sym (lands .is)) (landed-grew (s .counts) types ps x (left .lands) (left .types)) e
-
-    pub sent-arrives : Arrives s types (y .types) (y .places) to (y .place)
-    sent-arrives = record {
+    pub sent-arrives : Arrives s types (y .types) (y .places) (y .sort) (y .place)
+    sent-arrives = let m = left .came e in record {
       sound = h .sound;
       long = left .long;
-      grew = grew;
+      grew = m .types;
       kept = left .kept;
-      falling = lands .falling;
-      typed = lands .typed types (s .counts) (h .typed) (left .types) e;
-      more = let u = h .more in let w : ps .count ≤ y .places .count = subst (λ (q : Landed). ps .count ≤ q .places .count) (sym (lands .is)) (landed-more ps x) in omega arith;
-      sort = let u = h .target in let w = grew .more in omega arith;
-      place = lands .place e;
+      falling = m .falling;
+      typed = m .typed (h .typed);
+      more = let u = h .more in let w = m .before .more in omega arith;
+      sort = m .sort (h .from);
+      place = m .place;
     }
 
 -- ---- An object as the next place.
@@ -129,7 +111,7 @@ module _ (s : State) (subject class to : ℤ) where
         goes l = rw (known, sort, target, room true (lt-ltb (s .places .count) 128 l))
 
         pub new-goes : s .places .count < 128 → (o k j : ℕ) → o ≡ named subject → k ≡ named class → j ≡ named to →
-            (qs : Places) → Made (s .places) k o qs → N ≡ sentTo s qs k (s .places .count) j o
+            (qs : Places) → Made (s .places) k o qs → N ≡ sentTo s qs (record { from = k; place = s .places .count; to = j; receiver = o })
         new-goes l o k j eo ek ej qs m =
             let ps = placesIn (s .places) in
             goes l
@@ -140,15 +122,15 @@ module _ (s : State) (subject class to : ℤ) where
             ∙ ap (λ (n : ℕ). Goes (tableOf s) (ps ++ (object k o ∷ [])) k n j o) (places-length (s .places))
             ∙ ap (λ (x : List Placeᵐ). Goes (tableOf s) x k (s .places .count) j o) (sym (m .are))
 
-        pub new-sends : Sound s → s .places .count < 128 → (o k j : ℕ) → o < s .counts .subjects → k < s .counts .sheet → j < s .counts .sheet →
-            (qs : Places) → Made (s .places) k o qs → Sends s qs (s .places .count) j o
-        new-sends h l o k j lo lk lj qs m = let u = h .checked .limits .counted in record {
+        pub new-sends : Sound s → s .places .count < 128 → (o k j : ℕ) → o < s .counts .subjects → k < s .counts .sheet →
+            (qs : Places) → Made (s .places) k o qs → Sends s qs (record { from = k; place = s .places .count; to = j; receiver = o })
+        new-sends h l o k j lo lk qs m = let u = h .checked .limits .counted in record {
           sound = h;
           falling = m .falling;
           typed = m .typed (s .counts) (h .typed) (omega arith);
           more = let w = m .count in omega arith;
           place = let w = m .count in omega arith;
-          target = omega arith;
+          from = omega arith;
           receiver = let w = h .checked .limits .subjects in omega arith;
         }
 
@@ -186,7 +168,7 @@ module _ (s : State) (subject k receiver to : ℤ) where
 
           -- cell i of the code is c, of static type t and place p
           module _ (i : ℕ) (ei : i ≡ named k) (c : Cell) (at : cellOf c ≡ getD (cellsIn (s .cells)) i noCell) (t p j r : ℕ) (et : t ≡ c .sort) (ep : p ≡ c .place) where
-            pub move-goes : j ≡ named to → r ≡ named receiver → M ≡ sentTo s (s .places) t p j r
+            pub move-goes : j ≡ named to → r ≡ named receiver → M ≡ sentTo s (s .places) (record { from = t; place = p; to = j; receiver = r })
             move-goes ej er =
                 leads
                 ∙ ap (λ (x : System). Leads (x .table) (x .places) (getD (x .cells) (named k) noCell) (named to) (named receiver)) (system-is s)
@@ -194,15 +176,16 @@ module _ (s : State) (subject k receiver to : ℤ) where
                 ∙ ap (λ (x : Cellᵐ). Leads (tableOf s) (placesIn (s .places)) x (named to) (named receiver)) (sym at)
                 ∙ ap (λ (n : ℕ). Leads (tableOf s) (placesIn (s .places)) (cellOf c) n (named receiver)) (sym ej)
                 ∙ ap (λ (n : ℕ). Leads (tableOf s) (placesIn (s .places)) (cellOf c) j n) (sym er)
-                ∙ ap (λ (n : ℕ). sentTo s (s .places) n (c .place) j r) (sym et) ∙ ap (λ (n : ℕ). sentTo s (s .places) t n j r) (sym ep)
+                ∙ ap (λ (n : ℕ). sentTo s (s .places) (record { from = n; place = c .place; to = j; receiver = r })) (sym et)
+                ∙ ap (λ (n : ℕ). sentTo s (s .places) (record { from = t; place = n; to = j; receiver = r })) (sym ep)
 
-            pub move-sends : Sound s → i < s .cells .count → j < s .counts .sheet → r < s .counts .subjects → Sends s (s .places) p j r
-            move-sends h l lj lr = let u = h .checked .limits .counted in record {
+            pub move-sends : Sound s → i < s .cells .count → r < s .counts .subjects → Sends s (s .places) (record { from = t; place = p; to = j; receiver = r })
+            move-sends h l lr = record {
               sound = h;
               falling = h .falling;
               typed = h .typed;
               more = omega arith;
               place = let w : c .place < s .places .count = subst (λ (x : Cellᵐ). x .place < s .places .count) (sym at) (h .cells i l .place) in omega arith;
-              target = omega arith;
+              from = let w : c .sort < s .counts .types = subst (λ (x : Cellᵐ). x .type < s .counts .types) (sym at) (h .cells i l .type) in omega arith;
               receiver = let w = h .checked .limits .subjects in omega arith;
             }

@@ -3,7 +3,7 @@ use mathlib.Core.Path.{_≡_}
 use mathlib.Core.List.{[], _∷_, _++_}
 use Prim.Native.Nat.{ℕ, _+_, _≤_, _<_}
 use Rattle.model.specs.Basics.{Res, try}
-use Rattle.model.specs.Crossing.{object, cross}
+use Rattle.model.specs.Crossing.{object}
 use Rattle.model.specs.Requests.{System, Result, addCell}
 use Rattle.table.specs.declared.Counts.{Counts}
 use Rattle.table.specs.Store.{tableIn}
@@ -11,21 +11,22 @@ use Rattle.state.specs.declared.Places.{Places}
 use Rattle.state.specs.Whole.{Whole as State}
 use Rattle.state.specs.View.{placesIn, systemIn}
 use Rattle.state.specs.Sound.{Falling, Typed, Sound}
-use Rattle.cross.specs.Crossed.{reference}
+use Rattle.cross.specs.declared.Crossing.{Crossing}
+use Rattle.cross.specs.Crossed.{crossing}
 
--- The reference of static type t to place p of the places ps crosses to type `to`, received by r, and becomes a cell of r.
-abbrev pub sentTo : State → Places → ℕ → ℕ → ℕ → ℕ → Res (System × Result)
-sentTo s ps t p to r = try (cross (reference (tableIn (s .types) (s .links) (s .counts)) (placesIn ps) t p) to r) λ f. addCell (systemIn s) r f
+-- The reference x to a place of ps crosses, and becomes a cell of its receiver.
+abbrev pub sentTo : State → Places → Crossing → Res (System × Result)
+sentTo s ps x = try (crossing (tableIn (s .types) (s .links) (s .counts)) ps x) λ f. addCell (systemIn s) (x .receiver) f
 
 -- what that asks: at least as many places as the state has (new has one more)
-pub record Sends (s : State) (ps : Places) (p to r : ℕ) : Type 0 where
+pub record Sends (s : State) (ps : Places) (x : Crossing) : Type 0 where
   pub sound : Sound s
   pub falling : Falling ps
   pub typed : Typed ps (s .counts)
   pub more : s .places .count ≤ ps .count
-  pub place : p < ps .count
-  pub target : to < s .counts .types
-  pub receiver : r < 256
+  pub place : x .place < ps .count
+  pub from : x .from < s .counts .types
+  pub receiver : x .receiver < 256
 
 -- the places with an object as the next one
 pub record Made (ps : Places) (class owner : ℕ) (qs : Places) : Type 0 where

@@ -1,5 +1,5 @@
-// New and move (N, M), on a state that is known to be sound. Their operands are tested in the order of the rules; then both go the same way: the reference crosses on a
-// copy of the types, and what came of it becomes a cell. A refusal gives back the state that was handed in, so that nothing of a refused crossing is left (Q14).
+// New and move (N, M), on a state that is known to be sound. Their operands are tested in the order of the rules; then both go the same way: the reference crosses, and
+// what came of it becomes a cell. A refusal gives back the state that was handed in; of the types that are lent, those that were counted are as they were (Q14).
 ghost use mathlib.Core.Path.{_≡_};
 ghost use Prim.Native.Nat.{_<_};
 ghost use Rattle.model.specs.Requests.{newRequest, moveRequest};
@@ -8,6 +8,7 @@ ghost use Rattle.state.specs.View.{systemIn};
 ghost use Rattle.state.specs.Sound.{Falling, Sound};
 ghost use Rattle.steps.specs.Served.{Step, done};
 ghost use Rattle.moves.specs.Sent.{sentTo, Sends, Made};
+use cross::Crossing;
 use numbers::narrow;
 use numbers::wide;
 use operand::index_of;
@@ -18,19 +19,18 @@ use state::State;
 use steps::Served;
 use table::TYPE_BYTES;
 
-// A reference of static type `sort` to place p of `ps` crosses to type `to`, received by r, and becomes a cell of r (N6 to N8, M4 to M6).
-fn send(types: &mut [u8; TYPE_BYTES], s: State, ps: Places, sort: usize, p: usize, to: usize, r: usize) -> Served
-    requires { ⌜ Sends (whole (now types) s) ps p to r ⌝ }
-    ensures { λ q. ⌜ Step (whole (now (types .entry)) s) (sentTo (whole (now (types .entry)) s) ps sort p to r) (done (now (types .exit)) q) ⌝ }
+// What crosses to a place of `ps` becomes a cell of its receiver (N6 to N8, M4 to M6).
+fn send(types: &mut [u8; TYPE_BYTES], s: State, ps: Places, x: Crossing) -> Served
+    requires { ⌜ Sends (whole (now types) s) ps x ⌝ }
+    ensures { λ q. ⌜ Step (whole (now (types .entry)) s) (sentTo (whole (now (types .entry)) s) ps x) (done (now (types .exit)) q) ⌝ }
 {
     let links = s.links;
-    let x = cross::cross(types, &links, s.counts, ps, sort, p, to, r);
-    let y = cross::land(ps, x);
+    let y = cross::cross(types, &links, s.counts, ps, x);
     if y.refusal != 0 {
         return steps::refused(s, y.refusal);
     }
     let places = y.places;
-    steps::add_cell(s, y.types, places, r, to, y.place)
+    steps::add_cell(s, y.types, places, x.receiver, y.sort, y.place)
 }
 
 // An object of the class, owned by the subject, is the next place (N5).
@@ -68,11 +68,24 @@ pub fn new_step(types: &mut [u8; TYPE_BYTES], s: State, subject: i64, class: i64
     let sort = index_of(class, c.sheet);
     let target = index_of(to, c.sheet);
     let made = make(ps, sort, owner);
-    send(types, s, made, sort, ps.count, target, owner)
+    let x = Crossing {
+        from: sort,
+        place: ps.count,
+        to: target,
+        receiver: owner,
+    };
+    send(types, s, made, x)
 }
 
 // Move (M): the reference in the cell crosses and becomes a cell of the receiver; the cell that is moved stays (M6).
-pub fn move_step(types: &mut [u8; TYPE_BYTES], s: State, subject: i64, cell: i64, receiver: i64, to: i64) -> Served
+pub fn move_step(
+    types: &mut [u8; TYPE_BYTES],
+    s: State,
+    subject: i64,
+    cell: i64,
+    receiver: i64,
+    to: i64,
+) -> Served
     requires { ⌜ Sound (whole (now types) s) ⌝ }
     ensures { λ q. ⌜ Step (whole (now (types .entry)) s) (moveRequest (systemIn (whole (now (types .entry)) s)) subject cell receiver to) (done (now (types .exit)) q) ⌝ }
 {
@@ -93,7 +106,13 @@ pub fn move_step(types: &mut [u8; TYPE_BYTES], s: State, subject: i64, cell: i64
     }
     let r = index_of(receiver, c.subjects);
     let target = index_of(to, c.sheet);
-    let x = state::cell_at(cells, index_of(cell, cells.count));
+    let moved = state::cell_at(cells, index_of(cell, cells.count));
     let ps = s.places;
-    send(types, s, ps, wide(x.sort), wide(x.place), target, r)
+    let x = Crossing {
+        from: wide(moved.sort),
+        place: wide(moved.place),
+        to: target,
+        receiver: r,
+    };
+    send(types, s, ps, x)
 }

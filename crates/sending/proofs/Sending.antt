@@ -24,9 +24,10 @@ use Rattle.state.specs.Whole.{Whole as State}
 use Rattle.state.specs.View.{cellOf, cellsIn, placesIn, systemIn}
 use Rattle.state.specs.Sound.{CellIn, Sound}
 use Rattle.state.proofs.Laws.{cells-length, places-length, calls-length, system-is}
-use Rattle.cross.specs.Crossed.{reference, Ready, Stands}
-use Rattle.carry.specs.declared.Carried.{Carried}
-use Rattle.carry.specs.Carried.{passedOf, carriedOf, Carries}
+use Rattle.cross.specs.declared.Crossed.{Crossed}
+use Rattle.cross.specs.Crossed.{reference, Ready, Stands, crossedOf, Leaves}
+use Rattle.cross.proofs.Laws.{refused-is, came-is}
+use Rattle.carry.specs.Carried.{passedOf}
 use Rattle.steps.specs.declared.Answer.{Answer}
 use Rattle.steps.specs.declared.Answer.the-variants.{Refused, Pair, Number, Nothing}
 use Rattle.steps.specs.Served.{Done as Served, refusalOf as refusal}
@@ -148,21 +149,20 @@ module _ (s : State) (h : Sound s) (r k : ℕ) (c : Cell) (is : cellOf c ≡ get
       ∙ ap (λ (n : ℕ). reference (tableIn (s .types) (s .links) (s .counts)) (placesIn (s .places)) n (getD (cellsIn (s .cells)) k noCell .place)) (sym sort-at)
       ∙ ap (λ (n : ℕ). reference (tableIn (s .types) (s .links) (s .counts)) (placesIn (s .places)) sort n) (sym place-at)
 
-  module _ (b : List ℕ) (x : Carried) (crossed : carriedOf b (s .links) (s .counts) x ≡ crossLayers true From r ts) (leaves : Carries (s .counts) (s .places) sort (s .types) b x) where
+  module _ (b : List ℕ) (x : Crossed) (crossed : crossedOf b (s .links) (s .counts) x ≡ crossLayers true From r ts) (leaves : Leaves (s .counts) (s .places) sort (s .types) b x) where
     abbrev Arrived : Reference
     Arrived = arrived s b (x .types) (x .places) (x .sort) (x .place)
 
-    abbrev Comes : Bool → Res Reference
-    Comes y = elim y [ false ↦ refuse (x .refusal) | true ↦ ok Arrived ]
+    abbrev Adds : Res Reference → Res (System × Result)
+    Adds y = try y (λ f. addCell (systemIn s) r f)
 
-    send-is : send (systemIn s) r k ts ≡ try (Comes (eqb (x .refusal) 0)) (λ f. addCell (systemIn s) r f)
+    send-is : send (systemIn s) r k ts ≡ Adds (crossedOf b (s .links) (s .counts) x)
     unfolding send
-    send-is = ap (λ (f : Reference). try (crossLayers true f r ts) (λ g. addCell (systemIn s) r g)) leaving-is
-        ∙ ap (λ (y : Res Reference). try y (λ g. addCell (systemIn s) r g)) (sym crossed)
+    send-is = ap (λ (f : Reference). try (crossLayers true f r ts) (λ g. addCell (systemIn s) r g)) leaving-is ∙ ap Adds (sym crossed)
 
     pub send-refused : (x .refusal ≡ 0 → ⊥) → (q : Served) → q ≡ refusal (withTypes s b) (x .refusal) → Step s (send (systemIn s) r k ts) q × Went s (q .state)
     send-refused z q e = (
-      refuses-kept h (leaves .long) (leaves .kept) (send-is ∙ ap (λ (y : Bool). try (Comes y) (λ f. addCell (systemIn s) r f)) (ne-eqb (x .refusal) 0 z)) e,
+      refuses-kept h (leaves .long) (leaves .kept) (send-is ∙ ap Adds (refused-is b (s .links) (s .counts) x z)) e,
       subst (λ (y : Served). Went s (y .state)) (sym e) (went-types s b),
     )
 
@@ -182,7 +182,7 @@ module _ (s : State) (h : Sound s) (r k : ℕ) (c : Cell) (is : cellOf c ≡ get
 
       pub send-adds : (q : Served) → Step s (addCell (systemIn s) r Arrived) q → Step s (send (systemIn s) r k ts) q × Went s (q .state)
       send-adds q g = (
-        step-as (send-is ∙ ap (λ (y : Bool). try (Comes y) (λ f. addCell (systemIn s) r f)) (eq-eqb (x .refusal) 0 z)) g,
+        step-as (send-is ∙ ap Adds (came-is b (s .links) (s .counts) x z)) g,
         added-goes s r Arrived (let n : length (placesIn (x .places)) ≡ x .places .count = places-length (x .places) in let m = leaves .came z .before .more in omega arith) q g,
       )
 

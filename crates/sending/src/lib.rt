@@ -110,7 +110,16 @@ pub fn accepted(a: Answer) -> bool
 }
 
 // Argument i, of type a in the signature of the cell's type, meets the layers by the types as they are now (C8, C10).
-fn send_argument(types: &mut [u8; TYPE_BYTES], s: State, r: usize, w: Way, m: usize, i: usize, a: usize, v: i64) -> Served
+fn send_argument(
+    types: &mut [u8; TYPE_BYTES],
+    s: State,
+    r: usize,
+    w: Way,
+    m: usize,
+    i: usize,
+    a: usize,
+    v: i64,
+) -> Served
     requires { ⌜ Sound (whole (now types) s) × (0 < s .places .count) × (0 < s .counts .types) × (r < 256) × (w .count ≤ 129) ⌝ }
     ensures { λ q. ⌜ Step (whole (now (types .entry)) s) (sendArgument (systemIn (whole (now (types .entry)) s)) r (wayIn w) m i a v) (done (now (types .exit)) q) × Went (whole (now (types .entry)) s) (whole (now (types .exit)) (q .state)) ⌝ }
 {
@@ -130,7 +139,15 @@ fn send_argument(types: &mut [u8; TYPE_BYTES], s: State, r: usize, w: Way, m: us
 }
 
 // The arguments in order, each before the next is begun (C10, C17).
-pub fn send_arguments(types: &mut [u8; TYPE_BYTES], s: State, r: usize, w: Way, m: usize, x: Method, vs: &[i64]) -> Served
+pub fn send_arguments(
+    types: &mut [u8; TYPE_BYTES],
+    s: State,
+    r: usize,
+    w: Way,
+    m: usize,
+    x: Method,
+    vs: &[i64],
+) -> Served
     requires { ⌜ Sound (whole (now types) s) × (0 < s .places .count) × (0 < s .counts .types) × (r < 256) × (w .count ≤ 129) ⌝ }
     ensures { λ q. ⌜ Sent (whole (now (types .entry)) s) (allSent (sendArguments (systemIn (whole (now (types .entry)) s)) r (wayIn w) m 0 (argumentsOf x) (now (vs .entry)))) (done (now (types .exit)) q) ⌝ }
 {

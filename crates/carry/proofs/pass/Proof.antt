@@ -51,12 +51,11 @@ loop-less c = omega (arith, c .before .before .before .loop-test .taken)
 
 loop-again : tie.Need-loop-again Inv-loop μ-loop
 loop-again c =
-    let a = c .before .before .before .before .before .args in
+    let at = c .before .before .before .before .before in let a = at .args in
     let w = c .before .before .before .before .loop in (
       omega (arith, c .before .before .before .loop-test .taken),
-      λ l. pass-next (tableIn (a .types .now) l (a .c)) (toZ w64 (ofZ w64 (a .v))) (a .t4 .list) (a .t4 .count) (long (c .before .before .before .before .before)) (c .before .before .before .before .before .pre .1) (w .i)
-          (c .before .before .before .loop-test .taken) (w .inv .1 l) _ refl (c .before .pass-one .result) (c .before .pass-one .ensures l)
-          (c .if1 .left),
+      λ l. pass-next (tableIn (a .types .now) l (a .c)) (toZ w64 (ofZ w64 (a .v))) (a .t4 .list) (a .t4 .count) (long at) (at .pre .1) (w .i) (c .before .before .before .loop-test .taken)
+          (w .inv .1 l) _ refl (c .before .pass-one .result) (c .before .pass-one .ensures l) (c .if1 .left),
     )
 
 returns-2 : tie.Need-returns-2 Inv-loop μ-loop

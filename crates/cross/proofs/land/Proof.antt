@@ -1,6 +1,10 @@
--- One law for each answer of a crossing.
-use Rattle.cross.proofs.Laws.{land-refused, land-passes, land-room, land-adapts}
+-- The reference leads to the place that is named, or to the adapter that is stored as the next place.
+use mathlib.Core.Path.{sym, ap, subst, _∙_}
 use borrow.Author.Needs.{needs}
+use Rattle.state.specs.View.{placesIn}
+use Rattle.cross.specs.declared.Landing.{Landing}
+use Rattle.cross.specs.Crossed.{landed, placesWith, Room}
+use Rattle.state.specs.declared.Places.{Places}
 use Rattle.cross.proofs.land.Statement.{statement}
 use Rattle.cross.proofs.land.Tie as tie
 
@@ -10,24 +14,20 @@ enum-known-x c = search needs
 enum-known-x-2 : tie.Need-enum-known-x-2
 enum-known-x-2 c = search needs
 
-enum-known-x-3 : tie.Need-enum-known-x-3
-enum-known-x-3 c = search needs
-
 add-requires : tie.Need-add-requires
-add-requires c κs = (land-room (c .before .before .before .args .ps) (c .before .before .before .pre .0) _ (c .before .before .before .pre .1) _ _ (c .before .x3 .given .1))
+add-requires c κs = subst (Room (c .before .before .before .args .ps)) (c .before .x2 .given .1) (c .before .before .before .pre)
 
 returns : tie.Need-returns
-returns c = land-refused (c .before .before .before .args .ps) (c .before .before .before .pre .0) _ (c .before .before .before .pre .1) _ (c .before .x .given .1)
+returns c = let a = c .before .before .before .args in let e = c .before .x .given .1 in (
+  sym (ap (λ (x : Landing). landed (a .ps) (a .sort) x (a .types)) e),
+  sym (ap (placesWith (placesIn (a .ps))) e),
+)
 
 returns-2 : tie.Need-returns-2
-returns-2 c = land-passes (c .before .before .before .args .ps) (c .before .before .before .pre .0) _ (c .before .before .before .pre .1) _ _ (c .before .x2 .given .1)
-
-returns-3 : tie.Need-returns-3
-returns-3 c =
-    land-adapts (c .before .before .before .before .args .ps) (c .before .before .before .before .pre .0) _ (c .before .before .before .before .pre .1) _ _ (c .before .before .x3 .given .1) _
-    (c .add .ensures .0) (c .add .ensures .1)
+returns-2 c = let a = c .before .before .before .before .args in let e = c .before .before .x2 .given .1 in (
+  ap (λ (qs : Places). record { refusal = 0; sort = a .sort; place = a .ps .count; places = qs; types = a .types }) (c .add .ensures .0) ∙ sym (ap (λ (x : Landing). landed (a .ps) (a .sort) x (a .types)) e),
+  c .add .ensures .1 ∙ sym (ap (placesWith (placesIn (a .ps))) e),
+)
 
 pub land-spec : {M : Type 1} → statement M
-land-spec =
-    tie.close
-    (tie.spec enum-known-x enum-known-x-2 enum-known-x-3 add-requires returns returns-2 returns-3)
+land-spec = tie.close (tie.spec enum-known-x enum-known-x-2 add-requires returns returns-2)

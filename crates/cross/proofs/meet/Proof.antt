@@ -1,39 +1,67 @@
 -- One law for each way in which it returns: the place passes, 10, 11, 12, and a new adapter.
-use mathlib.Core.Path.{sym, _∙_}
-use borrow.Author.Tests.{not-true, not-false}
-use Rattle.cross.proofs.Laws.{meets-passes, meets-10, closable, meets-11, closed-byte, meets-12, meets-adapts}
+use mathlib.Core.Path.{_≡_, sym, ap, _∙_}
+use mathlib.Core.Bool.{true, false}
+use Prim.Native.Nat.{ℕ}
 use native.Mathlib.Omega.{arith}
 use borrow.Author.Needs.{needs}
+use borrow.Author.Tests.{not-true, not-false}
+use Rattle.model.specs.Table.{Table}
+use Rattle.model.specs.Relations.{related, conforms, strict}
+use Rattle.model.specs.Crossing.{placeAt, placeType}
+use Rattle.table.specs.Store.{tableIn}
+use Rattle.state.specs.View.{placesIn}
+use Rattle.cross.proofs.Laws.{meets-passes, meets-10, closable, meets-11, closed-byte, meets-12, meets-adapts}
 use Rattle.cross.proofs.meet.Statement.{statement}
 use Rattle.cross.proofs.meet.Tie as tie
 
-conforms-requires : tie.Need-conforms-requires
-conforms-requires c κs = c .before .pre .0 .checked
+-- V, the type of the place
+abbrev kind : tie.After-place-type → ℕ
+kind c = c .place-type .result
 
-returns : tie.Need-returns
-returns c =
-    let a = c .before .before .before .args in
-    let h = c .before .before .before .pre in
-    meets-passes (a .types .now) (a .links .now) (a .c) (h .0) (a .ps) (a .right) (a .p) (h .1 .place) (a .v) (h .2) (sym (c .if1 .taken) ∙ c .before .conforms .ensures)
+kind-is : (c : tie.After-place-type) → kind c ≡ placeType (placeAt (placesIn (c .before .before .args .ps)) (c .before .before .args .p))
+kind-is c = c .place-type .ensures .0 ∙ ap placeType (c .before .place-at .ensures .1 (c .before .before .pre .1 .place))
+
+-- the table as it is asked
+abbrev U : tie.After-place-type → Table
+U c = let a = c .before .before .args in tableIn (a .types .now) (a .links .now) (a .c)
+
+-- the tests that are passed
+less : (c : tie.Else1) → let v = c .before .before .before in false ≡ related conforms (U v) (v .before .before .args .right) (kind v)
+less c = sym (c .if1 .left) ∙ c .before .asked .ensures
+
+met : (c : tie.Else2) → let v = c .before .before .before .before .before .before in true ≡ related strict (U v) (v .before .before .args .right) (kind v)
+met c = sym (not-false (c .before .asked2 .result) (c .if2 .left)) ∙ c .before .asked2 .ensures
+
+place-at-requires : tie.Need-place-at-requires
+place-at-requires c κs = omega (arith, c .pre .1 .place, c .pre .1 .falling .count)
+
+place-type-requires : tie.Need-place-type-requires
+place-type-requires c κs = search needs
 
 asked-requires : tie.Need-asked-requires
-asked-requires c κs = c .before .before .before .before .pre .0 .checked
+asked-requires c κs = c .before .before .before .pre .0 .checked
+
+land-requires : tie.Need-land-requires
+land-requires c κs = search needs
+
+returns : tie.Need-returns
+returns c = let v = c .before .before .before .before in let a = v .before .before .args in let h = v .before .before .pre in
+    meets-passes (a .types .now) (a .links .now) (a .c) (h .0) (a .ps) (h .1 .falling) (a .to) (a .right) (a .p) (h .1 .place) (kind v) (kind-is v) (sym (c .before .if1 .taken) ∙ c .before .before .asked .ensures) (c .land .result) (c .land .ensures .0)
+
+asked-requires-2 : tie.Need-asked-requires-2
+asked-requires-2 c κs = c .before .before .before .before .before .before .pre .0 .checked
+
+refused-requires : tie.Need-refused-requires
+refused-requires c κs = search needs
 
 returns-2 : tie.Need-returns-2
-returns-2 c =
-    let a = c .before .before .before .before .before .before .args in
-    let h = c .before .before .before .before .before .before .pre in
-    let less = sym (c .before .before .before .if1 .left) ∙ c .before .before .before .before .conforms .ensures in
-    meets-10 (a .types .now) (a .links .now) (a .c) (h .0) (a .ps) (a .right) (a .p) (h .1 .place) (a .v) (h .2) less
-    (sym (not-true (c .before .asked .result) (c .if2 .taken)) ∙ c .before .asked .ensures)
+returns-2 c = let v = c .before .before .before .before .before .before .before in let a = v .before .before .args in let h = v .before .before .pre in
+    meets-10 (a .types .now) (a .links .now) (a .c) (h .0) (a .ps) (h .1 .falling) (a .to) (a .right) (a .p) (h .1 .place) (kind v) (kind-is v) (less (c .before .before .before .before))
+    (sym (not-true (c .before .before .asked2 .result) (c .before .if2 .taken)) ∙ c .before .before .asked2 .ensures) (c .refused .result) (c .refused .ensures)
 
 closed-any-requires : tie.Need-closed-any-requires
-closed-any-requires c κs =
-    let a = c .before .before .before .before .before .before .before .args in
-    let h = c .before .before .before .before .before .before .before .pre in
-    let less = sym (c .before .before .before .before .if1 .left) ∙ c .before .before .before .before .before .conforms .ensures in
-    let met = sym (not-false (c .before .before .asked .result) (c .before .if2 .left)) ∙ c .before .before .asked .ensures in
-    closable (a .types .now) (a .links .now) (a .c) (h .0) (a .ps) (a .right) (a .p) (h .1 .place) (a .v) (h .2) less met
+closed-any-requires c κs = let v = c .before .before .before .before .before .before .before in let a = v .before .before .args in let h = v .before .before .pre in
+    closable (a .types .now) (a .links .now) (a .c) (h .0) (a .ps) (h .1 .falling) (a .to) (a .right) (a .p) (h .1 .place) (kind v) (kind-is v) (less (c .before .before .before .before)) (met (c .before))
 
 enum-known-closed : tie.Need-enum-known-closed
 enum-known-closed c = search needs
@@ -41,70 +69,38 @@ enum-known-closed c = search needs
 enum-told : tie.Need-enum-told
 enum-told c = search needs
 
+refused-requires-2 : tie.Need-refused-requires-2
+refused-requires-2 c κs = search needs
+
 returns-3 : tie.Need-returns-3
-returns-3 c =
-    let a = c .before .before .before .before .before .before .before .before .before .before .args in
-    let h = c .before .before .before .before .before .before .before .before .before .before .pre in
-    let less = sym (c .before .before .before .before .before .before .before .if1 .left) ∙ c .before .before .before .before .before .before .before .before .conforms .ensures in
-    let met = sym (not-false (c .before .before .before .before .before .asked .result) (c .before .before .before .before .if2 .left)) ∙ c .before .before .before .before .before .asked .ensures in
-    let d = c .before .before .closed-any in
-    meets-11 (a .types .now) (a .links .now) (a .c) (h .0) (a .ps) (a .right) (a .p) (h .1 .place) (a .v) (h .2) less met (d .last .0) (d .result) (d .ensures) (c .enum-told .given .1)
+returns-3 c = let v = c .before .before .before .before .before .before .before .before .before .before .before in let a = v .before .before .args in let h = v .before .before .pre in let d = c .before .before .before .closed-any in
+    meets-11 (a .types .now) (a .links .now) (a .c) (h .0) (a .ps) (h .1 .falling) (a .to) (a .right) (a .p) (h .1 .place) (kind v) (kind-is v) (less (c .before .before .before .before .before .before .before .before)) (met (c .before .before .before .before .before))
+    (d .last .0) (d .result) (d .ensures) (c .before .enum-told .given .1) (c .refused2 .result) (c .refused2 .ensures)
+
+refused-requires-3 : tie.Need-refused-requires-3
+refused-requires-3 c κs = search needs
 
 returns-4 : tie.Need-returns-4
-returns-4 c =
-    let a = c .before .before .before .before .before .before .before .before .before .before .before .before .before .args in
-    let h = c .before .before .before .before .before .before .before .before .before .before .before .before .before .pre in
-    let less = sym (c .before .before .before .before .before .before .before .before .before .before .if1 .left)
-    ∙ c .before .before .before .before .before .before .before .before .before .before .before .conforms .ensures in
-    let met = sym (not-false (c .before .before .before .before .before .before .before .before .asked .result) (c .before .before .before .before .before .before .before .if2 .left))
-    ∙ c .before .before .before .before .before .before .before .before .asked .ensures in
-    let d = c .before .before .before .before .before .closed-any in
-    meets-12 (a .types .now) (a .links .now) (a .c) (h .0) (a .ps) (a .right) (a .p) (h .1 .place) (a .v) (h .2) less met (d .last .0) (d .result) (d .ensures) _ _
-    (c .before .before .before .closed .given .1) (c .if3 .taken)
+returns-4 c = let v = c .before .before .before .before .before .before .before .before .before .before .before .before .before .before in let a = v .before .before .args in let h = v .before .before .pre in let d = c .before .before .before .before .before .before .closed-any in
+    meets-12 (a .types .now) (a .links .now) (a .c) (h .0) (a .ps) (h .1 .falling) (a .to) (a .right) (a .p) (h .1 .place) (kind v) (kind-is v) (less (c .before .before .before .before .before .before .before .before .before .before .before)) (met (c .before .before .before .before .before .before .before .before))
+    (d .last .0) (d .result) (d .ensures) _ _ (c .before .before .before .before .closed .given .1) (c .before .if3 .taken) (c .refused3 .result) (c .refused3 .ensures)
 
 narrow-requires : tie.Need-narrow-requires
-narrow-requires c κs =
-    let h = c .before .before .before .before .before .before .before .before .before .before .before .before .before .pre .1 in
-    omega (arith, h .falling .count, h .place)
+narrow-requires c κs = omega (arith, c .before .before .before .before .before .before .before .before .before .before .before .before .before .before .before .pre .1 .place, c .before .before .before .before .before .before .before .before .before .before .before .before .before .before .before .pre .1 .falling .count)
 
 narrow-requires-2 : tie.Need-narrow-requires-2
-narrow-requires-2 c κs =
-    let a = c .before .before .before .before .before .before .before .before .before .before .before .before .before .before .args in
-    let h = c .before .before .before .before .before .before .before .before .before .before .before .before .before .before .pre in
-    let less = sym (c .before .before .before .before .before .before .before .before .before .before .before .if1 .left)
-    ∙ c .before .before .before .before .before .before .before .before .before .before .before .before .conforms .ensures in
-    let met = sym (not-false (c .before .before .before .before .before .before .before .before .before .asked .result)
-    (c .before .before .before .before .before .before .before .before .if2 .left)) ∙ c .before .before .before .before .before .before .before .before .before .asked .ensures in
-    let d = c .before .before .before .before .before .before .closed-any in
-    closed-byte (a .types .now) (a .links .now) (a .c) (h .0) (a .ps) (a .right) (a .p) (h .1 .place) (a .v) (h .2) less met (d .last .0) (d .result) (d .ensures) _ _
-    (c .before .before .before .before .closed .given .1)
+narrow-requires-2 c κs = let v = c .before .before .before .before .before .before .before .before .before .before .before .before .before .before in let a = v .before .before .args in let h = v .before .before .pre in let d = c .before .before .before .before .before .before .closed-any in
+    closed-byte (a .types .now) (a .links .now) (a .c) (h .0) (a .ps) (h .1 .falling) (a .to) (a .right) (a .p) (h .1 .place) (kind v) (kind-is v) (less (c .before .before .before .before .before .before .before .before .before .before .before)) (met (c .before .before .before .before .before .before .before .before))
+    (d .last .0) (d .result) (d .ensures) _ _ (c .before .before .before .before .closed .given .1)
+
+land-requires-2 : tie.Need-land-requires-2
+land-requires-2 c κs = omega (arith, c .before .before .if3 .left)
 
 returns-5 : tie.Need-returns-5
-returns-5 c =
-    let a = c .before .before .before .before .before .before .before .before .before .before .before .before .before .before .before .args in
-    let h = c .before .before .before .before .before .before .before .before .before .before .before .before .before .before .before .pre in
-    let less = sym (c .before .before .before .before .before .before .before .before .before .before .before .before .if1 .left)
-    ∙ c .before .before .before .before .before .before .before .before .before .before .before .before .before .conforms .ensures in
-    let met = sym (not-false (c .before .before .before .before .before .before .before .before .before .before .asked .result)
-    (c .before .before .before .before .before .before .before .before .before .if2 .left)) ∙ c .before .before .before .before .before .before .before .before .before .before .asked .ensures in
-    let d = c .before .before .before .before .before .before .before .closed-any in
-    meets-adapts (a .types .now) (a .links .now) (a .c) (h .0) (a .ps) (a .right) (a .p) (h .1 .place) (a .v) (h .2) less met (d .last .0) (d .result) (d .ensures) _ _
-    (c .before .before .before .before .before .closed .given .1)
-    (omega (arith, c .before .before .if3 .left)) _ _ (c .before .narrow .ensures) (c .narrow2 .ensures)
+returns-5 c = let v = c .before .before .before .before .before .before .before .before .before .before .before .before .before .before .before .before in let a = v .before .before .args in let h = v .before .before .pre in let d = c .before .before .before .before .before .before .before .before .closed-any in
+    meets-adapts (a .types .now) (a .links .now) (a .c) (h .0) (a .ps) (h .1 .falling) (a .to) (a .right) (a .p) (h .1 .place) (kind v) (kind-is v) (less (c .before .before .before .before .before .before .before .before .before .before .before .before .before)) (met (c .before .before .before .before .before .before .before .before .before .before))
+    (d .last .0) (d .result) (d .ensures) _ _ (c .before .before .before .before .before .before .closed .given .1) (omega (arith, c .before .before .before .if3 .left)) _ _ (c .before .before .narrow .ensures) (c .before .narrow2 .ensures)
+    (c .land2 .result) (c .land2 .ensures)
 
 pub meet-spec : {M : Type 1} → statement M
-meet-spec =
-    tie.close
-    (tie.spec
-    conforms-requires
-    returns
-    asked-requires
-    returns-2
-    closed-any-requires
-    enum-known-closed
-    enum-told
-    returns-3
-    returns-4
-    narrow-requires
-    narrow-requires-2
-    returns-5)
+meet-spec = tie.close (tie.spec place-at-requires place-type-requires asked-requires land-requires returns asked-requires-2 refused-requires returns-2 closed-any-requires enum-known-closed enum-told refused-requires-2 returns-3 refused-requires-3 returns-4 narrow-requires narrow-requires-2 land-requires-2 returns-5)

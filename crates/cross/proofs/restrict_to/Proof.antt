@@ -1,37 +1,44 @@
--- One law for each way in which it returns: 8, a subtype, 11, and Sub.
-use mathlib.Core.Path.{sym, _∙_}
-use borrow.Author.Tests.{not-true, not-false}
-use Rattle.cross.proofs.Laws.{restrict-8, restrict-stays, sub-asked, restrict-11, restrict-meets}
+-- One law for each way in which it returns: 8, a subtype, 11, and what comes of meeting Sub.
+use mathlib.Core.Path.{_≡_, sym, _∙_}
+use mathlib.Core.Bool.{true, false}
 use borrow.Author.Needs.{needs}
+use borrow.Author.Tests.{not-true, not-false}
+use Rattle.model.specs.Relations.{related, loose, subtype}
+use Rattle.table.specs.Store.{tableIn}
+use Rattle.cross.proofs.Laws.{restrict-8, restrict-stays, sub-asked, restrict-11, restrict-ready, restrict-meets}
 use Rattle.cross.proofs.restrict_to.Statement.{statement}
 use Rattle.cross.proofs.restrict_to.Tie as tie
+
+-- loose holds, and no subtype
+met : (c : tie.Else1) → let a = c .before .before .before .args in true ≡ related loose (tableIn (a .types .now) (a .links .now) (a .c)) (a .x .to) (a .x .from)
+met c = sym (not-false (c .before .asked .result) (c .if1 .left)) ∙ c .before .asked .ensures
+
+less : (c : tie.Else2) → let a = c .before .before .before .before .before .before .args in
+    false ≡ related subtype (tableIn (a .types .now) (a .links .now) (a .c)) (a .x .to) (a .x .from)
+less c = sym (c .if2 .left) ∙ c .before .asked2 .ensures
 
 asked-requires : tie.Need-asked-requires
 asked-requires c κs = c .before .pre .0 .checked
 
+refused-requires : tie.Need-refused-requires
+refused-requires c κs = search needs
+
 returns : tie.Need-returns
-returns c =
-    let a = c .before .before .before .args in
-    let h = c .before .before .before .pre in
-    let loose = sym (not-true (c .before .asked .result) (c .if1 .taken)) ∙ c .before .asked .ensures in
-    λ ps r place. restrict-8 (a .types .now) (a .links .now) (a .c) (h .0) ps (a .s) (a .p) (a .to) r place (h .1) loose
+returns c = let a = c .before .before .before .before .args in let h = c .before .before .before .before .pre in
+    restrict-8 (a .types .now) (a .links .now) (a .c) (h .0) (a .ps) (a .x) (h .1 .falling) (h .1 .place) (h .2) (sym (not-true (c .before .before .asked .result) (c .before .if1 .taken)) ∙ c .before .before .asked .ensures) (c .refused .result) (c .refused .ensures)
 
 asked-requires-2 : tie.Need-asked-requires-2
 asked-requires-2 c κs = c .before .before .before .before .pre .0 .checked
 
+land-requires : tie.Need-land-requires
+land-requires c κs = search needs
+
 returns-2 : tie.Need-returns-2
-returns-2 c =
-    let a = c .before .before .before .before .before .before .args in
-    let h = c .before .before .before .before .before .before .pre in
-    let loose = sym (not-false (c .before .before .before .before .asked .result) (c .before .before .before .if1 .left)) ∙ c .before .before .before .before .asked .ensures in
-    let subtype = sym (c .if2 .taken) ∙ c .before .asked2 .ensures in
-    λ ps r place. restrict-stays (a .types .now) (a .links .now) (a .c) (h .0) ps (a .s) (a .p) (a .to) r place (h .1) loose subtype
+returns-2 c = let a = c .before .before .before .before .before .before .before .args in let h = c .before .before .before .before .before .before .before .pre in
+    restrict-stays (a .types .now) (a .links .now) (a .c) (h .0) (a .ps) (a .x) (h .1 .falling) (h .1 .place) (h .2) (met (c .before .before .before .before)) (sym (c .before .if2 .taken) ∙ c .before .before .asked2 .ensures) (c .land .result) (c .land .ensures .0)
 
 sub-type-requires : tie.Need-sub-type-requires
-sub-type-requires c κs =
-    let a = c .before .before .before .before .before .before .before .args in
-    sub-asked (a .types .now) (a .links .now) (a .c) (c .before .before .before .before .before .before .before .pre .0) (a .to) (a .s)
-    (sym (not-false (c .before .before .before .before .before .asked .result) (c .before .before .before .before .if1 .left)) ∙ c .before .before .before .before .before .asked .ensures)
+sub-type-requires c κs = let a = c .before .before .before .before .before .before .before .args in sub-asked (a .types .now) (a .links .now) (a .c) (c .before .before .before .before .before .before .before .pre .0) (a .x .to) (a .x .from) (met (c .before .before .before .before))
 
 enum-known-right : tie.Need-enum-known-right
 enum-known-right c = search needs
@@ -39,37 +46,26 @@ enum-known-right c = search needs
 enum-told : tie.Need-enum-told
 enum-told c = search needs
 
+refused-requires-2 : tie.Need-refused-requires-2
+refused-requires-2 c κs = search needs
+
 returns-3 : tie.Need-returns-3
-returns-3 c =
-    let a = c .before .before .before .before .before .before .before .before .before .before .args in
-    let h = c .before .before .before .before .before .before .before .before .before .before .pre in
-    let d = c .before .before .sub-type in
-    let loose = sym (not-false (c .before .before .before .before .before .before .before .before .asked .result) (c .before .before .before .before .before .before .before .if1 .left))
-    ∙ c .before .before .before .before .before .before .before .before .asked .ensures in
-    let less = sym (c .before .before .before .before .if2 .left) ∙ c .before .before .before .before .before .asked2 .ensures in
-    λ ps r place. restrict-11 (a .types .now) (a .links .now) (a .c) (h .0) ps (a .s) (a .p) (a .to) r place (h .1) loose less (d .last .0) (d .result) (d .ensures) (c .enum-told .given .1)
+returns-3 c = let a = c .before .before .before .before .before .before .before .before .before .before .before .args in let h = c .before .before .before .before .before .before .before .before .before .before .before .pre in let d = c .before .before .before .sub-type in
+    restrict-11 (a .types .now) (a .links .now) (a .c) (h .0) (a .ps) (a .x) (h .1 .falling) (h .1 .place) (h .2) (met (c .before .before .before .before .before .before .before .before)) (less (c .before .before .before .before .before)) (d .last .0) (d .result) (d .ensures) (c .before .enum-told .given .1) (c .refused2 .result) (c .refused2 .ensures)
+
+grown-requires : tie.Need-grown-requires
+grown-requires c κs = search needs
+
+meet-requires : tie.Need-meet-requires
+meet-requires c κs = let a = c .before .before .before .before .before .before .before .before .before .before .before .before .before .args in let h = c .before .before .before .before .before .before .before .before .before .before .before .before .before .pre in let d = c .before .before .before .before .before .sub-type in (
+  restrict-ready (a .types .now) (a .links .now) (a .c) (h .0) (a .ps) (a .x) (h .1 .falling) (h .1 .place) (h .2) (met (c .before .before .before .before .before .before .before .before .before .before)) (less (c .before .before .before .before .before .before .before)) (d .last .0) (d .result) (d .ensures) _ _ (c .before .before .before .right .given .1) (c .grown .result) (c .grown .ensures),
+  h .1,
+)
 
 returns-4 : tie.Need-returns-4
-returns-4 c =
-    let a = c .before .before .before .before .before .before .before .before .before .before .before .args in
-    let h = c .before .before .before .before .before .before .before .before .before .before .before .pre in
-    let d = c .before .before .before .sub-type in
-    let loose = sym (not-false (c .before .before .before .before .before .before .before .before .before .asked .result)
-    (c .before .before .before .before .before .before .before .before .if1 .left)) ∙ c .before .before .before .before .before .before .before .before .before .asked .ensures in
-    let less = sym (c .before .before .before .before .before .if2 .left) ∙ c .before .before .before .before .before .before .asked2 .ensures in
-    λ ps r place. restrict-meets (a .types .now) (a .links .now) (a .c) (h .0) ps (a .s) (a .p) (a .to) r place (h .1) loose less (d .last .0) (d .result) (d .ensures) _ _
-    (c .before .right .given .1)
+returns-4 c = let a = c .before .before .before .before .before .before .before .before .before .before .before .before .before .before .args in let h = c .before .before .before .before .before .before .before .before .before .before .before .before .before .before .pre in let d = c .before .before .before .before .before .before .sub-type in let m = c .meet in
+    restrict-meets (a .types .now) (a .links .now) (a .c) (h .0) (a .ps) (a .x) (h .1 .falling) (h .1 .place) (h .2) (met (c .before .before .before .before .before .before .before .before .before .before .before)) (less (c .before .before .before .before .before .before .before .before)) (d .last .0) (d .result) (d .ensures) _ _ (c .before .before .before .before .right .given .1) (c .before .grown .result) (c .before .grown .ensures)
+    (m .last .0) (m .result) (m .ensures .0) (m .ensures .1)
 
 pub restrict-to-spec : {M : Type 1} → statement M
-restrict-to-spec =
-    tie.close
-    (tie.spec
-    asked-requires
-    returns
-    asked-requires-2
-    returns-2
-    sub-type-requires
-    enum-known-right
-    enum-told
-    returns-3
-    returns-4)
+restrict-to-spec = tie.close (tie.spec asked-requires refused-requires returns asked-requires-2 land-requires returns-2 sub-type-requires enum-known-right enum-told refused-requires-2 returns-3 grown-requires meet-requires returns-4)

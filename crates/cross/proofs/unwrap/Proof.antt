@@ -1,43 +1,48 @@
--- One law for each way in which it returns: 8, 9, and the base.
-use mathlib.Core.Path.{sym, _∙_}
+-- One law for each way in which it returns: 8, 9, and what comes of meeting the base.
+use mathlib.Core.Path.{_≡_, sym, _∙_}
+use mathlib.Core.Bool.{true}
+use borrow.Author.Needs.{needs}
 use borrow.Author.Tests.{not-true, not-false}
+use Rattle.model.specs.Relations.{related, free}
+use Rattle.table.specs.Store.{tableIn}
 use Rattle.cross.proofs.Laws.{unwrap-8, unwrap-9, unwrap-meets}
 use Rattle.cross.proofs.unwrap.Statement.{statement}
 use Rattle.cross.proofs.unwrap.Tie as tie
 
+-- free holds
+met : (c : tie.Else1) → let a = c .before .before .before .args in true ≡ related free (tableIn (a .types .now) (a .links .now) (a .c)) (a .x .to) (a .x .from)
+met c = sym (not-false (c .before .asked .result) (c .if1 .left)) ∙ c .before .asked .ensures
+
 asked-requires : tie.Need-asked-requires
-asked-requires c κs = c .pre .0 .checked
+asked-requires c κs = c .before .pre .0 .checked
+
+refused-requires : tie.Need-refused-requires
+refused-requires c κs = search needs
 
 returns : tie.Need-returns
-returns c =
-    let a = c .before .before .args in
-    let h = c .before .before .pre in
-    unwrap-8 (a .types .now) (a .links .now) (a .c) (h .0) (a .ps) (a .s) (a .p) (a .to) (a .r) (h .1 .place) (h .2)
-    (sym (not-true (c .before .asked .result) (c .if1 .taken)) ∙ c .before .asked .ensures)
+returns c = let a = c .before .before .before .before .args in let h = c .before .before .before .before .pre in
+    unwrap-8 (a .types .now) (a .links .now) (a .c) (h .0) (a .ps) (a .x) (h .2) (sym (not-true (c .before .before .asked .result) (c .before .if1 .taken)) ∙ c .before .before .asked .ensures) (c .refused .result) (c .refused .ensures)
 
 base-owner-requires : tie.Need-base-owner-requires
-base-owner-requires c κs = (c .before .before .pre .1 .falling, c .before .before .pre .1 .place)
+base-owner-requires c κs = let h = c .before .before .before .pre in (h .1 .falling, h .1 .place)
+
+refused-requires-2 : tie.Need-refused-requires-2
+refused-requires-2 c κs = search needs
 
 returns-2 : tie.Need-returns-2
-returns-2 c =
-    let a = c .before .before .before .before .args in
-    let h = c .before .before .before .before .pre in
-    unwrap-9 (a .types .now) (a .links .now) (a .c) (h .0) (a .ps) (a .s) (a .p) (a .to) (a .r) (h .1 .place) (h .2)
-    (sym (not-false (c .before .before .before .asked .result) (c .before .before .if1 .left)) ∙ c .before .before .before .asked .ensures) (c .before .base-owner .result)
-    (c .before .base-owner .ensures .0) (c .if2 .taken)
+returns-2 c = let a = c .before .before .before .before .before .before .args in let h = c .before .before .before .before .before .before .pre in let o = c .before .before .base-owner in
+    unwrap-9 (a .types .now) (a .links .now) (a .c) (h .0) (a .ps) (a .x) (h .2) (met (c .before .before .before)) (o .result) (o .ensures .0) (c .before .if2 .taken) (c .refused2 .result) (c .refused2 .ensures)
 
 base-of-requires : tie.Need-base-of-requires
-base-of-requires c κs = (c .before .before .before .before .pre .1 .falling, c .before .before .before .before .pre .1 .place)
+base-of-requires c κs = let h = c .before .before .before .before .before .pre in (h .1 .falling, h .1 .place)
+
+meet-requires : tie.Need-meet-requires
+meet-requires c κs = let h = c .before .before .before .before .before .before .before .pre in (h .0, record { falling = h .1 .falling; place = c .before .base-of .ensures .below })
 
 returns-3 : tie.Need-returns-3
-returns-3 c =
-    let a = c .before .before .before .before .before .args in
-    let h = c .before .before .before .before .before .pre in
-    unwrap-meets (a .types .now) (a .links .now) (a .c) (h .0) (a .ps) (a .s) (a .p) (a .to) (a .r) (h .1 .place) (h .2)
-    (sym (not-false (c .before .before .before .before .asked .result) (c .before .before .before .if1 .left)) ∙ c .before .before .before .before .asked .ensures)
-    (c .before .before .base-owner .result) (c .before .before .base-owner .ensures .0) (c .before .if2 .left) (c .base-of .result) (c .base-of .ensures)
+returns-3 c = let a = c .before .before .before .before .before .before .before .before .args in let h = c .before .before .before .before .before .before .before .before .pre in let o = c .before .before .before .before .base-owner in let m = c .meet in
+    unwrap-meets (a .types .now) (a .links .now) (a .c) (h .0) (a .ps) (a .x) (h .2) (met (c .before .before .before .before .before)) (o .result) (o .ensures .0) (c .before .before .before .if2 .left) (c .before .before .base-of .result) (c .before .before .base-of .ensures)
+    (m .last .0) (m .result) (m .ensures .0) (m .ensures .1)
 
 pub unwrap-spec : {M : Type 1} → statement M
-unwrap-spec =
-    tie.close
-    (tie.spec asked-requires returns base-owner-requires returns-2 base-of-requires returns-3)
+unwrap-spec = tie.close (tie.spec asked-requires refused-requires returns base-owner-requires refused-requires-2 returns-2 base-of-requires meet-requires returns-3)

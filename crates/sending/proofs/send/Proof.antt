@@ -47,14 +47,14 @@ returns c =
 add-cell-requires : tie.Need-add-cell-requires
 add-cell-requires c κs =
     let a = c .before .before .before .before .before .before .before .before .before .before .before .args in let s = whole (a .types .now) (a .s) in
-    let h = c .before .before .before .before .before .before .before .before .before .before .before .pre in 
+    let h = c .before .before .before .before .before .before .before .before .before .before .before .pre in
     let w = send-arrives s (h .0) (a .r) (named (a .v)) (c .before .before .before .before .before .before .before .before .before .before .named-cell .result)
-          (rw (toZ-ofZ (c .before .before .before .before .before .before .before .before .before .before .before .fits .v)) at
-          (c .before .before .before .before .before .before .before .before .before .before .named-cell .ensures)) (any-cell s (h .0) (h .1) (h .2) (named (a .v)))
-          (targetsIn (a .targets)) (c .before .before .before .before .wide .result) (c .before .before .before .wide2 .result) (c .before .before .before .before .wide .ensures .0)
-          (c .before .before .before .wide2 .ensures .0) (c .before .before .carry .last .0) (c .before .before .carry .result) (c .before .before .carry .ensures .0)
-          (c .before .before .carry .ensures .1)
-          (c .if1 .left) in
+    (rw (toZ-ofZ (c .before .before .before .before .before .before .before .before .before .before .before .fits .v)) at
+    (c .before .before .before .before .before .before .before .before .before .before .named-cell .ensures)) (any-cell s (h .0) (h .1) (h .2) (named (a .v)))
+    (targetsIn (a .targets)) (c .before .before .before .before .wide .result) (c .before .before .before .wide2 .result) (c .before .before .before .before .wide .ensures .0)
+    (c .before .before .before .wide2 .ensures .0) (c .before .before .carry .last .0) (c .before .before .carry .result) (c .before .before .carry .ensures .0)
+    (c .before .before .carry .ensures .1)
+    (c .if1 .left) in
     (h .3, sort-byte s (c .before .before .carry .last .0) _ _ (a .r) _ _ w, place-byte s (c .before .before .carry .last .0) _ _ (a .r) _ _ w)
 
 returns-2 : tie.Need-returns-2
@@ -69,12 +69,12 @@ returns-2 c =
     (c .before .before .before .carry .result) (c .before .before .before .carry .ensures .0) (c .before .before .before .carry .ensures .1)
     (c .before .if1 .left) (done (c .before .before .before .carry .last .0) (c .add-cell .result)) (c .add-cell .ensures (a .types .now) (c .before .before .before .carry .last .0)
     (send-arrives s (h .0) (a .r) (named (a .v)) (c .before .before .before .before .before .before .before .before .before .before .before .named-cell .result)
-          (rw (toZ-ofZ (c .before .before .before .before .before .before .before .before .before .before .before .before .fits .v)) at
-          (c .before .before .before .before .before .before .before .before .before .before .before .named-cell .ensures)) (any-cell s (h .0) (h .1) (h .2) (named (a .v)))
-          (targetsIn (a .targets)) (c .before .before .before .before .before .wide .result) (c .before .before .before .before .wide2 .result) (c .before .before .before .before .before .wide .ensures .0)
-          (c .before .before .before .before .wide2 .ensures .0) (c .before .before .before .carry .last .0) (c .before .before .before .carry .result) (c .before .before .before .carry .ensures .0)
-          (c .before .before .before .carry .ensures .1)
-          (c .before .if1 .left)))
+    (rw (toZ-ofZ (c .before .before .before .before .before .before .before .before .before .before .before .before .fits .v)) at
+    (c .before .before .before .before .before .before .before .before .before .before .before .named-cell .ensures)) (any-cell s (h .0) (h .1) (h .2) (named (a .v)))
+    (targetsIn (a .targets)) (c .before .before .before .before .before .wide .result) (c .before .before .before .before .wide2 .result) (c .before .before .before .before .before .wide .ensures .0)
+    (c .before .before .before .before .wide2 .ensures .0) (c .before .before .before .carry .last .0) (c .before .before .before .carry .result) (c .before .before .before .carry .ensures .0)
+    (c .before .before .before .carry .ensures .1)
+    (c .before .if1 .left)))
 
 pub send-spec : {M : Type 1} → statement M
 send-spec =
