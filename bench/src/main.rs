@@ -1,6 +1,7 @@
 //! cargo run --profile speed -p bench: the proved core against safe Rust of the same algorithm, in one run.
 //! Prints tables of times and ratios (proved time over Rust time): below 1 the proved core is faster. A ratio is the median of seven, both
-//! sides in turn; one above 1 is marked. Buffers are cleared by both sides in each search, as the algorithm asks.
+//! sides in turn. There are two, to safe Rust that works on a copy and to safe Rust in place (`measure::in_place`); one of the first above 1
+//! is marked. Sheets are read and written in one way only, so that there the two are the same measured twice.
 //! With the argument `requests`, `scripts`, `sheets` or `tables` it measures these alone.
 
 mod fits;

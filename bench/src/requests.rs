@@ -1,8 +1,9 @@
 //! New, move, call, answer and offers in safe Rust on the bytes of a state, written from docs/SPEC.md: what the proved core's requests
-//! are to be measured against. It does what the core does and no more: a request works in the bytes, a state handed in is kept first and put
-//! back on a refusal, and a step of a script gives back its counts alone. (It worked on a copy once, and stored that where the request was
-//! accepted: a copy of 18 KB for each request that the core does not make.)
+//! are to be measured against, in two ways (`measure::in_place`). On a copy, which is stored where the request is accepted: the simplest
+//! safe Rust. Or in the bytes, which are kept first and put back on a refusal, as the core does it; a step of a script then gives back its
+//! counts alone.
 
+use crate::measure::in_place;
 use crate::{fits, restriction, search};
 use reference::raw::{self, RawState, METHOD_BYTES};
 use reference::refusal::Refusal;
@@ -29,6 +30,9 @@ pub fn request(raw: &mut RawState, request: &Request) -> Result<Got, Refusal> {
     if !fits::state(raw) {
         return Err(2);
     }
+    if !in_place() {
+        return on_a_copy(raw, request);
+    }
     let old = raw.clone();
     let got = step(raw, request);
     if got.is_err() {
@@ -38,7 +42,22 @@ pub fn request(raw: &mut RawState, request: &Request) -> Result<Got, Refusal> {
 }
 
 /// A request on a state that is right: a refusal leaves what is counted as it was.
-pub fn step(state: &mut RawState, request: &Request) -> Result<Got, Refusal> {
+pub fn serve(raw: &mut RawState, request: &Request) -> Result<Got, Refusal> {
+    if in_place() {
+        step(raw, request)
+    } else {
+        on_a_copy(raw, request)
+    }
+}
+
+fn on_a_copy(raw: &mut RawState, request: &Request) -> Result<Got, Refusal> {
+    let mut state = raw.clone();
+    let got = step(&mut state, request)?;
+    *raw = state;
+    Ok(got)
+}
+
+fn step(state: &mut RawState, request: &Request) -> Result<Got, Refusal> {
     let counts = (state.table.types, state.cells, state.places, state.calls);
     let got = match request {
         Request::New {

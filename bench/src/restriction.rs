@@ -1,7 +1,8 @@
 //! Sub, Sup and Closed in safe Rust, by the algorithm of crates/deriving, restrict and closed: two functions that call each other over the bytes of
-//! the table. It works in the bytes, which are kept first and put back on a refusal, as the core does it.
+//! the table. It works on a copy or in the bytes, as requests do (requests.rs).
 
 use crate::fits;
+use crate::measure::in_place;
 use reference::raw::{RawTable, METHODS_AT, METHOD_BYTES, TYPE_BYTES};
 use reference::table::MAX_TYPES;
 
@@ -24,16 +25,26 @@ pub fn derive(raw: &mut RawTable, kind: usize, t: usize, s: usize) -> Result<usi
     if kind == CLOSED && !both_ref(raw, t, s) {
         return Err(7);
     }
+    if !in_place() {
+        let mut table = raw.clone();
+        let number = by_kind(&mut table, kind, t, s)?;
+        *raw = table;
+        return Ok(number);
+    }
     let old = raw.clone();
-    let number = match kind {
-        SUB => sub(raw, t, s),
-        SUP => sup(raw, t, s),
-        _ => closed(raw, t, s),
-    };
+    let number = by_kind(raw, kind, t, s);
     if number.is_err() {
         *raw = old;
     }
     number
+}
+
+fn by_kind(raw: &mut RawTable, kind: usize, t: usize, s: usize) -> Result<usize, usize> {
+    match kind {
+        SUB => sub(raw, t, s),
+        SUP => sup(raw, t, s),
+        _ => closed(raw, t, s),
+    }
 }
 
 fn both_ref(raw: &RawTable, t: usize, s: usize) -> bool {

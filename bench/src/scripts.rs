@@ -60,7 +60,7 @@ fn in_bytes(input: &[u8]) -> Vec<u8> {
                 print("no=1".to_string());
                 break;
             };
-            print(match requests::step(&mut state, &request) {
+            print(match requests::serve(&mut state, &request) {
                 Ok(got) => got_line(got),
                 Err(number) => format!("no={number}"),
             });
@@ -76,13 +76,10 @@ fn measure(name: &str, input: &[u8]) {
     let lines = output.iter().filter(|byte| **byte == b'\n').count();
     let proved = || drop(black_box(printed(black_box(input))));
     let reference = measured(proved, || drop(black_box(script::run(black_box(input)))));
-    let bytes = measured(proved, || drop(black_box(in_bytes(black_box(input)))));
     let name = format!("script, {name}, {} bytes, {lines} requests", input.len());
-    row(
-        &format!("{name}: a request"),
-        bytes.time / lines as u32,
-        &bytes,
-    );
+    row(&format!("{name}: a request"), lines as u32, proved, || {
+        drop(black_box(in_bytes(black_box(input))))
+    });
     row_without_goal(&format!("{name}: all, to `reference`"), &reference);
 }
 

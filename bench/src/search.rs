@@ -2,6 +2,7 @@
 //! for each relation a search for a pair that breaks a rule, over pairs found through signatures that both sides permit.
 
 use crate::fits;
+use crate::measure::in_place;
 use conformance::PAIRS_LENGTH;
 use reference::raw::{RawTable, BROADER_BYTES, METHODS_AT, METHOD_BYTES};
 use reference::relations::{Relation, RELATIONS};
@@ -135,9 +136,10 @@ fn methods(found: &mut Found, states: &States, count: usize, x: &[u8], y: &[u8])
 }
 
 /// How many pairs are found from a pair, itself among them, if all keep the rules of the relation: then the pair is related. What is
-/// cleared for a search goes by the size of the table, in the steps of crates/relation.
+/// cleared for a search goes by the size of the table, in the steps of crates/relation, or is the whole (`measure::in_place`).
 pub fn reached(raw: &RawTable, relation: Relation, t: usize, s: usize) -> Option<usize> {
     match raw.types {
+        _ if !in_place() => reached_in(&mut [0; MAX_TYPES * MAX_TYPES], raw, relation, t, s),
         ..=16 => reached_in(&mut [0; 16 * MAX_TYPES], raw, relation, t, s),
         ..=72 => reached_in(&mut [0; 72 * MAX_TYPES], raw, relation, t, s),
         _ => reached_in(&mut [0; MAX_TYPES * MAX_TYPES], raw, relation, t, s),

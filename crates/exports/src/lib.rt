@@ -84,12 +84,8 @@ pub extern "C" fn pilgonca_read(
 ) -> usize
     ensures { λ n. ⌜ sheetOf n (now (at .exit)) (now (types .exit)) (now (links .exit)) (countsIn (now (counts .exit))) ≡ answered (readSheet (now (text .entry))) ⌝ }
 {
-    let r = sheetread::read(text);
-    let t = r.types;
-    let l = r.links;
+    let r = sheetread::read_into(text, types, links);
     let c = r.counts;
-    *types = t;
-    *links = l;
     *counts = [c.subjects, c.methods, c.cats, c.sheet, c.types];
     *at = r.at;
     r.refusal

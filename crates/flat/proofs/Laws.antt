@@ -145,7 +145,8 @@ places-read b n =
 
 calls-read : (b : List ℕ) (n : ℕ) → firstOf n noRawCall (callRecords (callsFrom b n)) ≡ firstOf n noRawCall (map callAgain (rawCalls b))
 unfolding callsFrom rawCalls
-calls-read b n = read-first callRec blankCall (callFrom b) (λ j. callAgain (rawCallAt b (j * 4))) (λ j. refl) 256 n ∙ ap (firstOf n noRawCall) (sym (map-from callAgain (λ j. rawCallAt b (j * 4)) 256 0))
+calls-read b n = read-first callRec blankCall (callFrom b) (λ j. callAgain (rawCallAt b (j * 4))) (λ j. refl) 256 n
+    ∙ ap (firstOf n noRawCall) (sym (map-from callAgain (λ j. rawCallAt b (j * 4)) 256 0))
 
 place-same : (x : RawPlace) → So (ltb (x .code) 2) → placeAgain x ≡ x
 place-same x h = go (x .code) (x .first) (x .second) (ltb-true (x .code) 2 h)

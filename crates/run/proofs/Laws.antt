@@ -124,7 +124,8 @@ module _ (s₀ : State) (ws old : List ℤ) where
         let is : systemIn st ≡ rest s₀ ws (room old) 0 .1 = back-means h₀ t back ∙ ap (λ (p : List Outcome × System). p .1) (sym e) ∙ g .system in
         let w : Stored s₀ st = back-left h₀ t back in
         subst (RanAs s₀ old out (whole .0) (whole .1)) (sym y)
-        (subst (λ (m : List Outcome × System). RanAs s₀ old out (m .0) (m .1) (record { refusal = 0; served = i; state = withTypes s t })) (each-is-run (systemIn s₀) (requests (room old) ws)) (record {
+        (subst (λ (m : List Outcome × System). RanAs s₀ old out (m .0) (m .1) (record { refusal = 0; served = i; state = withTypes s t }))
+        (each-is-run (systemIn s₀) (requests (room old) ws)) (record {
           refusal = refl;
           served = sym z ∙ ap (λ (p : List Outcome × System). i + length (p .0)) (sym e) ∙ g .count;
           answers = k ∙ ap (λ (p : List Outcome × System). sets cur (i * 4) (answersOf (p .0))) (sym e) ∙ g .words;
@@ -173,7 +174,9 @@ module _ (s₀ : State) (ws old : List ℤ) where
         system = ap (λ (p : List Outcome × System). p .1) (sym one) ∙ g .system;
         count = let z : i + 1 + length (on .0) ≡ i + suc (length (on .0)) = omega arith in z ∙ ap (λ (p : List Outcome × System). i + length (p .0)) (sym one) ∙ g .count;
         words = written (outcomeOf (r .answer)) k ∙ ap (λ (p : List Outcome × System). sets cur (i * 4) (answersOf (p .0))) (sym one) ∙ g .words;
-        untouched = λ a. let b = g .untouched a in let c = still (r .answer) refl (subst (λ (p : List Outcome × System). AllRefused (p .0)) one (b .1)) in (ea ∙ ap (λ (x : Bool). x || isAccepted (r .answer)) (b .0) ∙ c .0, c .1);
+        untouched = λ a. let b = g .untouched a in
+            let c = still (r .answer) refl (subst (λ (p : List Outcome × System). AllRefused (p .0)) one (b .1)) in
+            (ea ∙ ap (λ (x : Bool). x || isAccepted (r .answer)) (b .0) ∙ c .0, c .1);
         quiet = λ z. let n = neither any (isAccepted (r .answer)) (sym ea ∙ z) in still-there (r .answer) refl (n .1) ∙ ap (λ (x : State). withTypes x (r .state .types)) (g .quiet (n .0));
         stored = stored-on s₀ s (r .state) (g .stored) (step .stored);
         sound = step .sound;

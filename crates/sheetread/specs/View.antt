@@ -16,7 +16,7 @@ use Rattle.sheetread.specs.declared.Done.the-variants.{Refused, At}
 use Rattle.sheetread.specs.declared.Front.{Front}
 use Rattle.sheetread.specs.declared.First.{First}
 use Rattle.sheetread.specs.declared.First.the-variants.{Refused as Refusedᶠ, At as Atᶠ}
-pub use Rattle.sheetread.specs.Answer.{answered, sheetOf}
+pub use Rattle.sheetread.specs.Answer.{answered, sheetOf, outcomeOf}
 
 -- Several lines of s, read as x; and what holds where they are accepted.
 abbrev pub doneBy : {A : Type 0} → List ℕ → A → Done → Reading A

@@ -13,7 +13,7 @@ ghost use Rattle.table.specs.Records.{typeBytes, linkBytes};
 ghost use Rattle.sheet.specs.Lines.{split, bind, times};
 ghost use Rattle.sheet.specs.Sheet.{malformed, sheetAnswer, sheetType, oneType, ending, read as readSheet};
 ghost use Rattle.textread.specs.View.{reading};
-ghost use Rattle.sheetread.specs.View.{doneBy, OnDone, firstBy, FirstWithin, linksTo, methodIs, MethodsExact, eachUnder, eachMethod, membersRead, first, afterCount, afterFirst, answered};
+ghost use Rattle.sheetread.specs.View.{doneBy, OnDone, firstBy, FirstWithin, linksTo, methodIs, MethodsExact, eachUnder, eachMethod, membersRead, first, afterCount, afterFirst, answered, outcomeOf};
 use cursor::Cursor;
 use lineread::UnderGot;
 use numbers::narrow;
@@ -55,6 +55,14 @@ pub struct Front {
 pub enum First {
     Refused(usize, Cursor),
     At(Front, Cursor),
+}
+
+// What comes of a sheet that is read into lent bytes: 0, 0 and the counts of the table in them; or the number of a refusal and the byte offset of its line,
+// with counts and bytes of a table that holds nothing.
+pub struct Outcome {
+    pub refusal: usize,
+    pub at: usize,
+    pub counts: Counts,
 }
 
 // The reader's answer: 0, 0 and the table; or the number of a refusal and the byte offset of its line, with a table that holds nothing.
@@ -309,37 +317,46 @@ fn first_lines(s: &[u8]) -> First
 }
 
 // A refusal: its number, the offset of its line, and a table that holds nothing (S31, S32).
-fn refused(refusal: usize, at: usize) -> Sheet
-    ensures { λ r. ⌜ r ≡ answered (malformed refusal at) ⌝ }
+fn refused(
+    refusal: usize,
+    at: usize,
+    types: &mut [u8; TYPE_BYTES],
+    links: &mut [u8; LINK_BYTES],
+) -> Outcome
+    ensures { λ r. ⌜ outcomeOf r (now (types .exit)) (now (links .exit)) ≡ answered (malformed refusal at) ⌝ }
 {
-    let types = table::empty_types();
-    let links = table::empty_links();
+    *types = table::empty_types();
+    *links = table::empty_links();
     let counts = Counts::empty();
-    Sheet {
+    Outcome {
         refusal,
         at,
-        types,
-        links,
         counts,
     }
 }
 
 // The n types and the last line, with the links of the categories: the table.
-fn after_count(s: &[u8], c: Cursor, h: Front, links: [u8; LINK_BYTES], n: usize) -> Sheet
-    requires { ⌜ (h .methods ≤ 16) × (h .cats ≤ 31) × (n ≤ 48) ⌝ }
-    ensures { λ r. ⌜ ((cs : List (List ℕ)) → links ≡ linkBytes cs → length cs ≡ h .cats → r ≡ answered (sheetAnswer (bind (afterCount h cs n) ending (c .at) (split (drop (c .at) (now (s .entry))))))) ⌝ }
+fn after_count(
+    s: &[u8],
+    c: Cursor,
+    h: Front,
+    n: usize,
+    types: &mut [u8; TYPE_BYTES],
+    links: &mut [u8; LINK_BYTES],
+) -> Outcome
+    requires { ⌜ (h .methods ≤ 16) × (h .cats ≤ 31) × (n ≤ 48) × (now types ≡ emptyTypes) ⌝ }
+    ensures { λ r. ⌜ ((cs : List (List ℕ)) → now (links .entry) ≡ linkBytes cs → length cs ≡ h .cats → outcomeOf r (now (types .exit)) (now (links .exit)) ≡ answered (sheetAnswer (bind (afterCount h cs n) ending (c .at) (split (drop (c .at) (now (s .entry))))))) ⌝ }
 {
-    let mut types = table::empty_types();
-    let t = types_into(s, c, h.methods, h.cats, n, &mut types);
+    let t = types_into(s, c, h.methods, h.cats, n, types);
     let f = match t {
         Done::Refused(k, f) => {
-            return refused(k, f.at);
+            return refused(k, f.at, types, links);
         }
         Done::At(f) => f,
     };
-    let g = last_line(s, f, &types, n, h.methods);
+    let g = last_line(s, f, types, n, h.methods);
     match g {
-        Done::Refused(k, z) => refused(k, z.at),
+        Done::Refused(k, z) => refused(k, z.at, types, links),
         Done::At(_) => {
             let counts = Counts {
                 subjects: h.subjects,
@@ -348,11 +365,9 @@ fn after_count(s: &[u8], c: Cursor, h: Front, links: [u8; LINK_BYTES], n: usize)
                 sheet: n,
                 types: n,
             };
-            Sheet {
+            Outcome {
                 refusal: 0,
                 at: 0,
-                types,
-                links,
                 counts,
             }
         }
@@ -360,32 +375,56 @@ fn after_count(s: &[u8], c: Cursor, h: Front, links: [u8; LINK_BYTES], n: usize)
 }
 
 // The lines behind the first four.
-fn after_first(s: &[u8], c: Cursor, h: Front) -> Sheet
-    requires { ⌜ (h .methods ≤ 16) × (h .cats ≤ 31) ⌝ }
-    ensures { λ r. ⌜ r ≡ answered (sheetAnswer (bind (afterFirst h) ending (c .at) (split (drop (c .at) (now (s .entry)))))) ⌝ }
+fn after_first(
+    s: &[u8],
+    c: Cursor,
+    h: Front,
+    types: &mut [u8; TYPE_BYTES],
+    links: &mut [u8; LINK_BYTES],
+) -> Outcome
+    requires { ⌜ (h .methods ≤ 16) × (h .cats ≤ 31) × (now types ≡ emptyTypes) × (now links ≡ emptyLinks) ⌝ }
+    ensures { λ r. ⌜ outcomeOf r (now (types .exit)) (now (links .exit)) ≡ answered (sheetAnswer (bind (afterFirst h) ending (c .at) (split (drop (c .at) (now (s .entry)))))) ⌝ }
 {
-    let mut links = table::empty_links();
-    let u = links_into(s, c, h.cats, &mut links);
+    let u = links_into(s, c, h.cats, links);
     let d = match u {
         Done::Refused(k, d) => {
-            return refused(k, d.at);
+            return refused(k, d.at, types, links);
         }
         Done::At(d) => d,
     };
     let y = textread::next_number(s, d, b"types=", 1, Counts::SHEET_TYPES);
     match y {
-        Got::Refused(k) => refused(k, d.at),
-        Got::At(n, e) => after_count(s, e, h, links, n),
+        Got::Refused(k) => refused(k, d.at, types, links),
+        Got::At(n, e) => after_count(s, e, h, n, types, links),
     }
 }
 
-// Sheet read, for any bytes. Where a sheet is accepted there is no line to point at, and `at` is 0 (S33).
+// Sheet read into lent bytes, for any text; what the bytes held before is gone. Where a sheet is accepted there is no line to point at, and `at` is 0 (S33).
+pub fn read_into(s: &[u8], types: &mut [u8; TYPE_BYTES], links: &mut [u8; LINK_BYTES]) -> Outcome
+    ensures { λ r. ⌜ outcomeOf r (now (types .exit)) (now (links .exit)) ≡ answered (readSheet (now (s .entry))) ⌝ }
+{
+    *types = table::empty_types();
+    *links = table::empty_links();
+    let g = first_lines(s);
+    match g {
+        First::Refused(k, c) => refused(k, c.at, types, links),
+        First::At(h, c) => after_first(s, c, h, types, links),
+    }
+}
+
+// The same, with the bytes of the table in the answer.
 pub fn read(s: &[u8]) -> Sheet
     ensures { λ r. ⌜ r ≡ answered (readSheet (now (s .entry))) ⌝ }
 {
-    let g = first_lines(s);
-    match g {
-        First::Refused(k, c) => refused(k, c.at),
-        First::At(h, c) => after_first(s, c, h),
+    let mut types = table::empty_types();
+    let mut links = table::empty_links();
+    let r = read_into(s, &mut types, &mut links);
+    let counts = r.counts;
+    Sheet {
+        refusal: r.refusal,
+        at: r.at,
+        types,
+        links,
+        counts,
     }
 }

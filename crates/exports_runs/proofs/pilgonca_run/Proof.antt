@@ -43,7 +43,8 @@ returns-2 c =
     (c .before .before .before .before .before .before .state-from .ensures (a .types .now)) (r .ensures) in
     run-refused f (room (a .answers .now)) (a .words .now)
     (passed _ _ (c .before .before .before .before .before .before .before .before .before .before .before .before .codes-fit .ensures)
-    (c .before .before .before .before .before .before .before .before .before .before .before .if1 .left)) (a .answers .now) (r .last .1 .1 .1 .0) (over (r .last .0) (r .result)) w (a .served .now) (c .if2 .taken)
+    (c .before .before .before .before .before .before .before .before .before .before .before .if1 .left))
+    (a .answers .now) (r .last .1 .1 .1 .0) (over (r .last .0) (r .result)) w (a .served .now) (c .if2 .taken)
 
 store-requires : tie.Need-store-requires
 store-requires c κs = search needs
@@ -53,14 +54,15 @@ same-length-2 c = search needs
 
 returns-3 : tie.Need-returns-3
 returns-3 c =
-    let a = c .before .before .before .before .before .before .before .before .before .before .before .before .before .before .before .before .before .before .before .before .before .before .before .args in
+    let c12 = c .before .before .before .before .before .before .before .before .before .before .before .before in
+    let a = c12 .before .before .before .before .before .before .before .before .before .before .before .args in
     let f = flat (a .types .now) (a .links .now) (a .cells .now) (a .places .now) (a .calls .now) (a .counts .now) in
     let r = c .before .before .before .before .before .before .before .before .before .run in
     let w = subst (λ s. Runs s (a .answers .now) (r .last .1 .1 .1 .0) (runHanded (rawState s) (room (a .answers .now)) (a .words .now)) (over (r .last .0) (r .result)))
-    (c .before .before .before .before .before .before .before .before .before .before .before .before .state-from .ensures (a .types .now)) (r .ensures) in
+    (c12 .state-from .ensures (a .types .now)) (r .ensures) in
     run-taken f (room (a .answers .now)) (a .words .now)
-    (passed _ _ (c .before .before .before .before .before .before .before .before .before .before .before .before .before .before .before .before .before .before .codes-fit .ensures)
-    (c .before .before .before .before .before .before .before .before .before .before .before .before .before .before .before .before .before .if1 .left)) (a .answers .now)
+    (passed _ _ (c12 .before .before .before .before .before .before .codes-fit .ensures)
+    (c12 .before .before .before .before .before .if1 .left)) (a .answers .now)
     (r .last .1 .1 .1 .0) (over (r .last .0) (r .result)) w (a .served .now) _ _ refl (c .store .ensures (r .last .0) (a .links .now)) (c .before .before .before .before .before .before .if2 .left)
 
 pub pilgonca-run-spec : {M : Type 1} → statement M

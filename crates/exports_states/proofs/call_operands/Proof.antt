@@ -63,11 +63,12 @@ loop-less c = search needs
 
 loop-again : tie.Need-loop-again Inv-loop μ-loop
 loop-again c = let a = c .before .before .before .before .args in let p = c .before .before .before .loop in let w = a .arguments .now in
+    let more : p .i ≤ 2 = omega (arith, c .before .before .loop-test .taken) in
     rw (is-read w (p .i) (c .items .given)) (
       omega arith,
       omega arith,
       length-set (p .items) (3 + p .i) _ ∙ p .inv .2,
-      listed-next _ _ _ w (p .items) (p .i) (p .inv .2) (p .inv .0) (p .inv .3) (c .before .before .loop-test .taken) (c .before .if1 .left),
+      listed-next _ _ _ w (p .items) (p .i) (p .inv .2) (p .inv .0) (p .inv .3) more (c .before .if1 .left),
     )
 
 add-t23 : tie.Need-add-t23 Inv-loop μ-loop
@@ -76,7 +77,7 @@ add-t23 c = search needs
 returns-2 : tie.Need-returns-2 Inv-loop μ-loop
 returns-2 c = let a = c .before .before .args in let f = c .before .before .fits in let p = c .before .loop in
     let is = rw (toZ-ofZ (f .subject), toZ-ofZ (f .cell), toZ-ofZ (f .method)) at (p .inv .3) in
-    listed-cut (a .subject) (a .cell) (a .method) (a .arguments .now) (p .items) (p .i) (p .inv .2) (p .inv .0) is (c .loop-test .left)
+    listed-cut (a .subject) (a .cell) (a .method) (a .arguments .now) (p .items) (p .i) (p .inv .2) (p .inv .0) is (omega (arith, c .loop-test .left))
 
 pub call-operands-spec : {M : Type 1} → statement M
 call-operands-spec =

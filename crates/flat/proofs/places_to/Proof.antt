@@ -44,7 +44,8 @@ loop-again : tie.Need-loop-again Inv-loop μ-loop
 loop-again c =
     let a = c .before .before .before .before .before .before .before .before .args in let w = c .before .before .before .before .loop in (
       omega arith,
-      rows-more 3 (placeRow (a .t2)) (a .b .now) (λ i. place-wide (getD (a .t2 .list) i blankPlace .place)) below-3 next-3 384 (w .p) (w .b) _ (c .before .before .before .before .before .before .place-bytes .ensures)
+      rows-more 3 (placeRow (a .t2)) (a .b .now) (λ i. place-wide (getD (a .t2 .list) i blankPlace .place)) below-3 next-3 384 (w .p) (w .b) _
+          (c .before .before .before .before .before .before .place-bytes .ensures)
           (omega (arith, c .before .before .before .loop-test .taken, c .before .before .before .before .before .least .ensures .2)) (c .put-place .ensures) (w .inv .1),
     )
 

@@ -15,15 +15,19 @@ copied-requires : tie.Need-copied-requires
 copied-requires c κs = search needs
 
 run-checked-requires : tie.Need-run-checked-requires
-run-checked-requires c κs = let a = c .before .before .before .before .before .before .before .before .args in let old = c .before .before .before .copied in
-    (accepted-sound (whole (a .types .now) (a .s)) (sym (c .before .before .before .before .before .before .state-fits .ensures) ∙ c .before .before .before .before .before .if1 .taken) (old .ensures .1), old .ensures .0)
+run-checked-requires c κs = let a = c .before .before .before .before .before .before .before .before .args in let old = c .before .before .before .copied in (
+  accepted-sound (whole (a .types .now) (a .s))
+      (sym (c .before .before .before .before .before .before .state-fits .ensures) ∙ c .before .before .before .before .before .if1 .taken) (old .ensures .1),
+  old .ensures .0,
+)
 
 same-length : tie.Need-same-length
 same-length c = search needs
 
 returns : tie.Need-returns
 returns c = let a = c .before .before .before .before .before .before .before .before .before .before .args in let r = c .before .run-checked in
-    handed-fit (whole (a .types .now) (a .s)) (a .words .now) (a .answers .now) _ (over (r .last .0) (r .result)) (sym (c .before .before .before .before .before .before .before .before .state-fits .ensures) ∙ c .before .before .before .before .before .before .before .if1 .taken) (r .ensures)
+    handed-fit (whole (a .types .now) (a .s)) (a .words .now) (a .answers .now) _ (over (r .last .0) (r .result))
+    (sym (c .before .before .before .before .before .before .before .before .state-fits .ensures) ∙ c .before .before .before .before .before .before .before .if1 .taken) (r .ensures)
 
 returns-2 : tie.Need-returns-2
 returns-2 c = let a = c .before .before .before .args in

@@ -58,10 +58,16 @@ loop-less : tie.Need-loop-less Inv-loop μ-loop
 loop-less c = search needs
 
 loop-again : tie.Need-loop-again Inv-loop μ-loop
-loop-again c = let a = c .before .before .before .before .before .before .before .before .before .before .before .before .args in let w = c .before .before .before .before .before .before .before .before .before .before .before .loop in let r = c .before .before .before .before .before .before .before .serve-at in
-    going-on (whole (a .types .now) (a .s)) (a .words .now) (a .answers .now) (whole (w .types) (w .state)) (w .answers) (w .served) (w .at) (w .any) (w .inv) (c .before .before .before .before .before .before .before .before .before .before .loop-test .taken)
-    (c .before .before .before .before .before .before .before .before .before .if1 .left) (done (r .last .0) (r .result)) (r .ensures) _ (c .before .before .before .put-answer .ensures) (c .next .result) (c .next .ensures .0) (c .next .ensures .2)
-    (c .before .before .before .before .before .either .result) (c .before .before .before .before .before .either .ensures ∙ ap (λ x. w .any || x) (c .before .before .before .before .before .before .accepted .ensures))
+loop-again c =
+    let a = c .before .before .before .before .before .before .before .before .before .before .before .before .args in
+    let w = c .before .before .before .before .before .before .before .before .before .before .before .loop in
+    let r = c .before .before .before .before .before .before .before .serve-at in
+    going-on (whole (a .types .now) (a .s)) (a .words .now) (a .answers .now) (whole (w .types) (w .state)) (w .answers) (w .served) (w .at) (w .any) (w .inv)
+    (c .before .before .before .before .before .before .before .before .before .before .loop-test .taken)
+    (c .before .before .before .before .before .before .before .before .before .if1 .left) (done (r .last .0) (r .result)) (r .ensures) _
+    (c .before .before .before .put-answer .ensures) (c .next .result) (c .next .ensures .0) (c .next .ensures .2)
+    (c .before .before .before .before .before .either .result)
+    (c .before .before .before .before .before .either .ensures ∙ ap (λ x. w .any || x) (c .before .before .before .before .before .before .accepted .ensures))
 
 ended-requires-2 : tie.Need-ended-requires-2 Inv-loop μ-loop
 ended-requires-2 c κs = search needs
@@ -71,7 +77,8 @@ same-length-2 c = search needs
 
 returns-2 : tie.Need-returns-2 Inv-loop μ-loop
 returns-2 c = let a = c .before .before .before .before .args in let h = c .before .before .before .before .pre in let w = c .before .before .before .loop in
-    going-full (whole (a .types .now) (a .s)) (a .words .now) (a .answers .now) (whole (w .types) (w .state)) (w .answers) (w .served) (w .at) (w .any) (w .inv) (c .before .before .loop-test .left) (h .0)
+    going-full (whole (a .types .now) (a .s)) (a .words .now) (a .answers .now) (whole (w .types) (w .state)) (w .answers) (w .served) (w .at) (w .any) (w .inv)
+    (c .before .before .loop-test .left) (h .0)
     (c .ended2 .last .0) (c .ended2 .ensures .1 ∙ ap (λ (x : List ℕ). cond (w .any) (w .types) x) (h .1)) (w .answers) refl _ (ap (over (c .ended2 .last .0)) (c .ended2 .ensures .0))
 
 pub run-checked-spec : {M : Type 1} → statement M

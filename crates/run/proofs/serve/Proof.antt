@@ -27,7 +27,8 @@ coded code ws k e = ap (λ (m : ℕ). byCode m ws) e ∙ code-is code ws
 
 returns : tie.Need-returns
 returns c = let a = c .before .before .before .args in let s = whole (a .types .now) (a .s) in
-    step-as (sym (ap (serveAsked (systemIn s)) (coded (a .code) (a .ops .now) (c .before .before .index-of .result) (rw (toZ-ofZ (c .before .before .before .fits .code)) at (c .before .before .index-of .ensures)))))
+    step-as (sym (ap (serveAsked (systemIn s)) (coded (a .code) (a .ops .now) (c .before .before .index-of .result)
+    (rw (toZ-ofZ (c .before .before .before .fits .code)) at (c .before .before .index-of .ensures)))))
     (c .serve-coded .ensures)
 
 pub serve-spec : {M : Type 1} → statement M

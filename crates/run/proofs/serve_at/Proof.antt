@@ -30,7 +30,8 @@ refused-requires c κs = search needs
 returns : tie.Need-returns
 returns c = let a = c .before .before .before .args in let s = whole (a .types .now) (a .s) in let w = a .words .now in
     refuses s (askedAt w (a .at)) (done (a .types .now) (c .refused .result)) (c .before .before .before .pre .0)
-    (asked-none w (a .at) (c .before .before .before .pre .1) (c .before .before .operands .result) (c .before .before .operands .ensures) (c .before .if1 .taken)) (ap (done (a .types .now)) (c .refused .ensures))
+    (asked-none w (a .at) (c .before .before .before .pre .1) (c .before .before .operands .result) (c .before .before .operands .ensures) (c .before .if1 .taken))
+    (ap (done (a .types .now)) (c .refused .ensures))
 
 mul-code : tie.Need-mul-code
 mul-code c = search needs
@@ -60,7 +61,9 @@ serve-requires : tie.Need-serve-requires
 serve-requires c κs = search needs
 
 returns-2 : tie.Need-returns-2
-returns-2 c = let a = c .before .before .before .before .before .before .args in let s = whole (a .types .now) (a .s) in let w = a .words .now in let n = c .before .before .before .before .before .operands .result in
+returns-2 c =
+    let a = c .before .before .before .before .before .before .args in let s = whole (a .types .now) (a .s) in let w = a .words .now in
+    let n = c .before .before .before .before .before .operands .result in
     let e : a .at + 2 + n - (a .at + 2) ≡ n = omega arith in
     step-as
     (sym (ap (serveAsked (systemIn s))

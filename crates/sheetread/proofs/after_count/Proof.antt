@@ -13,11 +13,10 @@ use Rattle.sheetread.specs.View.{answered}
 use Rattle.sheetread.proofs.after_count.Statement.{statement}
 use Rattle.sheetread.proofs.after_count.Tie as tie
 
-empty-types-requires : tie.Need-empty-types-requires
-empty-types-requires c κs = search needs
-
 types-into-requires : tie.Need-types-into-requires
-types-into-requires c κs = (c .before .before .before .pre .0, c .before .before .before .pre .1, c .before .before .before .pre .2, c .before .empty-types .ensures)
+types-into-requires c κs =
+    let c2 = c .before .before in
+    c2 .pre
 
 enum-known-t : tie.Need-enum-known-t
 enum-known-t c = search needs
@@ -27,17 +26,22 @@ refused-requires c κs = search needs
 
 returns : tie.Need-returns
 returns c =
-    let a = c .before .before .before .before .before .before .before .before .args in
+    let c4 = c .before .before .before .before in
+    let c6 = c4 .before .before in
+    let c9 = c6 .before .before .before in
+    let a = c9 .args in
     let s = a .s .now in
-    let t = c .before .before .before .before .types-into in
+    let t = c6 .types-into in
     λ cs e f. c .refused .ensures ∙ ap (λ z. answered (sheetAnswer z))
-    (types-no (a .h) cs (a .n) (a .c .at) (split (drop (a .c .at) s)) _ _ (done-no s _ (t .result) _ (t .ensures .0) _ _ (c .before .before .t .given .1)))
+    (types-no (a .h) cs (a .n) (a .c .at) (split (drop (a .c .at) s)) _ _ (done-no s _ (t .result) _ (t .ensures .0) _ _ (c4 .t .given .1)))
 
 enum-known-t-2 : tie.Need-enum-known-t-2
 enum-known-t-2 c = search needs
 
 last-line-requires : tie.Need-last-line-requires
-last-line-requires c κs = (omega (arith, c .before .before .before .before .before .before .before .before .pre .2), c .before .before .before .before .before .before .before .before .pre .0)
+last-line-requires c κs =
+    let c7 = c .before .before .before .before .before .before .before in
+    (omega (arith, c7 .pre .2), c7 .pre .0)
 
 enum-known-g : tie.Need-enum-known-g
 enum-known-g c = search needs
@@ -50,28 +54,28 @@ enum-told c = search needs
 
 returns-2 : tie.Need-returns-2
 returns-2 c =
-    let c2 = c .before .before in
-    let c4 = c2 .before .before in
-    let c7 = c4 .before .before .before in
-    let c9 = c7 .before .before in
-    let c13 = c9 .before .before .before .before in
-    let a = c13 .args in
+    let c4 = c .before .before .before .before in
+    let c6 = c4 .before .before in
+    let c9 = c6 .before .before .before in
+    let c11 = c9 .before .before in
+    let c14 = c11 .before .before .before in
+    let a = c14 .args in
     let s = a .s .now in
-    let t = c9 .types-into in
+    let t = c11 .types-into in
     let ts = typesTo (a .h .methods) (a .n) (a .n) (typesIn (t .last .1 .1 .1 .1 .1 .0)) in
-    let at = c7 .t2 .given .0 .0 in
-    let g = c4 .last-line in
+    let at = c9 .t2 .given .0 .0 in
+    let g = c6 .last-line in
     λ cs e f. c .refused2 .ensures ∙ ap (λ z. answered (sheetAnswer z))
-    (done-no s (tableWith (a .h) cs (a .n) ts) (g .result) _ (g .ensures (tableWith (a .h) cs (a .n) ts) refl) _ _ (c2 .g .given .1)
-    ∙ to-ending (a .h) cs (a .n) (a .c .at) (split (drop (a .c .at) s)) ts (at .at) (split (drop (at .at) s)) (done-ok s ts (t .result) _ (t .ensures .0) at (c7 .t2 .given .1)))
+    (done-no s (tableWith (a .h) cs (a .n) ts) (g .result) _ (g .ensures (tableWith (a .h) cs (a .n) ts) refl) _ _ (c4 .g .given .1)
+    ∙ to-ending (a .h) cs (a .n) (a .c .at) (split (drop (a .c .at) s)) ts (at .at) (split (drop (at .at) s)) (done-ok s ts (t .result) _ (t .ensures .0) at (c9 .t2 .given .1)))
 
 returns-3 : tie.Need-returns-3
 returns-3 c =
     let c2 = c .before .before in
     let c5 = c2 .before .before .before in
     let c7 = c5 .before .before in
-    let c11 = c7 .before .before .before .before in
-    let a = c11 .args in
+    let c10 = c7 .before .before .before in
+    let a = c10 .args in
     let s = a .s .now in
     let t = c7 .types-into in
     let b = t .last .1 .1 .1 .1 .1 .0 in
@@ -88,7 +92,6 @@ pub after-count-spec : {M : Type 1} → statement M
 after-count-spec =
     tie.close
     (tie.spec
-    empty-types-requires
     types-into-requires
     enum-known-t
     refused-requires

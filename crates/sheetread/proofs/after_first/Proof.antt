@@ -11,11 +11,10 @@ use Rattle.sheetread.specs.View.{linksTo, answered}
 use Rattle.sheetread.proofs.after_first.Statement.{statement}
 use Rattle.sheetread.proofs.after_first.Tie as tie
 
-empty-links-requires : tie.Need-empty-links-requires
-empty-links-requires c κs = search needs
-
 links-into-requires : tie.Need-links-into-requires
-links-into-requires c κs = (c .before .before .before .pre .1, c .before .empty-links .ensures)
+links-into-requires c κs =
+    let c2 = c .before .before in
+    (c2 .pre .1, c2 .pre .3)
 
 enum-known-u : tie.Need-enum-known-u
 enum-known-u c = search needs
@@ -25,13 +24,13 @@ refused-requires c κs = search needs
 
 returns : tie.Need-returns
 returns c =
-    let c2 = c .before .before in
-    let c4 = c2 .before .before in
-    let c8 = c4 .before .before .before .before in
-    let a = c8 .args in
+    let c4 = c .before .before .before .before in
+    let c6 = c4 .before .before in
+    let c9 = c6 .before .before .before in
+    let a = c9 .args in
     let s = a .s .now in
-    let u = c4 .links-into in
-    c .refused .ensures ∙ ap (λ z. answered (sheetAnswer z)) (links-no (a .h) (a .c .at) (split (drop (a .c .at) s)) _ _ (done-no s _ (u .result) _ (u .ensures .0) _ _ (c2 .u .given .1)))
+    let u = c6 .links-into in
+    c .refused .ensures ∙ ap (λ z. answered (sheetAnswer z)) (links-no (a .h) (a .c .at) (split (drop (a .c .at) s)) _ _ (done-no s _ (u .result) _ (u .ensures .0) _ _ (c4 .u .given .1)))
 
 enum-known-u-2 : tie.Need-enum-known-u-2
 enum-known-u-2 c = search needs
@@ -54,52 +53,52 @@ enum-known-y-2 c = search needs
 after-count-requires : tie.Need-after-count-requires
 after-count-requires c κs =
     let c3 = c .before .before .before in
-    let c12 = c3 .before .before .before .before .before .before .before .before .before in
-    (c12 .pre .0, c12 .pre .1, got-at-most 48 (c3 .next-number .result) _ _ (c .before .y2 .given .1) (c3 .next-number .ensures .1))
+    let c5 = c3 .before .before in
+    let c13 = c5 .before .before .before .before .before .before .before .before in
+    (c13 .pre .0, c13 .pre .1, got-at-most 48 (c5 .next-number .result) _ _ (c3 .y2 .given .1) (c5 .next-number .ensures .1), c13 .pre .2)
 
 returns-2 : tie.Need-returns-2
 returns-2 c =
-    let c2 = c .before .before in
-    let c4 = c2 .before .before in
-    let c7 = c4 .before .before .before in
-    let c9 = c7 .before .before in
-    let c13 = c9 .before .before .before .before in
-    let a = c13 .args in
+    let c4 = c .before .before .before .before in
+    let c6 = c4 .before .before in
+    let c9 = c6 .before .before .before in
+    let c11 = c9 .before .before in
+    let c14 = c11 .before .before .before in
+    let a = c14 .args in
     let s = a .s .now in
-    let u = c9 .links-into in
+    let u = c11 .links-into in
     let links = linksTo (a .h .cats) (linksIn (u .last .1 .1 .1 .0)) in
-    let at = c7 .u2 .given .0 .0 in
-    let y = c4 .next-number in
+    let at = c9 .u2 .given .0 .0 in
+    let y = c6 .next-number in
     c .refused2 .ensures ∙ ap (λ z. answered (sheetAnswer z))
-    (count-no (a .h) (a .c .at) (split (drop (a .c .at) s)) links (at .at) (split (drop (at .at) s)) (done-ok s links (u .result) _ (u .ensures .0) at (c7 .u2 .given .1)) _ _
-    (got-no (λ n. n) s (at .at) (y .result) _ (y .ensures .0) _ (c2 .y .given .1)))
+    (count-no (a .h) (a .c .at) (split (drop (a .c .at) s)) links (at .at) (split (drop (at .at) s)) (done-ok s links (u .result) _ (u .ensures .0) at (c9 .u2 .given .1)) _ _
+    (got-no (λ n. n) s (at .at) (y .result) _ (y .ensures .0) _ (c4 .y .given .1)))
 
 returns-3 : tie.Need-returns-3
 returns-3 c =
-    let c2 = c .before .before in
-    let c4 = c2 .before .before in
-    let c7 = c4 .before .before .before in
-    let c9 = c7 .before .before in
-    let c13 = c9 .before .before .before .before in
-    let a = c13 .args in
+    let c4 = c .before .before .before .before in
+    let c6 = c4 .before .before in
+    let c9 = c6 .before .before .before in
+    let c11 = c9 .before .before in
+    let c14 = c11 .before .before .before in
+    let a = c14 .args in
     let s = a .s .now in
-    let u = c9 .links-into in
+    let u = c11 .links-into in
     let ls = linksIn (u .last .1 .1 .1 .0) in
     let links = linksTo (a .h .cats) ls in
-    let at = c7 .u2 .given .0 .0 in
-    let y = c4 .next-number in
-    let n = c2 .y2 .given .0 .0 in
-    let e = c2 .y2 .given .0 .1 .0 in
-    c .after-count .ensures links (on-done (u .result) at _ (c7 .u2 .given .1) (u .ensures .1)) (links-count (a .h .cats) ls) ∙ ap (λ z. answered (sheetAnswer z))
-    (count-ok (a .h) (a .c .at) (split (drop (a .c .at) s)) links (at .at) (split (drop (at .at) s)) (done-ok s links (u .result) _ (u .ensures .0) at (c7 .u2 .given .1)) n (e .at)
+    let at = c9 .u2 .given .0 .0 in
+    let y = c6 .next-number in
+    let n = c4 .y2 .given .0 .0 in
+    let e = c4 .y2 .given .0 .1 .0 in
+    c .after-count .ensures links (on-done (u .result) at _ (c9 .u2 .given .1) (u .ensures .1)) (links-count (a .h .cats) ls) ∙ ap (λ z. answered (sheetAnswer z))
+    (count-ok (a .h) (a .c .at) (split (drop (a .c .at) s)) links (at .at) (split (drop (at .at) s)) (done-ok s links (u .result) _ (u .ensures .0) at (c9 .u2 .given .1)) n (e .at)
     (split (drop (e .at) s))
-    (got-ok (λ n. n) s (at .at) (y .result) _ (y .ensures .0) n e (c2 .y2 .given .1)))
+    (got-ok (λ n. n) s (at .at) (y .result) _ (y .ensures .0) n e (c4 .y2 .given .1)))
 
 pub after-first-spec : {M : Type 1} → statement M
 after-first-spec =
     tie.close
     (tie.spec
-    empty-links-requires
     links-into-requires
     enum-known-u
     refused-requires

@@ -15,9 +15,10 @@ empty-requires c κs = search needs
 
 returns : tie.Need-returns
 returns c =
-    let c2 = c .before .before in
+    let c1 = c .before in
+    let c2 = c1 .before in
     let c3 = c2 .before in
-    sheet-malformed (c3 .args .refusal) (c3 .args .at) _ _ _ (c2 .empty-types .ensures) (c .before .empty-links .ensures) (c .empty .ensures)
+    sheet-malformed (c3 .args .refusal) (c3 .args .at) _ _ _ (c2 .empty-types .ensures) (c1 .empty-links .ensures) (c .empty .ensures)
 
 pub refused-spec : {M : Type 1} → statement M
 refused-spec =
