@@ -29,12 +29,11 @@ use Rattle.state.specs.declared.Call.{Call}
 use Rattle.state.specs.declared.Calls.{Calls}
 use Rattle.state.specs.declared.Cell.{Cell}
 use Rattle.state.specs.Whole.{Whole as State}
-use Rattle.state.specs.View.{cellOf, callOf, cellsIn, placesIn, callsIn, callAdded, systemIn}
+use Rattle.state.specs.View.{cellOf, callOf, cellsIn, placesIn, callsIn, callAdded, systemIn, withTypes}
 use Rattle.state.specs.Sound.{CallIn, Sound}
 use Rattle.state.proofs.Laws.{calls-length, system-is}
 use Rattle.steps.specs.declared.Answer.{Answer}
 use Rattle.steps.specs.declared.Answer.the-variants.{Pair}
-use Rattle.state.specs.Whole.{withTypes}
 use Rattle.steps.specs.Served.{Done as Served, refusalOf as refusal}
 use Rattle.steps.specs.Served.{outcomeOf, servedWith, servedAs, Step}
 use Rattle.steps.proofs.Laws.{refuses, refuses-kept, step-as, table-is, cells-are, places-are, calls-are, subject-at, held-at}

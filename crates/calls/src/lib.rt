@@ -107,7 +107,15 @@ fn add_call(s: State, who: usize, k: usize, m: usize, adapters: usize) -> Served
 }
 
 // The call of method m, whose signature is x, through cell k (C9, C12, C18, C19).
-fn call_through(types: &mut [u8; TYPE_BYTES], s: State, who: usize, k: usize, m: usize, x: Method, vs: &[i64]) -> Served
+fn call_through(
+    types: &mut [u8; TYPE_BYTES],
+    s: State,
+    who: usize,
+    k: usize,
+    m: usize,
+    x: Method,
+    vs: &[i64],
+) -> Served
     requires { ⌜ Sound (whole (now types) s) × (s .calls .count < 256) × (who < 256) × (k < s .cells .count) × (m < s .counts .methods) ⌝ }
     ensures { λ r. ⌜ Step (whole (now (types .entry)) s) (callThrough (systemIn (whole (now (types .entry)) s)) who k m (argumentsOf x) (now (vs .entry))) (done (now (types .exit)) r) ⌝ }
 {
@@ -126,7 +134,14 @@ fn call_through(types: &mut [u8; TYPE_BYTES], s: State, who: usize, k: usize, m:
 }
 
 // The tests that are left once the subject, its cell and the method are known (C3, C4, C5, C7).
-fn call_held(types: &mut [u8; TYPE_BYTES], s: State, who: usize, k: usize, m: usize, vs: &[i64]) -> Served
+fn call_held(
+    types: &mut [u8; TYPE_BYTES],
+    s: State,
+    who: usize,
+    k: usize,
+    m: usize,
+    vs: &[i64],
+) -> Served
     requires { ⌜ Sound (whole (now types) s) × (who < 256) × (k < s .cells .count) × (m < s .counts .methods) ⌝ }
     ensures { λ r. ⌜ ((subject : ℤ) → named subject ≡ who → Step (whole (now (types .entry)) s) (callHeld (systemIn (whole (now (types .entry)) s)) subject k m (now (vs .entry))) (done (now (types .exit)) r)) ⌝ }
 {
@@ -146,7 +161,14 @@ fn call_held(types: &mut [u8; TYPE_BYTES], s: State, who: usize, k: usize, m: us
 }
 
 // Call (C).
-pub fn call_step(types: &mut [u8; TYPE_BYTES], s: State, subject: i64, cell: i64, method: i64, arguments: &[i64]) -> Served
+pub fn call_step(
+    types: &mut [u8; TYPE_BYTES],
+    s: State,
+    subject: i64,
+    cell: i64,
+    method: i64,
+    arguments: &[i64],
+) -> Served
     requires { ⌜ Sound (whole (now types) s) ⌝ }
     ensures { λ r. ⌜ Step (whole (now (types .entry)) s) (callRequest (systemIn (whole (now (types .entry)) s)) subject cell method (now (arguments .entry))) (done (now (types .exit)) r) ⌝ }
 {

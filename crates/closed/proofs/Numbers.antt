@@ -19,8 +19,7 @@ use Rattle.model.proofs.Rules.{never}
 use Rattle.table.specs.declared.Counts.{Counts}
 use Rattle.table.specs.declared.Head.{Head}
 use Rattle.table.specs.declared.TypeRec.{TypeRec}
-use Rattle.table.specs.Store.{rawMethod, rawOf, typesIn, typesTo, headOf, emptyMethod, emptyType, Put}
-use Rattle.table.specs.Records.{TypeExact}
+use Rattle.table.specs.Store.{rawMethod, rawOf, typesIn, typesTo, headOf, emptyMethod, emptyType, Put, TypeExact}
 use Rattle.table.proofs.Lists.{lt-or-ge}
 use Rattle.table.proofs.Laws.{types-length, put-length, put-types}
 use Rattle.table.proofs.Tables.{types-to-at, types-add}

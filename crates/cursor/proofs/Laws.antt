@@ -11,7 +11,8 @@ use lib.ListN.{length, getD, take, drop, length-drop, length-append, take-append
 use lib.Seq.{drop-cons, take-suc, getD-drop, drop-drop, take-all, length-take-le, take-append-seam}
 use borrow.Author.Tests.{ne-eqb}
 use Rattle.model.proofs.Rules.{both, first, second}
-use Rattle.sheet.specs.Lines.{Row, row, cut, push, split, firstLine, notLF, clean}
+use Rattle.sheet.specs.Lines.{Row, row, cut, push, split, firstLine}
+use Rattle.sheet.specs.Clean.{notLF, clean}
 use Rattle.sheet.proofs.Steps.{cond-cases}
 use Rattle.sheet.proofs.Lines.{all-append, unsplit, unsplit-split, notLF-eqb, split-line}
 use Rattle.cursor.specs.View.{Clear, LineAt, past}

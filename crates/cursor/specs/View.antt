@@ -4,7 +4,8 @@ use mathlib.Core.Bool.{So}
 use mathlib.Core.List.{List, [], _∷_}
 use Prim.Native.Nat.{ℕ, _+_, _-_, _≤_, _<_}
 use lib.ListN.{length, getD, take, drop}
-use Rattle.sheet.specs.Lines.{Row, row, cut, split, firstLine, clean}
+use Rattle.sheet.specs.Lines.{Row, row, cut, split, firstLine}
+use Rattle.sheet.specs.Clean.{clean}
 
 -- no LF stands in s from `at` to e
 pub record Clear (s : List ℕ) (at e : ℕ) : Type 0 where

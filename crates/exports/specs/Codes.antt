@@ -7,10 +7,10 @@ use Rattle.model.specs.Basics.{Res, refuse, ok}
 use Rattle.model.specs.Table.{Table}
 use Rattle.model.specs.Relations.{Answers}
 use Rattle.model.specs.Check.{codesFit}
-use Rattle.table.specs.Store.{rawTable, withCount}
+use Rattle.table.specs.Layout.{rawTable, withCount}
 use Rattle.flat.specs.Flat.{countsIn}
 use Rattle.compare.specs.Pairs.{pairCode}
-use Rattle.restrict.specs.Link.{Writes}
+use Rattle.restrict.specs.Bytes.{Writes}
 use Rattle.restrict_entry.specs.Answer.{Derivation, derivationOf}
 use Rattle.sheet.specs.Text.{Written}
 

@@ -11,12 +11,12 @@ use Rattle.model.specs.Relations.{bit}
 use Rattle.model.specs.Table.{size}
 use Rattle.model.specs.Requests.{System, Outcome}
 use Rattle.model.specs.Handed.{counted, storedFrom}
-use Rattle.table.specs.Store.{withCount}
+use Rattle.table.specs.Layout.{withCount}
 use Rattle.table.specs.Records.{bytesOf}
 use Rattle.flat.specs.Flat.{Flat, countsIn, cellCount, placeCount, callCount, rawFlat}
 use Rattle.run.specs.Ran.{answersOf}
 use Rattle.sheet.specs.Sheet.{SheetAnswer}
-use Rattle.sheetread.specs.View.{answered, sheetOf}
+use Rattle.sheetread.specs.Answer.{answered, sheetOf}
 
 -- the number returned and what stands beside it: 0 or 1, or, refused, what stood there
 abbrev pub offeredOut : ℕ → Res Bool → ℕ × ℕ

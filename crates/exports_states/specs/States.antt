@@ -1,17 +1,12 @@
 -- What the C functions of the requests take, beside what crate `handing` says of a request, and the operands that they make of it.
 use mathlib.Core.Path.{_≡_}
 use mathlib.Core.List.{List, _∷_}
-use mathlib.Core.Option.{Option, none, some}
 use Prim.Native.Nat.{ℕ, zero, suc, _≤_}
 use lib.IntN.{ℤ}
 use lib.ListN.{length, take}
 use Rattle.model.specs.Table.{maxArguments}
 use Rattle.exports_states.specs.declared.Operands.{Operands}
-
--- what is given as an answer: nothing for 0, else the value
-abbrev pub givenIn : ℕ → ℤ → Option ℤ
-givenIn zero v = none
-givenIn (suc n) v = some v
+pub use Rattle.exports_states.specs.Given.{givenIn}
 
 -- ---- The operands.
 -- how many an answer has

@@ -6,7 +6,7 @@ use Rattle.model.specs.Basics.{from}
 use Rattle.model.specs.Requests.{Cell as Cellᵐ}
 use Rattle.model.specs.Check.{RawPlace, RawCall, RawSystem}
 use Rattle.table.specs.declared.Counts.{Counts}
-use Rattle.table.specs.Store.{rawTable}
+use Rattle.table.specs.Layout.{rawTable}
 
 -- all that a caller lends of a state
 pub record Flat : Type 0 where

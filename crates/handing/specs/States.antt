@@ -9,7 +9,7 @@ use Rattle.model.specs.Table.{size}
 use Rattle.model.specs.Requests.{System, Request, Result, pair, number, nothing, Outcome, got, refused, serve, after}
 use Rattle.model.specs.Check.{RawSystem, systemOf, systemAccepted}
 use Rattle.model.specs.Handed.{serveHanded, Returns}
-use Rattle.table.specs.Store.{withCount}
+use Rattle.table.specs.Layout.{withCount}
 use Rattle.table.specs.Records.{bytesOf}
 use Rattle.flat.specs.Flat.{Flat, countsIn, rawFlat}
 

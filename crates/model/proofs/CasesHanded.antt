@@ -13,7 +13,8 @@ use Rattle.model.specs.Crossing.{object, adapter}
 use Rattle.model.specs.Requests.{Call, System, Request, Outcome, got, refused, pair}
 use Rattle.model.specs.Check.{RawPlace, RawCall, RawSystem, systemAccepted}
 use Rattle.model.specs.Records.{typeRecord}
-use Rattle.model.specs.Handed.{rawTableOf, rawLoaded, storedFrom, serveHanded}
+use Rattle.model.specs.Handed.{rawLoaded, storedFrom, serveHanded}
+use Rattle.model.proofs.Codes.{rawTableOf}
 use Rattle.model.proofs.CasesWords.{type, derivedAs, sheetOf, cell, stateFrom, move′, call′, answer′}
 
 -- Type 1 takes and answers numbers, 2 references, 3 neither; 5 takes a reference whose method is only optional, and an object of class 6 has it not.

@@ -3,7 +3,7 @@
 -- The spare bytes of a stored type are no part of these records: a contract over bytes says besides what becomes of them (B19, B22).
 use mathlib.Core.Path.{_≡_}
 use mathlib.Core.Bool.{cond}
-use mathlib.Core.List.{[], _∷_, map}
+use mathlib.Core.List.{[], map}
 use Prim.Native.Nat.{ℕ, suc}
 use lib.Dec.{ltb}
 use lib.ListN.{length, getD}
@@ -12,7 +12,7 @@ use Rattle.model.specs.Table.{Table, size, typeAt}
 use Rattle.model.specs.Relations.{bit}
 use Rattle.model.specs.Crossing.{Place, object, adapter}
 use Rattle.model.specs.Requests.{Call, System, Request, Result, Outcome, got, refused, noCell, serve}
-use Rattle.model.specs.Records.{typeRecord, linksRecord}
+use Rattle.model.specs.Records.{typeRecord}
 use Rattle.model.specs.Check.{RawTable, RawPlace, RawCall, RawSystem, noRawType, noRawLinks, noRawPlace, noRawCall, withRecords, firstOf, systemOf, systemAccepted}
 
 -- ---- The records that stand for a place and for a call; those for types and links are in Records.
@@ -22,18 +22,6 @@ placeRecord (adapter behind type) = record { code = 1; first = behind; second = 
 
 abbrev pub callRecord : Call → RawCall
 callRecord c = record { caller = c .caller; cell = c .cell; method = c .method; answered = bit (c .answered) }
-
--- the whole table; category 0 names none
-abbrev pub rawTableOf : Table → RawTable
-rawTableOf t = record {
-  subjects = t .subjects;
-  methods = t .methods;
-  cats = length (t .cats);
-  sheet = t .sheet;
-  types = size t;
-  links = noRawLinks ∷ map linksRecord (t .cats);
-  records = map typeRecord (t .types);
-}
 
 -- the state of a loaded sheet
 abbrev pub rawLoaded : RawTable → RawSystem

@@ -13,7 +13,8 @@ use Rattle.model.specs.Table.{Key, Table, noMethod, noType, size, typeAt, metho
 use Rattle.model.specs.Requests.{loaded}
 use Rattle.model.specs.Check.{RawTable, noRawLinks, noRawType, typeOf, linksOf, tableOf, systemOf, rawTypeFits, codesFit, tableAccepted, stateCodesFit, systemAccepted}
 use Rattle.model.specs.Records.{typeRecord, linksRecord}
-use Rattle.model.specs.Handed.{rawTableOf, rawLoaded}
+use Rattle.model.specs.Handed.{rawLoaded}
+use Rattle.model.proofs.Codes.{rawTableOf}
 use Rattle.model.proofs.Tests.{ltb-so, leb-so}
 use Rattle.model.proofs.Rules.{both, first, second}
 use Rattle.model.proofs.Lists.{is-from, from-shift, getD-map-in, all-from, every-from}

@@ -9,8 +9,8 @@ use Rattle.model.specs.Basics.{from}
 use Rattle.model.specs.Table.{Ty}
 use Rattle.model.specs.Check.{RawType, noRawType, typeOf}
 use Rattle.table.specs.declared.Counts.{Counts}
-use Rattle.table.specs.Store.{rawMethodAt, rawMethodsAt, rawTypeAt, typesIn, typesTo, recordBytes, Put}
-use Rattle.table.specs.Records.{bytesOf, TypeExact}
+use Rattle.table.specs.Store.{rawMethodAt, rawMethodsAt, rawTypeAt, typesIn, typesTo, recordBytes, Put, TypeExact}
+use Rattle.table.specs.Records.{bytesOf}
 use Rattle.model.proofs.Lists.{from-same, map-from}
 use Rattle.table.proofs.Lists.{getD-sets-below, getD-sets-above, getD-sets-in}
 use Rattle.table.proofs.Laws.{types-length, type-in, record-length, put-length, put-types, mk, mk-eq, mkT, mkT-eq, at-zero}

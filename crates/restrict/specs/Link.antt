@@ -3,19 +3,34 @@ use mathlib.Core.Path.{_≡_}
 use mathlib.Core.Bool.{So}
 use mathlib.Core.List.{List}
 use mathlib.Core.Option.{Option, none, some}
-use Prim.Native.Nat.{ℕ, _+_, _≤_, _<_}
-use lib.ListN.{length, getD}
+use Prim.Native.Nat.{ℕ, _+_, _*_, _≤_, _<_}
+use lib.ListN.{length, getD, take, drop}
 use Rattle.model.specs.Basics.{Res, refuse, ok}
 use Rattle.model.specs.Table.{Kind, Table}
 use Rattle.model.specs.Restriction.{derive, derived}
-use Rattle.model.specs.Check.{noRawType, rawTypeFits, codesFit}
+use Rattle.model.specs.Check.{noRawType, typeOf, rawTypeFits, codesFit}
 use Rattle.table.specs.declared.Counts.{Counts}
 use Rattle.table.specs.Store.{typesIn, rawTable, tableIn, withCount}
+use Rattle.table.specs.Records.{bytesOf}
 use Rattle.table.specs.Limits.{Limits}
 use Rattle.deriving.specs.declared.Derived.{Derived}
 use Rattle.deriving.specs.declared.Derived.the-variants.{Full, At}
 use Rattle.deriving.specs.Begins.{Below, tabled}
-pub use Rattle.restrict.specs.Bytes.{Writes, recordAt, Kept, ExactAt, Exact}
+pub use Rattle.restrict.specs.Bytes.{Writes}
+
+-- The 128 bytes of type i. Those below the count n stay as they are, also where the table is full.
+abbrev pub recordAt : List ℕ → ℕ → List ℕ
+recordAt b i = take 128 (drop (i * 128) b)
+
+abbrev pub Kept : ℕ → List ℕ → List ℕ → Type 0
+Kept n b b′ = (i : ℕ) → i < n → recordAt b′ i ≡ recordAt b i
+
+-- Each type from n to m is stored as the record that stands for it.
+abbrev pub ExactAt : Counts → List ℕ → ℕ → Type 0
+ExactAt c b i = recordAt b i ≡ bytesOf (typeOf (c .methods) (c .sheet) i (getD (typesIn b) i noRawType))
+
+abbrev pub Exact : Counts → ℕ → ℕ → List ℕ → Type 0
+Exact c n m b = (i : ℕ) → n ≤ i → i < m → ExactAt c b i
 
 -- The public answer: a full table is refused with 11; else the number, and the table with so many types.
 abbrev pub derivationIn : List ℕ → List ℕ → Counts → Derived → Res (Table × ℕ)

@@ -8,8 +8,8 @@ use Rattle.model.specs.Basics.{Res, refuse, ok}
 use Rattle.model.specs.Table.{Table}
 use Rattle.model.specs.Check.{codesFit}
 use Rattle.table.specs.declared.Counts.{Counts}
-use Rattle.table.specs.Store.{rawTable, tableIn, withCount}
-use Rattle.restrict.specs.Link.{Writes}
+use Rattle.table.specs.Layout.{rawTable, tableIn, withCount}
+use Rattle.restrict.specs.Bytes.{Writes}
 use Rattle.restrict_entry.specs.declared.Made.{Made}
 use Rattle.restrict_entry.specs.declared.Made.the-variants.{Unfit, Unknown, Full, At}
 

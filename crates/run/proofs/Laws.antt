@@ -18,8 +18,7 @@ use Rattle.operand.specs.Index.{indexOf}
 use Rattle.table.specs.Store.{withCount}
 use Rattle.table.specs.Records.{bytesOf}
 use Rattle.state.specs.Whole.{Whole as State}
-use Rattle.state.specs.Whole.{withTypes}
-use Rattle.state.specs.View.{rawState, systemIn}
+use Rattle.state.specs.View.{rawState, systemIn, withTypes}
 use Rattle.state.specs.Sound.{Sound}
 use Rattle.steps.specs.declared.Answer.{Answer}
 use Rattle.steps.specs.declared.Answer.the-variants.{Refused, Pair, Number, Nothing}

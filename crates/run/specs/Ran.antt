@@ -9,11 +9,11 @@ use Rattle.model.specs.Basics.{Res, refuse, ok}
 use Rattle.model.specs.Table.{size}
 use Rattle.model.specs.Requests.{System, pair, number, nothing, Outcome, got, refused}
 use Rattle.model.specs.Handed.{counted, storedFrom}
-use Rattle.table.specs.Store.{withCount}
+use Rattle.table.specs.Layout.{withCount}
 use Rattle.table.specs.Records.{bytesOf}
 use Rattle.state.specs.Whole.{Whole as State}
 use Rattle.state.specs.Whole.{whole}
-use Rattle.state.specs.View.{rawState}
+use Rattle.state.specs.Meaning.{rawState}
 use Rattle.run.specs.declared.Ran.{Ran}
 
 -- Four words for each request: the refusal or 0, how many values there are, and the values (U8).

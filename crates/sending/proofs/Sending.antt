@@ -31,7 +31,7 @@ use Rattle.carry.specs.Carried.{passedOf}
 use Rattle.steps.specs.declared.Answer.{Answer}
 use Rattle.steps.specs.declared.Answer.the-variants.{Refused, Pair, Number, Nothing}
 use Rattle.steps.specs.Served.{Done as Served, refusalOf as refusal}
-use Rattle.state.specs.Whole.{withTypes}
+use Rattle.state.specs.View.{withTypes}
 use Rattle.steps.specs.Served.{outcomeOf, servedWith, servedAs, Stored, Step, Arrives, arrived}
 use Rattle.steps.proofs.Laws.{stored-self, stored-on, refuses, refuses-kept, step-as, table-is, cells-are, places-are, calls-are}
 use Rattle.sending.specs.Sent.{isAccepted, sendArgument, allSent, Went, Sent}

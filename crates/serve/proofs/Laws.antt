@@ -19,9 +19,9 @@ use Rattle.table.specs.Store.{withCount}
 use Rattle.table.specs.Records.{bytesOf}
 use Rattle.state.specs.declared.State.{State as Rest}
 use Rattle.state.specs.Whole.{Whole as State}
-use Rattle.state.specs.Whole.{whole, withTypes}
+use Rattle.state.specs.Whole.{whole}
 use Rattle.state.specs.Sound.{Sound}
-use Rattle.state.specs.View.{rawState, systemIn}
+use Rattle.state.specs.View.{rawState, systemIn, withTypes}
 use Rattle.steps.specs.declared.Answer.{Answer}
 use Rattle.steps.specs.declared.Answer.the-variants.{Refused, Pair, Number, Nothing}
 use Rattle.steps.specs.declared.Served.{Served as Answered}
@@ -30,7 +30,8 @@ use Rattle.steps.specs.Served.{outcomeOf, servedWith, servedAs, done, Step}
 use Rattle.steps.proofs.Laws.{refuses}
 use Rattle.coded.specs.Coded.{serveAsked}
 use Rattle.coded.proofs.Laws.{outcome-is}
-use Rattle.serve.specs.Serves.{defined, leaves, givenBack, Serves, ServesAsked}
+use Rattle.serve.specs.Serves.{defined, leaves, Serves, ServesAsked}
+use Rattle.serve.specs.Back.{givenBack}
 use Rattle.serve.proofs.Stored.{sized, counted-stored, counts-stored, bytes-stored}
 
 -- the answers that are refusals

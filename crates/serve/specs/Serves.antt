@@ -1,7 +1,7 @@
 -- What an entry point promises of every state and all numbers: result, counts and counted records are the definition's.
 use mathlib.Core.Path.{_≡_}
 use mathlib.Core.Bool.{cond}
-use mathlib.Core.List.{List, _++_, map, flatten}
+use mathlib.Core.List.{_++_, map, flatten}
 use mathlib.Core.Option.{Option, none, some}
 use Prim.Native.Nat.{ℕ, _*_}
 use lib.ListN.{take, drop}
@@ -10,15 +10,13 @@ use Rattle.model.specs.Table.{size}
 use Rattle.model.specs.Requests.{System, Request, Result, serve, after}
 use Rattle.model.specs.Check.{systemAccepted}
 use Rattle.model.specs.Handed.{Returns}
-use Rattle.table.specs.Store.{withCount}
+use Rattle.table.specs.Layout.{withCount}
 use Rattle.table.specs.Records.{bytesOf}
 use Rattle.state.specs.Whole.{Whole as State}
-use Rattle.state.specs.View.{rawState, systemIn}
-use Rattle.steps.specs.declared.Answer.{Answer}
+use Rattle.state.specs.Meaning.{rawState, systemIn}
 use Rattle.steps.specs.declared.Answer.the-variants.{Refused}
-use Rattle.steps.specs.Served.{Done as Served}
-use Rattle.steps.specs.Served.{outcomeOf, refusalOf}
-use Rattle.sending.specs.Sent.{isAccepted}
+use Rattle.steps.specs.Outcome.{Done as Served}
+use Rattle.steps.specs.Outcome.{outcomeOf, refusalOf}
 
 -- What the definition makes of the request: 2 before all else (Q13). And the state that it leaves: the one handed in where it refuses.
 abbrev pub defined : State → Request → Res (System × Result)
@@ -26,10 +24,6 @@ defined s q = need (systemAccepted (rawState s)) 2 λ _. serve (systemIn s) q
 
 abbrev pub leaves : State → Request → System
 leaves s q = after (systemIn s) (defined s q)
-
--- the bytes of the types that a request leaves, where a refused one gives back the old
-abbrev pub givenBack : List ℕ → List ℕ → Answer → List ℕ
-givenBack old new a = cond (isAccepted a) new old
 
 -- It follows (proofs/Laws) that the state left means the definition's (`serves-means`), and that every record counted before is stored as it was but for the flag of an
 -- answered call (`serves-before`, Q15).

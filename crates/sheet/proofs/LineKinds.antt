@@ -12,7 +12,8 @@ use borrow.Author.Tests.{ltb-true, leb-true, eqb-true, lt-ltb, le-leb, ne-eqb}
 use Rattle.model.specs.Basics.{Res, ok, try, need, all, unlessMissing}
 use Rattle.model.specs.Table.{State, denied, optional, avail, unavail, Rep, ref, w32, w64, Method, between, linksFit, permit, isNil, isNone, maxArguments, signed, bare}
 use Rattle.model.proofs.Rules.{both, first, second, never}
-use Rattle.sheet.specs.Lines.{bytes, starts, same, keyed, choice, notLF, clean}
+use Rattle.sheet.specs.Lines.{bytes, starts, same, keyed, choice}
+use Rattle.sheet.specs.Clean.{notLF, clean}
 use Rattle.sheet.specs.Numbers.{took, bindScan, whole, isDigit, top, number, numbers, decimal, tails, commas}
 use Rattle.sheet.specs.Text.{numberText, underText, repText, ownText, stateText, answerText, signatureText, methodTextBy, methodText, endText}
 use Rattle.sheet.specs.Sheet.{numberLine, underLine, repLine, ownLine, endLine, closing, arguments, answer, below, signature, methodLine}

@@ -10,7 +10,8 @@ use lib.Seq.{drop-append-seam}
 use borrow.Author.Tests.{eqb-true, eq-eqb, ne-eqb}
 use Rattle.model.specs.Basics.{Res, ok, all, need}
 use Rattle.model.proofs.Rules.{both, first, second, never}
-use Rattle.sheet.specs.Lines.{Row, row, cut, push, split, join, starts, same, keyed, choice, notLF, clean}
+use Rattle.sheet.specs.Lines.{Row, row, cut, push, split, join, starts, same, keyed, choice}
+use Rattle.sheet.specs.Clean.{notLF, clean}
 use Rattle.sheet.specs.Numbers.{decimal, tails, commas, decimalIn}
 use Rattle.sheet.proofs.Steps.{cond-cases, ok-value, refuse-ok, need-ok}
 

@@ -1,4 +1,5 @@
 pub mod Lines
+pub mod Clean
 pub mod Numbers
 pub mod Text
 pub mod Sheet

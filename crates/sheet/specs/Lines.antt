@@ -6,7 +6,7 @@ use Prim.Native.Char.{code}
 use Prim.Native.String.{String}
 use lib.Dec.{eqb}
 use lib.ListN.{length, drop}
-use Rattle.model.specs.Basics.{Res, refuse, ok, need, all}
+use Rattle.model.specs.Basics.{Res, refuse, ok, need}
 
 -- The bytes of an ASCII text.
 abbrev pub bytes : String → List ℕ
@@ -27,13 +27,6 @@ push b (cut l ∷ rs) = cut (b ∷ l) ∷ rs
 unfoldable pub split : List ℕ → List Row
 split [] = []
 split (b ∷ bs) = cond (eqb b (code "\n")) (row [] ∷ split bs) (push b (split bs))
-
--- no LF stands in these bytes
-abbrev pub notLF : ℕ → Bool
-notLF b = cond (eqb b (code "\n")) false true
-
-abbrev pub clean : List ℕ → Bool
-clean l = all notLF l
 
 -- lines, each with its LF
 unfoldable pub join : List (List ℕ) → List ℕ

@@ -18,8 +18,8 @@ use Rattle.model.specs.Records.{typeRecord, linksRecord}
 use Rattle.table.specs.declared.Method.{Method}
 use Rattle.table.specs.declared.Counts.{Counts}
 use Rattle.table.specs.declared.Head.{Head}
-use Rattle.table.specs.Store.{rawMethod, typesTo, recordBytes, linksBytes, emptyTypes, emptyLinks, emptyCounts, emptyMethod}
-use Rattle.table.specs.Records.{padded, bytesOf, linkBytesOf, typeBytes, linkBytes, MethodExact, TypeExact}
+use Rattle.table.specs.Store.{rawMethod, typesTo, recordBytes, linksBytes, emptyTypes, emptyLinks, emptyCounts, emptyMethod, MethodExact, TypeExact}
+use Rattle.table.specs.Records.{padded, bytesOf, linkBytesOf, typeBytes, linkBytes}
 use Rattle.tablelaws.proofs.Exact.{padded-next, padded-length}
 use Rattle.tablelaws.proofs.Whole.{flat-length, bytes-long}
 use Rattle.table.proofs.Lists.{from-last, from-same, is-from, length-from, same-or}

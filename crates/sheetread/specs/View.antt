@@ -6,20 +6,17 @@ use lib.ListN.{getD, drop}
 use Rattle.model.specs.Basics.{from}
 use Rattle.model.specs.Table.{ref, Method as Methodᵐ, Ty, Table, maxSubjects, maxMethods, maxCategories, maxSheetTypes}
 use Rattle.model.specs.Check.{RawMethod, RawLinks, noRawMethod, noRawLinks, methodOf, linksOf}
-use Rattle.table.specs.declared.Counts.{Counts}
 use Rattle.table.specs.declared.Method.{Method}
-use Rattle.table.specs.Store.{rawMethod, emptyTypes, emptyLinks, emptyCounts}
-use Rattle.table.specs.Records.{MethodExact, typeBytes, linkBytes, countsOf}
+use Rattle.table.specs.Store.{rawMethod, MethodExact}
 use Rattle.sheet.specs.Lines.{bytes, split, Reading, refused, got, Reader, pure, line, bind, times}
 use Rattle.sheet.specs.Text.{newestForm}
-use Rattle.sheet.specs.Sheet.{numberLine, underLine, ownLine, methodLine, sheetType, oneType, SheetAnswer, malformed, loaded}
+use Rattle.sheet.specs.Sheet.{numberLine, underLine, ownLine, methodLine, sheetType, oneType}
 use Rattle.sheetread.specs.declared.Done.{Done}
 use Rattle.sheetread.specs.declared.Done.the-variants.{Refused, At}
 use Rattle.sheetread.specs.declared.Front.{Front}
 use Rattle.sheetread.specs.declared.First.{First}
 use Rattle.sheetread.specs.declared.First.the-variants.{Refused as Refusedᶠ, At as Atᶠ}
-use Rattle.sheetread.specs.declared.Outcome.{Outcome}
-use Rattle.sheetread.specs.declared.Sheet.{Sheet}
+pub use Rattle.sheetread.specs.Answer.{answered, sheetOf, outcomeOf}
 
 -- Several lines of s, read as x; and what holds where they are accepted.
 abbrev pub doneBy : {A : Type 0} → List ℕ → A → Done → Reading A
@@ -90,16 +87,3 @@ afterCats h links = bind (line (numberLine (bytes "types=") 1 maxSheetTypes)) (a
 unfoldable pub afterFirst : Front → Reader Table
 unfolding times underLine afterCats
 afterFirst h = bind (times (eachUnder (h .cats)) (h .cats) 1 []) (afterCats h)
-
--- The reader's answer for the definition's, every byte of it: the bytes that stand for the table; or number and offset of the refusal, with a table that holds nothing (B21).
-abbrev pub answered : SheetAnswer → Sheet
-answered (malformed n at) = record { refusal = n; at = at; types = emptyTypes; links = emptyLinks; counts = emptyCounts }
-answered (loaded t) = record { refusal = 0; at = 0; types = typeBytes (t .types); links = linkBytes (t .cats); counts = countsOf t }
-
--- that answer from its parts, where each of them is handed out by itself: number, offset, bytes and counts
-abbrev pub sheetOf : ℕ → ℕ → List ℕ → List ℕ → Counts → Sheet
-sheetOf n at types links counts = record { refusal = n; at = at; types = types; links = links; counts = counts }
-
--- that answer where the bytes are lent
-abbrev pub outcomeOf : Outcome → List ℕ → List ℕ → Sheet
-outcomeOf r types links = sheetOf (r .refusal) (r .at) types links (r .counts)

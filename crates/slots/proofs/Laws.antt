@@ -20,9 +20,8 @@ use Rattle.model.proofs.States.{each₂}
 use Rattle.table.specs.declared.Head.{Head}
 use Rattle.table.specs.declared.Method.{Method}
 use Rattle.table.specs.declared.TypeRec.{TypeRec}
-use Rattle.table.specs.Store.{rawMethod, rawOf, emptyMethod}
+use Rattle.table.specs.Store.{rawMethod, rawOf, emptyMethod, MethodExact, TypeExact}
 use Rattle.table.proofs.Lists.{set-next}
-use Rattle.table.specs.Records.{MethodExact, TypeExact}
 use Rattle.table.proofs.Laws.{absent, four}
 use Rattle.table.proofs.Codes.{closed-kind, not-avail}
 use Rattle.tablelaws.proofs.Exact.{blank, unsigned-exact, signed-exact, derived-key, ref-exact}

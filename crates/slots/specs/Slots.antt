@@ -11,8 +11,7 @@ use Rattle.model.specs.Restriction.{restricted}
 use Rattle.model.specs.Check.{RawMethod, RawType, noRawType, noRawMethod, kindOf, answerOf, methodOf, rawMethodFits}
 use Rattle.table.specs.declared.Head.{Head}
 use Rattle.table.specs.declared.TypeRec.{TypeRec}
-use Rattle.table.specs.Store.{rawMethod, rawOf, typesIn, emptyType}
-use Rattle.table.specs.Records.{TypeExact}
+use Rattle.table.specs.Store.{rawMethod, rawOf, typesIn, emptyType, TypeExact}
 use Rattle.slots.specs.declared.Work.{Work}
 use Rattle.slots.specs.declared.Slot.{Slot}
 use Rattle.slots.specs.declared.Slot.the-variants.{Empty, Argument, Answer}

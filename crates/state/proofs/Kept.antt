@@ -12,8 +12,8 @@ use Rattle.model.specs.Crossing.{Place as Placeᵐ, noPlace, placeAt, placeType
 use Rattle.table.specs.declared.Counts.{Counts}
 use Rattle.table.specs.Limits.{Checked}
 use Rattle.state.specs.declared.Places.{Places}
-use Rattle.state.specs.Whole.{Whole, whole, withTypes}
-use Rattle.state.specs.View.{placesIn, isObject, behindOf, stateLoaded}
+use Rattle.state.specs.Whole.{Whole, whole}
+use Rattle.state.specs.View.{placesIn, isObject, behindOf, stateLoaded, withTypes}
 use Rattle.state.specs.Sound.{Falling, Typed, Sound}
 use Rattle.state.proofs.Laws.{places-length}
 

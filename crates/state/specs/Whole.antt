@@ -17,7 +17,3 @@ pub record Whole : Type 0 where
 
 abbrev pub whole : List ℕ → State → Whole
 whole b s = record { types = b; links = s .links; counts = s .counts; cells = s .cells; places = s .places; calls = s .calls }
-
--- other bytes beside the same rest
-abbrev pub withTypes : Whole → List ℕ → Whole
-withTypes s b = record { types = b; links = s .links; counts = s .counts; cells = s .cells; places = s .places; calls = s .calls }

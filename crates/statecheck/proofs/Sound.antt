@@ -19,8 +19,7 @@ use Rattle.table.specs.Store.{tableIn, rawTable}
 use Rattle.table.proofs.Tables.{size-is}
 use Rattle.tablecheck.proofs.Accepted.{accepted-checked}
 use Rattle.state.specs.Whole.{Whole as State}
-use Rattle.state.specs.Whole.{withTypes}
-use Rattle.state.specs.View.{cellsIn, placesIn, callsIn, rawState, systemIn, isObject, behindOf}
+use Rattle.state.specs.View.{cellsIn, placesIn, callsIn, rawState, systemIn, isObject, behindOf, withTypes}
 use Rattle.state.specs.Sound.{Sound}
 use Rattle.state.proofs.Laws.{cells-length, places-length, calls-length, system-is}
 use Rattle.statecheck.specs.Parts.{sizesAccepted}

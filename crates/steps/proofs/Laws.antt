@@ -30,9 +30,9 @@ use Rattle.state.specs.declared.Cells.{Cells}
 use Rattle.state.specs.declared.Places.{Places}
 use Rattle.state.specs.declared.State.{State as Rest}
 use Rattle.state.specs.Whole.{Whole as State}
-use Rattle.state.specs.Whole.{whole, withTypes}
+use Rattle.state.specs.Whole.{whole}
 use Rattle.state.proofs.Kept.{sound-types}
-use Rattle.state.specs.View.{cellOf, cellsIn, placesIn, callsIn, cellAdded, systemIn}
+use Rattle.state.specs.View.{cellOf, cellsIn, placesIn, callsIn, cellAdded, systemIn, withTypes}
 use Rattle.state.specs.Sound.{CellIn, Sound}
 use Rattle.state.proofs.Laws.{cells-length, system-is}
 use Rattle.statecheck.specs.Parts.{refAs, classAs}

@@ -15,13 +15,12 @@ use Rattle.restrict.specs.Link.{Kept}
 use Rattle.state.specs.declared.Places.{Places}
 use Rattle.state.specs.declared.State.{State as Rest}
 use Rattle.state.specs.Whole.{Whole as State}
-use Rattle.state.specs.Whole.{withTypes}
-use Rattle.state.specs.View.{placesIn, systemIn}
+use Rattle.state.specs.View.{placesIn, systemIn, withTypes}
 use Rattle.state.specs.Sound.{Falling, Typed, Sound}
 use Rattle.cross.specs.Crossed.{Grew, reference}
 use Rattle.steps.specs.declared.Answer.the-variants.{Refused}
 use Rattle.steps.specs.declared.Served.{Served}
-pub use Rattle.steps.specs.Outcome.{outcomeOf, Done, done, Stored}
+pub use Rattle.steps.specs.Outcome.{outcomeOf, Done, done, refusalOf}
 
 -- what the answer and the state left say together
 abbrev pub servedWith : System → Outcome → Res (System × Result)
@@ -35,8 +34,13 @@ servedAs r = servedWith (systemIn (r .state)) (outcomeOf (r .answer))
 abbrev pub refusal : Rest → ℕ → Served
 refusal s e = record { answer = Refused e; state = s }
 
-abbrev pub refusalOf : State → ℕ → Done
-refusalOf s e = record { answer = Refused e; state = s }
+-- What is left of the table: links and counts as they were but for the count of types, every byte of the types that there were, and each new type stored as the
+-- record that stands for it (B22).
+pub record Stored (s s′ : State) : Type 0 where
+  pub links : s′ .links ≡ s .links
+  pub counts : s′ .counts ≡ withCount (s .counts) (s′ .counts .types)
+  pub grew : Grew (s .counts) (s′ .counts .types) (s′ .types)
+  pub kept : Kept (s .counts .types) (s .types) (s′ .types)
 
 -- The step's answer is the model's; a refusal leaves all that was handed in, but for bytes of the types that are not counted (`stored`); the state left is one that the
 -- next step can start from.

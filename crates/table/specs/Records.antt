@@ -1,13 +1,11 @@
 -- The bytes that stand for a table of the model: its records one behind the other, and 0 behind them.
-use mathlib.Core.Path.{_≡_}
 use mathlib.Core.List.{List, [], _∷_, _++_, map, flatten}
 use Prim.Native.Nat.{ℕ, _-_}
 use lib.ListN.{length, replicate}
 use Rattle.model.specs.Table.{Table, Ty, size}
-use Rattle.model.specs.Check.{RawMethod, RawType, methodOf, typeOf}
-use Rattle.model.specs.Records.{methodRecord, typeRecord, linksRecord}
+use Rattle.model.specs.Records.{typeRecord, linksRecord}
 use Rattle.table.specs.declared.Counts.{Counts}
-use Rattle.table.specs.Store.{recordBytes, linksBytes}
+use Rattle.table.specs.Layout.{recordBytes, linksBytes}
 
 -- n bytes, of which the first are xs
 unfoldable pub padded : ℕ → List ℕ → List ℕ
@@ -31,10 +29,3 @@ linkBytes cs = padded 96 (flatten (map linkBytesOf ([] ∷ cs)))
 
 abbrev pub countsOf : Table → Counts
 countsOf t = record { subjects = t .subjects; methods = t .methods; cats = length (t .cats); sheet = t .sheet; types = size t }
-
--- A stored record is exact if it is the one that stands for what it means.
-abbrev pub MethodExact : RawMethod → Type 0
-MethodExact m = methodRecord (methodOf m) ≡ m
-
-unfoldable pub TypeExact : ℕ → ℕ → ℕ → RawType → Type 0
-TypeExact ms sh i x = typeRecord (typeOf ms sh i x) ≡ x

@@ -18,7 +18,8 @@ use Rattle.model.specs.Relations.{bit}
 use Rattle.model.specs.Records.{repCode, kindCode, keyCodes, methodRecord}
 use Rattle.model.proofs.Largest.{getD-from-out}
 use Rattle.model.proofs.Codes.{code-back}
-use Rattle.table.specs.Records.{padded, MethodExact, TypeExact}
+use Rattle.table.specs.Records.{padded}
+use Rattle.table.specs.Store.{MethodExact, TypeExact}
 use Rattle.table.proofs.Lists.{lt-or-ge, from-first, is-from}
 use Rattle.table.proofs.Laws.{four}
 use Rattle.table.proofs.Codes.{number-rep, ref-rep, state-back}

@@ -12,7 +12,7 @@ use Rattle.model.specs.Basics.{from}
 use Rattle.model.specs.Table.{Ty, Table, noType, noMethod, size, between, tableFits}
 use Rattle.model.specs.Check.{RawMethod, RawType, RawLinks, RawTable, noRawType, noRawMethod, noRawLinks, typeOf, linksOf, tableOf, codesFit}
 use Rattle.model.specs.Records.{methodRecord, typeRecord, linksRecord}
-use Rattle.model.specs.Handed.{rawTableOf}
+use Rattle.model.proofs.Codes.{rawTableOf}
 use Rattle.model.proofs.Tests.{leb-so}
 use Rattle.model.proofs.Rules.{first, second}
 use Rattle.modellaws.proofs.Fitting.{table-fitting}

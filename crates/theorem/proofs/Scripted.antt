@@ -20,7 +20,8 @@ use Rattle.model.specs.Book.{Book, opened}
 use Rattle.model.specs.Claim.{accepted, feed, follow}
 use Rattle.model.proofs.Rules.{never}
 use Rattle.modellaws.proofs.Steps.{IfOk}
-use Rattle.sheet.specs.Lines.{Row, row, cut, bytes, split, join, starts, firstLine, notLF, clean}
+use Rattle.sheet.specs.Lines.{Row, row, cut, bytes, split, join, starts, firstLine}
+use Rattle.sheet.specs.Clean.{notLF, clean}
 use Rattle.sheet.specs.Numbers.{decimal}
 use Rattle.sheet.specs.Text.{numberText, Written, writeText}
 use Rattle.sheet.specs.Sheet.{SheetAnswer, malformed, loaded, read}

@@ -14,11 +14,11 @@ use Rattle.model.specs.Basics.{names}
 use Rattle.model.specs.Requests.{Request, call, answer}
 use Rattle.model.specs.Book.{Book, opened}
 use Rattle.model.specs.Claim.{feed}
-use Rattle.table.specs.Store.{rawTable}
+use Rattle.table.specs.Layout.{rawTable}
 use Rattle.sheet.specs.Sheet.{read}
 use Rattle.sheet.specs.Text.{write, writeText}
 use Rattle.sheetread.specs.declared.Sheet.{Sheet}
-use Rattle.sheetread.specs.View.{answered, sheetOf}
+use Rattle.sheetread.specs.Answer.{answered, sheetOf}
 use Rattle.run.specs.Requested.{requests, runHanded}
 use Rattle.run.specs.Ran.{room}
 use Rattle.offers.specs.Chained.{offersHanded}

@@ -14,16 +14,16 @@ use Rattle.model.specs.Basics.{names}
 use Rattle.model.specs.Requests.{Request, call, answer}
 use Rattle.model.specs.Book.{Book, opened}
 use Rattle.model.specs.Claim.{feed}
-use Rattle.table.specs.Store.{rawTable}
+use Rattle.table.specs.Layout.{rawTable}
 use Rattle.sheet.specs.Text.{write, writeText}
 use Rattle.sheetread.specs.declared.Sheet.{Sheet}
 use Rattle.sheetwrite.specs.declared.Wrote.{Wrote}
 use Rattle.sheetwrite.specs.Answer.{writtenOf}
 use Rattle.state.specs.Whole.{Whole as State}
 use Rattle.state.specs.Whole.{whole}
-use Rattle.state.specs.View.{rawState, stateLoaded}
-use Rattle.steps.specs.Served.{Done as Served}
-use Rattle.steps.specs.Served.{outcomeOf}
+use Rattle.state.specs.Meaning.{rawState, stateLoaded}
+use Rattle.steps.specs.Outcome.{Done as Served}
+use Rattle.steps.specs.Outcome.{outcomeOf}
 use Rattle.serve.specs.Serves.{Serves}
 use Rattle.run.specs.Requested.{requests, runHanded}
 use Rattle.run.specs.Ran.{Over as Ran}

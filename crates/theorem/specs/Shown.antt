@@ -18,10 +18,10 @@ use Rattle.model.specs.Handed.{rawLoaded, counted, storedFrom, Returns}
 use Rattle.model.specs.Chains.{Permits, AllPermit}
 use Rattle.model.specs.Book.{Book, opened, pageAt, noteAt}
 use Rattle.model.specs.Claim.{feed, Claim}
-use Rattle.table.specs.Store.{rawTable, tableIn}
+use Rattle.table.specs.Layout.{rawTable, tableIn}
 use Rattle.sheet.specs.Sheet.{read}
 use Rattle.sheetread.specs.declared.Sheet.{Sheet}
-use Rattle.sheetread.specs.View.{answered}
+use Rattle.sheetread.specs.Answer.{answered}
 use Rattle.run.specs.Requested.{runAsked}
 
 -- ---- The beginning

@@ -3,8 +3,7 @@ use mathlib.Core.Path.{refl, subst, sym}
 use native.Mathlib.Omega.{arith}
 use borrow.Author.Needs.{needs}
 use Rattle.tablelaws.proofs.Exact.{unsigned-exact}
-use Rattle.table.specs.Records.{MethodExact}
-use Rattle.table.specs.Store.{rawMethod}
+use Rattle.table.specs.Store.{rawMethod, MethodExact}
 use Rattle.table.specs.declared.Method.{Method}
 use Rattle.lineread.proofs.Laws.{result-refused}
 use Rattle.lineread.proofs.no_method.Statement.{statement}

@@ -8,7 +8,7 @@ use Rattle.tablecheck.proofs.Steps.{refused, passed}
 use Rattle.state.specs.Whole.{whole}
 use Rattle.statecheck.proofs.Sound.{accepted-sound}
 use Rattle.steps.specs.Served.{done}
-use Rattle.serve.specs.Serves.{givenBack}
+use Rattle.serve.specs.Back.{givenBack}
 use Rattle.serve.proofs.Laws.{back-serves, refused-serves}
 use Rattle.serve.proofs.serve.Statement.{statement}
 use Rattle.serve.proofs.serve.Tie as tie
