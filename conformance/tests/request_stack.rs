@@ -17,8 +17,9 @@ use std::path::Path;
 
 const PROGRAM: &str = env!("CARGO_BIN_EXE_small_stack");
 
-/// The most that an entry point may need, in KB.
-const GOAL: usize = 512;
+/// The most that an entry point may need, in KB: the deepest, and a request on a small sheet.
+const GOAL: usize = 256;
+const SMALL_GOAL: usize = 64;
 
 /// What the program does, on which input, and what it has to print.
 struct Work {
@@ -26,6 +27,7 @@ struct Work {
     word: &'static str,
     input: Vec<u8>,
     output: Vec<u8>,
+    goal: usize,
 }
 
 impl Work {
@@ -37,7 +39,7 @@ impl Work {
     }
 
     fn need(&self) -> usize {
-        least_stack(2 * GOAL, |stack| self.printed(stack).is_some())
+        least_stack(4 * GOAL, |stack| self.printed(stack).is_some())
     }
 }
 
@@ -48,7 +50,8 @@ fn stored(result: Result<Got, Refusal>) -> [i64; 4] {
         Err(refusal) => [i64::from(refusal), -1, -1, -1],
         Ok(Got::Cell { cell, place }) => [0, 2, number(cell), number(place)],
         Ok(Got::Call { call, adapters }) => [0, 2, number(call), number(adapters)],
-        Ok(other) => panic!("{other:?}"),
+        Ok(Got::Number(value)) => [0, 1, value, 0],
+        Ok(Got::Nothing) => [0, 0, 0, 0],
     }
 }
 
@@ -62,6 +65,7 @@ fn request(name: &str, state: &RawState, asked: &Request) -> Work {
         word: "request",
         input,
         output: [numbers(&stored(result)), to_bytes(&mut after)].concat(),
+        goal: GOAL,
     }
 }
 
@@ -81,6 +85,7 @@ fn run_of(name: &str, state: &RawState, requests: &[Request]) -> Work {
             to_bytes(&mut after),
         ]
         .concat(),
+        goal: GOAL,
     }
 }
 
@@ -94,6 +99,7 @@ fn offers() -> Work {
         word: "offers",
         input: [bytes.clone(), numbers(&[0]), numbers(&chain)].concat(),
         output: [numbers(&[0, 1]), bytes].concat(),
+        goal: GOAL,
     }
 }
 
@@ -105,6 +111,7 @@ fn load() -> Work {
         word: "load",
         input: sheet::text(&table),
         output: [numbers(&[0, 0]), to_bytes(&mut state)].concat(),
+        goal: GOAL,
     }
 }
 
@@ -116,7 +123,31 @@ fn nothing() -> Work {
         word: "nothing",
         input: bytes.clone(),
         output: bytes,
+        goal: GOAL,
     }
+}
+
+/// Requests on Case P, each on what those before it left: all are accepted, and an adapter is made on the way.
+fn small() -> Vec<Work> {
+    let text = include_bytes!("../../examples/case-p.sheet");
+    let mut state = of_table(RawTable::of(&sheet::read(text).expect("a sheet")));
+    let lines = [
+        "do=new 0 1 4",
+        "do=move 0 0 2 3",
+        "do=move 2 1 2 5",
+        "do=call 2 2 1 7",
+        "do=answer 0 0 -",
+    ];
+    let one = |line: &str| {
+        let asked = script::parse(line.as_bytes()).expect("a request");
+        let work = request("Case P", &state, &asked);
+        entry::request(&mut state, &asked).expect("accepted");
+        Work {
+            goal: SMALL_GOAL,
+            ..work
+        }
+    };
+    lines.into_iter().map(one).collect()
 }
 
 fn all() -> Vec<Work> {
@@ -131,7 +162,8 @@ fn all() -> Vec<Work> {
         offers(),
         load(),
     ];
-    nested.into_iter().chain(layers).chain(others).collect()
+    let deepest = nested.into_iter().chain(layers).chain(others);
+    deepest.chain(small()).collect()
 }
 
 #[test]
@@ -139,7 +171,7 @@ fn twice_the_stack_that_is_needed() {
     for work in all() {
         let need = work.need();
         println!("{}: {need} KB", work.name);
-        assert!(need <= GOAL, "{}: {need} KB", work.name);
+        assert!(need <= work.goal, "{}: {need} KB", work.name);
         let printed = work.printed(2 * need);
         assert!(printed.as_ref() == Some(&work.output), "{}", work.name);
     }

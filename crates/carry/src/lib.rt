@@ -1,5 +1,5 @@
-// One value on its way over the layers of a call (C9 to C16, A7 to A9). Arguments and answers are carried by the same functions. What is stored means the model's
-// lists (specs/Carried.antt).
+// One value on its way over the layers of a call (C9 to C16, A7 to A9). Arguments and answers are carried by the same functions. What is stored means the
+// model's lists (specs/Carried.antt).
 ghost use mathlib.Core.Path.{_≡_};
 ghost use mathlib.Core.List.{List, _∷_, map, reverse};
 ghost use mathlib.Core.Bool.{true};
@@ -45,7 +45,8 @@ pub enum Slot {
     Answer,
 }
 
-// The type that each layer has for the value: 0 for none, else its number and 1. Types are taken at their word (H14), and a byte can be 255: so a code is no byte.
+// The type that each layer has for the value: 0 for none, else its number and 1. Types are taken at their word (H14), and a byte can be 255: so a code is no
+// byte.
 pub struct Targets {
     pub list: [usize; Way::TYPES],
     pub count: usize,

@@ -35,8 +35,8 @@ pub enum Landing {
     Adapter(PlaceRec),
 }
 
-// What came of it: `refusal` is its number, or 0. The static type of the reference and its place, the places with a new adapter among them, and how many types there
-// are now. The places stand beside the number, since no enum can hold an array.
+// What came of it: `refusal` is its number, or 0. The static type of the reference and its place, the places with a new adapter among them, and how many
+// types there are now. The places stand beside the number, since no enum can hold an array.
 pub struct Crossed {
     pub refusal: usize,
     pub sort: usize,
@@ -121,8 +121,8 @@ fn land(ps: Places, sort: usize, x: Landing, types: usize) -> Crossed
     }
 }
 
-// X6 to X10: R meets V, the type of place p. A place that has all that R asks for, own aside, passes; else an adapter is made in front of it, of type Closed(R,V).
-// The reference is of type `to` then.
+// X6 to X10: R meets V, the type of place p. A place that has all that R asks for, own aside, passes; else an adapter is made in front of it, of type
+// Closed(R,V). The reference is of type `to` then.
 fn meet(
     types: &mut [u8; TYPE_BYTES],
     links: &[u8; LINK_BYTES],

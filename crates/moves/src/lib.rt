@@ -1,5 +1,6 @@
-// New and move (N, M), on a state that is known to be sound. Their operands are tested in the order of the rules; then both go the same way: the reference crosses, and
-// what came of it becomes a cell. A refusal gives back the state that was handed in; of the types that are lent, those that were counted are as they were (Q14).
+// New and move (N, M), on a state that is known to be sound. Their operands are tested in the order of the rules; then both go the same way: the reference
+// crosses, and what came of it becomes a cell. A refusal gives back the state that was handed in; of the types that are lent, those that were counted are as
+// they were (Q14).
 ghost use mathlib.Core.Path.{_≡_};
 ghost use Prim.Native.Nat.{_<_};
 ghost use Rattle.model.specs.Requests.{newRequest, moveRequest};

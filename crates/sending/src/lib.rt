@@ -1,4 +1,5 @@
-// What the arguments of a call and a reference that is answered share: each meets its way by the state as it stands, and a reference becomes a cell (C8 to C11, C17; A8, A10).
+// What the arguments of a call and a reference that is answered share: each meets its way by the state as it stands, and a reference becomes a cell (C8 to
+// C11, C17; A8, A10).
 ghost use mathlib.Core.Path.{_≡_};
 ghost use mathlib.Core.List.{List};
 ghost use Prim.Native.Nat.{ℕ, _≤_, _<_};
@@ -40,8 +41,8 @@ fn from_zero(v: i64) -> i64
     v
 }
 
-// The cell that v names. Where it names none it is read as one of zeros, as in the model. No state that passed the check comes to that (H6, C5), but `Sound` says
-// nothing of signatures.
+// The cell that v names. Where it names none it is read as one of zeros, as in the model. No state that passed the check comes to that (H6, C5), but `Sound`
+// says nothing of signatures.
 fn named_cell(cs: Cells, v: i64) -> Cell
     requires { ⌜ cs .count ≤ 256 ⌝ }
     ensures { λ r. ⌜ cellOf r ≡ getD (cellsIn cs) (named v) noCell ⌝ }

@@ -19,4 +19,11 @@ returns-2 : tie.Need-returns-2
 returns-2 c = c .restrict-to .ensures
 
 pub cross-spec : {M : Type 1} → statement M
-cross-spec = tie.close (tie.spec is-own-requires unwrap-requires returns restrict-to-requires returns-2)
+cross-spec =
+    tie.close
+    (tie.spec
+    is-own-requires
+    unwrap-requires
+    returns
+    restrict-to-requires
+    returns-2)

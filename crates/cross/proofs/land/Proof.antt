@@ -25,9 +25,17 @@ returns c = let a = c .before .before .before .args in let e = c .before .x .giv
 
 returns-2 : tie.Need-returns-2
 returns-2 c = let a = c .before .before .before .before .args in let e = c .before .before .x2 .given .1 in (
-  ap (λ (qs : Places). record { refusal = 0; sort = a .sort; place = a .ps .count; places = qs; types = a .types }) (c .add .ensures .0) ∙ sym (ap (λ (x : Landing). landed (a .ps) (a .sort) x (a .types)) e),
+  ap (λ (qs : Places). record { refusal = 0; sort = a .sort; place = a .ps .count; places = qs; types = a .types }) (c .add .ensures .0)
+      ∙ sym (ap (λ (x : Landing). landed (a .ps) (a .sort) x (a .types)) e),
   c .add .ensures .1 ∙ sym (ap (placesWith (placesIn (a .ps))) e),
 )
 
 pub land-spec : {M : Type 1} → statement M
-land-spec = tie.close (tie.spec enum-known-x enum-known-x-2 add-requires returns returns-2)
+land-spec =
+    tie.close
+    (tie.spec
+    enum-known-x
+    enum-known-x-2
+    add-requires
+    returns
+    returns-2)

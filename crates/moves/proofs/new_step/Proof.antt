@@ -42,20 +42,27 @@ target c = let b = start (second (third c)) in test.passed _ _ (rw (toZ-ofZ (b .
 abbrev fourth : tie.Else4 → tie.Else3
 fourth c = c .before .before .before
 
+-- from the last test: where each other one is passed
+abbrev at-sort : tie.Else4 → tie.Else2
+at-sort c = third (fourth c)
+
+abbrev at-known : tie.Else4 → tie.Else1
+at-known c = second (at-sort c)
+
 abbrev begun : tie.Else4 → tie.Start
-begun c = start (second (third (fourth c)))
+begun c = start (at-known c)
 
 -- the operands as indices
 owner : (c : tie.After-index-of) → let b = begun (c .before) in (c .index-of .result ≡ named (b .args .subject)) × (c .index-of .result < b .args .s .counts .subjects)
-owner c = let b = begun (c .before) in
-    subject-at (state b) (b .args .subject) _ (rw (toZ-ofZ (b .fits .subject)) at (c .index-of .ensures)) (known (second (third (fourth (c .before)))))
+owner c = let b = begun (c .before) in 
+    subject-at (state b) (b .args .subject) _ (rw (toZ-ofZ (b .fits .subject)) at (c .index-of .ensures)) (known (at-known (c .before)))
 
 class : (c : tie.After-index-of2) → let b = begun (c .before .before) in (c .index-of2 .result ≡ named (b .args .class)) × (c .index-of2 .result < b .args .s .counts .sheet)
-class c = let b = begun (c .before .before) in
-    sheet-at (state b) (b .args .class) _ (rw (toZ-ofZ (b .fits .class)) at (c .index-of2 .ensures)) _ (sort (third (fourth (c .before .before))))
+class c = let b = begun (c .before .before) in 
+    sheet-at (state b) (b .args .class) _ (rw (toZ-ofZ (b .fits .class)) at (c .index-of2 .ensures)) _ (sort (at-sort (c .before .before)))
 
 type : (c : tie.After-index-of3) → let b = begun (c .before .before .before) in (c .index-of3 .result ≡ named (b .args .to)) × (c .index-of3 .result < b .args .s .counts .sheet)
-type c = let b = begun (c .before .before .before) in
+type c = let b = begun (c .before .before .before) in 
     sheet-at (state b) (b .args .to) _ (rw (toZ-ofZ (b .fits .to)) at (c .index-of3 .ensures)) _ (target (fourth (c .before .before .before)))
 
 is-subject-requires : tie.Need-is-subject-requires
@@ -66,7 +73,8 @@ refused-requires c κs = search needs
 
 returns : tie.Need-returns
 returns c = let b = c .before .before .before .before in
-    step-refuses (b .pre) (new-5 (state b) (b .args .subject) (b .args .class) (b .args .to) (test.refused _ _ (rw (toZ-ofZ (b .fits .subject)) at (c .before .before .is-subject .ensures (state b) refl)) (c .before .if1 .taken))) (c .refused .ensures)
+    step-refuses (b .pre) (new-5 (state b) (b .args .subject) (b .args .class) (b .args .to)
+    (test.refused _ _ (rw (toZ-ofZ (b .fits .subject)) at (c .before .before .is-subject .ensures (state b) refl)) (c .before .if1 .taken))) (c .refused .ensures)
 
 is-sheet-class-requires : tie.Need-is-sheet-class-requires
 is-sheet-class-requires c κs = start (c .before) .pre .checked .limits
@@ -76,7 +84,8 @@ refused-requires-2 c κs = search needs
 
 returns-2 : tie.Need-returns-2
 returns-2 c = let p = c .before .before .before .before in let b = start p in
-    step-refuses (b .pre) (new-class (state b) (b .args .subject) (b .args .class) (b .args .to) (known p) (test.refused _ _ (rw (toZ-ofZ (b .fits .class)) at (c .before .before .is-sheet-class .ensures (state b) refl refl)) (c .before .if2 .taken))) (c .refused2 .ensures)
+    step-refuses (b .pre) (new-class (state b) (b .args .subject) (b .args .class) (b .args .to) (known p)
+    (test.refused _ _ (rw (toZ-ofZ (b .fits .class)) at (c .before .before .is-sheet-class .ensures (state b) refl refl)) (c .before .if2 .taken))) (c .refused2 .ensures)
 
 is-sheet-ref-requires : tie.Need-is-sheet-ref-requires
 is-sheet-ref-requires c κs = start (second (c .before)) .pre .checked .limits
@@ -86,7 +95,8 @@ refused-requires-3 c κs = search needs
 
 returns-3 : tie.Need-returns-3
 returns-3 c = let p = c .before .before .before .before in let b = start (second p) in
-    step-refuses (b .pre) (new-type (state b) (b .args .subject) (b .args .class) (b .args .to) (known (second p)) (sort p) (test.refused _ _ (rw (toZ-ofZ (b .fits .to)) at (c .before .before .is-sheet-ref .ensures (state b) refl refl)) (c .before .if3 .taken)))
+    step-refuses (b .pre) (new-type (state b) (b .args .subject) (b .args .class) (b .args .to) (known (second p)) (sort p)
+    (test.refused _ _ (rw (toZ-ofZ (b .fits .to)) at (c .before .before .is-sheet-ref .ensures (state b) refl refl)) (c .before .if3 .taken)))
     (c .refused3 .ensures)
 
 refused-requires-4 : tie.Need-refused-requires-4
@@ -111,12 +121,12 @@ make-requires c κs = let p = c .before .before .before in let h = begun p .pre 
 
 send-requires : tie.Need-send-requires
 send-requires c κs = let o = c .before .before .before .before in let p = o .before in let b = begun p in
-    new-sends (state b) (b .args .subject) (b .args .class) (b .args .to) (known (second (third (fourth p)))) (sort (third (fourth p))) (target (fourth p)) (b .pre) (p .if4 .left) _ _ _ (owner o .1)
+    new-sends (state b) (b .args .subject) (b .args .class) (b .args .to) (known (at-known p)) (sort (at-sort p)) (target (fourth p)) (b .pre) (p .if4 .left) _ _ _ (owner o .1)
     (class (c .before .before .before) .1) _ (c .before .make .ensures)
 
 returns-5 : tie.Need-returns-5
 returns-5 c = let o = c .before .before .before .before .before in let p = o .before in let b = begun p in
-    step-as (new-goes (state b) (b .args .subject) (b .args .class) (b .args .to) (known (second (third (fourth p)))) (sort (third (fourth p))) (target (fourth p)) (p .if4 .left) _ _ _ (owner o .0)
+    step-as (new-goes (state b) (b .args .subject) (b .args .class) (b .args .to) (known (at-known p)) (sort (at-sort p)) (target (fourth p)) (p .if4 .left) _ _ _ (owner o .0)
     (class (c .before .before .before .before) .0) (type (c .before .before .before) .0) _ (c .before .before .make .ensures)) (c .send .ensures)
 
 pub new-step-spec : {M : Type 1} → statement M

@@ -30,7 +30,8 @@ argument-in-requires : tie.Need-argument-in-requires Inv-loop μ-loop
 argument-in-requires c κs = search needs
 
 returns : tie.Need-returns Inv-loop μ-loop
-returns c = let a = c .before .before .before .before .args in let s = whole (a .types .now) (a .s) in let l = c .before .before .before .loop in sends-over s (a .r) (wayIn (a .w)) (a .m) (argumentsOf (a .x)) (a .vs .now)
+returns c = let a = c .before .before .before .before .args in let s = whole (a .types .now) (a .s) in
+    let l = c .before .before .before .loop in sends-over s (a .r) (wayIn (a .w)) (a .m) (argumentsOf (a .x)) (a .vs .now)
     (whole (l .types) (l .at)) (l .i) (l .inv .1) (none-left (a .x) (l .i) (c .before .argument-in .result) (c .before .argument-in .ensures) (c .if1 .taken))
 
 sub-send-argument : tie.Need-sub-send-argument Inv-loop μ-loop
@@ -54,18 +55,21 @@ accepted-requires : tie.Need-accepted-requires Inv-loop μ-loop
 accepted-requires c κs = search needs
 
 returns-2 : tie.Need-returns-2 Inv-loop μ-loop
-returns-2 c = let a = c .before .before .before .before .before .before .before .before .before .args in let s = whole (a .types .now) (a .s) in let l = c .before .before .before .before .before .before .before .before .loop in let v = getD
+returns-2 c = let a = c .before .before .before .before .before .before .before .before .before .args in let s = whole (a .types .now) (a .s) in
+    let l = c .before .before .before .before .before .before .before .before .loop in let v = getD
     (a .vs .now) (l .i) (pos 0) in let k = rw (toZ-ofZ {w = w64} {z = v} (record { sfits = c .before .before .before .send-argument-arg2 .given })) at
     (c .before .before .send-argument .ensures) in
     sends-stop s (a .r) (wayIn (a .w)) (a .m) (argumentsOf (a .x)) (a .vs .now) (whole (l .types) (l .at)) (l .i) (l .inv .1) _
     (some-left (a .x) (l .i) (c .before .before .before .before .before .before .argument-in .result) (c .before .before .before .before .before .before .argument-in .ensures)
     (c .before .before .before .before .before .if1 .left))
-    v (value-next (a .vs .now) (l .i) (c .before .before .before .before .before .before .before .loop-test .taken)) (done (c .before .before .send-argument .last .0) (c .before .before .send-argument .result)) (k .0) (k .1)
+    v (value-next (a .vs .now) (l .i) (c .before .before .before .before .before .before .before .loop-test .taken))
+    (done (c .before .before .send-argument .last .0) (c .before .before .send-argument .result)) (k .0) (k .1)
     (sym (c .before .accepted .ensures) ∙ not-true (c .before .accepted .result) (c .if2 .taken))
 
 add-i : tie.Need-add-i Inv-loop μ-loop
 add-i c =
-    omega (arith, c .before .before .before .before .before .before .before .before .loop-test .taken, c .before .before .before .before .before .before .before .before .before .before .good .1 .1 .1 .1 .1 .1 .0 .0)
+    omega
+    (arith, c .before .before .before .before .before .before .before .before .loop-test .taken, c .before .before .before .before .before .before .before .before .before .before .good .1 .1 .1 .1 .1 .1 .0 .0)
 
 loop-less : tie.Need-loop-less Inv-loop μ-loop
 loop-less c = omega (arith, c .before .before .before .before .before .before .before .before .loop-test .taken)
@@ -80,12 +84,14 @@ loop-again c =
       sends-next s (a .r) (wayIn (a .w)) (a .m) (argumentsOf (a .x)) (a .vs .now) (whole (l .types) (l .at)) (l .i) (l .inv .1) _
           (some-left (a .x) (l .i) (c .before .before .before .before .before .before .before .argument-in .result) (c .before .before .before .before .before .before .before .argument-in .ensures)
           (c .before .before .before .before .before .before .if1 .left))
-          v (value-next (a .vs .now) (l .i) (c .before .before .before .before .before .before .before .before .loop-test .taken)) (done (c .before .before .before .send-argument .last .0) (c .before .before .before .send-argument .result)) (k .0) (k .1)
+          v (value-next (a .vs .now) (l .i) (c .before .before .before .before .before .before .before .before .loop-test .taken))
+          (done (c .before .before .before .send-argument .last .0) (c .before .before .before .send-argument .result)) (k .0) (k .1)
           (sym (c .before .before .accepted .ensures) ∙ not-false (c .before .before .accepted .result) (c .before .if2 .left)),
     )
 
 returns-3 : tie.Need-returns-3 Inv-loop μ-loop
-returns-3 c = let a = c .before .before .args in let s = whole (a .types .now) (a .s) in let l = c .before .loop in sends-end s (a .r) (wayIn (a .w)) (a .m) (argumentsOf (a .x)) (a .vs .now) (whole (l .types) (l .at)) (l .i) (l .inv .1)
+returns-3 c = let a = c .before .before .args in let s = whole (a .types .now) (a .s) in let l = c .before .loop in
+    sends-end s (a .r) (wayIn (a .w)) (a .m) (argumentsOf (a .x)) (a .vs .now) (whole (l .types) (l .at)) (l .i) (l .inv .1)
     (drop-of-length-le (a .vs .now) {i = l .i} (c .loop-test .left))
 
 pub send-arguments-spec : {M : Type 1} → statement M
