@@ -36,14 +36,14 @@ abbrev asked : tie.After-index-of → tie.Else2
 asked c = c .before .before
 
 who : (c : tie.After-index-of) → let b = start (second (asked c)) in (c .index-of .result ≡ named (b .args .subject)) × (c .index-of .result < b .args .s .counts .subjects)
-who c = let b = start (second (asked c)) in 
+who c = let b = start (second (asked c)) in
     subject-at (state b) (b .args .subject) _ (rw (toZ-ofZ (b .fits .subject)) at (c .index-of .ensures)) (known (second (asked c)))
 
 abbrev third : tie.Else3 → tie.After-index-of
 third c = c .before .before
 
 holds : (c : tie.Else3) → let b = start (second (asked (third c))) in held (systemIn (state b)) (b .args .subject) (b .args .cell) ≡ true
-holds c = let b = start (second (asked (third c))) in 
+holds c = let b = start (second (asked (third c))) in
     test.passed _ _ (rw (toZ-ofZ (b .fits .cell)) at (c .before .is-held .ensures (state b) (b .args .subject) refl (sym (who (third c) .0)))) (c .if3 .left)
 
 abbrev fourth : tie.Else4 → tie.Else3
@@ -64,15 +64,15 @@ target c = let b = begun c in test.passed _ _ (rw (toZ-ofZ (b .fits .to)) at (c 
 
 -- the operands as indices
 receiver : (c : tie.After-index-of2) → let b = begun (c .before) in (c .index-of2 .result ≡ named (b .args .receiver)) × (c .index-of2 .result < b .args .s .counts .subjects)
-receiver c = let b = begun (c .before) in 
+receiver c = let b = begun (c .before) in
     subject-at (state b) (b .args .receiver) _ (rw (toZ-ofZ (b .fits .receiver)) at (c .index-of2 .ensures)) (met (at-met (c .before)))
 
 type : (c : tie.After-index-of3) → let b = begun (c .before .before) in (c .index-of3 .result ≡ named (b .args .to)) × (c .index-of3 .result < b .args .s .counts .sheet)
-type c = let b = begun (c .before .before) in 
+type c = let b = begun (c .before .before) in
     sheet-at (state b) (b .args .to) _ (rw (toZ-ofZ (b .fits .to)) at (c .index-of3 .ensures)) _ (target (c .before .before))
 
 cell : (c : tie.After-index-of4) → let b = begun (c .before .before .before) in (c .index-of4 .result ≡ named (b .args .cell)) × (c .index-of4 .result < b .args .s .cells .count)
-cell c = let b = begun (c .before .before .before) in 
+cell c = let b = begun (c .before .before .before) in
     held-at (state b) (b .args .cell) _ (rw (toZ-ofZ (b .fits .cell)) at (c .index-of4 .ensures)) (b .args .subject) (holds (fourth (c .before .before .before)))
 
 is-subject-requires : tie.Need-is-subject-requires
@@ -142,13 +142,13 @@ wide-requires-2 c κs = search needs
 
 send-requires : tie.Need-send-requires
 send-requires c κs = let i = c .before .before .before .before .before in let p = i .before .before .before in let b = begun p in let x = c .before .before .before .before .cell-at in
-    move-sends (state b) (b .args .subject) (b .args .cell) (b .args .receiver) (b .args .to) 
+    move-sends (state b) (b .args .subject) (b .args .cell) (b .args .receiver) (b .args .to)
     (known (at-known p)) (met (at-met p)) (holds (fourth p)) (target p) _ (cell i .0) (x .result)
     (x .ensures .1 (cell i .1)) _ _ _ _ (c .before .before .wide .ensures .0) (c .before .wide2 .ensures .0) (b .pre) (cell i .1) (receiver (i .before .before) .1)
 
 returns-5 : tie.Need-returns-5
 returns-5 c = let i = c .before .before .before .before .before .before in let p = i .before .before .before in let b = begun p in let x = c .before .before .before .before .before .cell-at in
-    step-as (move-goes (state b) (b .args .subject) (b .args .cell) (b .args .receiver) (b .args .to) 
+    step-as (move-goes (state b) (b .args .subject) (b .args .cell) (b .args .receiver) (b .args .to)
     (known (at-known p)) (met (at-met p)) (holds (fourth p)) (target p) _ (cell i .0) (x .result)
     (x .ensures .1 (cell i .1)) _ _ _ _ (c .before .before .before .wide .ensures .0) (c .before .before .wide2 .ensures .0) (type (i .before) .0) (receiver (i .before .before) .0)) (c .send .ensures)
 

@@ -54,15 +54,15 @@ begun c = start (at-known c)
 
 -- the operands as indices
 owner : (c : tie.After-index-of) → let b = begun (c .before) in (c .index-of .result ≡ named (b .args .subject)) × (c .index-of .result < b .args .s .counts .subjects)
-owner c = let b = begun (c .before) in 
+owner c = let b = begun (c .before) in
     subject-at (state b) (b .args .subject) _ (rw (toZ-ofZ (b .fits .subject)) at (c .index-of .ensures)) (known (at-known (c .before)))
 
 class : (c : tie.After-index-of2) → let b = begun (c .before .before) in (c .index-of2 .result ≡ named (b .args .class)) × (c .index-of2 .result < b .args .s .counts .sheet)
-class c = let b = begun (c .before .before) in 
+class c = let b = begun (c .before .before) in
     sheet-at (state b) (b .args .class) _ (rw (toZ-ofZ (b .fits .class)) at (c .index-of2 .ensures)) _ (sort (at-sort (c .before .before)))
 
 type : (c : tie.After-index-of3) → let b = begun (c .before .before .before) in (c .index-of3 .result ≡ named (b .args .to)) × (c .index-of3 .result < b .args .s .counts .sheet)
-type c = let b = begun (c .before .before .before) in 
+type c = let b = begun (c .before .before .before) in
     sheet-at (state b) (b .args .to) _ (rw (toZ-ofZ (b .fits .to)) at (c .index-of3 .ensures)) _ (target (fourth (c .before .before .before)))
 
 is-subject-requires : tie.Need-is-subject-requires
