@@ -119,7 +119,8 @@ module _ (s : State) (h : Sound s) (who k m : ℕ) (xs : List ℕ) (vs : List �
 
   pub through-stops : isAccepted (q .answer) ≡ false → Step s (callThrough (systemIn s) who k m xs vs) (record { answer = q .answer; state = withTypes s (q .state .types) })
   through-stops z = only-refused (λ (y : Answer). callThrough (systemIn s) who k m xs vs ≡ try (servedWith (systemIn (q .state)) (outcomeOf y)) (λ x. Ends (x .0)) →
-      Step s (callThrough (systemIn s) who k m xs vs) (record { answer = y; state = withTypes s (q .state .types) })) (λ e u. refuses-kept h (sent .sound .long) (sent .stored .kept) u refl) (q .answer) z through-is
+      Step s (callThrough (systemIn s) who k m xs vs) (record { answer = y; state = withTypes s (q .state .types) }))
+      (λ e u. refuses-kept h (sent .sound .long) (sent .stored .kept) u refl) (q .answer) z through-is
 
   pub through-room : s .calls .count < 256 → who < 256 → k < s .cells .count → m < s .counts .methods →
       Sound (q .state) × (q .state .calls .count < 256) × (who < 256) × (k < q .state .cells .count) × (m < q .state .counts .methods)

@@ -1,5 +1,5 @@
 // The sheet reader (docs/SPEC.md S). `read` takes any bytes and answers with a table, or with the number of a refusal and the byte offset of the line.
-// What it answers is crate `sheet`'s definition `read`, and every byte of the answer is determined by it (specs/View.antt, `answered`).
+// What it answers is crate `sheet`'s definition `read`, and every byte of the answer is determined by it (specs/Answer.antt, `answered`).
 // Lines are found by crate `textread` and read by `lineread`; here they are put together and stored by crate `tablestore`.
 ghost use mathlib.Core.Path.{_≡_};
 ghost use mathlib.Core.Bool.{false};

@@ -1,5 +1,5 @@
 // The table (T) as it is stored: flat bytes for the types, flat bytes for the broader links of the categories, and the counts. Records are read here and stored by crate `tablestore`:
-// these two alone know where in the bytes a record stands. Contracts speak of the list of records that the bytes hold (specs/Store.antt).
+// these two alone know where in the bytes a record stands. Contracts speak of the list of records that the bytes hold (specs/Layout.antt).
 ghost use mathlib.Core.Path.{_≡_};
 ghost use Prim.Native.Nat.{_<_};
 ghost use lib.ListN.{length, getD};

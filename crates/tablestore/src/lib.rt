@@ -1,4 +1,4 @@
-// Records of types and of broader links stored in the bytes of a table, whole (B13). What stands where in the bytes is said in crates/table/specs/Store.antt.
+// Records of types and of broader links stored in the bytes of a table, whole (B13). What stands where in the bytes is said in crates/table/specs/Layout.antt.
 ghost use mathlib.Core.Path.{_≡_};
 ghost use Prim.Native.Nat.{_+_, _*_, _≤_, _<_};
 ghost use lib.ListN.{length};

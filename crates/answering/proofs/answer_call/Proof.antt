@@ -16,7 +16,8 @@ wide-requires : tie.Need-wide-requires
 wide-requires c κs = search needs
 
 cell-at-requires : tie.Need-cell-at-requires
-cell-at-requires c κs = let a = c .before .before .args in let s = whole (a .types .now) (a .s) in let l = cell-low s (c .before .before .pre .0) (a .j) (c .before .before .pre .1) (c .before .call-at .result)
+cell-at-requires c κs = let a = c .before .before .args in let s = whole (a .types .now) (a .s) in let l = cell-low s (c .before .before .pre .0) (a .j) (c .before .before .pre .1)
+    (c .before .call-at .result)
     (c .before .call-at .ensures .1 (c .before .before .pre .1)) (c .wide .result) (c .wide .ensures .0) in omega (arith, l, c .before .before .pre .0 .cellCount)
 
 wide-requires-2 : tie.Need-wide-requires-2
@@ -64,7 +65,8 @@ returns-2 c = λ subject w.
     (c .before .before .before .before .before .before .cell-at .ensures .1 l) in
     answered-17 s (h .0) subject (a .j) (givenAs (a .given)) (y .result) (c .before .before .before .before .before .before .cell-at .result) k
     (c .before .before .before .before .wide2 .result) (c .before .before .before .base-owner .result) (a .who) (c .before .before .before .before .wide2 .ensures .0)
-    (c .before .before .before .base-owner .ensures .0) w (c .before .before .if1 .left) (c .before .if2 .taken) (done (a .types .now) (c .refused2 .result)) (ap (done (a .types .now)) (c .refused2 .ensures))
+    (c .before .before .before .base-owner .ensures .0) w (c .before .before .if1 .left) (c .before .if2 .taken) (done (a .types .now) (c .refused2 .result))
+    (ap (done (a .types .now)) (c .refused2 .ensures))
 
 give-requires : tie.Need-give-requires
 give-requires c κs =
@@ -91,7 +93,8 @@ returns-3 c = λ subject w.
     (c .before .before .before .before .before .before .before .cell-at .ensures .1 l) in
     call-gives s (h .0) subject (a .j) (givenAs (a .given)) (y .result) (c .before .before .before .before .before .before .before .cell-at .result) k
     (c .before .before .before .before .before .wide2 .result) (c .before .before .before .before .base-owner .result) (a .who) (c .before .before .before .before .before .wide2 .ensures .0)
-    (c .before .before .before .before .base-owner .ensures .0) w (c .before .before .before .if1 .left) (c .before .before .if2 .left) (done (c .give .last .0) (c .give .result)) (c .give .ensures subject w)
+    (c .before .before .before .before .base-owner .ensures .0) w (c .before .before .before .if1 .left) (c .before .before .if2 .left) (done (c .give .last .0) (c .give .result))
+    (c .give .ensures subject w)
 
 pub answer-call-spec : {M : Type 1} → statement M
 answer-call-spec =

@@ -38,7 +38,8 @@ returns-2 c =
     step-6 s (c .before .before .before .before .before .before .before .before .before .pre) (a .subject) (a .call) (givenAs (a .given))
     (sym (rw (toZ-ofZ (f .subject)) at (c .before .before .before .before .before .before .is-subject .ensures s refl)) ∙ not-false
     (c .before .before .before .before .before .before .is-subject .result) (c .before .before .before .before .before .if1 .left))
-    (c .before .before .before .index-of2 .result) (rw (toZ-ofZ (f .call)) at (c .before .before .before .index-of2 .ensures)) (c .before .if2 .taken) (done (a .types .now) (c .refused2 .result)) (ap (done (a .types .now)) (c .refused2 .ensures))
+    (c .before .before .before .index-of2 .result) (rw (toZ-ofZ (f .call)) at (c .before .before .before .index-of2 .ensures)) (c .before .if2 .taken)
+    (done (a .types .now) (c .refused2 .result)) (ap (done (a .types .now)) (c .refused2 .ensures))
 
 answer-call-requires : tie.Need-answer-call-requires
 answer-call-requires c κs = (c .before .before .before .before .before .before .before .before .before .pre, c .before .if2 .left)
@@ -51,7 +52,8 @@ returns-3 c =
     (sym (rw (toZ-ofZ (f .subject)) at (c .before .before .before .before .before .before .before .is-subject .ensures s refl)) ∙ not-false
     (c .before .before .before .before .before .before .before .is-subject .result) (c .before .before .before .before .before .before .if1 .left))
     (c .before .before .before .before .index-of2 .result) (rw (toZ-ofZ (f .call)) at (c .before .before .before .before .index-of2 .ensures)) (c .before .before .if2 .left)
-    (c .before .before .before .before .before .index-of .result) (rw (toZ-ofZ (f .subject)) at (c .before .before .before .before .before .index-of .ensures)) (done (c .answer-call .last .0) (c .answer-call .result))
+    (c .before .before .before .before .before .index-of .result) (rw (toZ-ofZ (f .subject)) at (c .before .before .before .before .before .index-of .ensures))
+    (done (c .answer-call .last .0) (c .answer-call .result))
     (c .answer-call .ensures)
 
 pub answer-step-spec : {M : Type 1} → statement M

@@ -68,7 +68,8 @@ returns-3 c = λ subject w. let a = c .before .before .before .before .before .b
     (c .before .before .before .before .before .before .before .wide2 .result) (c .before .before .before .before .before .before .target-at .result)
     (c .before .before .before .before .before .before .before .before .wide .ensures .0) (c .before .before .before .before .before .before .before .wide2 .ensures .0)
     (c .before .before .before .before .before .before .target-at .ensures))
-    (a .given) (done (c .give-value .last .0) (c .give-value .result)) (c .before .before .if1 .left) (c .before .before .before .before .given .given .0 .0) (c .before .before .before .before .given .given .1)
+    (a .given) (done (c .give-value .last .0) (c .give-value .result)) (c .before .before .if1 .left) (c .before .before .before .before .given .given .0 .0)
+    (c .before .before .before .before .given .given .1)
     (rw (toZ-ofZ {w = w64} {z = c .before .before .before .before .given .given .0 .0} (record { sfits = c .before .before .before .known-told .given .0 .1 })) at (c .give-value .ensures subject w))
 
 returns-4 : tie.Need-returns-4
@@ -78,7 +79,8 @@ returns-4 c = λ subject w. let a = c .before .before .before .before .before .b
     (c .before .before .before .before .before .before .wide .result) (c .before .before .before .before .before .wide2 .result) (c .before .before .before .before .target-at .result)
     (c .before .before .before .before .before .before .wide .ensures .0) (c .before .before .before .before .before .wide2 .ensures .0)
     (c .before .before .before .before .target-at .ensures))
-    (a .given) (done (a .types .now) (c .answered .result)) (c .before .if2 .left) (c .before .before .enum-told .given .1) (c .answered .ensures (a .types .now) (c .before .before .before .before .before .before .before .before .before .pre .0) nothing refl)
+    (a .given) (done (a .types .now) (c .answered .result)) (c .before .if2 .left) (c .before .before .enum-told .given .1)
+    (c .answered .ensures (a .types .now) (c .before .before .before .before .before .before .before .before .before .pre .0) nothing refl)
 
 pub give-spec : {M : Type 1} → statement M
 give-spec =

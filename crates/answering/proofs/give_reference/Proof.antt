@@ -18,8 +18,10 @@ accepted-requires : tie.Need-accepted-requires
 accepted-requires c κs = search needs
 
 returns : tie.Need-returns
-returns c = let a = c .before .before .before .before .args in let s = whole (a .types .now) (a .s) in let k = rw (toZ-ofZ (c .before .before .before .before .fits .v)) at (c .before .before .send .ensures) in reference-stops s (a .j)
-    (a .r) (a .v) (targetsIn (a .targets)) (done (c .before .before .send .last .0) (c .before .before .send .result)) (k .0) (sym (c .before .accepted .ensures) ∙ not-true (c .before .accepted .result) (c .if1 .taken))
+returns c = let a = c .before .before .before .before .args in let s = whole (a .types .now) (a .s) in let k = rw (toZ-ofZ (c .before .before .before .before .fits .v)) at
+    (c .before .before .send .ensures) in reference-stops s (a .j)
+    (a .r) (a .v) (targetsIn (a .targets)) (done (c .before .before .send .last .0) (c .before .before .send .result)) (k .0)
+    (sym (c .before .accepted .ensures) ∙ not-true (c .before .accepted .result) (c .if1 .taken))
 
 answered-requires : tie.Need-answered-requires
 answered-requires c κs = let k = c .before .before .send .ensures in (
@@ -31,7 +33,8 @@ answered-requires c κs = let k = c .before .before .send .ensures in (
 
 returns-2 : tie.Need-returns-2
 returns-2 c = let a = c .before .before .before .before .before .args in let s = whole (a .types .now) (a .s) in let k = rw (toZ-ofZ (c .before .before .before .before .before .fits .v)) at
-    (c .before .before .before .send .ensures) in reference-answers s (a .j) (a .r) (a .v) (targetsIn (a .targets)) (done (c .before .before .before .send .last .0) (c .before .before .before .send .result)) (k .0)
+    (c .before .before .before .send .ensures) in reference-answers s (a .j) (a .r) (a .v) (targetsIn (a .targets))
+    (done (c .before .before .before .send .last .0) (c .before .before .before .send .result)) (k .0)
     (sym (c .before .before .accepted .ensures) ∙ not-false (c .before .before .accepted .result) (c .before .if1 .left)) (done (c .before .before .before .send .last .0) (c .answered .result))
     (c .answered .ensures (c .before .before .before .send .last .0) (k .0 .sound))
 

@@ -55,7 +55,8 @@ returns-2 c = λ subject w. let a = c .before .before .before .before .before .b
     (c .before .before .before .before .before .is-ref .result) (c .before .before .before .before .before .is-ref .ensures) (c .before .before .before .before .if1 .taken)
     (sym (rw (toZ-ofZ (c .before .before .before .before .before .before .before .before .before .before .before .before .fits .v)) at (c .before .before .before .is-held .ensures s subject refl w))
     ∙ not-false (c .before .before .before .is-held .result) (c .before .before .if2 .left)) _ (c .before .before .before .before .before .before .before .before .before .wide .ensures .0)
-    (done (c .give-reference .last .0) (c .give-reference .result)) (rw (toZ-ofZ (c .before .before .before .before .before .before .before .before .before .before .before .before .fits .v)) at (c .give-reference .ensures))
+    (done (c .give-reference .last .0) (c .give-reference .result)) (rw (toZ-ofZ (c .before .before .before .before .before .before .before .before .before .before .before .before
+    .fits .v)) at (c .give-reference .ensures))
 
 pass-requires : tie.Need-pass-requires
 pass-requires c κs =
@@ -75,7 +76,12 @@ returns-3 c = λ subject w. let a = c .before .before .before .before .before .b
     (c .before .before .pass .ensures)) (c .before .if3 .taken) (done (a .types .now) (c .refused2 .result)) (ap (done (a .types .now)) (c .refused2 .ensures))
 
 answered-requires : tie.Need-answered-requires
-answered-requires c κs = (c .before .before .before .before .before .before .before .before .before .before .before .pre .1 .number, c .before .before .before .before .before .before .before .before .before .before .before .pre .0 .callCount, refl)
+answered-requires c κs = (
+  c .before .before .before .before .before .before .before .before .before .before .before .pre .1 .number,
+  c .before .before .before .before .before .before
+      .before .before .before .before .before .pre .0 .callCount,
+  refl,
+)
 
 returns-4 : tie.Need-returns-4
 returns-4 c = λ subject w. let a = c .before .before .before .before .before .before .before .before .before .before .before .before .args in let s = whole (a .types .now) (a .s) in
@@ -85,7 +91,8 @@ returns-4 c = λ subject w. let a = c .before .before .before .before .before .b
     (c .before .before .before .before .before .before .before .answers-met .ensures .0) (c .before .before .before .before .before .is-ref .result)
     (c .before .before .before .before .before .is-ref .ensures) (c .before .before .before .before .if1 .left)
     (c .before .before .pass .result) (rw (toZ-ofZ (c .before .before .before .before .before .before .before .before .before .before .before .before .fits .v)) at
-    (c .before .before .pass .ensures)) (c .before .if3 .left) (done (a .types .now) (c .answered .result)) (c .answered .ensures (a .types .now) (c .before .before .before .before .before .before .before .before .before .before .before .before .pre .0) (number (a .v))
+    (c .before .before .pass .ensures)) (c .before .if3 .left) (done (a .types .now) (c .answered .result))
+    (c .answered .ensures (a .types .now) (c .before .before .before .before .before .before .before .before .before .before .before .before .pre .0) (number (a .v))
     (ap (λ (z : ℤ). got (number z)) (toZ-ofZ (c .before .before .before .before .before .before .before .before .before .before .before .before .fits .v))))
 
 pub give-value-spec : {M : Type 1} → statement M

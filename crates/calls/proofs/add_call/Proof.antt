@@ -20,7 +20,8 @@ returns : tie.Need-returns
 returns c = λ b h cell method.
     let a = c .before .before .before .before .before .before .before .before .args in
     call-added (whole b (a .s)) h (c .before .before .before .before .before .before .before .before .pre .0) (a .who) (a .k) (a .m) (a .adapters) cell method _
-    (call-eq _ _ _ (a .who) (a .k) (a .m) (c .before .before .before .before .before .before .before .narrow .ensures) (c .before .before .before .before .before .before .narrow2 .ensures) (c .before .before .before .before .before .narrow3 .ensures))
+    (call-eq _ _ _ (a .who) (a .k) (a .m) (c .before .before .before .before .before .before .before .narrow .ensures)
+    (c .before .before .before .before .before .before .narrow2 .ensures) (c .before .before .before .before .before .narrow3 .ensures))
     (c .before .before .before .before .add .result) (c .before .before .before .before .add .ensures .0) (c .before .before .before .before .add .ensures .1)
 
 pub add-call-spec : {M : Type 1} → statement M

@@ -13,17 +13,21 @@ is-ref-requires : tie.Need-is-ref-requires
 is-ref-requires c κs = c .before .before .pre .checked .limits
 
 returns : tie.Need-returns
-returns c = λ subject w. number-held (whole (c .before .before .before .before .args .types .now) (c .before .before .before .before .args .s)) (c .before .before .before .before .args .a) (c .before .is-ref .result)
-    (c .before .is-ref .ensures) (not-true (c .before .is-ref .result) (c .if1 .taken)) (held (systemIn (whole (c .before .before .before .before .args .types .now) (c .before .before .before .before .args .s))) subject
+returns c = λ subject w. number-held (whole (c .before .before .before .before .args .types .now) (c .before .before .before .before .args .s))
+    (c .before .before .before .before .args .a) (c .before .is-ref .result)
+    (c .before .is-ref .ensures) (not-true (c .before .is-ref .result) (c .if1 .taken)) (held
+    (systemIn (whole (c .before .before .before .before .args .types .now) (c .before .before .before .before .args .s))) subject
     (c .before .before .before .before .args .v))
 
 is-held-requires : tie.Need-is-held-requires
 is-held-requires c κs = c .before .before .before .before .pre .cellCount
 
 returns-2 : tie.Need-returns-2
-returns-2 c = λ subject w. reference-held (whole (c .before .before .before .before .before .args .types .now) (c .before .before .before .before .before .args .s)) (c .before .before .before .before .before .args .a)
+returns-2 c = λ subject w. reference-held (whole (c .before .before .before .before .before .args .types .now) (c .before .before .before .before .before .args .s))
+    (c .before .before .before .before .before .args .a)
     (c .before .before .is-ref .result) (c .before .before .is-ref .ensures) (not-false (c .before .before .is-ref .result) (c .before .if1 .left)) (c .is-held .result)
-    (held (systemIn (whole (c .before .before .before .before .before .args .types .now) (c .before .before .before .before .before .args .s))) subject (c .before .before .before .before .before .args .v))
+    (held (systemIn (whole (c .before .before .before .before .before .args .types .now) (c .before .before .before .before .before .args .s))) subject
+    (c .before .before .before .before .before .args .v))
     (rw (toZ-ofZ (c .before .before .before .before .before .fits .v)) at (c .is-held .ensures
     (whole (c .before .before .before .before .before .args .types .now) (c .before .before .before .before .before .args .s)) subject refl w))
 

@@ -30,7 +30,8 @@ argument-in-requires : tie.Need-argument-in-requires Inv-loop μ-loop
 argument-in-requires c κs = search needs
 
 returns : tie.Need-returns Inv-loop μ-loop
-returns c = λ subject w. let a = c .before .before .before .before .args in let s = whole (a .types .now) (a .s) in held-over (systemIn s) subject (argumentsOf (a .x)) (a .vs .now) (c .before .before .before .loop .i)
+returns c = λ subject w. let a = c .before .before .before .before .args in let s = whole (a .types .now) (a .s) in
+    held-over (systemIn s) subject (argumentsOf (a .x)) (a .vs .now) (c .before .before .before .loop .i)
     (c .before .before .before .loop .inv .1 subject w) _ _ (value-next (a .vs .now) (c .before .before .before .loop .i) (c .before .before .loop-test .taken))
     (none-left (a .x) (c .before .before .before .loop .i) (c .before .argument-in .result) (c .before .argument-in .ensures) (c .if1 .taken))
 
@@ -47,7 +48,8 @@ argument-held-requires : tie.Need-argument-held-requires Inv-loop μ-loop
 argument-held-requires c κs = c .before .before .before .before .before .pre
 
 returns-2 : tie.Need-returns-2 Inv-loop μ-loop
-returns-2 c = λ subject w. let a = c .before .before .before .before .before .before .before .args in let s = whole (a .types .now) (a .s) in let l = c .before .before .before .before .before .before .loop in let v = getD
+returns-2 c = λ subject w. let a = c .before .before .before .before .before .before .before .args in let s = whole (a .types .now) (a .s) in
+    let l = c .before .before .before .before .before .before .loop in let v = getD
     (a .vs .now) (l .i) (pos 0) in held-fails (systemIn s) subject (argumentsOf (a .x)) (a .vs .now) (l .i) (l .inv .1 subject w) _ _
     (value-next (a .vs .now) (l .i) (c .before .before .before .before .before .loop-test .taken)) _ _ (some-left (a .x) (l .i) (c .before .before .before .before .argument-in .result)
     (c .before .before .before .before .argument-in .ensures) (c .before .before .before .if1 .left)) (c .before .argument-held .result)
@@ -78,7 +80,8 @@ argument-in-requires-2 : tie.Need-argument-in-requires-2 Inv-loop μ-loop
 argument-in-requires-2 c κs = search needs
 
 returns-3 : tie.Need-returns-3 Inv-loop μ-loop
-returns-3 c = λ subject w. let a = c .before .before .before .args in let s = whole (a .types .now) (a .s) in let l = c .before .before .loop in held-whole (systemIn s) subject (a .x) (a .vs .now) (l .i)
+returns-3 c = λ subject w. let a = c .before .before .before .args in let s = whole (a .types .now) (a .s) in let l = c .before .before .loop in
+    held-whole (systemIn s) subject (a .x) (a .vs .now) (l .i)
     (l .inv .1 subject w) (l .inv .0) (c .before .loop-test .left) (c .argument-in2 .result) (c .argument-in2 .ensures)
 
 pub arguments-held-spec : {M : Type 1} → statement M

@@ -34,7 +34,8 @@ returns c = λ subject w.
     (sort-here s (h .0) (a .k) (h .2) (c .before .before .before .before .before .before .before .cell-at .result)
     (c .before .before .before .before .before .before .before .cell-at .ensures .1 (h .2)) (c .before .before .before .before .wide .result)
     (c .before .before .before .before .wide .ensures .0))
-    (c .before .before .before .method-at .result) (c .before .before .before .method-at .ensures) (c .before .if1 .taken) (done (a .types .now) (c .refused .result)) (ap (done (a .types .now)) (c .refused .ensures))
+    (c .before .before .before .method-at .result) (c .before .before .before .method-at .ensures) (c .before .if1 .taken) (done (a .types .now) (c .refused .result))
+    (ap (done (a .types .now)) (c .refused .ensures))
 
 arguments-held-requires : tie.Need-arguments-held-requires
 arguments-held-requires c κs = c .before .before .before .before .before .before .before .before .pre .0
@@ -66,7 +67,8 @@ returns-3 c = λ subject w.
     (c .before .before .before .before .before .before .before .before .before .before .before .before .cell-at .ensures .1 (h .2))
     (c .before .before .before .before .before .before .before .before .before .wide .result) (c .before .before .before .before .before .before .before .before .before .wide .ensures .0))
     (c .before .before .before .before .before .before .before .before .method-at .result) (c .before .before .before .before .before .before .before .before .method-at .ensures)
-    (c .before .before .before .before .before .before .if1 .left) (sym (c .before .before .before .before .arguments-held .ensures subject w) ∙ not-false (c .before .before .before .before .arguments-held .result)
+    (c .before .before .before .before .before .before .if1 .left) (sym (c .before .before .before .before .arguments-held .ensures subject w) ∙ not-false
+    (c .before .before .before .before .arguments-held .result)
     (c .before .before .before .if2 .left)) (c .before .if3 .taken) (done (a .types .now) (c .refused3 .result)) (ap (done (a .types .now)) (c .refused3 .ensures))
 
 call-through-requires : tie.Need-call-through-requires
@@ -79,9 +81,11 @@ returns-4 c = λ subject w.
     held-goes s (h .0) subject (a .k) (a .m) (a .vs .now) (c .before .before .before .before .before .before .before .before .before .before .wide .result)
     (sort-here s (h .0) (a .k) (h .2) (c .before .before .before .before .before .before .before .before .before .before .before .before .before .cell-at .result)
     (c .before .before .before .before .before .before .before .before .before .before .before .before .before .cell-at .ensures .1 (h .2))
-    (c .before .before .before .before .before .before .before .before .before .before .wide .result) (c .before .before .before .before .before .before .before .before .before .before .wide .ensures .0))
+    (c .before .before .before .before .before .before .before .before .before .before .wide .result)
+    (c .before .before .before .before .before .before .before .before .before .before .wide .ensures .0))
     (c .before .before .before .before .before .before .before .before .before .method-at .result) (c .before .before .before .before .before .before .before .before .before .method-at .ensures)
-    (c .before .before .before .before .before .before .before .if1 .left) (sym (c .before .before .before .before .before .arguments-held .ensures subject w) ∙ not-false (c .before .before .before .before .before .arguments-held .result)
+    (c .before .before .before .before .before .before .before .if1 .left) (sym (c .before .before .before .before .before .arguments-held .ensures subject w) ∙ not-false
+    (c .before .before .before .before .before .arguments-held .result)
     (c .before .before .before .before .if2 .left)) (c .before .before .if3 .left) (a .who) w (done (c .call-through .last .0) (c .call-through .result)) (c .call-through .ensures)
 
 pub call-held-spec : {M : Type 1} → statement M

@@ -31,7 +31,8 @@ refused-requires-2 : tie.Need-refused-requires-2
 refused-requires-2 c κs = search needs
 
 returns-2 : tie.Need-returns-2
-returns-2 c = let a = c .before .before .before .before .before .before .before .before .args in let s = whole (a .types .now) (a .s) in let f = c .before .before .before .before .before .before .before .before .fits in
+returns-2 c = let a = c .before .before .before .before .before .before .before .before .args in let s = whole (a .types .now) (a .s) in
+    let f = c .before .before .before .before .before .before .before .before .fits in
     let known = sym (rw (toZ-ofZ (f .subject)) at (c .before .before .before .before .before .is-subject .ensures s refl)) ∙ not-false
     (c .before .before .before .before .before .is-subject .result) (c .before .before .before .before .if1 .left) in
     let who = rw (toZ-ofZ (f .subject)) at (c .before .before .before .index-of .ensures) in
@@ -65,7 +66,8 @@ returns-3 c =
     step-14 s (c .before .before .before .before .before .before .before .before .before .before .before .before .pre) (a .subject) (a .cell) (a .method) (a .arguments .now) known
     (c .before .before .before .before .before .before .before .index-of .result) who has (c .before .before .before .before .index-of2 .result)
     (rw (toZ-ofZ (f .cell)) at (c .before .before .before .before .index-of2 .ensures))
-    (c .before .before .before .index-of3 .result) (rw (toZ-ofZ (f .method)) at (c .before .before .before .index-of3 .ensures)) (c .before .if3 .taken) (done (a .types .now) (c .refused3 .result)) (ap (done (a .types .now)) (c .refused3 .ensures))
+    (c .before .before .before .index-of3 .result) (rw (toZ-ofZ (f .method)) at (c .before .before .before .index-of3 .ensures)) (c .before .if3 .taken)
+    (done (a .types .now) (c .refused3 .result)) (ap (done (a .types .now)) (c .refused3 .ensures))
 
 call-held-requires : tie.Need-call-held-requires
 call-held-requires c κs =
@@ -98,7 +100,8 @@ returns-4 c =
     step-goes s (c .before .before .before .before .before .before .before .before .before .before .before .before .before .pre) (a .subject) (a .cell) (a .method) (a .arguments .now) known
     (c .before .before .before .before .before .before .before .before .index-of .result) who has (c .before .before .before .before .before .index-of2 .result)
     (rw (toZ-ofZ (f .cell)) at (c .before .before .before .before .before .index-of2 .ensures))
-    (c .before .before .before .before .index-of3 .result) (rw (toZ-ofZ (f .method)) at (c .before .before .before .before .index-of3 .ensures)) (c .before .before .if3 .left) (done (c .call-held .last .0) (c .call-held .result)) (c .call-held .ensures)
+    (c .before .before .before .before .index-of3 .result) (rw (toZ-ofZ (f .method)) at (c .before .before .before .before .index-of3 .ensures)) (c .before .before .if3 .left)
+    (done (c .call-held .last .0) (c .call-held .result)) (c .call-held .ensures)
 
 pub call-step-spec : {M : Type 1} → statement M
 call-step-spec =

@@ -40,7 +40,8 @@ send-arguments-requires c κs =
     let a = c .before .before .before .before .before .before .before .args in let s = whole (a .types .now) (a .s) in
     let h = c .before .before .before .before .before .before .before .pre in
     let y = c .before .before .before .before .before .before .cell-at in
-    let p = place-low s (h .0) (a .k) (h .3) (y .result) (y .ensures .1 (h .3)) (c .before .before .before .before .before .wide .result) (c .before .before .before .before .before .wide .ensures .0) in
+    let p = place-low s (h .0) (a .k) (h .3) (y .result) (y .ensures .1 (h .3)) (c .before .before .before .before .before .wide .result)
+    (c .before .before .before .before .before .wide .ensures .0) in
     let t = sort-low s (h .0) (a .k) (h .3) (y .result) (y .ensures .1 (h .3)) _ refl in
     (h .0, omega (arith, p), omega (arith, t), c .before .before .before .base-owner .ensures .1, omega (arith, c .way-of .ensures .1, c .before .before .layers-of .ensures .few))
 
@@ -82,10 +83,13 @@ add-call-requires c κs =
     let w = c .before .before .before .before .before .way-of in
     let g = through-room s (h .0) (a .who) (a .k) (a .m) (argumentsOf (a .x)) (a .vs .now) (z .result) (place-here s (h .0) (a .k) (h .3) (y .result) (y .ensures .1 (h .3)) (z .result)
     (z .ensures .0))
-    (c .before .before .before .before .before .before .before .before .base-owner .result) (c .before .before .before .before .before .before .before .before .base-owner .ensures .0) (wayIn (w .result))
+    (c .before .before .before .before .before .before .before .before .base-owner .result) (c .before .before .before .before .before .before .before .before .base-owner .ensures .0)
+    (wayIn (w .result))
     (way-met s (h .0) (a .k) (h .3) (y .result) (y .ensures .1 (h .3)) (z .result) (z .ensures .0) (layersIn (l .result)) (wayIn (w .result)) (l .ensures .are) (w .ensures .0))
-    (done (c .before .before .before .before .send-arguments .last .0) (c .before .before .before .before .send-arguments .result)) (c .before .before .before .before .send-arguments .ensures) (h .1) (h .2) (h .3) (h .4) in
-    let b = call-byte (whole (c .before .before .before .before .send-arguments .last .0) (c .before .before .before .before .send-arguments .result .state)) (g .0) (g .1) (a .who) (a .k) (a .m) 0 (g .3) (g .4) in
+    (done (c .before .before .before .before .send-arguments .last .0) (c .before .before .before .before .send-arguments .result))
+    (c .before .before .before .before .send-arguments .ensures) (h .1) (h .2) (h .3) (h .4) in
+    let b = call-byte (whole (c .before .before .before .before .send-arguments .last .0) (c .before .before .before .before .send-arguments .result .state)) (g .0) (g .1) (a .who)
+    (a .k) (a .m) 0 (g .3) (g .4) in
     (g .1, g .2, b .0, b .1)
 
 returns-2 : tie.Need-returns-2
@@ -98,17 +102,21 @@ returns-2 c =
     let w = c .before .before .before .before .before .before .way-of in
     let g = through-room s (h .0) (a .who) (a .k) (a .m) (argumentsOf (a .x)) (a .vs .now) (z .result) (place-here s (h .0) (a .k) (h .3) (y .result) (y .ensures .1 (h .3)) (z .result)
     (z .ensures .0))
-    (c .before .before .before .before .before .before .before .before .before .base-owner .result) (c .before .before .before .before .before .before .before .before .before .base-owner .ensures .0) (wayIn (w .result))
+    (c .before .before .before .before .before .before .before .before .before .base-owner .result)
+    (c .before .before .before .before .before .before .before .before .before .base-owner .ensures .0) (wayIn (w .result))
     (way-met s (h .0) (a .k) (h .3) (y .result) (y .ensures .1 (h .3)) (z .result) (z .ensures .0) (layersIn (l .result)) (wayIn (w .result)) (l .ensures .are) (w .ensures .0))
-    (done (c .before .before .before .before .before .send-arguments .last .0) (c .before .before .before .before .before .send-arguments .result)) (c .before .before .before .before .before .send-arguments .ensures) (h .1) (h .2) (h .3) (h .4) in
+    (done (c .before .before .before .before .before .send-arguments .last .0) (c .before .before .before .before .before .send-arguments .result))
+    (c .before .before .before .before .before .send-arguments .ensures) (h .1) (h .2) (h .3) (h .4) in
     through-adds s (h .0) (a .who) (a .k) (a .m) (argumentsOf (a .x)) (a .vs .now) (z .result) (place-here s (h .0) (a .k) (h .3) (y .result) (y .ensures .1 (h .3)) (z .result)
     (z .ensures .0))
     (c .before .before .before .before .before .before .before .before .before .base-owner .result) (c .before .before .before .before .before .before .before .before .before .base-owner .ensures .0)
     (wayIn (w .result))
     (way-met s (h .0) (a .k) (h .3) (y .result) (y .ensures .1 (h .3)) (z .result) (z .ensures .0) (layersIn (l .result)) (wayIn (w .result)) (l .ensures .are) (w .ensures .0))
-    (done (c .before .before .before .before .before .send-arguments .last .0) (c .before .before .before .before .before .send-arguments .result)) (c .before .before .before .before .before .send-arguments .ensures)
+    (done (c .before .before .before .before .before .send-arguments .last .0) (c .before .before .before .before .before .send-arguments .result))
+    (c .before .before .before .before .before .send-arguments .ensures)
     (sym (c .before .before .before .accepted .ensures) ∙ not-false (c .before .before .before .accepted .result) (c .before .before .if1 .left))
-    (c .before .adapters-of .result) (c .before .adapters-of .ensures) (done (c .before .before .before .before .before .send-arguments .last .0) (c .add-call .result)) (c .add-call .ensures (c .before .before .before .before .before .send-arguments .last .0) (g .0) (g .3) (g .4))
+    (c .before .adapters-of .result) (c .before .adapters-of .ensures) (done (c .before .before .before .before .before .send-arguments .last .0) (c .add-call .result))
+    (c .add-call .ensures (c .before .before .before .before .before .send-arguments .last .0) (g .0) (g .3) (g .4))
 
 pub call-through-spec : {M : Type 1} → statement M
 call-through-spec =

@@ -19,7 +19,8 @@ index-of-requires c κs = search needs
 
 returns : tie.Need-returns
 returns c = let a = c .before .before .before .before .args in
-    offers-unknown (whole (a .types .now) (a .s)) (a .cell) (a .chain .now) (c .before .before .index-of .result) (rw (toZ-ofZ (c .before .before .before .before .fits .cell)) at (c .before .before .index-of .ensures))
+    offers-unknown (whole (a .types .now) (a .s)) (a .cell) (a .chain .now) (c .before .before .index-of .result)
+    (rw (toZ-ofZ (c .before .before .before .before .fits .cell)) at (c .before .before .index-of .ensures))
     (c .if1 .taken)
 
 cell-at-requires : tie.Need-cell-at-requires
@@ -30,7 +31,8 @@ wide-requires c κs = search needs
 
 place-at-requires : tie.Need-place-at-requires
 place-at-requires c κs = let a = c .before .before .before .before .before .before .before .args in let s = whole blank (a .s) in
-    let l = place-known (whole blank (a .s)) (c .before .before .before .before .before .before .before .pre blank blank-long) (c .before .before .before .before .before .index-of .result) (c .before .before .before .if1 .left)
+    let l = place-known (whole blank (a .s)) (c .before .before .before .before .before .before .before .pre blank blank-long)
+    (c .before .before .before .before .before .index-of .result) (c .before .before .before .if1 .left)
     (cellOf (c .before .before .cell-at .result)) (c .before .before .cell-at .ensures .1 (c .before .before .before .if1 .left)) (c .wide .result) (c .wide .ensures .0) in
     omega (arith, l, (c .before .before .before .before .before .before .before .pre blank blank-long) .falling .count)
 

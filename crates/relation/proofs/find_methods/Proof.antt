@@ -24,7 +24,8 @@ abbrev μ-loop : tie.MeasureT-loop
 loop-holds : tie.Need-loop-holds Inv-loop μ-loop
 loop-holds c =
     let a = c .before .args in
-    let start = methods-start (a .n) (relationOf (a .k)) (methodIn (a .b .now) (a .a)) (methodIn (a .b .now) (a .d)) (marksIn (a .found .now)) (queueIn (a .found .now)) (a .tail) (c .before .pre .0) in
+    let start = methods-start (a .n) (relationOf (a .k)) (methodIn (a .b .now) (a .a)) (methodIn (a .b .now) (a .d)) (marksIn (a .found .now)) (queueIn (a .found .now)) (a .tail)
+    (c .before .pre .0) in
     (omega arith, start, refl)
 
 get-method-requires : tie.Need-get-method-requires Inv-loop μ-loop

@@ -27,7 +27,8 @@ carry-requires c κs =
     let g = send-stands s (h .0) (a .r) (named (a .v)) (c .before .before .before .before .before .before .before .named-cell .result)
     (rw (toZ-ofZ (c .before .before .before .before .before .before .before .before .fits .v)) at
     (c .before .before .before .before .before .before .before .named-cell .ensures)) (any-cell s (h .0) (h .1) (h .2) (named (a .v)))
-    (targetsIn (a .targets)) (c .before .wide .result) (c .wide2 .result) (c .before .wide .ensures .0) (c .wide2 .ensures .0) (record { checked = h .0 .checked; long = h .0 .long }) in (g .0, g .1, h .4)
+    (targetsIn (a .targets)) (c .before .wide .result) (c .wide2 .result) (c .before .wide .ensures .0) (c .wide2 .ensures .0) (record { checked = h .0 .checked; long = h .0 .long })
+    in (g .0, g .1, h .4)
 
 refused-requires : tie.Need-refused-requires
 refused-requires c κs = search needs
