@@ -17,7 +17,7 @@ use std::path::Path;
 
 const PROGRAM: &str = env!("CARGO_BIN_EXE_small_stack");
 
-/// The most that an entry point may need, in KB: the deepest, and a request on a small sheet.
+/// The most that an entry point may need beside what the program itself takes, in KB: the deepest, and a request on a small sheet.
 const GOAL: usize = 256;
 const SMALL_GOAL: usize = 64;
 
@@ -158,7 +158,6 @@ fn all() -> Vec<Work> {
     let others = [
         run_of("118 new types nested", &deep, &deep_requests()),
         run_of("40 adapters, 48 types", &worst, &worst_requests()),
-        nothing(),
         offers(),
         load(),
     ];
@@ -168,10 +167,12 @@ fn all() -> Vec<Work> {
 
 #[test]
 fn twice_the_stack_that_is_needed() {
+    let alone = nothing().need();
+    println!("the program alone: {alone} KB");
     for work in all() {
         let need = work.need();
-        println!("{}: {need} KB", work.name);
-        assert!(need <= work.goal, "{}: {need} KB", work.name);
+        println!("{}: {need} KB, {} of them its own", work.name, need - alone);
+        assert!(need - alone <= work.goal, "{}: {need} KB", work.name);
         let printed = work.printed(2 * need);
         assert!(printed.as_ref() == Some(&work.output), "{}", work.name);
     }

@@ -326,11 +326,11 @@ pub fn base_of(ps: Places, p: usize) -> usize
     requires { ⌜ Falling ps × (p < ps .count) ⌝ }
     ensures { λ r. ⌜ BaseAt ps p r ⌝ }
 {
-    let mut at = p;
-    while !is_object(ps.list[at]) {
-        at = place_behind(ps.list[at]);
+    let mut base = p;
+    while !is_object(ps.list[base]) {
+        base = place_behind(ps.list[base]);
     }
-    at
+    base
 }
 
 pub fn base_owner(ps: Places, p: usize) -> usize
