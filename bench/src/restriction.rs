@@ -39,7 +39,7 @@ pub fn derive(raw: &mut RawTable, kind: usize, t: usize, s: usize) -> Result<usi
     number
 }
 
-fn by_kind(raw: &mut RawTable, kind: usize, t: usize, s: usize) -> Result<usize, usize> {
+fn by_kind(raw: &mut RawTable, kind: u8, t: usize, s: usize) -> Result<usize, Full> {
     match kind {
         SUB => sub(raw, t, s),
         SUP => sup(raw, t, s),
