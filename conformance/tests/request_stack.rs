@@ -2,7 +2,7 @@
 //! then each runs on a main thread of twice that, at most 1 MB, and its whole output is the reference's.
 
 use conformance::inputs::largest;
-use conformance::process::{least_stack, limited_to, run};
+use conformance::process::{least_stack, limited_still, limited_to, run};
 use conformance::runs::{self, ANSWER};
 use conformance::states::{deep_requests, deep_state, of_table, worst_requests, worst_state};
 use conformance::stream::{numbers, to_bytes};
@@ -14,10 +14,11 @@ use reference::requests::{Got, Request};
 use reference::script;
 use reference::sheet;
 use std::path::Path;
+use std::process::Command;
 
 const PROGRAM: &str = env!("CARGO_BIN_EXE_small_stack");
 
-/// The most that an entry point may need beside what the program itself takes, in KB: the deepest, and a request on a small sheet.
+/// The most that an entry point may need beside what the program itself takes, in KB: the deepest, and a call or an answer on a small sheet.
 const GOAL: usize = 256;
 const SMALL_GOAL: usize = 64;
 
@@ -31,15 +32,15 @@ struct Work {
 }
 
 impl Work {
-    fn printed(&self, stack: usize) -> Option<Vec<u8>> {
-        let mut command = limited_to(stack, Path::new(PROGRAM));
+    fn printed(&self, mut command: Command) -> Option<Vec<u8>> {
         command.arg(self.word);
         let output = run(command, &self.input);
         output.status.success().then_some(output.stdout)
     }
 
     fn need(&self) -> usize {
-        least_stack(4 * GOAL, |stack| self.printed(stack).is_some())
+        let still = |stack| limited_still(stack, Path::new(PROGRAM));
+        least_stack(4 * GOAL, |stack| self.printed(still(stack)).is_some())
     }
 }
 
@@ -142,10 +143,11 @@ fn small() -> Vec<Work> {
         let asked = script::parse(line.as_bytes()).expect("a request");
         let work = request("Case P", &state, &asked);
         entry::request(&mut state, &asked).expect("accepted");
-        Work {
-            goal: SMALL_GOAL,
-            ..work
-        }
+        let goal = match asked {
+            Request::Call { .. } | Request::Answer { .. } => SMALL_GOAL,
+            _ => GOAL,
+        };
+        Work { goal, ..work }
     };
     lines.into_iter().map(one).collect()
 }
@@ -173,7 +175,7 @@ fn twice_the_stack_that_is_needed() {
         let need = work.need();
         println!("{}: {need} KB, {} of them its own", work.name, need - alone);
         assert!(need - alone <= work.goal, "{}: {need} KB", work.name);
-        let printed = work.printed(2 * need);
+        let printed = work.printed(limited_to(2 * need, Path::new(PROGRAM)));
         assert!(printed.as_ref() == Some(&work.output), "{}", work.name);
     }
 }
