@@ -1,7 +1,7 @@
 /*
  * A visit log through its week, on the sheet of Case P. examples/visit.out is what it prints. From the root of the repository, after tools/libraries:
  *
- *     cc -std=c99 -Iinclude examples/visit.c target/staticlib/libexports*.a -o visit && ./visit examples/case-p.sheet
+ *     cc -std=c99 -Iinclude examples/visit.c target/staticlib/libexport_*.a -o visit && ./visit examples/case-p.sheet
  */
 #include "pilgonca.h"
 

@@ -1,7 +1,7 @@
 /*
  * pilgonca.h: the C functions of the proved permission core. docs/SPEC.md has the rules that comments name (as H or B26), docs/GUIDE.md a page for integrators.
  *
- * Linking. Link every target/staticlib/libexports*.a (tools/libraries writes them). They need memcpy, memmove and memset, and nothing else.
+ * Linking. Link every target/staticlib/libexport_*.a (tools/libraries writes them). They need memcpy, memmove and memset, and nothing else.
  *
  * Calling. A function returns 0, or the number of a refusal (enum pilgonca_refusal); pilgonca_compare alone differs. Any bytes, counts and numbers may be handed in: what is
  * wrong is refused. A refusal stores nothing, so that everything lent is as it was, every byte of it; pilgonca_read and pilgonca_load alone store always (S32).

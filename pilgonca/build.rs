@@ -1,4 +1,4 @@
-//! Links target/staticlib/libNAME.a for every crate of crates.txt whose name begins with `exports`, or for `exports` alone where the feature `visits` is off;
+//! Links target/staticlib/libNAME.a for every crate of crates.txt whose name begins with `export_`, or for `export_table` alone where the feature `visits` is off;
 //! tools/libraries writes them (./test does that first).
 //! What a library doesn't export is local to it, so functions that two of them hold don't clash. Packages that depend on this one need no build script.
 //! The tests that compile C find the same list in PILGONCA_LIBRARIES.
@@ -17,7 +17,7 @@ fn main() {
     let mut files = Vec::new();
     for line in fs::read_to_string(&crates).expect("crates.txt").lines() {
         let name = line.split(':').next().unwrap_or("");
-        if name == "exports" || visits && name.starts_with("exports") {
+        if name == "export_table" || visits && name.starts_with("export_") {
             let file = library.join(format!("lib{name}.a"));
             assert!(file.exists(), "no {}: run tools/libraries", file.display());
             println!("cargo:rerun-if-changed={}", file.display());

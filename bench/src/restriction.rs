@@ -1,4 +1,4 @@
-//! Sub, Sup and Closed in safe Rust, by the algorithm of crates/deriving, restrict and closed: two functions that call each other over the bytes of
+//! Sub, Sup and Closed in safe Rust, by the algorithm of the crates `derive_..`: two functions that call each other over the bytes of
 //! the table. It works on a copy or in the bytes, as requests do (requests.rs).
 
 use crate::fits;

@@ -1,4 +1,4 @@
-//! Compare and the pair table in safe Rust, by the algorithm of crates/relation and crates/rules: the check of the table, then
+//! Compare and the pair table in safe Rust, by the algorithm of crates/relation_search and crates/relation_rule: the check of the table, then
 //! for each relation a search for a pair that breaks a rule, over pairs found through signatures that both sides permit.
 
 use crate::fits;
@@ -136,7 +136,7 @@ fn methods(found: &mut Found, states: &States, count: usize, x: &[u8], y: &[u8])
 }
 
 /// How many pairs are found from a pair, itself among them, if all keep the rules of the relation: then the pair is related. What is
-/// cleared for a search goes by the size of the table, in the steps of crates/relation, or is the whole (`measure::in_place`).
+/// cleared for a search goes by the size of the table, in the steps of crates/relation_search, or is the whole (`measure::in_place`).
 pub fn reached(raw: &RawTable, relation: Relation, t: usize, s: usize) -> Option<usize> {
     match raw.types {
         _ if !in_place() => reached_in(&mut [0; MAX_TYPES * MAX_TYPES], raw, relation, t, s),

@@ -9,14 +9,14 @@ use lib.Dec.{eqb}
 use lib.IntN.{ℤ, pos}
 use lib.ListN.{length, getD, take, drop, length-append}
 use lib.Seq.{sets, sets-eq}
-use Rattle.model.specs.Basics.{Res, refuse, ok, names, named}
-use Rattle.model.specs.Requests.{System, Request, Result, pair, number, nothing, Outcome, got, refused, outcome, serve, after, run}
-use Rattle.model.specs.Book.{Book}
-use Rattle.model.specs.Claim.{feed}
-use Rattle.model.proofs.Tests.{eqb-so}
-use Rattle.returned.proofs.Small.{Small, Named, small-serve}
-use Rattle.run.specs.Requested.{request, requests, asked, placed, runAsked}
-use Rattle.run.specs.Ran.{wordsOf, answersOf, room}
+use Rattle.spec_model.specs.Basics.{Res, refuse, ok, names, named}
+use Rattle.spec_model.specs.Requests.{System, Request, Result, pair, number, nothing, Outcome, got, refused, outcome, serve, after, run}
+use Rattle.spec_model.specs.Book.{Book}
+use Rattle.spec_model.specs.Claim.{feed}
+use Rattle.spec_model.proofs.Tests.{eqb-so}
+use Rattle.law_handed.proofs.Small.{Small, Named, small-serve}
+use Rattle.request_run.specs.Requested.{request, requests, asked, placed, runAsked}
+use Rattle.request_run.specs.Ran.{wordsOf, answersOf, room}
 use Rattle.theorem.specs.Shown.{taken, told}
 use Rattle.theorem.specs.OfStates.{isZero, toldBy}
 

@@ -10,29 +10,29 @@ use lib.Dec.{eqb, ltb}
 use lib.IntN.{ℤ, pos, negsuc}
 use lib.ListN.{length, getD, length-append, List·getD-append}
 use lib.Seq.{getD-at}
-use Rattle.model.specs.Basics.{Res, refuse, ok, names, named, _⇒_}
-use Rattle.model.specs.Table.{Table, size, typeAt, methodAt, argumentAt, answerAt, isRef, permit, isAvail, validSheet}
-use Rattle.model.specs.Relations.{conforms, stateLe, sameRep, outerRule, related}
-use Rattle.model.specs.Crossing.{baseOwner}
-use Rattle.model.specs.Requests.{System, loaded, Request, new, move, call, answer, Result, maxCalls, cellAt, callAt, held, wayOf, argumentsHeld, sendArguments, callRequest, give}
-use Rattle.model.specs.Requests.{answerRequest, serve, after}
-use Rattle.model.specs.Chains.{Permits}
-use Rattle.model.specs.Book.{Note, Book, opened, noteAt, pageAt, pageWay, lastType, copyPage, copyArguments, copyAnswer, enter}
-use Rattle.model.specs.Claim.{accepted, feed, follow, reached}
-use Rattle.model.proofs.Tests.{ltb-so, so-ltb}
-use Rattle.model.proofs.Rules.{never, both, first, second, applied}
-use Rattle.model.proofs.States.{each, each₂}
-use Rattle.model.proofs.Largest.{keeps-related, related-inside}
-use Rattle.model.proofs.Order.{same-sort}
-use Rattle.model.proofs.Tests.{beq-so}
-use Rattle.model.proofs.ChainLaws.{steps}
-use Rattle.model.proofs.Growth.{method-same}
-use Rattle.modellaws.proofs.Steps.{IfOk, ok-need, ok-try, whatever}
-use Rattle.modellaws.proofs.Demand3.{reached-together, names-below}
-use Rattle.modellaws.proofs.Sheets.{sheet-fitting, sheet-good}
-use Rattle.modellaws.proofs.Checked.{fits-bounded}
-use Rattle.modellaws.proofs.Reached.{reached-fits}
-use Rattle.modellaws.proofs.Onward.{Onward, serve-onward}
+use Rattle.spec_model.specs.Basics.{Res, refuse, ok, names, named, _⇒_}
+use Rattle.spec_model.specs.Table.{Table, size, typeAt, methodAt, argumentAt, answerAt, isRef, permit, isAvail, validSheet}
+use Rattle.spec_model.specs.Relations.{conforms, stateLe, sameRep, outerRule, related}
+use Rattle.spec_model.specs.Crossing.{baseOwner}
+use Rattle.spec_model.specs.Requests.{System, loaded, Request, new, move, call, answer, Result, maxCalls, cellAt, callAt, held, wayOf, argumentsHeld, sendArguments, callRequest, give}
+use Rattle.spec_model.specs.Requests.{answerRequest, serve, after}
+use Rattle.spec_model.specs.Chains.{Permits}
+use Rattle.spec_model.specs.Book.{Note, Book, opened, noteAt, pageAt, pageWay, lastType, copyPage, copyArguments, copyAnswer, enter}
+use Rattle.spec_model.specs.Claim.{accepted, feed, follow, reached}
+use Rattle.spec_model.proofs.Tests.{ltb-so, so-ltb}
+use Rattle.spec_model.proofs.Rules.{never, both, first, second, applied}
+use Rattle.spec_model.proofs.States.{each, each₂}
+use Rattle.spec_model.proofs.Largest.{keeps-related, related-inside}
+use Rattle.spec_model.proofs.Order.{same-sort}
+use Rattle.spec_model.proofs.Tests.{beq-so}
+use Rattle.spec_model.proofs.ChainLaws.{steps}
+use Rattle.spec_model.proofs.Growth.{method-same}
+use Rattle.law_model.proofs.Steps.{IfOk, ok-need, ok-try, whatever}
+use Rattle.law_model.proofs.Demand3.{reached-together, names-below}
+use Rattle.law_model.proofs.Sheets.{sheet-fitting, sheet-good}
+use Rattle.law_model.proofs.Checked.{fits-bounded}
+use Rattle.law_model.proofs.Reached.{reached-fits}
+use Rattle.law_model.proofs.Onward.{Onward, serve-onward}
 use Rattle.theorem.specs.Shown.{Permitted, NotePermitted}
 use Rattle.theorem.proofs.Runs.{follow-both}
 

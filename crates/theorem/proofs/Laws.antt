@@ -7,21 +7,21 @@ use mathlib.Core.Option.{Option}
 use Prim.Native.Nat.{ℕ, _<_}
 use lib.IntN.{ℤ}
 use lib.ListN.{length, length-map}
-use Rattle.model.specs.Basics.{Res, refuse, ok, need, names}
-use Rattle.model.specs.Table.{Table, validSheet}
-use Rattle.model.specs.Requests.{System, Request, call, answer, Result, Outcome, loaded, serve, run}
-use Rattle.model.specs.Check.{RawTable, RawSystem, tableOf, systemOf, tableAccepted, systemAccepted}
-use Rattle.model.specs.Handed.{rawLoaded, counted, storedFrom, handBack, serveHanded, Returns}
-use Rattle.model.specs.Book.{Book, opened}
-use Rattle.model.specs.Claim.{accepted, feed, follow, reached, noteOf, Claim}
-use Rattle.model.proofs.Rules.{never}
-use Rattle.modellaws.proofs.Steps.{IfOk}
-use Rattle.modellaws.proofs.Sheets.{demand3}
-use Rattle.modellaws.proofs.Returned.{handed-is}
-use Rattle.modellaws.proofs.Loaded.{loaded-means, loaded-accepted}
-use Rattle.returned.proofs.Counted.{means-same, accepted-same}
-use Rattle.returned.proofs.Laws.{returns-reached}
-use Rattle.run.specs.Requested.{asked}
+use Rattle.spec_model.specs.Basics.{Res, refuse, ok, need, names}
+use Rattle.spec_model.specs.Table.{Table, validSheet}
+use Rattle.spec_model.specs.Requests.{System, Request, call, answer, Result, Outcome, loaded, serve, run}
+use Rattle.spec_model.specs.Check.{RawTable, RawSystem, tableOf, systemOf, tableAccepted, systemAccepted}
+use Rattle.spec_model.specs.Handed.{rawLoaded, counted, storedFrom, handBack, serveHanded, Returns}
+use Rattle.spec_model.specs.Book.{Book, opened}
+use Rattle.spec_model.specs.Claim.{accepted, feed, follow, reached, noteOf, Claim}
+use Rattle.spec_model.proofs.Rules.{never}
+use Rattle.law_model.proofs.Steps.{IfOk}
+use Rattle.law_model.proofs.Sheets.{demand3}
+use Rattle.law_model.proofs.Returned.{handed-is}
+use Rattle.law_model.proofs.Loaded.{loaded-means, loaded-accepted}
+use Rattle.law_handed.proofs.Counted.{means-same, accepted-same}
+use Rattle.law_handed.proofs.Laws.{returns-reached}
+use Rattle.request_run.specs.Requested.{asked}
 use Rattle.theorem.specs.Shown.{taken, told, RunReturns, Permitted, NotePermitted}
 use Rattle.theorem.proofs.Runs.{run-follows, follow-both, stored-means, stored-accepted}
 use Rattle.theorem.proofs.Calls.{call-tested, answer-tested, tested-permitted, follow-on, noted-permitted}

@@ -9,25 +9,25 @@ use native.Mathlib.Omega.{arith}
 use lib.Dec.{eqb}
 use lib.IntN.{ℤ}
 use lib.ListN.{length}
-use Rattle.model.specs.Basics.{ok, need, from}
-use Rattle.model.specs.Relations.{bit}
-use Rattle.model.specs.Requests.{Cell, System, Request, call, answer, Outcome, got, refused}
-use Rattle.model.specs.Check.{RawTable, RawPlace, RawCall, RawSystem, systemOf, systemAccepted}
-use Rattle.model.specs.Handed.{rawLoaded, counted}
-use Rattle.model.specs.Book.{Book}
-use Rattle.model.specs.Claim.{feed}
-use Rattle.returned.proofs.Small.{refusal-number}
-use Rattle.table.specs.Store.{rawTable}
-use Rattle.sheet.specs.Sheet.{read}
-use Rattle.sheet.specs.Text.{write}
-use Rattle.sheetread.specs.declared.Sheet.{Sheet}
-use Rattle.run.specs.Requested.{requests, runAsked, runHanded}
-use Rattle.run.specs.Ran.{room}
-use Rattle.offers.specs.Chained.{offersNamed, offersHanded}
-use Rattle.flat.specs.Flat.{Flat, countsIn, rawCells, rawPlaces, rawCalls, rawFlat}
-use Rattle.handing.specs.States.{outcomeNumber, outcomeOn}
-use Rattle.exports.specs.Codes.{WrittenIs}
-use Rattle.exports_runs.specs.Results.{offeredOut, LoadedIs, LentRun, RanOut, RunsOut}
+use Rattle.spec_model.specs.Basics.{ok, need, from}
+use Rattle.spec_model.specs.Relations.{bit}
+use Rattle.spec_model.specs.Requests.{Cell, System, Request, call, answer, Outcome, got, refused}
+use Rattle.spec_model.specs.Check.{RawTable, RawPlace, RawCall, RawSystem, systemOf, systemAccepted}
+use Rattle.spec_model.specs.Handed.{rawLoaded, counted}
+use Rattle.spec_model.specs.Book.{Book}
+use Rattle.spec_model.specs.Claim.{feed}
+use Rattle.law_handed.proofs.Small.{refusal-number}
+use Rattle.table_record.specs.Store.{rawTable}
+use Rattle.spec_sheet.specs.Sheet.{read}
+use Rattle.spec_sheet.specs.Text.{write}
+use Rattle.sheet_read.specs.declared.Sheet.{Sheet}
+use Rattle.request_run.specs.Requested.{requests, runAsked, runHanded}
+use Rattle.request_run.specs.Ran.{room}
+use Rattle.state_offers.specs.Chained.{offersNamed, offersHanded}
+use Rattle.state_bytes.specs.Flat.{Flat, countsIn, rawCells, rawPlaces, rawCalls, rawFlat}
+use Rattle.request_results.specs.States.{outcomeNumber, outcomeOn}
+use Rattle.export_table.specs.Codes.{WrittenIs}
+use Rattle.export_runs.specs.Results.{offeredOut, LoadedIs, LentRun, RanOut, RunsOut}
 use Rattle.theorem.specs.Shown.{first, taken, RunReturns, History, begins, asks, runs, alike, Holds, Permitted}
 use Rattle.theorem.specs.OfStates.{toldBy}
 use Rattle.theorem.specs.OfBytes.{sheetIn, ShownOfLoads, ShownOfBytes}

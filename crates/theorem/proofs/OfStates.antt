@@ -6,23 +6,23 @@ use mathlib.Core.List.{List}
 use mathlib.Core.Option.{Option}
 use lib.IntN.{ℤ}
 use lib.ListN.{length}
-use Rattle.model.specs.Basics.{Res, refuse, ok, need, from}
-use Rattle.model.specs.Requests.{Request}
-use Rattle.model.specs.Check.{RawSystem, systemOf, systemAccepted}
-use Rattle.model.specs.Handed.{counted}
-use Rattle.model.specs.Book.{Book}
-use Rattle.model.proofs.Rules.{never}
-use Rattle.sheetread.specs.declared.Sheet.{Sheet}
-use Rattle.state.specs.Whole.{Whole as State}
-use Rattle.state.specs.Whole.{whole}
-use Rattle.state.specs.View.{rawState, systemIn, stateLoaded}
-use Rattle.steps.specs.Served.{outcomeOf}
-use Rattle.run.specs.Requested.{requests, runAsked, runHanded}
-use Rattle.run.specs.Ran.{Over as Ran}
-use Rattle.run.specs.Ran.{room, RanAs, Runs}
-use Rattle.offers.specs.declared.Offered.{Offered}
-use Rattle.offers.specs.declared.Offered.the-variants.{Unfit, Yes, No}
-use Rattle.offers.specs.Chained.{offersNamed, offeredAs}
+use Rattle.spec_model.specs.Basics.{Res, refuse, ok, need, from}
+use Rattle.spec_model.specs.Requests.{Request}
+use Rattle.spec_model.specs.Check.{RawSystem, systemOf, systemAccepted}
+use Rattle.spec_model.specs.Handed.{counted}
+use Rattle.spec_model.specs.Book.{Book}
+use Rattle.spec_model.proofs.Rules.{never}
+use Rattle.sheet_read.specs.declared.Sheet.{Sheet}
+use Rattle.state_record.specs.Whole.{Whole as State}
+use Rattle.state_record.specs.Whole.{whole}
+use Rattle.state_record.specs.View.{rawState, systemIn, stateLoaded}
+use Rattle.request_common.specs.Served.{outcomeOf}
+use Rattle.request_run.specs.Requested.{requests, runAsked, runHanded}
+use Rattle.request_run.specs.Ran.{Over as Ran}
+use Rattle.request_run.specs.Ran.{room, RanAs, Runs}
+use Rattle.state_offers.specs.declared.Offered.{Offered}
+use Rattle.state_offers.specs.declared.Offered.the-variants.{Unfit, Yes, No}
+use Rattle.state_offers.specs.Chained.{offersNamed, offeredAs}
 use Rattle.theorem.specs.Shown.{first, RunReturns, History, begins, asks, runs, alike, Holds, Permitted}
 use Rattle.theorem.specs.OfStates.{toldBy, ShownOfStates}
 use Rattle.theorem.proofs.Shown.{shown}

@@ -5,13 +5,13 @@ use mathlib.Core.Bool.{Bool, true, false, So}
 use mathlib.Core.List.{List, map}
 use lib.IntN.{ℤ}
 use lib.ListN.{length}
-use Rattle.model.specs.Basics.{ok, need, names, named}
-use Rattle.model.specs.Requests.{System}
-use Rattle.model.specs.Check.{RawSystem, systemOf}
-use Rattle.model.specs.Book.{Book}
-use Rattle.model.proofs.Rules.{never, first, second, both}
-use Rattle.modellaws.proofs.Demand3.{names-below}
-use Rattle.offers.specs.Chained.{methodsNamed, offersNamed, offersHanded}
+use Rattle.spec_model.specs.Basics.{ok, need, names, named}
+use Rattle.spec_model.specs.Requests.{System}
+use Rattle.spec_model.specs.Check.{RawSystem, systemOf}
+use Rattle.spec_model.specs.Book.{Book}
+use Rattle.spec_model.proofs.Rules.{never, first, second, both}
+use Rattle.law_model.proofs.Demand3.{names-below}
+use Rattle.state_offers.specs.Chained.{methodsNamed, offersNamed, offersHanded}
 use Rattle.theorem.specs.Shown.{Holds, Permitted}
 
 module _ (r : RawSystem) (b : Book) (x : Holds r b) (k : ℤ) (w : List ℤ) where

@@ -6,18 +6,18 @@ use mathlib.Core.Option.{Option, none, some}
 use Prim.Native.Nat.{ℕ, _≤_, _<_}
 use native.Mathlib.Omega.{arith}
 use native.Mathlib.Decide.{decLt}
-use Rattle.model.specs.Basics.{Res, refuse, ok}
-use Rattle.model.specs.Table.{Table, size, typeAt, tableFits, validSheet}
-use Rattle.model.specs.Requests.{System, Request, Result, outcome, loaded, serve, after, run}
-use Rattle.model.specs.Check.{RawSystem, tableOf, systemOf, codesFit, systemFits, systemAccepted}
-use Rattle.model.specs.Handed.{storedFrom}
-use Rattle.model.specs.Book.{Book, opened}
-use Rattle.model.specs.Claim.{accepted, feed, follow, reached}
-use Rattle.model.proofs.Growth.{grown-refl, grown-trans}
-use Rattle.modellaws.proofs.Checked.{system-fitting, fits-bounded}
-use Rattle.modellaws.proofs.Reached.{reached-fits}
-use Rattle.modellaws.proofs.Returned.{NewType, Added, request-adds, system-means, accepted-codes, accept, stored-codes, stored-state-codes}
-use Rattle.run.specs.Requested.{asked, placed}
+use Rattle.spec_model.specs.Basics.{Res, refuse, ok}
+use Rattle.spec_model.specs.Table.{Table, size, typeAt, tableFits, validSheet}
+use Rattle.spec_model.specs.Requests.{System, Request, Result, outcome, loaded, serve, after, run}
+use Rattle.spec_model.specs.Check.{RawSystem, tableOf, systemOf, codesFit, systemFits, systemAccepted}
+use Rattle.spec_model.specs.Handed.{storedFrom}
+use Rattle.spec_model.specs.Book.{Book, opened}
+use Rattle.spec_model.specs.Claim.{accepted, feed, follow, reached}
+use Rattle.spec_model.proofs.Growth.{grown-refl, grown-trans}
+use Rattle.law_model.proofs.Checked.{system-fitting, fits-bounded}
+use Rattle.law_model.proofs.Reached.{reached-fits}
+use Rattle.law_model.proofs.Returned.{NewType, Added, request-adds, system-means, accepted-codes, accept, stored-codes, stored-state-codes}
+use Rattle.request_run.specs.Requested.{asked, placed}
 use Rattle.theorem.specs.Shown.{taken, told}
 
 -- an outcome is taken where the model accepts

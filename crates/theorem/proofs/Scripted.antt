@@ -12,29 +12,29 @@ use lib.IntN.{ℤ, pos, negsuc}
 use lib.ListN.{length, take, drop, getElem?, length-append, length-drop}
 use lib.Seq.{take-append-seam, drop-append-seam}
 use borrow.Author.Tests.{leb-true, leb-false, lt-ltb, le-ltb}
-use Rattle.model.specs.Basics.{Res, refuse, ok}
-use Rattle.model.specs.Table.{Table}
-use Rattle.model.specs.Requests.{System, Request, call, Result, pair, number, nothing, Outcome, got, refused, outcome, serve, after, run}
-use Rattle.model.specs.Requests.{loaded as start}
-use Rattle.model.specs.Book.{Book, opened}
-use Rattle.model.specs.Claim.{accepted, feed, follow}
-use Rattle.model.proofs.Rules.{never}
-use Rattle.modellaws.proofs.Steps.{IfOk}
-use Rattle.sheet.specs.Lines.{Row, row, cut, bytes, split, join, starts, firstLine}
-use Rattle.sheet.specs.Clean.{notLF, clean}
-use Rattle.sheet.specs.Numbers.{decimal}
-use Rattle.sheet.specs.Text.{numberText, Written, writeText}
-use Rattle.sheet.specs.Sheet.{SheetAnswer, malformed, loaded, read}
-use Rattle.sheet.proofs.Steps.{none-some}
-use Rattle.sheet.proofs.Lines.{rows, Clean, clean-lines, all-append, split-full, decimal-clean}
-use Rattle.sheet.proofs.Exact.{loaded-valid, loaded-demand3}
-use Rattle.requestread.specs.Asked.{requestLine}
-use Rattle.answerwrite.specs.Answers.{integerText, outcomeText}
-use Rattle.scripttext.specs.Output.{maxInput, sheetPart, requestPart, asked, servedLines, printedLines, scriptOutput}
-use Rattle.scripttext.specs.Answer.{writtenOf}
-use Rattle.exports.specs.Codes.{WrittenIs}
-use Rattle.scripttext.proofs.Short.{output-short, output-fits}
-use Rattle.scripttext.proofs.Whole.{lastLine}
+use Rattle.spec_model.specs.Basics.{Res, refuse, ok}
+use Rattle.spec_model.specs.Table.{Table}
+use Rattle.spec_model.specs.Requests.{System, Request, call, Result, pair, number, nothing, Outcome, got, refused, outcome, serve, after, run}
+use Rattle.spec_model.specs.Requests.{loaded as start}
+use Rattle.spec_model.specs.Book.{Book, opened}
+use Rattle.spec_model.specs.Claim.{accepted, feed, follow}
+use Rattle.spec_model.proofs.Rules.{never}
+use Rattle.law_model.proofs.Steps.{IfOk}
+use Rattle.spec_sheet.specs.Lines.{Row, row, cut, bytes, split, join, starts, firstLine}
+use Rattle.spec_sheet.specs.Clean.{notLF, clean}
+use Rattle.spec_sheet.specs.Numbers.{decimal}
+use Rattle.spec_sheet.specs.Text.{numberText, Written, writeText}
+use Rattle.spec_sheet.specs.Sheet.{SheetAnswer, malformed, loaded, read}
+use Rattle.spec_sheet.proofs.Steps.{none-some}
+use Rattle.spec_sheet.proofs.Lines.{rows, Clean, clean-lines, all-append, split-full, decimal-clean}
+use Rattle.spec_sheet.proofs.Exact.{loaded-valid, loaded-demand3}
+use Rattle.script_read_request.specs.Asked.{requestLine}
+use Rattle.script_write_outcome.specs.Answers.{integerText, outcomeText}
+use Rattle.script_output.specs.Output.{maxInput, sheetPart, requestPart, asked, servedLines, printedLines, scriptOutput}
+use Rattle.script_output.specs.Answer.{writtenOf}
+use Rattle.export_table.specs.Codes.{WrittenIs}
+use Rattle.script_output.proofs.Short.{output-short, output-fits}
+use Rattle.script_output.proofs.Whole.{lastLine}
 use Rattle.theorem.specs.Shown.{Permitted}
 use Rattle.theorem.specs.Scripted.{Fits, TooShort, lineOf, requestsOf, endsMalformed, stateAfter, bookAfter, Served, Script, ShownOfScripts, writtenIn, ShownOfScriptBytes}
 use Rattle.theorem.proofs.Calls.{call-tested, tested-permitted}

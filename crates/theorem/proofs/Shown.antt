@@ -3,13 +3,13 @@ use mathlib.Core.Path.{refl}
 use mathlib.Core.Bool.{So}
 use mathlib.Core.List.{List}
 use Prim.Native.Nat.{ℕ}
-use Rattle.model.specs.Table.{Table, validSheet}
-use Rattle.model.specs.Check.{RawSystem}
-use Rattle.model.specs.Book.{Book}
-use Rattle.table.specs.Store.{rawTable, tableIn}
-use Rattle.sheet.proofs.Exact.{loaded-valid}
-use Rattle.sheetread.specs.declared.Sheet.{Sheet}
-use Rattle.sheetread.proofs.Accepted.{read-loaded, read-accepted}
+use Rattle.spec_model.specs.Table.{Table, validSheet}
+use Rattle.spec_model.specs.Check.{RawSystem}
+use Rattle.spec_model.specs.Book.{Book}
+use Rattle.table_record.specs.Store.{rawTable, tableIn}
+use Rattle.spec_sheet.proofs.Exact.{loaded-valid}
+use Rattle.sheet_read.specs.declared.Sheet.{Sheet}
+use Rattle.sheet_read.proofs.Accepted.{read-loaded, read-accepted}
 use Rattle.theorem.specs.Shown.{Accepts, sheetTable, History, begins, asks, runs, alike, Shown}
 use Rattle.theorem.proofs.Laws.{Means, means-first, means-alike, means-asked, means-run, means-claim, means-noted, means-called, means-answered}
 

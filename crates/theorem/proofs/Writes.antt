@@ -6,23 +6,23 @@ use Prim.Native.Nat.{ℕ, _<_}
 use native.Mathlib.Omega.{arith}
 use lib.ListN.{length, take}
 use lib.Seq.{ext-getD, getD-take, length-take-le}
-use Rattle.model.specs.Basics.{refuse}
-use Rattle.model.specs.Table.{Table, noType, size, validSheet}
-use Rattle.model.specs.Requests.{Request, loaded}
-use Rattle.model.specs.Check.{RawSystem, tableOf, systemOf, tableAccepted}
-use Rattle.model.specs.Book.{Book, opened}
-use Rattle.model.specs.Claim.{reached}
-use Rattle.model.proofs.Rules.{both}
-use Rattle.model.proofs.Growth.{Grown}
-use Rattle.modellaws.proofs.Sheets.{sheet-fitting}
-use Rattle.modellaws.proofs.Checked.{system-fitting}
-use Rattle.modellaws.proofs.Reached.{reached-fits}
-use Rattle.modellaws.proofs.Returned.{accepted-codes}
-use Rattle.sheet.specs.Lines.{join}
-use Rattle.sheet.specs.Text.{endText, sheetLines, withoutDerived, text, writeText, write}
-use Rattle.sheet.proofs.Exact.{text-of-read}
-use Rattle.sheetread.specs.declared.Sheet.{Sheet}
-use Rattle.sheetread.proofs.Accepted.{read-loaded}
+use Rattle.spec_model.specs.Basics.{refuse}
+use Rattle.spec_model.specs.Table.{Table, noType, size, validSheet}
+use Rattle.spec_model.specs.Requests.{Request, loaded}
+use Rattle.spec_model.specs.Check.{RawSystem, tableOf, systemOf, tableAccepted}
+use Rattle.spec_model.specs.Book.{Book, opened}
+use Rattle.spec_model.specs.Claim.{reached}
+use Rattle.spec_model.proofs.Rules.{both}
+use Rattle.spec_model.proofs.Growth.{Grown}
+use Rattle.law_model.proofs.Sheets.{sheet-fitting}
+use Rattle.law_model.proofs.Checked.{system-fitting}
+use Rattle.law_model.proofs.Reached.{reached-fits}
+use Rattle.law_model.proofs.Returned.{accepted-codes}
+use Rattle.spec_sheet.specs.Lines.{join}
+use Rattle.spec_sheet.specs.Text.{endText, sheetLines, withoutDerived, text, writeText, write}
+use Rattle.spec_sheet.proofs.Exact.{text-of-read}
+use Rattle.sheet_read.specs.declared.Sheet.{Sheet}
+use Rattle.sheet_read.proofs.Accepted.{read-loaded}
 use Rattle.theorem.specs.Shown.{Accepts, sheetTable, History}
 use Rattle.theorem.proofs.Runs.{follow-added}
 use Rattle.theorem.proofs.Laws.{Means}

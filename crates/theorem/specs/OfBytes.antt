@@ -10,22 +10,22 @@ use Prim.Native.Nat.{ℕ}
 use lib.Dec.{eqb}
 use lib.IntN.{ℤ}
 use lib.ListN.{length}
-use Rattle.model.specs.Basics.{names}
-use Rattle.model.specs.Requests.{Request, call, answer}
-use Rattle.model.specs.Book.{Book, opened}
-use Rattle.model.specs.Claim.{feed}
-use Rattle.table.specs.Layout.{rawTable}
-use Rattle.sheet.specs.Sheet.{read}
-use Rattle.sheet.specs.Text.{write, writeText}
-use Rattle.sheetread.specs.declared.Sheet.{Sheet}
-use Rattle.sheetread.specs.Answer.{answered, sheetOf}
-use Rattle.run.specs.Requested.{requests, runHanded}
-use Rattle.run.specs.Ran.{room}
-use Rattle.offers.specs.Chained.{offersHanded}
-use Rattle.flat.specs.Flat.{Flat, countsIn, rawFlat}
-use Rattle.handing.specs.States.{LentState, Handed}
-use Rattle.exports.specs.Codes.{WrittenIs}
-use Rattle.exports_runs.specs.Results.{offeredOut, LoadedIs, LentRun, RunsOut}
+use Rattle.spec_model.specs.Basics.{names}
+use Rattle.spec_model.specs.Requests.{Request, call, answer}
+use Rattle.spec_model.specs.Book.{Book, opened}
+use Rattle.spec_model.specs.Claim.{feed}
+use Rattle.table_record.specs.Layout.{rawTable}
+use Rattle.spec_sheet.specs.Sheet.{read}
+use Rattle.spec_sheet.specs.Text.{write, writeText}
+use Rattle.sheet_read.specs.declared.Sheet.{Sheet}
+use Rattle.sheet_read.specs.Answer.{answered, sheetOf}
+use Rattle.request_run.specs.Requested.{requests, runHanded}
+use Rattle.request_run.specs.Ran.{room}
+use Rattle.state_offers.specs.Chained.{offersHanded}
+use Rattle.state_bytes.specs.Flat.{Flat, countsIn, rawFlat}
+use Rattle.request_results.specs.States.{LentState, Handed}
+use Rattle.export_table.specs.Codes.{WrittenIs}
+use Rattle.export_runs.specs.Results.{offeredOut, LoadedIs, LentRun, RunsOut}
 use Rattle.theorem.specs.Shown.{Accepts, sheetTable, History, Permitted}
 use Rattle.theorem.specs.OfStates.{toldBy}
 

@@ -10,27 +10,27 @@ use Prim.Native.Nat.{ℕ}
 use lib.Dec.{eqb}
 use lib.IntN.{ℤ, pos, negsuc}
 use lib.ListN.{length, getD, drop}
-use Rattle.model.specs.Basics.{names}
-use Rattle.model.specs.Requests.{Request, call, answer}
-use Rattle.model.specs.Book.{Book, opened}
-use Rattle.model.specs.Claim.{feed}
-use Rattle.table.specs.Layout.{rawTable}
-use Rattle.sheet.specs.Text.{write, writeText}
-use Rattle.sheetread.specs.declared.Sheet.{Sheet}
-use Rattle.sheetwrite.specs.declared.Wrote.{Wrote}
-use Rattle.sheetwrite.specs.Answer.{writtenOf}
-use Rattle.state.specs.Whole.{Whole as State}
-use Rattle.state.specs.Whole.{whole}
-use Rattle.state.specs.Meaning.{rawState, stateLoaded}
-use Rattle.steps.specs.Outcome.{Done as Served}
-use Rattle.steps.specs.Outcome.{outcomeOf}
-use Rattle.serve.specs.Serves.{Serves}
-use Rattle.run.specs.Requested.{requests, runHanded}
-use Rattle.run.specs.Ran.{Over as Ran}
-use Rattle.run.specs.Ran.{room, Runs}
-use Rattle.offers.specs.declared.Offered.{Offered}
-use Rattle.offers.specs.declared.Offered.the-variants.{Yes, No}
-use Rattle.offers.specs.Chained.{offersHanded, offeredAs}
+use Rattle.spec_model.specs.Basics.{names}
+use Rattle.spec_model.specs.Requests.{Request, call, answer}
+use Rattle.spec_model.specs.Book.{Book, opened}
+use Rattle.spec_model.specs.Claim.{feed}
+use Rattle.table_record.specs.Layout.{rawTable}
+use Rattle.spec_sheet.specs.Text.{write, writeText}
+use Rattle.sheet_read.specs.declared.Sheet.{Sheet}
+use Rattle.sheet_write.specs.declared.Wrote.{Wrote}
+use Rattle.sheet_write.specs.Answer.{writtenOf}
+use Rattle.state_record.specs.Whole.{Whole as State}
+use Rattle.state_record.specs.Whole.{whole}
+use Rattle.state_record.specs.Meaning.{rawState, stateLoaded}
+use Rattle.request_common.specs.Outcome.{Done as Served}
+use Rattle.request_common.specs.Outcome.{outcomeOf}
+use Rattle.request_serve.specs.Serves.{Serves}
+use Rattle.request_run.specs.Requested.{requests, runHanded}
+use Rattle.request_run.specs.Ran.{Over as Ran}
+use Rattle.request_run.specs.Ran.{room, Runs}
+use Rattle.state_offers.specs.declared.Offered.{Offered}
+use Rattle.state_offers.specs.declared.Offered.the-variants.{Yes, No}
+use Rattle.state_offers.specs.Chained.{offersHanded, offeredAs}
 use Rattle.theorem.specs.Shown.{Accepts, sheetTable, taken, History, Permitted}
 
 -- ---- The book by the answers of a run, four words for each request: it was accepted if the first of them is 0 (L25, U8). What is no request (U6, U7) goes by.

@@ -1,6 +1,6 @@
 -- The theorem of the program `script`, from bytes to bytes: `ShownOfScripts`. For every input and every buffer that is lent, it says what stands in the buffer after the entry
 -- point, line by line; and what is known of every state on the way: demand 3 (L19 to L23), and that a call that is printed as accepted is of a permitted method.
--- The code comes in by the contract of its entry point alone (crate scripttext, `script`): `Written` is the answer and the buffer that it leaves. `ShownOfScriptBytes` says the
+-- The code comes in by the contract of its entry point alone (crate script_output, `script`): `Written` is the answer and the buffer that it leaves. `ShownOfScriptBytes` says the
 -- same of the C function. Proof: proofs/Scripted.
 use mathlib.Core.Path.{_≡_}
 use mathlib.Core.Logic.{_⊎_}
@@ -11,20 +11,20 @@ use Prim.Native.Nat.{ℕ, _+_, _≤_, _<_}
 use lib.Dec.{eqb}
 use lib.IntN.{ℤ}
 use lib.ListN.{length, take, drop, getElem?}
-use Rattle.model.specs.Basics.{refuse, ok}
-use Rattle.model.specs.Table.{Table}
-use Rattle.model.specs.Requests.{System, Request, call, outcome, serve}
-use Rattle.model.specs.Book.{Book}
-use Rattle.model.specs.Claim.{reached, Claim}
-use Rattle.sheet.specs.Lines.{row, bytes, split, join, starts, firstLine}
-use Rattle.sheet.specs.Text.{numberText, Written, writeText}
-use Rattle.sheet.specs.Sheet.{malformed, loaded, read}
-use Rattle.requestread.specs.Asked.{requestLine}
-use Rattle.answerwrite.specs.Answers.{outcomeText}
-use Rattle.scripttext.specs.Output.{maxInput, sheetPart, requestPart, asked, scriptOutput}
-use Rattle.scripttext.specs.declared.Wrote.{Wrote}
-use Rattle.scripttext.specs.Answer.{writtenOf}
-use Rattle.exports.specs.Codes.{WrittenIs}
+use Rattle.spec_model.specs.Basics.{refuse, ok}
+use Rattle.spec_model.specs.Table.{Table}
+use Rattle.spec_model.specs.Requests.{System, Request, call, outcome, serve}
+use Rattle.spec_model.specs.Book.{Book}
+use Rattle.spec_model.specs.Claim.{reached, Claim}
+use Rattle.spec_sheet.specs.Lines.{row, bytes, split, join, starts, firstLine}
+use Rattle.spec_sheet.specs.Text.{numberText, Written, writeText}
+use Rattle.spec_sheet.specs.Sheet.{malformed, loaded, read}
+use Rattle.script_read_request.specs.Asked.{requestLine}
+use Rattle.script_write_outcome.specs.Answers.{outcomeText}
+use Rattle.script_output.specs.Output.{maxInput, sheetPart, requestPart, asked, scriptOutput}
+use Rattle.script_output.specs.declared.Wrote.{Wrote}
+use Rattle.script_output.specs.Answer.{writtenOf}
+use Rattle.export_table.specs.Codes.{WrittenIs}
 use Rattle.theorem.specs.Shown.{Permitted}
 
 -- ---- The buffer, which was `old`

@@ -10,19 +10,19 @@ use mathlib.Core.Option.{Option, none, some}
 use Prim.Native.Nat.{ℕ, _<_}
 use lib.IntN.{ℤ, pos}
 use lib.ListN.{length}
-use Rattle.model.specs.Basics.{all, names, named}
-use Rattle.model.specs.Table.{Table}
-use Rattle.model.specs.Requests.{Request, call, answer, Outcome, got, refused}
-use Rattle.model.specs.Check.{RawSystem, systemOf, systemAccepted}
-use Rattle.model.specs.Handed.{rawLoaded, counted, storedFrom, Returns}
-use Rattle.model.specs.Chains.{Permits, AllPermit}
-use Rattle.model.specs.Book.{Book, opened, pageAt, noteAt}
-use Rattle.model.specs.Claim.{feed, Claim}
-use Rattle.table.specs.Layout.{rawTable, tableIn}
-use Rattle.sheet.specs.Sheet.{read}
-use Rattle.sheetread.specs.declared.Sheet.{Sheet}
-use Rattle.sheetread.specs.Answer.{answered}
-use Rattle.run.specs.Requested.{runAsked}
+use Rattle.spec_model.specs.Basics.{all, names, named}
+use Rattle.spec_model.specs.Table.{Table}
+use Rattle.spec_model.specs.Requests.{Request, call, answer, Outcome, got, refused}
+use Rattle.spec_model.specs.Check.{RawSystem, systemOf, systemAccepted}
+use Rattle.spec_model.specs.Handed.{rawLoaded, counted, storedFrom, Returns}
+use Rattle.spec_model.specs.Chains.{Permits, AllPermit}
+use Rattle.spec_model.specs.Book.{Book, opened, pageAt, noteAt}
+use Rattle.spec_model.specs.Claim.{feed, Claim}
+use Rattle.table_record.specs.Layout.{rawTable, tableIn}
+use Rattle.spec_sheet.specs.Sheet.{read}
+use Rattle.sheet_read.specs.declared.Sheet.{Sheet}
+use Rattle.sheet_read.specs.Answer.{answered}
+use Rattle.request_run.specs.Requested.{runAsked}
 
 -- ---- The beginning
 -- f is the sheet reader's answer to the bytes (its contract), and no refusal.

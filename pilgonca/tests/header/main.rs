@@ -147,23 +147,27 @@ fn a_state_is_changed_by_requests_alone() {
 #[test]
 fn every_number_is_the_sources() {
     let sources = [
-        ("table", "SUBJECTS", raw::MAX_SUBJECTS),
-        ("table", "METHODS", raw::MAX_METHODS),
-        ("table", "CATEGORIES", raw::MAX_CATEGORIES),
-        ("table", "SHEET_TYPES", raw::MAX_SHEET_TYPES),
-        ("table", "TYPES", raw::MAX_TYPES),
-        ("state", "CELLS", raw::MAX_CELLS),
-        ("state", "PLACES", raw::MAX_PLACES),
-        ("state", "CALLS", raw::MAX_CALLS),
-        ("table", "TYPE_BYTES", size_of::<raw::Types>()),
-        ("table", "LINK_BYTES", size_of::<raw::Links>()),
-        ("flat", "CELL_BYTES", size_of::<raw::Cells>()),
-        ("flat", "PLACE_BYTES", size_of::<raw::Places>()),
-        ("flat", "CALL_BYTES", size_of::<raw::Calls>()),
-        ("compare", "PAIR_BYTES", size_of::<raw::PairTable>()),
-        ("scripttext", "INPUT_BYTES", raw::MAX_SCRIPT),
+        ("table_record", "SUBJECTS", raw::MAX_SUBJECTS),
+        ("table_record", "METHODS", raw::MAX_METHODS),
+        ("table_record", "CATEGORIES", raw::MAX_CATEGORIES),
+        ("table_record", "SHEET_TYPES", raw::MAX_SHEET_TYPES),
+        ("table_record", "TYPES", raw::MAX_TYPES),
+        ("state_record", "CELLS", raw::MAX_CELLS),
+        ("state_record", "PLACES", raw::MAX_PLACES),
+        ("state_record", "CALLS", raw::MAX_CALLS),
+        ("table_record", "TYPE_BYTES", size_of::<raw::Types>()),
+        ("table_record", "LINK_BYTES", size_of::<raw::Links>()),
+        ("state_bytes", "CELL_BYTES", size_of::<raw::Cells>()),
+        ("state_bytes", "PLACE_BYTES", size_of::<raw::Places>()),
+        ("state_bytes", "CALL_BYTES", size_of::<raw::Calls>()),
         (
-            "scripttext",
+            "relation_compare",
+            "PAIR_BYTES",
+            size_of::<raw::PairTable>(),
+        ),
+        ("script_output", "INPUT_BYTES", raw::MAX_SCRIPT),
+        (
+            "script_output",
             "PRINTED_BYTES",
             raw::MAX_SCRIPT + raw::SCRIPT_LONGER,
         ),
@@ -175,7 +179,7 @@ fn every_number_is_the_sources() {
         assert_eq!(found, Some(ours), "{word}");
     }
     let words = numbers.remove("PILGONCA_ANSWER_WORDS");
-    assert_eq!(words, Some(constant("run", "WORDS")));
+    assert_eq!(words, Some(constant("request_run", "WORDS")));
     // the rest are lengths of arrays, which are held against the functions
     let lengths = ["STATE_COUNTS", "TABLE_COUNTS", "VALUES"].map(|word| format!("PILGONCA_{word}"));
     assert_eq!(numbers.into_keys().collect::<Vec<_>>(), lengths);

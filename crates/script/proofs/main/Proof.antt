@@ -1,5 +1,5 @@
 -- What was written stands within the buffer (`wrote-within`).
-use Rattle.scripttext.proofs.Buffer.{wrote-within}
+use Rattle.script_output.proofs.Buffer.{wrote-within}
 use borrow.Author.Needs.{needs}
 use Rattle.script.proofs.main.Statement.{statement}
 use Rattle.script.proofs.main.Tie as tie

@@ -1,0 +1,397 @@
+-- The definitions of a crossing by their cases, and what a crossing leaves of the bytes.
+use mathlib.Core.Path.{_≡_, refl, sym, ap, _∙_, subst}
+use mathlib.Core.Logic.{_⊎_, inl, inr}
+use mathlib.Core.Bool.{Bool, true, false, So, not, _&&_}
+use mathlib.Core.List.{List, [], _∷_, _++_}
+use Prim.Native.Nat.{ℕ, _≤_, _<_}
+use native.Mathlib.Omega.{arith}
+use lib.Dec.{eqb, ltb}
+use lib.ListN.{length, getD}
+use lib.Seq.{getD-set-other}
+use borrow.Author.Tests.{eq-eqb, ne-eqb, lt-ltb, le-ltb}
+use Rattle.spec_model.specs.Basics.{Res, refuse, ok, need, try}
+use Rattle.spec_model.specs.Table.{Kind, Table, Ty, isRef, typeAt, sub, closed}
+use Rattle.spec_model.specs.Relations.{related, subtype, conforms, strict, loose, free}
+use Rattle.spec_model.specs.Restriction.{derived}
+use Rattle.spec_model.specs.Crossing.{Place, Reference, placeAt, placeType, baseOf, baseOwner, maxPlaces, adapter, adapt, cross}
+use Rattle.spec_model.specs.Check.{noRawType}
+use Rattle.spec_model.proofs.Largest.{keeps-related}
+use Rattle.spec_model.proofs.Order.{strict→loose, loose→free}
+use Rattle.spec_model.proofs.ChainLaws.{sort-eq}
+use Rattle.table_record.specs.declared.Counts.{Counts}
+use Rattle.table_record.specs.Store.{typesIn, tableIn, withCount, ownOf}
+use Rattle.table_record.specs.Limits.{Checked}
+use Rattle.table_record.proofs.Lists.{lt-or-ge}
+use Rattle.table_record.proofs.Tables.{size-is, type-is, type-out}
+use Rattle.derive_record.specs.declared.Derived.{Derived}
+use Rattle.derive_record.specs.declared.Derived.the-variants.{Full, At}
+use Rattle.derive_sub_sup.specs.Link.{derivationIn, Kept, ExactAt, ExactTo, Sized, Derives}
+use Rattle.derive_closed.specs.Numbers.{Alike}
+use Rattle.derive_sub_sup.specs.Link.{Leaves as Left, Ready as Derivable}
+use Rattle.derive_sub_sup.proofs.Bytes.{exact-same}
+use Rattle.state_record.specs.declared.Places.{Places}
+use Rattle.state_record.specs.declared.Place.the-variants.{Adapter}
+use Rattle.state_record.specs.View.{placesIn, blankPlace}
+use Rattle.state_record.specs.Sound.{Falling, BaseAt}
+use Rattle.state_record.proofs.Laws.{places-length}
+use Rattle.state_record.proofs.Kept.{falling-more, typed-more}
+use Rattle.crossing_one.specs.declared.Crossing.{Crossing}
+use Rattle.crossing_one.specs.declared.Landing.the-variants as landing
+use Rattle.crossing_one.specs.declared.Crossed.{Crossed}
+use Rattle.crossing_one.specs.Crossed.{Ready, ownIn, reference, crossing, referenceOf, crossedOf, Grew, Came, Leaves, stopped, landed}
+
+-- ---- The definitions, case by case.
+module _ (t : Table) (ps : List Place) (s p to r : ℕ) where
+  -- an own target
+  module _ (own : typeAt t to .own ≡ true) where
+    own-8 : related free t to s ≡ false → refuse 8 ≡ cross (reference t ps s p) to r
+    unfolding cross
+    own-8 e = rw (own, e)
+
+    module _ (met : related free t to s ≡ true) where
+      own-9 : eqb r (baseOwner ps p) ≡ false → refuse 9 ≡ cross (reference t ps s p) to r
+      unfolding cross
+      own-9 e = rw (own, met, e)
+
+      own-meets : eqb r (baseOwner ps p) ≡ true → adapt t ps to to (baseOf ps p) ≡ cross (reference t ps s p) to r
+      unfolding cross
+      own-meets e = rw (own, met, e)
+
+  -- any other
+  module _ (own : typeAt t to .own ≡ false) where
+    other-8 : related loose t to s ≡ false → refuse 8 ≡ cross (reference t ps s p) to r
+    unfolding cross
+    other-8 e = rw (own, e)
+
+    module _ (met : related loose t to s ≡ true) where
+      other-stays : related subtype t to s ≡ true → ok (reference t ps to p) ≡ cross (reference t ps s p) to r
+      unfolding cross
+      other-stays e = rw (own, met, e)
+
+      module _ (less : related subtype t to s ≡ false) where
+        other-11 : refuse 11 ≡ derived t sub to s → refuse 11 ≡ cross (reference t ps s p) to r
+        unfolding cross
+        other-11 e = rw (own, met, less, ← e)
+
+        other-meets : (u : Table) (i : ℕ) → ok (u, i) ≡ derived t sub to s → adapt u ps to i p ≡ cross (reference t ps s p) to r
+        unfolding cross
+        other-meets u i e = rw (own, met, less, ← e)
+
+-- R meets the type of place p.
+module _ (t : Table) (ps : List Place) (to r p v : ℕ) (is : v ≡ placeType (placeAt ps p)) where
+  abbrev Meets : Bool → Bool → Res (Table × ℕ) → Bool → Res Reference
+  Meets passes fits d room = elim passes [
+    | true ↦ ok (reference t ps to p)
+    | false ↦ need fits 10 λ _. try d λ x. need room 12 λ _. ok (reference (x .0) (ps ++ (adapter p (x .1) ∷ [])) to (length ps))
+  ]
+
+  adapt-is : adapt t ps to r p ≡ Meets (related conforms t r v) (related strict t r v) (derived t closed r v) (ltb (length ps) maxPlaces)
+  unfolding adapt
+  adapt-is = ap (λ (z : ℕ). Meets (related conforms t r z) (related strict t r z) (derived t closed r z) (ltb (length ps) maxPlaces)) (sym is)
+
+  meet-passes : related conforms t r v ≡ true → ok (reference t ps to p) ≡ adapt t ps to r p
+  meet-passes e = sym (adapt-is ∙ rw e)
+
+  module _ (less : related conforms t r v ≡ false) where
+    meet-10 : related strict t r v ≡ false → refuse 10 ≡ adapt t ps to r p
+    meet-10 e = sym (adapt-is ∙ rw (less, e))
+
+    module _ (met : related strict t r v ≡ true) where
+      meet-11 : refuse 11 ≡ derived t closed r v → refuse 11 ≡ adapt t ps to r p
+      meet-11 e = sym (adapt-is ∙ rw (less, met, ← e))
+
+      module _ (u : Table) (i : ℕ) (e : ok (u, i) ≡ derived t closed r v) where
+        meet-12 : ltb (length ps) maxPlaces ≡ false → refuse 12 ≡ adapt t ps to r p
+        meet-12 f = sym (adapt-is ∙ rw (less, met, ← e, f))
+
+        meet-adapts : ltb (length ps) maxPlaces ≡ true → ok (reference u (ps ++ (adapter p i ∷ [])) to (length ps)) ≡ adapt t ps to r p
+        meet-adapts f = sym (adapt-is ∙ rw (less, met, ← e, f))
+
+-- ---- The own flag.
+pub own-out : (n t : ℕ) (b : List ℕ) → n ≤ t → false ≡ ownIn n b t
+own-out n t b h = ap (λ (z : Bool). z && ownOf (getD (typesIn b) t noRawType)) (sym (le-ltb t n h))
+
+pub own-in : (n t : ℕ) (b : List ℕ) (plain : Bool) → t < n → plain ≡ not (ownOf (getD (typesIn b) t noRawType)) → not plain ≡ ownIn n b t
+own-in n t b plain h e = ap not e ∙ twice (ownOf (getD (typesIn b) t noRawType)) ∙ ap (λ (z : Bool). z && ownOf (getD (typesIn b) t noRawType)) (sym (lt-ltb t n h))
+  where
+    twice : (z : Bool) → not (not z) ≡ true && z
+    twice true = refl
+    twice false = refl
+
+own-table : (b l : List ℕ) (c : Counts) (t : ℕ) → typeAt (tableIn b l c) t .own ≡ ownIn (c .types) b t
+own-table b l c t = go (lt-or-ge t (c .types)) where
+  go : (t < c .types) ⊎ (c .types ≤ t) → typeAt (tableIn b l c) t .own ≡ ownIn (c .types) b t
+  go (inl h) = ap (λ (x : Ty). x .own) (type-is b l c t h) ∙ ap (λ (z : Bool). z && ownOf (getD (typesIn b) t noRawType)) (sym (lt-ltb t (c .types) h))
+  go (inr h) = ap (λ (x : Ty). x .own) (type-out b l c t h) ∙ own-out (c .types) t b h
+
+-- ---- What a crossing leaves.
+pub grown-checked : (l : List ℕ) (c : Counts) (m : ℕ) → Checked l c → c .types ≤ m → m ≤ 128 → Checked l (withCount c m)
+grown-checked l c m h p q = let x = h .limits in record {
+  limits = record { subjects = x .subjects; methods = x .methods; cats = x .cats; sheet = x .sheet; counted = let u = x .counted in omega arith; types = q };
+  falls = h .falls;
+}
+
+same-kept : (n : ℕ) (b : List ℕ) → Kept n b b
+same-kept n b i h = refl
+
+none-new : (c : Counts) (b : List ℕ) → c .types ≤ 128 → Grew c (c .types) b
+none-new c b h = record { more = omega arith; room = h; exact = λ i p q. absurd (omega arith) }
+
+-- new types behind new types
+pub grew-on : (c : Counts) (m n : ℕ) (b b′ : List ℕ) → Grew c m b → Kept m b b′ → Grew (withCount c m) n b′ → Grew c n b′
+grew-on c m n b b′ g k h = record {
+  more = let u = g .more in let w = h .more in omega arith;
+  room = h .room;
+  exact = λ i p q. go i p q (lt-or-ge i m);
+} where
+  go : (i : ℕ) → c .types ≤ i → i < n → (i < m) ⊎ (m ≤ i) → ExactAt c b′ i
+  go i p q (inl l) = let r = g .room in exact-same c b b′ i (omega arith) (k i l) (g .exact i p l)
+  go i p q (inr l) = h .exact i l q
+
+derives-sized : (n t s : ℕ) {b b′ : List ℕ} {d : Derived} {i m : ℕ} → d ≡ At i m → Left n t s b b′ d → Sized n t s (At i m)
+derives-sized n t s e k = subst (Sized n t s) e (k .sized)
+
+derives-grew : (c : Counts) (t s : ℕ) {k : Kind} {b b′ : List ℕ} {d : Derived} {i m : ℕ} → d ≡ At i m → Derives k c t s b b′ d → Grew c m b′
+derives-grew c t s {b′ = b′} e g = let z = derives-sized (c .types) t s e (g .keeps) in record { more = z .0; room = z .1; exact = subst (ExactTo c (c .types) b′) e (g .exact) }
+
+differ : {m n : ℕ} → (m ≡ n → ⊥) → eqb m n ≡ false
+differ {m} {n} h = ne-eqb m n h
+
+equal : {m n : ℕ} → m ≡ n → eqb m n ≡ true
+equal {m} {n} h = eq-eqb m n h
+
+-- what the next crossing asks
+pub ready-on : (l : List ℕ) (c : Counts) (n : ℕ) (b b′ : List ℕ) → Ready l c b → Grew c n b′ → length b′ ≡ 16384 → Ready l (withCount c n) b′
+ready-on l c n b b′ h g long = record { checked = grown-checked l c n (h .checked) (g .more) (g .room); long = long }
+
+-- ---- What came of it.
+abbrev Comes : ℕ → Res Reference → Bool → Res Reference
+Comes e f z = elim z [ false ↦ refuse e | true ↦ f ]
+
+pub refused-is : (b l : List ℕ) (c : Counts) (x : Crossed) → (x .refusal ≡ 0 → ⊥) → crossedOf b l c x ≡ refuse (x .refusal)
+refused-is b l c x h = ap (Comes (x .refusal) (ok (referenceOf b l c x))) (differ h)
+
+pub came-is : (b l : List ℕ) (c : Counts) (x : Crossed) → x .refusal ≡ 0 → crossedOf b l c x ≡ ok (referenceOf b l c x)
+came-is b l c x h = ap (Comes (x .refusal) (ok (referenceOf b l c x))) (equal h)
+
+-- a refusal with the number e, of what the model refuses with it
+pub stops : (b b′ l : List ℕ) (c : Counts) (ps : Places) (s e : ℕ) → 0 < e → {m : Res Reference} → refuse e ≡ m → length b′ ≡ 16384 → Kept (c .types) b b′ →
+    (q : Crossed) → q ≡ stopped ps e → (crossedOf b′ l c q ≡ m) × Leaves c ps s b b′ q
+stops b b′ l c ps s e low {m} is long kept q z = subst (λ (x : Crossed). (crossedOf b′ l c x ≡ m) × Leaves c ps s b b′ x) (sym z) (
+  refused-is b′ l c (stopped ps e) (λ y. omega (arith, y, low)) ∙ is,
+  record { long = long; kept = kept; came = λ y. absurd (omega (arith, y, low)) },
+)
+
+-- the reference leads to a place that stands
+stands : (c : Counts) (ps : Places) (s to p n : ℕ) (b : List ℕ) → Falling ps → p < ps .count → Grew c n b → (s < c .types → to < n) → Came c ps s b (landed ps to (landing.Stands p) n)
+stands c ps s to p n b fall place g sort = record {
+  sort = sort;
+  types = g;
+  falling = fall;
+  place = place;
+  typed = λ t k l. let u = g .more in let v = t k l in omega arith;
+  before = record { more = omega arith; same = λ k l. refl };
+}
+
+-- what is known behind two crossings, or behind what a derivation left and a crossing
+module _ (c : Counts) (ps : Places) (s : ℕ) (b b₁ : List ℕ) (x : Crossed) (h : Leaves c ps s b b₁ x) (z : x .refusal ≡ 0) where
+  came : Came c ps s b₁ x
+  came = h .came z
+
+  pub leaves-on : (b₂ : List ℕ) (q : Crossed) → Leaves (withCount c (x .types)) (x .places) (x .sort) b₁ b₂ q → Leaves c ps s b b₂ q
+  leaves-on b₂ q k = record {
+    long = k .long;
+    kept = λ j y. k .kept j (let u = came .types .more in omega arith) ∙ h .kept j y;
+    came = λ y. let m = k .came y in record {
+      sort = λ g. m .sort (came .sort g);
+      types = grew-on c (x .types) (q .types) b₁ b₂ (came .types) (k .kept) (m .types);
+      falling = m .falling;
+      place = m .place;
+      typed = λ t. m .typed (came .typed t);
+      before = record {
+        more = let u = came .before .more in let v = m .before .more in omega arith;
+        same = λ j g. m .before .same j (let u = came .before .more in omega arith) ∙ came .before .same j g;
+      };
+    };
+  }
+
+-- what a derivation asks, of two types that are related
+derivable : (b l : List ℕ) (c : Counts) → Ready l c b → (t s : ℕ) → So (related free (tableIn b l c) t s) → Derivable c (c .types) t s b
+derivable b l c h t s e =
+    let q = keeps-related free (tableIn b l c) t s e in
+    let low : t < c .types = subst (λ (n : ℕ). t < n) (size-is b l c) (q .low) in
+    let high : s < c .types = subst (λ (n : ℕ). s < n) (size-is b l c) (q .high) in
+    let n = h .checked .limits .types in
+    record { limits = h .checked .limits; left = omega arith; right = omega arith; long = h .long }
+
+pub sub-asked : (b l : List ℕ) (c : Counts) → Ready l c b → (t s : ℕ) → true ≡ related loose (tableIn b l c) t s → Derivable c (c .types) t s b
+sub-asked b l c h t s e = derivable b l c h t s (loose→free (tableIn b l c) t s (sym e))
+
+-- ---- X6 to X10: R is r, and the type of place p is v.
+module _ (b l : List ℕ) (c : Counts) (h : Ready l c b) (ps : Places) (fall : Falling ps) (to r p : ℕ) (place : p < ps .count) (v : ℕ) (is : v ≡ placeType (placeAt (placesIn ps) p)) where
+  abbrev U : Table
+  U = tableIn b l c
+
+  abbrev Meets-as : List ℕ → Crossed → Type 0
+  Meets-as b′ q = (crossedOf b′ l c q ≡ adapt U (placesIn ps) to r p) × Leaves c ps to b b′ q
+
+  pub meets-passes : true ≡ related conforms U r v → (q : Crossed) → q ≡ landed ps to (landing.Stands p) (c .types) → Meets-as b q
+  meets-passes e q z = subst (Meets-as b) (sym z) (
+    meet-passes U (placesIn ps) to r p v is (sym e),
+    record { long = h .long; kept = same-kept (c .types) b; came = λ _. stands c ps to to p (c .types) b fall place (none-new c b (h .checked .limits .types)) (λ k. k) },
+  )
+
+  module _ (less : false ≡ related conforms U r v) where
+    pub meets-10 : false ≡ related strict U r v → (q : Crossed) → q ≡ stopped ps 10 → Meets-as b q
+    meets-10 e = stops b b l c ps to 10 (omega arith) (meet-10 U (placesIn ps) to r p v is (sym less) (sym e)) (h .long) (same-kept (c .types) b)
+
+    module _ (met : true ≡ related strict U r v) where
+      meets-free : So (related free U r v)
+      meets-free = loose→free U r v (strict→loose U r v (sym met))
+
+      -- both are of the table, and of one sort
+      pub closable : Derivable c (c .types) r v b × Alike (c .types) b r v
+      closable =
+          let q = keeps-related free U r v meets-free in
+          let low : r < c .types = subst (λ (n : ℕ). r < n) (size-is b l c) (q .low) in
+          let high : v < c .types = subst (λ (n : ℕ). v < n) (size-is b l c) (q .high) in (
+            derivable b l c h r v meets-free,
+            record {
+              left = low;
+              right = high;
+              same = sym (ap (λ (x : Ty). isRef (x .rep)) (type-is b l c r low)) ∙ sort-eq U r v meets-free ∙ ap (λ (x : Ty). isRef (x .rep))
+                  (type-is b l c v high);
+            },
+          )
+
+      module _ (b′ : List ℕ) (d : Derived) (g : Derives closed c r v b b′ d) where
+        gives : (x : Derived) → d ≡ x → derivationIn b′ l c x ≡ derived U closed r v
+        gives x e = sym (ap (derivationIn b′ l c) e) ∙ g .is l
+
+        pub meets-11 : d ≡ Full → (q : Crossed) → q ≡ stopped ps 11 → Meets-as b′ q
+        meets-11 e = stops b b′ l c ps to 11 (omega arith) (meet-11 U (placesIn ps) to r p v is (sym less) (sym met) (gives Full e)) (g .keeps .long) (g .keeps .kept)
+
+        module _ (i m : ℕ) (e : d ≡ At i m) where
+          closed-low : i < m
+          closed-low =
+              let z = derives-sized (c .types) r v e (g .keeps) in let q = closable .1 in let u = z .0 in
+              z .2 m (omega arith) (let w = q .left in omega arith) (let w = q .right in omega arith)
+
+          pub closed-byte : i < 256
+          closed-byte = let z = derives-sized (c .types) r v e (g .keeps) in let w = closed-low in let u = z .1 in omega arith
+
+          pub meets-12 : 128 ≤ ps .count → (q : Crossed) → q ≡ stopped ps 12 → Meets-as b′ q
+          meets-12 f = stops b b′ l c ps to 12 (omega arith)
+              (meet-12 U (placesIn ps) to r p v is (sym less) (sym met) (tableIn b′ l (withCount c m)) i (gives (At i m) e)
+              (ap (λ (n : ℕ). ltb n maxPlaces) (places-length ps) ∙ le-ltb (ps .count) 128 f))
+              (g .keeps .long) (g .keeps .kept)
+
+          -- the adapter's record has x and y
+          module _ (f : ps .count < 128) (x y : ℕ) (ex : x ≡ p) (ey : y ≡ i) where
+            abbrev New : Crossed
+            New = landed ps to (landing.Adapter (record { place = Adapter x y })) m
+
+            adapts : placesIn (New .places) ≡ placesIn ps ++ (adapter x y ∷ []) → Meets-as b′ New
+            adapts are = (
+              ap (λ (k : List Place). ok (reference (tableIn b′ l (withCount c m)) k to (ps .count))) (are ∙ ap (λ (k : ℕ). placesIn ps ++ (adapter k y ∷ [])) ex
+                  ∙ ap (λ (k : ℕ). placesIn ps ++ (adapter p k ∷ [])) ey)
+                  ∙ ap (λ (k : ℕ). ok (reference (tableIn b′ l (withCount c m)) (placesIn ps ++ (adapter p i ∷ [])) to k)) (sym (places-length ps))
+                  ∙ meet-adapts U (placesIn ps) to r p v is (sym less) (sym met) (tableIn b′ l (withCount c m)) i (gives (At i m) e)
+                  (ap (λ (n : ℕ). ltb n maxPlaces) (places-length ps) ∙ lt-ltb (ps .count) 128 f),
+              record {
+                long = g .keeps .long;
+                kept = g .keeps .kept;
+                came = λ _. let w = derives-grew c r v e g in record {
+                  sort = λ k. let u = w .more in omega arith;
+                  types = w;
+                  falling = falling-more ps (New .places) (adapter x y) refl are fall f (λ _. omega (arith, ex, place));
+                  place = omega arith;
+                  typed = λ t. typed-more ps (New .places) (adapter x y) refl are (withCount c m) (λ k u. let n = t k u in let o = w .more in omega arith) (omega (arith, ey, closed-low));
+                  before = record { more = omega arith; same = λ k u. getD-set-other (ps .list) (ps .count) k (record { place = Adapter x y }) blankPlace (λ n. omega (arith, n, u)) };
+                };
+              },
+            )
+
+            pub meets-adapts : (q : Crossed) → (q ≡ New) × (placesIn (q .places) ≡ placesIn ps ++ (adapter x y ∷ [])) → Meets-as b′ q
+            meets-adapts q k = subst (Meets-as b′) (sym (k .0)) (adapts (sym (ap (λ (z : Crossed). placesIn (z .places)) (k .0)) ∙ k .1))
+
+-- ---- X1 to X5: the table is that of bytes b, and x crosses.
+module _ (b l : List ℕ) (c : Counts) (h : Ready l c b) (ps : Places) (x : Crossing) where
+  abbrev T : Table
+  T = tableIn b l c
+
+  abbrev Crosses : List ℕ → Crossed → Type 0
+  Crosses b′ q = (crossedOf b′ l c q ≡ crossing T ps x) × Leaves c ps (x .from) b b′ q
+
+  -- the target is a type of the table, so what comes of the meeting is known of any static type before it
+  known : So (related free T (x .to) (x .from)) → x .to < c .types
+  known e = subst (λ (n : ℕ). x .to < n) (size-is b l c) (keeps-related free T (x .to) (x .from) e .low)
+
+  module _ (own : ownIn (c .types) b (x .to) ≡ true) where
+    pub unwrap-8 : false ≡ related free T (x .to) (x .from) → (q : Crossed) → q ≡ stopped ps 8 → Crosses b q
+    unwrap-8 e = stops b b l c ps (x .from) 8 (omega arith) (own-8 T (placesIn ps) (x .from) (x .place) (x .to) (x .receiver) (own-table b l c (x .to) ∙ own) (sym e)) (h .long)
+        (same-kept (c .types) b)
+
+    module _ (met : true ≡ related free T (x .to) (x .from)) (o : ℕ) (is : o ≡ baseOwner (placesIn ps) (x .place)) where
+      pub unwrap-9 : (o ≡ x .receiver → ⊥) → (q : Crossed) → q ≡ stopped ps 9 → Crosses b q
+      unwrap-9 e = stops b b l c ps (x .from) 9 (omega arith)
+          (own-9 T (placesIn ps) (x .from) (x .place) (x .to) (x .receiver) (own-table b l c (x .to) ∙ own) (sym met) (differ (λ z. e (is ∙ sym z)))) (h .long) (same-kept (c .types) b)
+
+      pub unwrap-meets : o ≡ x .receiver → (base : ℕ) → BaseAt ps (x .place) base → (b′ : List ℕ) (q : Crossed) →
+          crossedOf b′ l c q ≡ adapt T (placesIn ps) (x .to) (x .to) base → Leaves c ps (x .to) b b′ q → Crosses b′ q
+      unwrap-meets e base at b′ q m k = (
+        m ∙ ap (adapt T (placesIn ps) (x .to) (x .to)) (at .is)
+            ∙ own-meets T (placesIn ps) (x .from) (x .place) (x .to) (x .receiver) (own-table b l c (x .to) ∙ own) (sym met) (equal (sym e ∙ is)),
+        record {
+          long = k .long;
+          kept = k .kept;
+          came = λ z. let w = k .came z in
+              record { sort = λ _. w .sort (known (sym met)); types = w .types; falling = w .falling; place = w .place; typed = w .typed; before = w .before };
+        },
+      )
+
+  module _ (fall : Falling ps) (place : x .place < ps .count) (own : ownIn (c .types) b (x .to) ≡ false) where
+    pub restrict-8 : false ≡ related loose T (x .to) (x .from) → (q : Crossed) → q ≡ stopped ps 8 → Crosses b q
+    restrict-8 e = stops b b l c ps (x .from) 8 (omega arith) (other-8 T (placesIn ps) (x .from) (x .place) (x .to) (x .receiver) (own-table b l c (x .to) ∙ own) (sym e)) (h .long)
+        (same-kept (c .types) b)
+
+    module _ (met : true ≡ related loose T (x .to) (x .from)) where
+      low : x .to < c .types
+      low = known (loose→free T (x .to) (x .from) (sym met))
+
+      pub restrict-stays : true ≡ related subtype T (x .to) (x .from) → (q : Crossed) → q ≡ landed ps (x .to) (landing.Stands (x .place)) (c .types) → Crosses b q
+      restrict-stays e q z = subst (Crosses b) (sym z) (
+        other-stays T (placesIn ps) (x .from) (x .place) (x .to) (x .receiver) (own-table b l c (x .to) ∙ own) (sym met) (sym e),
+        record {
+          long = h .long;
+          kept = same-kept (c .types) b;
+          came = λ _. stands c ps (x .from) (x .to) (x .place) (c .types) b fall place (none-new c b (h .checked .limits .types)) (λ _. low);
+        },
+      )
+
+      module _ (less : false ≡ related subtype T (x .to) (x .from)) (b₁ : List ℕ) (d : Derived) (g : Derives sub c (x .to) (x .from) b b₁ d) where
+        answer : (y : Derived) → d ≡ y → derivationIn b₁ l c y ≡ derived T sub (x .to) (x .from)
+        answer y e = sym (ap (derivationIn b₁ l c) e) ∙ g .is l
+
+        pub restrict-11 : d ≡ Full → (q : Crossed) → q ≡ stopped ps 11 → Crosses b₁ q
+        restrict-11 e = stops b b₁ l c ps (x .from) 11 (omega arith)
+            (other-11 T (placesIn ps) (x .from) (x .place) (x .to) (x .receiver) (own-table b l c (x .to) ∙ own) (sym met) (sym less) (answer Full e)) (g .keeps .long) (g .keeps .kept)
+
+        module _ (i m : ℕ) (e : d ≡ At i m) (n : Counts) (en : n ≡ withCount c m) where
+          pub restrict-ready : Ready l n b₁
+          restrict-ready = subst (λ (y : Counts). Ready l y b₁) (sym en) (ready-on l c m b b₁ h (derives-grew c (x .to) (x .from) e g) (g .keeps .long))
+
+          -- the reference of type `to` at its place, with the types that the derivation left
+          half : Leaves c ps (x .from) b b₁ (landed ps (x .to) (landing.Stands (x .place)) m)
+          half = let w = derives-grew c (x .to) (x .from) e g in record {
+            long = g .keeps .long;
+            kept = g .keeps .kept;
+            came = λ _. stands c ps (x .from) (x .to) (x .place) m b₁ fall place w (λ _. let u = w .more in omega (arith, low, u));
+          }
+
+          pub restrict-meets : (b₂ : List ℕ) (q : Crossed) → crossedOf b₂ l n q ≡ adapt (tableIn b₁ l n) (placesIn ps) (x .to) i (x .place) → Leaves n ps (x .to) b₁ b₂ q → Crosses b₂ q
+          restrict-meets b₂ q is k = (
+            subst (λ (y : Counts). crossedOf b₂ l y q ≡ adapt (tableIn b₁ l y) (placesIn ps) (x .to) i (x .place)) en is
+                ∙ other-meets T (placesIn ps) (x .from) (x .place) (x .to) (x .receiver) (own-table b l c (x .to) ∙ own) (sym met) (sym less) (tableIn b₁ l (withCount c m)) i (answer (At i m) e),
+            leaves-on c ps (x .from) b b₁ (landed ps (x .to) (landing.Stands (x .place)) m) half refl b₂ q (subst (λ (y : Counts). Leaves y ps (x .to) b₁ b₂ q) en k),
+          )

@@ -1,0 +1,24 @@
+-- What the C functions of the requests take, beside what crate `request_results` says of a request, and the operands that they make of it.
+use mathlib.Core.Path.{_≡_}
+use mathlib.Core.List.{List, _∷_}
+use Prim.Native.Nat.{ℕ, zero, suc, _≤_}
+use lib.IntN.{ℤ}
+use lib.ListN.{length, take}
+use Rattle.spec_model.specs.Table.{maxArguments}
+use Rattle.export_requests.specs.declared.Operands.{Operands}
+pub use Rattle.export_requests.specs.Given.{givenIn}
+
+-- ---- The operands.
+-- how many an answer has
+abbrev pub answerOperands : ℕ → ℕ
+answerOperands zero = 2
+answerOperands (suc n) = 3
+
+-- those of a call: one argument more than a signature may have is as many as matter
+abbrev pub callOperands : ℤ → ℤ → ℤ → List ℤ → List ℤ
+callOperands subject cell method vs = subject ∷ cell ∷ method ∷ take (suc maxArguments) vs
+
+-- o has these operands
+pub record Listed (ws : List ℤ) (o : Operands) : Type 0 where
+  pub is : take (o .count) (o .items) ≡ ws
+  pub fits : o .count ≤ length (o .items)

@@ -1,0 +1,170 @@
+// What tests, benchmarks and integrators link: C functions on numbers and arrays of bytes, for any numbers and any bytes (E2, E12). A table is three arrays: the bytes
+// of its types, those of its links, and five counts in the order of B12; docs/SPEC.md, section B, has the layout. The numbers returned are given by definitions in
+// specs/Codes.antt.
+ghost use mathlib.Core.Path.{_≡_};
+ghost use Prim.Native.Nat.{_+_};
+ghost use Rattle.spec_model.specs.Check.{compareHanded};
+ghost use Rattle.table_record.specs.Store.{rawTable};
+ghost use Rattle.relation_search.specs.Answered.{answersOf};
+ghost use Rattle.relation_compare.specs.Answered.{comparedOf};
+ghost use Rattle.relation_compare.specs.Pairs.{pairsHanded};
+ghost use Rattle.derive_entry.specs.Handed.{deriveHanded};
+ghost use Rattle.spec_sheet.specs.Sheet.{read as readSheet};
+ghost use Rattle.spec_sheet.specs.Text.{write};
+ghost use Rattle.sheet_read.specs.View.{answered, sheetOf};
+ghost use Rattle.sheet_write.specs.Answer.{wroteAnswer};
+ghost use Rattle.state_bytes.specs.Flat.{countsIn};
+ghost use Rattle.export_table.specs.Codes.{answersCode, comparedCode, numberOf, valueOf, WrittenIs, handedOut, DerivedIs, lent};
+use base_numbers::wide;
+use derive_entry::Made;
+use relation_compare::Compared;
+use relation_compare::PAIR_BYTES;
+use relation_search::Answers;
+use sheet_write::Wrote;
+use table_record::Counts;
+use table_record::LINK_BYTES;
+use table_record::TYPE_BYTES;
+
+// A table's counts from five numbers in a row.
+fn counts_of(n: [usize; 5]) -> Counts
+    ensures { λ c. ⌜ c ≡ countsIn n ⌝ }
+{
+    Counts {
+        subjects: n[0],
+        methods: n[1],
+        cats: n[2],
+        sheet: n[3],
+        types: n[4],
+    }
+}
+
+// The answers as one number.
+fn answers_code(a: Answers) -> usize
+    ensures { λ n. ⌜ n ≡ answersCode (answersOf a) ⌝ }
+{
+    let code = relation_compare::pair_code(a);
+    16 + wide(code)
+}
+
+// Compare's answer as one number.
+fn compared_code(r: Compared) -> usize
+    ensures { λ n. ⌜ n ≡ comparedCode (comparedOf r) ⌝ }
+{
+    match r {
+        Compared::Unfit => 2,
+        Compared::Unknown => 7,
+        Compared::Answers(a) => answers_code(a),
+    }
+}
+
+// Compare (R14) on a table handed in: 2, then 7, else 16 and the answers.
+#[no_mangle]
+pub extern "C" fn pilgonca_compare(
+    types: &[u8; TYPE_BYTES],
+    links: &[u8; LINK_BYTES],
+    counts: &[usize; 5],
+    t: i64,
+    s: i64,
+) -> usize
+    ensures { λ n. ⌜ n ≡ comparedCode (compareHanded (rawTable (now (types .entry)) (now (links .entry)) (countsIn (now (counts .entry)))) t s) ⌝ }
+{
+    let c = counts_of(*counts);
+    let r = relation_compare::compare_types(types, links, c, t, s);
+    compared_code(r)
+}
+
+// Sheet read (S) of any bytes: 0 and the table, with offset 0; or the refusal and the byte offset of the line, with a table whose every count and byte is 0 (B21).
+#[no_mangle]
+pub extern "C" fn pilgonca_read(
+    text: &[u8],
+    types: &mut [u8; TYPE_BYTES],
+    links: &mut [u8; LINK_BYTES],
+    counts: &mut [usize; 5],
+    at: &mut usize,
+) -> usize
+    ensures { λ n. ⌜ sheetOf n (now (at .exit)) (now (types .exit)) (now (links .exit)) (countsIn (now (counts .exit))) ≡ answered (readSheet (now (text .entry))) ⌝ }
+{
+    let r = sheet_read::read_into(text, types, links);
+    let c = r.counts;
+    *counts = [c.subjects, c.methods, c.cats, c.sheet, c.types];
+    *at = r.at;
+    r.refusal
+}
+
+// The writer's answer: the refusal's number, or 0 with the length handed out.
+fn wrote_code(w: Wrote, length: &mut usize) -> usize
+    ensures { λ n. ⌜ (n ≡ numberOf (wroteAnswer w)) × (now (length .exit) ≡ valueOf (now (length .entry)) (wroteAnswer w)) ⌝ }
+{
+    match w {
+        Wrote::UnfitTable => 2,
+        Wrote::ShortBuffer => 4,
+        Wrote::Length(n) => {
+            *length = n;
+            0
+        }
+    }
+}
+
+// Sheet write (W) of a table handed in: 2, then 4 where the buffer is short, else 0 and the length; a refusal leaves buffer and length as they were.
+#[no_mangle]
+pub extern "C" fn pilgonca_write(
+    buffer: &mut [u8],
+    types: &[u8; TYPE_BYTES],
+    links: &[u8; LINK_BYTES],
+    counts: &[usize; 5],
+    length: &mut usize,
+) -> usize
+    ensures { λ n. ⌜ WrittenIs (write (rawTable (now (types .entry)) (now (links .entry)) (countsIn (now (counts .entry)))) (now (buffer .entry))) n (now (length .entry)) (now (length .exit)) (now (buffer .exit)) ⌝ }
+{
+    let c = counts_of(*counts);
+    let w = sheet_write::write_sheet(buffer, types, links, c);
+    wrote_code(w, length)
+}
+
+// The pair table (E9) of a table handed in: 0 and the answers at every pair of sheet types, or 2 and `out` as it was.
+#[no_mangle]
+pub extern "C" fn pilgonca_pairs(
+    types: &[u8; TYPE_BYTES],
+    links: &[u8; LINK_BYTES],
+    counts: &[usize; 5],
+    out: &mut [u8; PAIR_BYTES],
+) -> usize
+    ensures { λ n. ⌜ (n, now (out .exit)) ≡ handedOut (now (out .entry)) (pairsHanded (rawTable (now (types .entry)) (now (links .entry)) (countsIn (now (counts .entry))))) ⌝ }
+{
+    let c = counts_of(*counts);
+    let r = relation_compare::pairs_of(types, links, c);
+    if r.fits {
+        let entries = r.entries;
+        *out = entries;
+        return 0;
+    }
+    2
+}
+
+// A derivation (E10) on a table handed in: Sub (kind 0), Sup (1) or Closed (2) of types t and s. 0, with types and counts those of the table that there is now
+// and `number` the derived type's; or 2, 7 or 11, and nothing is changed.
+#[no_mangle]
+pub extern "C" fn pilgonca_derive(
+    types: &mut [u8; TYPE_BYTES],
+    links: &[u8; LINK_BYTES],
+    counts: &mut [usize; 5],
+    kind: usize,
+    t: i64,
+    s: i64,
+    number: &mut usize,
+) -> usize
+    ensures { λ n. ⌜ DerivedIs (now (links .entry)) (deriveHanded (rawTable (now (types .entry)) (now (links .entry)) (countsIn (now (counts .entry)))) kind t s) n (lent (now (types .entry)) (now (counts .entry)) (now (number .entry))) (lent (now (types .exit)) (now (counts .exit)) (now (number .exit))) ⌝ }
+{
+    let c = counts_of(*counts);
+    let r = derive_entry::derive(types, links, c, kind, t, s);
+    match r {
+        Made::Unfit => 2,
+        Made::Unknown => 7,
+        Made::Full => 11,
+        Made::At(i, count) => {
+            *counts = [c.subjects, c.methods, c.cats, c.sheet, count];
+            *number = i;
+            0
+        }
+    }
+}

@@ -1,0 +1,253 @@
+-- The refusals of each request in the order of their tests: what a request is refused with is the first of them that fails (docs/SPEC.md, Q11, X11, N, M, C, A).
+use mathlib.Core.Path.{_≡_, refl, ap}
+use mathlib.Core.Bool.{Bool, true, false, not, _&&_, cond}
+use mathlib.Core.List.{List, [], _∷_, _++_, map, reverse}
+use mathlib.Core.Option.{Option, none, some}
+use Prim.Native.Nat.{ℕ}
+use native.Mathlib.Omega.{arith}
+use lib.Dec.{eqb, ltb}
+use lib.IntN.{ℤ}
+use lib.ListN.{length}
+use Rattle.spec_model.specs.Basics.{Res, refuse, ok, try, need, names, named}
+use Rattle.spec_model.specs.Table.{sub, closed, Table, maxTypes, typeAt, methodAt, answerAt, isRef, isAvail, isClass, isNone}
+use Rattle.spec_model.specs.Relations.{subtype, conforms, strict, loose, free, related}
+use Rattle.spec_model.specs.Restriction.{derive, derived}
+use Rattle.spec_model.specs.Crossing.{Place, object, adapter, placeType, placeAt, baseOf, baseOwner, Reference, adapt, cross}
+use Rattle.spec_model.specs.Requests.{System, Result, pair, number, cellAt, callAt, isSheetRef, held, leaving, withCell, addCell, newRequest, moveRequest, wayOf, crossLayers, passLayers, send}
+use Rattle.spec_model.specs.Requests.{argumentsHeld, sendArguments, callRequest, withAnswer, give, answerRequest}
+use Rattle.law_rules.proofs.Made.{dueOf}
+
+-- the number of a refusal, if it is one
+abbrev pub refusal : {A : Type 0} → Res A → Option ℕ
+refusal (refuse e) = some e
+refusal (ok a) = none
+
+-- one test and the number it refuses with
+abbrev pub unless : Bool → ℕ → Option ℕ
+unless true e = none
+unless false e = some e
+
+-- the first test that fails
+abbrev pub firstOf : List (Option ℕ) → Option ℕ
+firstOf [] = none
+firstOf (none ∷ os) = firstOf os
+firstOf (some e ∷ os) = some e
+
+-- Before the first that fails every test is passed.
+abbrev pub AllPassed : List (Option ℕ) → Type 0
+AllPassed [] = Unit
+AllPassed (o ∷ os) = (o ≡ none) × AllPassed os
+
+pub record FailsAt (os : List (Option ℕ)) (e : ℕ) : Type 0 where
+  pub before : List (Option ℕ)
+  pub rest : List (Option ℕ)
+  pub split : os ≡ before ++ (some e ∷ rest)
+  pub passed : AllPassed before
+
+pub fails-at : (os : List (Option ℕ)) (e : ℕ) → firstOf os ≡ some e → FailsAt os e
+fails-at [] e h = let z : _≡_ {A = ℕ} 0 1 = cc in absurd (omega arith)
+fails-at (none ∷ os) e h =
+    let w = fails-at os e h in
+    record { before = none ∷ w .before; rest = w .rest; split = ap {B = List (Option ℕ)} (λ z. none ∷ z) (w .split); passed = (refl, w .passed) }
+fails-at (some d ∷ os) e h = record { before = []; rest = os; split = ap {B = List (Option ℕ)} (λ z. z ∷ os) h; passed = tt }
+
+pub all-passed : (os : List (Option ℕ)) → firstOf os ≡ none → AllPassed os
+all-passed [] h = tt
+all-passed (none ∷ os) h = (refl, all-passed os h)
+all-passed (some e ∷ os) h = let z : _≡_ {A = ℕ} 0 1 = cc in absurd (omega arith)
+
+-- ---- X11: one crossing
+-- X6 to X9, from a place p and with R = r
+abbrev pub adaptTests : Table → List Place → ℕ → ℕ → List (Option ℕ)
+adaptTests t ps r p = let v = placeType (placeAt ps p) in
+    cond (related conforms t r v) [] (unless (related strict t r v) 10 ∷ unless (not (isNone (derive maxTypes t closed r v))) 11 ∷ unless (ltb (length ps) 128) 12 ∷ [])
+
+-- X5 and what follows, by what Sub(T,S) comes to
+abbrev pub subTests : Option (Table × ℕ) → List Place → ℕ → List (Option ℕ)
+subTests none ps p = some 11 ∷ []
+subTests (some x) ps p = adaptTests (x .0) ps (x .1) p
+
+abbrev pub crossTests : Reference → ℕ → ℕ → List (Option ℕ)
+crossTests f to r = cond (typeAt (f .table) to .own)
+    (unless (related free (f .table) to (f .type)) 8 ∷ unless (eqb r (baseOwner (f .places) (f .place))) 9 ∷ adaptTests (f .table) (f .places) to (baseOf (f .places) (f .place)))
+    (unless (related loose (f .table) to (f .type)) 8 ∷ cond (related subtype (f .table) to (f .type)) [] (subTests (derive maxTypes (f .table) sub to (f .type)) (f .places) (f .place)))
+
+adapt-refusal : (t : Table) (ps : List Place) (to r p : ℕ) → refusal (adapt t ps to r p) ≡ firstOf (adaptTests t ps r p)
+unfolding adapt derived
+adapt-refusal t ps to r p = go (related conforms t r v) (related strict t r v) (derive maxTypes t closed r v) (ltb (length ps) 128)
+  where
+    v : ℕ
+    v = placeType (placeAt ps p)
+
+    go : (c s : Bool) (o : Option (Table × ℕ)) (b : Bool) → refusal {A = Reference} (elim c [
+      | true ↦ ok (record { table = t; places = ps; type = to; place = p })
+      | false ↦ need s 10 λ _. try {A = Table × ℕ} (elim o [ none ↦ refuse 11 | some p ↦ ok p ]) λ x. need b 12 λ _.
+          ok (record { table = x .0; places = ps ++ (adapter p (x .1) ∷ []); type = to; place = length ps })
+    ]) ≡ firstOf (cond c [] (unless s 10 ∷ unless (not (isNone o)) 11 ∷ unless b 12 ∷ []))
+    go true s o b = refl
+    go false false o b = refl
+    go false true none b = refl
+    go false true (some x) true = refl
+    go false true (some x) false = refl
+
+pub cross-refusal : (f : Reference) (to r : ℕ) → refusal (cross f to r) ≡ firstOf (crossTests f to r)
+unfolding cross derived
+cross-refusal f to r =
+    go (typeAt t to .own) (related free t to (f .type)) (eqb r (baseOwner ps (f .place))) (related loose t to (f .type)) (related subtype t to (f .type)) (derive maxTypes t sub to (f .type))
+  where
+    t : Table
+    t = f .table
+
+    ps : List Place
+    ps = f .places
+
+    go : (own fr ow lo st : Bool) (o : Option (Table × ℕ)) → refusal {A = Reference} (elim own [
+      | true ↦ need fr 8 λ _. need ow 9 λ _. adapt t ps to to (baseOf ps (f .place))
+      | false ↦ need lo 8 λ _. elim st [
+        | true ↦ ok (record { table = t; places = ps; type = to; place = f .place })
+        | false ↦ try {A = Table × ℕ} (elim o [ none ↦ refuse 11 | some p ↦ ok p ]) λ x. adapt (x .0) ps to (x .1) (f .place)
+      ]
+    ]) ≡ firstOf (cond own (unless fr 8 ∷ unless ow 9 ∷ adaptTests t ps to (baseOf ps (f .place))) (unless lo 8 ∷ cond st [] (subTests o ps (f .place))))
+    go true false ow lo st o = refl
+    go true true false lo st o = refl
+    go true true true lo st o = adapt-refusal t ps to to (baseOf ps (f .place))
+    go false fr ow false st o = refl
+    go false fr ow true true o = refl
+    go false fr ow true false none = refl
+    go false fr ow true false (some x) = adapt-refusal (x .0) ps to (x .1) (f .place)
+
+-- ---- the four requests
+-- a crossing or more, and then the cell
+arrival-refusal : (s : System) (r : ℕ) (m : Res Reference) → refusal (try m (addCell s r)) ≡ firstOf (refusal m ∷ unless (ltb (length (s .cells)) 256) 13 ∷ [])
+unfolding addCell
+arrival-refusal s r (refuse e) = refl
+arrival-refusal s r (ok f) = go (ltb (length (s .cells)) 256) (withCell s r f, pair (length (s .cells)) (f .place))
+  where
+    go : (b : Bool) (x : System × Result) → refusal (need b 13 λ _. ok x) ≡ firstOf (unless b 13 ∷ [])
+    go true x = refl
+    go false x = refl
+
+-- the reference to a new object (N5)
+abbrev pub entering : System → ℤ → ℤ → Reference
+entering s subject class = record { table = s .table; places = s .places ++ (object (named class) (named subject) ∷ []); type = named class; place = length (s .places) }
+
+-- N1 to N4, N6, N7
+pub new-refusal : (s : System) (subject class to : ℤ) → refusal (newRequest s subject class to) ≡ firstOf (
+    unless (names subject (s .table .subjects)) 5
+    ∷ unless (names class (s .table .sheet) && isClass (typeAt (s .table) (named class))) 7
+    ∷ unless (isSheetRef (s .table) to) 7
+    ∷ unless (ltb (length (s .places)) 128) 12
+    ∷ refusal (cross (entering s subject class) (named to) (named subject))
+    ∷ unless (ltb (length (s .cells)) 256) 13 ∷ [])
+unfolding newRequest
+new-refusal s subject class to =
+    go (names subject (s .table .subjects)) (names class (s .table .sheet) && isClass (typeAt (s .table) (named class))) (isSheetRef (s .table) to) (ltb (length (s .places)) 128)
+    (cross (entering s subject class) (named to) (named subject))
+  where
+    go : (a b c d : Bool) (m : Res Reference) → refusal (need a 5 λ _. need b 7 λ _. need c 7 λ _. need d 12 λ _. try m λ f. addCell s (named subject) f)
+        ≡ firstOf (unless a 5 ∷ unless b 7 ∷ unless c 7 ∷ unless d 12 ∷ refusal m ∷ unless (ltb (length (s .cells)) 256) 13 ∷ [])
+    go false b c d m = refl
+    go true false c d m = refl
+    go true true false d m = refl
+    go true true true false m = refl
+    go true true true true m = arrival-refusal s (named subject) m
+
+-- M1 to M5
+pub move-refusal : (s : System) (subject k receiver to : ℤ) → refusal (moveRequest s subject k receiver to) ≡ firstOf (
+    unless (names subject (s .table .subjects) && names receiver (s .table .subjects)) 5
+    ∷ unless (held s subject k) 6
+    ∷ unless (isSheetRef (s .table) to) 7
+    ∷ refusal (cross (leaving s (named k)) (named to) (named receiver))
+    ∷ unless (ltb (length (s .cells)) 256) 13 ∷ [])
+unfolding moveRequest
+move-refusal s subject k receiver to =
+    go (names subject (s .table .subjects) && names receiver (s .table .subjects)) (held s subject k) (isSheetRef (s .table) to) (cross (leaving s (named k)) (named to) (named receiver))
+  where
+    go : (a b c : Bool) (m : Res Reference) → refusal (need a 5 λ _. need b 6 λ _. need c 7 λ _. try m λ f. addCell s (named receiver) f)
+        ≡ firstOf (unless a 5 ∷ unless b 6 ∷ unless c 7 ∷ refusal m ∷ unless (ltb (length (s .cells)) 256) 13 ∷ [])
+    go false b c m = refl
+    go true false c m = refl
+    go true true false m = refl
+    go true true true m = arrival-refusal s (named receiver) m
+
+-- C1 to C7, then the arguments in turn
+pub call-refusal : (s : System) (subject k m : ℤ) (vs : List ℤ) → let c = cellAt s (named k) in let xs = methodAt (s .table) (c .type) (named m) .args in
+    refusal (callRequest s subject k m vs) ≡ firstOf (
+    unless (names subject (s .table .subjects)) 5
+    ∷ unless (held s subject k) 6
+    ∷ unless (names m (s .table .methods) && isAvail (methodAt (s .table) (c .type) (named m) .state)) 14
+    ∷ unless (argumentsHeld s subject xs vs) 15
+    ∷ unless (ltb (length (s .calls)) 256) 18
+    ∷ refusal (sendArguments s (baseOwner (s .places) (c .place)) (wayOf s c) (named m) 0 xs vs) ∷ [])
+unfolding callRequest
+call-refusal s subject k m vs = let c = cellAt s (named k) in let x = methodAt (s .table) (c .type) (named m) in
+    go (names subject (s .table .subjects)) (held s subject k) (names m (s .table .methods) && isAvail (x .state)) (argumentsHeld s subject (x .args) vs) (ltb (length (s .calls)) 256)
+    (sendArguments s (baseOwner (s .places) (c .place)) (wayOf s c) (named m) 0 (x .args) vs) _
+  where
+    go : (a b c d e : Bool) (m : Res System) (f : System → System × Result) → refusal (need a 5 λ _. need b 6 λ _. need c 14 λ _. need d 15 λ _. need e 18 λ _. try m λ x. ok (f x))
+        ≡ firstOf (unless a 5 ∷ unless b 6 ∷ unless c 14 ∷ unless d 15 ∷ unless e 18 ∷ refusal m ∷ [])
+    go false b c d e m f = refl
+    go true false c d e m f = refl
+    go true true false d e m f = refl
+    go true true true false e m f = refl
+    go true true true true false m f = refl
+    go true true true true true (refuse n) f = refl
+    go true true true true true (ok x) f = refl
+
+-- C17, A10: a reference that is sent meets the layers, then 13
+pub send-refusal : (s : System) (r k : ℕ) (ts : List (Option ℕ))
+    → refusal (send s r k ts) ≡ firstOf (refusal (crossLayers true (leaving s k) r ts) ∷ unless (ltb (length (s .cells)) 256) 13 ∷ [])
+unfolding send
+send-refusal s r k ts = arrival-refusal s r (crossLayers true (leaving s k) r ts)
+
+-- the answer types that the value of call j passes (A7)
+abbrev pub wayOut : System → ℕ → List (Option ℕ)
+wayOut s j = reverse (map (answerAt (s .table) (callAt s j .method)) (wayOf s (cellAt s (callAt s j .cell))))
+
+-- A5, A6, A9, A10, by what is due and what is given
+abbrev pub giveTests : System → ℤ → ℕ → Option ℕ → Option ℤ → List (Option ℕ)
+giveTests s subject j none none = []
+giveTests s subject j none (some v) = some 15 ∷ []
+giveTests s subject j (some a) none = some 15 ∷ []
+giveTests s subject j (some a) (some v) = cond (isRef (typeAt (s .table) a .rep))
+    (unless (held s subject v) 15 ∷ refusal (crossLayers true (leaving s (named v)) (callAt s j .caller) (wayOut s j)) ∷ unless (ltb (length (s .cells)) 256) 13 ∷ [])
+    (refusal (passLayers true (s .table) v (wayOut s j)) ∷ [])
+
+give-refusal : (s : System) (subject : ℤ) (j : ℕ) (due : Option ℕ) (v : Option ℤ) → refusal (give s subject j due v) ≡ firstOf (giveTests s subject j due v)
+unfolding give
+give-refusal s subject j none none = refl
+give-refusal s subject j none (some v) = refl
+give-refusal s subject j (some a) none = refl
+give-refusal s subject j (some a) (some v) = go (isRef (typeAt (s .table) a .rep)) (held s subject v) (send s (callAt s j .caller) (named v) (wayOut s j))
+    (send-refusal s (callAt s j .caller) (named v) (wayOut s j)) (passLayers true (s .table) v (wayOut s j))
+  where
+    os : List (Option ℕ)
+    os = refusal (crossLayers true (leaving s (named v)) (callAt s j .caller) (wayOut s j)) ∷ unless (ltb (length (s .cells)) 256) 13 ∷ []
+
+    go : (b h : Bool) (m : Res (System × Result)) → refusal m ≡ firstOf os → (n : Res (Unit {0})) → refusal {A = System × Result} (elim b [
+      | true ↦ need h 15 λ _. try m λ x. ok (withAnswer (x .0) j, x .1)
+      | false ↦ try n λ _. ok (withAnswer s j, number v)
+    ]) ≡ firstOf (cond b (unless h 15 ∷ os) (refusal n ∷ []))
+    go true false m e n = refl
+    go true true (refuse d) e n = e
+    go true true (ok x) e n = e
+    go false h m e (refuse d) = refl
+    go false h m e (ok u) = refl
+
+-- A1 to A6, A9, A10
+pub answer-refusal : (s : System) (subject j : ℤ) (v : Option ℤ) → refusal (answerRequest s subject j v) ≡ firstOf (
+    unless (names subject (s .table .subjects)) 5
+    ∷ unless (names j (length (s .calls)) && eqb (named subject) (baseOwner (s .places) (cellAt s (callAt s (named j) .cell) .place))) 6
+    ∷ unless (not (callAt s (named j) .answered)) 17
+    ∷ giveTests s subject (named j) (dueOf s (named j)) v)
+unfolding answerRequest
+answer-refusal s subject j v = go (names subject (s .table .subjects)) (names j (length (s .calls)) && eqb (named subject) (baseOwner (s .places) (cellAt s (callAt s (named j) .cell) .place)))
+    (not (callAt s (named j) .answered))
+    (give s subject (named j) (dueOf s (named j)) v) (giveTests s subject (named j) (dueOf s (named j)) v) (give-refusal s subject (named j) (dueOf s (named j)) v)
+  where
+    go : (a b c : Bool) (m : Res (System × Result)) (os : List (Option ℕ)) → refusal m ≡ firstOf os
+        → refusal (need a 5 λ _. need b 6 λ _. need c 17 λ _. m) ≡ firstOf (unless a 5 ∷ unless b 6 ∷ unless c 17 ∷ os)
+    go false b c m os e = refl
+    go true false c m os e = refl
+    go true true false m os e = refl
+    go true true true m os e = e

@@ -1,1 +1,0 @@
-// The model of docs/SPEC.md: definitions in specs/, cases computed from them and the laws of relations in proofs/ (the rest of what is proved: crate modellaws). No code.

@@ -1,0 +1,43 @@
+-- The program `pairs`: the bytes that it prints, for every input (P1, P16, P17).
+use mathlib.Core.Bool.{cond}
+use mathlib.Core.List.{List, [], _∷_, _++_, flatten}
+use Prim.Native.Nat.{ℕ}
+use lib.Dec.{ltb}
+use lib.ListN.{length}
+use Rattle.spec_model.specs.Basics.{from}
+use Rattle.spec_model.specs.Table.{Table}
+use Rattle.spec_model.specs.Relations.{Answers, bit, related}
+use Rattle.relation_search.specs.Answered.{answersAt}
+use Rattle.spec_sheet.specs.Lines.{bytes, join}
+use Rattle.spec_sheet.specs.Numbers.{decimalIn}
+use Rattle.spec_sheet.specs.Text.{numberText}
+use Rattle.pairs_write_lines.specs.Spaced.{spaced}
+use Rattle.spec_sheet.specs.Sheet.{SheetAnswer, malformed, loaded, read}
+
+-- a sheet of at most so many bytes (P1)
+abbrev pub maxInput : ℕ
+maxInput = 32768
+
+-- the answers of Compare, 1 or 0, in the order in which they are printed
+abbrev pub answerBits : Answers → List ℕ
+answerBits a = bit (a .subtype) ∷ bit (a .strict) ∷ bit (a .loose) ∷ bit (a .free) ∷ []
+
+unfoldable pub pairLine : Table → ℕ → ℕ → List ℕ
+unfolding related numberText decimalIn
+pairLine x t s = spaced (t ∷ s ∷ answerBits (answersAt x t s))
+
+-- a line for every pair of sheet types, T rising and within it S rising (P17)
+unfoldable pub pairLines : Table → List (List ℕ)
+unfolding pairLine from flatten
+pairLines x = flatten (from (x .sheet) 0 (λ t. from (x .sheet) 0 (λ s. pairLine x t s)))
+
+-- `no=N at=OFFSET` for a refused sheet (P16)
+unfoldable pub answerLines : SheetAnswer → List (List ℕ)
+unfolding pairLines numberText
+answerLines (malformed n at) = (numberText (bytes "no=") n ++ numberText (bytes " at=") at) ∷ []
+answerLines (loaded x) = pairLines x
+
+-- longer input: `no=2` alone (P1)
+unfoldable pub pairsOutput : List ℕ → List ℕ
+unfolding answerLines join read
+pairsOutput s = join (cond (ltb maxInput (length s)) (bytes "no=2" ∷ []) (answerLines (read s)))

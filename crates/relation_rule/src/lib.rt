@@ -1,0 +1,295 @@
+// What a relation asks of a pair of types (T, S) without their signatures (R8 to R12): the states of a method, representation, category, own.
+// The pairs that signatures lead to are found in crate `relation_search`.
+ghost use mathlib.Core.Path.{_≡_};
+ghost use mathlib.Core.Bool.{false, _&&_};
+ghost use mathlib.Core.List.{List, []};
+ghost use Prim.Native.Nat.{ℕ, _<_};
+ghost use lib.ListN.{getD};
+ghost use Rattle.spec_model.specs.Basics.{_⇒_};
+ghost use Rattle.spec_model.specs.Table.{permit};
+ghost use Rattle.spec_model.specs.Relations.{stateRule, sameRep, sameSort, catLe};
+ghost use Rattle.spec_model.specs.Check.{stateOf, repOf};
+ghost use Rattle.table_record.specs.Store.{tableIn};
+ghost use Rattle.table_record.specs.Limits.{Checked};
+ghost use Rattle.relation_rule.specs.Parts.{exact, ordered, owned, repRule, headOwns, outerHeads, Says, broaderIn, catNext};
+ghost use Rattle.relation_rule.specs.Asked.{relationOf};
+use base_numbers::wide;
+use table_record::Counts;
+use table_record::Head;
+use table_record::LINK_BYTES;
+use table_record::Method;
+use table_record::permits;
+
+// The four relations, and subtype with own not compared (R12), which a crossing asks for (X6).
+pub enum Relation {
+    Subtype,
+    Conforms,
+    Strict,
+    Loose,
+    Free,
+}
+
+// R1: the row's state ≤ the column's. Rows and columns are the codes of states.
+pub const STATE_ORDER: [[bool; 4]; 4] = [
+    [true, true, true, true],
+    [false, true, true, true],
+    [false, false, true, false],
+    [false, false, false, true],
+];
+
+// R9: T is avail (its row) only where S is avail
+pub const AVAIL_WHERE_AVAIL: [[bool; 4]; 4] = [
+    [true, true, true, true],
+    [true, true, true, true],
+    [false, false, true, false],
+    [true, true, true, true],
+];
+
+// R10: T is avail only where S permits
+pub const AVAIL_WHERE_PERMITTED: [[bool; 4]; 4] = [
+    [true, true, true, true],
+    [true, true, true, true],
+    [false, true, true, false],
+    [true, true, true, true],
+];
+
+// R11: states are not compared
+pub const ANY_STATES: [[bool; 4]; 4] = [
+    [true, true, true, true],
+    [true, true, true, true],
+    [true, true, true, true],
+    [true, true, true, true],
+];
+
+// The square of yes and no that is the state rule of a relation.
+pub fn state_square(k: Relation) -> [[bool; 4]; 4]
+    ensures { λ r. ⌜ Says (relationOf k) r ⌝ }
+{
+    match k {
+        Relation::Subtype => STATE_ORDER,
+        Relation::Conforms => STATE_ORDER,
+        Relation::Strict => AVAIL_WHERE_AVAIL,
+        Relation::Loose => AVAIL_WHERE_PERMITTED,
+        Relation::Free => ANY_STATES,
+    }
+}
+
+// The row or column of a state's code. A code that names no state is read as unavail.
+fn state_index(x: u8) -> usize
+    ensures { λ r. ⌜ (r < 4) × (stateOf r ≡ stateOf x) ⌝ }
+{
+    let w = wide(x);
+    if w < 4 {
+        return w;
+    }
+    3
+}
+
+// A comparison of two states by a square.
+fn states_compare(square: [[bool; 4]; 4], a: usize, b: usize) -> bool
+    requires { ⌜ (a < 4) × (b < 4) ⌝ }
+    ensures { λ r. ⌜ r ≡ getD (getD square a []) b false ⌝ }
+{
+    square[a][b]
+}
+
+// The state rule of the relation k, whose square is handed in, at the codes of T's state and of S's.
+pub fn state_rule(square: [[bool; 4]; 4], k: Relation, a: u8, b: u8) -> bool
+    requires { ⌜ Says (relationOf k) square ⌝ }
+    ensures { λ r. ⌜ r ≡ stateRule (relationOf k) (stateOf a) (stateOf b) ⌝ }
+{
+    let i = state_index(a);
+    let j = state_index(b);
+    states_compare(square, i, j)
+}
+
+pub fn both_permit(x: Method, y: Method) -> bool
+    ensures { λ r. ⌜ r ≡ (permit (stateOf (x .state)) && permit (stateOf (y .state))) ⌝ }
+{
+    let p = permits(x.state);
+    if p {
+        return permits(y.state);
+    }
+    false
+}
+
+// Whether category a ≤ x, where `done` has the answers for the categories below x.
+fn category_next(
+    l: &[u8; LINK_BYTES],
+    done: &[bool; Counts::CATEGORIES + 1],
+    c: Counts,
+    a: usize,
+    x: usize,
+) -> bool
+    requires { ⌜ Checked (now l) c × (x < 32) ⌝ }
+    ensures { λ r. ⌜ r ≡ catNext (broaderIn (now (l .entry)) c) (now (done .entry)) a x ⌝ }
+{
+    if a == 0 {
+        return true;
+    }
+    if a == x {
+        return true;
+    }
+    if x == 0 {
+        return false;
+    }
+    if c.cats < x {
+        return false;
+    }
+    let k = table_record::get_links(l, x);
+    let first = wide(k.first);
+    if done[first] {
+        return true;
+    }
+    if k.count == 2 {
+        let second = wide(k.second);
+        return done[second];
+    }
+    false
+}
+
+// T7, category a ≤ b: the answer for each category below b, from 0 up, and then for b.
+fn category_le(l: &[u8; LINK_BYTES], c: Counts, a: usize, b: usize) -> bool
+    requires { ⌜ Checked (now l) c ⌝ }
+    ensures { λ r. ⌜ ((types : List ℕ) → r ≡ catLe (tableIn types (now (l .entry)) c) a b) ⌝ }
+{
+    if c.cats < b {
+        if a == 0 {
+            return true;
+        }
+        return a == b;
+    }
+    let mut done = [false; Counts::CATEGORIES + 1];
+    let mut x: usize = 0;
+    while x < b {
+        let r = category_next(l, &done, c, a, x);
+        done[x] = r;
+        x += 1;
+    }
+    category_next(l, &done, c, a, b)
+}
+
+// The same representation. A code that names none is read as w64.
+fn same_rep(x: u8, y: u8) -> bool
+    ensures { λ r. ⌜ r ≡ sameRep (repOf x) (repOf y) ⌝ }
+{
+    if x == Head::REF {
+        return y == Head::REF;
+    }
+    if x == Head::W32 {
+        return y == Head::W32;
+    }
+    Head::W64 <= y
+}
+
+// Both ref or both numbers.
+fn same_sort(x: u8, y: u8) -> bool
+    ensures { λ r. ⌜ r ≡ sameSort (repOf x) (repOf y) ⌝ }
+{
+    if x == Head::REF {
+        return y == Head::REF;
+    }
+    y != Head::REF
+}
+
+// Which relations ask for the same representation.
+fn asks_rep(k: Relation) -> bool
+    ensures { λ r. ⌜ r ≡ exact (relationOf k) ⌝ }
+{
+    match k {
+        Relation::Subtype => true,
+        Relation::Conforms => true,
+        Relation::Strict => false,
+        Relation::Loose => false,
+        Relation::Free => false,
+    }
+}
+
+// Which ask that the category of T ≤ that of S.
+fn asks_category(k: Relation) -> bool
+    ensures { λ r. ⌜ r ≡ ordered (relationOf k) ⌝ }
+{
+    match k {
+        Relation::Subtype => true,
+        Relation::Conforms => true,
+        Relation::Strict => true,
+        Relation::Loose => false,
+        Relation::Free => false,
+    }
+}
+
+// Which ask that T is own only if S is own.
+fn asks_own(k: Relation) -> bool
+    ensures { λ r. ⌜ r ≡ owned (relationOf k) ⌝ }
+{
+    match k {
+        Relation::Subtype => true,
+        Relation::Conforms => false,
+        Relation::Strict => false,
+        Relation::Loose => false,
+        Relation::Free => false,
+    }
+}
+
+fn rep_rule(k: Relation, x: u8, y: u8) -> bool
+    ensures { λ r. ⌜ r ≡ repRule (relationOf k) (repOf x) (repOf y) ⌝ }
+{
+    let asked = asks_rep(k);
+    if asked {
+        return same_rep(x, y);
+    }
+    same_sort(x, y)
+}
+
+fn category_rule(l: &[u8; LINK_BYTES], c: Counts, k: Relation, x: u8, y: u8) -> bool
+    requires { ⌜ Checked (now l) c ⌝ }
+    ensures { λ r. ⌜ ((types : List ℕ) → r ≡ (ordered (relationOf k) ⇒ catLe (tableIn types (now (l .entry)) c) x y)) ⌝ }
+{
+    let asked = asks_category(k);
+    if asked {
+        let a = wide(x);
+        let b = wide(y);
+        return category_le(l, c, a, b);
+    }
+    true
+}
+
+// The own flag, which a number type has not.
+fn owns(x: Head) -> bool
+    ensures { λ r. ⌜ r ≡ headOwns x ⌝ }
+{
+    if x.rep == Head::REF {
+        return x.own == Head::OWN;
+    }
+    false
+}
+
+fn own_rule(k: Relation, x: Head, y: Head) -> bool
+    ensures { λ r. ⌜ r ≡ (owned (relationOf k) ⇒ (headOwns x ⇒ headOwns y)) ⌝ }
+{
+    let asked = asks_own(k);
+    if asked {
+        let mine = owns(x);
+        if mine {
+            return owns(y);
+        }
+        return true;
+    }
+    true
+}
+
+// What a relation asks of representation, category and own flag of T and S.
+pub fn outer_rule(l: &[u8; LINK_BYTES], c: Counts, k: Relation, x: Head, y: Head) -> bool
+    requires { ⌜ Checked (now l) c ⌝ }
+    ensures { λ r. ⌜ ((types : List ℕ) → r ≡ outerHeads (relationOf k) (tableIn types (now (l .entry)) c) x y) ⌝ }
+{
+    let alike = rep_rule(k, x.rep, y.rep);
+    if !alike {
+        return false;
+    }
+    let below = category_rule(l, c, k, x.cat, y.cat);
+    if !below {
+        return false;
+    }
+    own_rule(k, x, y)
+}

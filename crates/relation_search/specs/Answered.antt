@@ -1,0 +1,17 @@
+-- The answers of Compare at a pair of types: which relation each of them is, said here and nowhere else.
+use Prim.Native.Nat.{ℕ}
+use Rattle.spec_model.specs.Table.{Table}
+use Rattle.spec_model.specs.Relations as Model
+use Rattle.relation_search.specs.declared.Answers.{Answers}
+
+abbrev pub answersAt : Table → ℕ → ℕ → Model.Answers
+answersAt x t s = record {
+  subtype = Model.related Model.subtype x t s;
+  strict = Model.related Model.strict x t s;
+  loose = Model.related Model.loose x t s;
+  free = Model.related Model.free x t s;
+}
+
+-- the code's record as the model's
+abbrev pub answersOf : Answers → Model.Answers
+answersOf a = record { subtype = a .subtype; strict = a .strict; loose = a .loose; free = a .free }

@@ -1,0 +1,194 @@
+// The request answer as a step on a sound state (A1 to A13). A refusal gives back the state that was handed in.
+ghost use mathlib.Core.Path.{_≡_};
+ghost use mathlib.Core.List.{List};
+ghost use mathlib.Core.Bool.{true};
+ghost use Prim.Native.Nat.{ℕ, _≤_, _<_};
+ghost use lib.IntN.{ℤ};
+ghost use Rattle.spec_model.specs.Basics.{ok, named};
+ghost use Rattle.spec_model.specs.Requests.{Result, got, give, withAnswer, answerRequest};
+ghost use Rattle.state_record.specs.Whole.{whole};
+ghost use Rattle.state_record.specs.View.{systemIn};
+ghost use Rattle.state_record.specs.Sound.{Sound};
+ghost use Rattle.crossing_layers.specs.Carried.{targetsIn};
+ghost use Rattle.request_common.specs.Served.{outcomeOf, Step, done};
+ghost use Rattle.request_value.specs.Sent.{isAccepted};
+ghost use Rattle.request_answer.specs.Given.{givenAs};
+ghost use Rattle.request_answer.specs.Parts.{answersMet, dueFor, giveReference, giveValue, answerCall, Called};
+use base_numbers::wide;
+use base_operand::index_of;
+use crossing_layers::Slot;
+use crossing_layers::Targets;
+use request_common::Answer;
+use request_common::Served;
+use state_record::Call;
+use state_record::Cell;
+use state_record::State;
+use table_record::TYPE_BYTES;
+
+// What is handed over as the answer: a value, which is the number of a cell where a reference is due, or nothing.
+pub enum Given {
+    Value(i64),
+    Nothing,
+}
+
+// Call j is answered (A11), and the request with it (A12).
+fn answered(s: State, j: usize, answer: Answer) -> Served
+    requires { ⌜ (j < s .calls .count) × (s .calls .count ≤ 256) × (isAccepted answer ≡ true) ⌝ }
+    ensures { λ r. ⌜ ((b : List ℕ) → Sound (whole b s) → (x : Result) → outcomeOf answer ≡ got x → Step (whole b s) (ok (withAnswer (systemIn (whole b s)) j, x)) (done b r)) ⌝ }
+{
+    let calls = s.calls.answered(j);
+    let links = s.links;
+    let counts = s.counts;
+    let cells = s.cells;
+    let places = s.places;
+    let state = State {
+        links,
+        counts,
+        cells,
+        places,
+        calls,
+    };
+    Served { answer, state }
+}
+
+// The answer types of the layers, from the class's outward (A7).
+fn answers_met(types: &[u8; TYPE_BYTES], s: State, j: usize, x: Call, c: Cell) -> Targets
+    requires { ⌜ Sound (whole (now types) s) × Called (whole (now types) s) j x c ⌝ }
+    ensures { λ r. ⌜ (targetsIn r ≡ answersMet (systemIn (whole (now (types .entry)) s)) j) × (r .count ≤ 129) ⌝ }
+{
+    let ps = s.places;
+    let counts = s.counts;
+    let layers = state_record::layers_of(ps, wide(c.place));
+    let way = crossing_layers::way_of(c.sort, layers);
+    crossing_layers::reversed(crossing_layers::targets_of(
+        types,
+        counts,
+        wide(x.method),
+        Slot::Answer,
+        way,
+    ))
+}
+
+// A reference crosses to the caller, and then the call is answered (A8, A10, A11).
+fn give_reference(
+    types: &mut [u8; TYPE_BYTES],
+    s: State,
+    j: usize,
+    r: usize,
+    v: i64,
+    targets: Targets,
+) -> Served
+    requires { ⌜ Sound (whole (now types) s) × (j < s .calls .count) × (0 < s .places .count) × (0 < s .counts .types) × (r < 256) × (targets .count ≤ 129) ⌝ }
+    ensures { λ q. ⌜ Step (whole (now (types .entry)) s) (giveReference (systemIn (whole (now (types .entry)) s)) j r v (targetsIn targets)) (done (now (types .exit)) q) ⌝ }
+{
+    let q = request_value::send(types, s, r, v, targets);
+    let answer = q.answer;
+    if !request_value::accepted(answer) {
+        return q;
+    }
+    answered(q.state, j, answer)
+}
+
+// A value v where type a is due (A6 to A12).
+fn give_value(
+    types: &mut [u8; TYPE_BYTES],
+    s: State,
+    who: usize,
+    j: usize,
+    x: Call,
+    c: Cell,
+    a: usize,
+    v: i64,
+) -> Served
+    requires { ⌜ Sound (whole (now types) s) × Called (whole (now types) s) j x c ⌝ }
+    ensures { λ r. ⌜ ((subject : ℤ) → named subject ≡ who → Step (whole (now (types .entry)) s) (giveValue (systemIn (whole (now (types .entry)) s)) subject j a v) (done (now (types .exit)) r)) ⌝ }
+{
+    let counts = s.counts;
+    let cells = s.cells;
+    let caller = wide(x.caller);
+    let targets = answers_met(types, s, j, x, c);
+    if request_value::is_ref(types, counts, a) {
+        if !request_common::is_held(cells, who, v) {
+            return request_common::refused(s, 15);
+        }
+        return give_reference(types, s, j, caller, v, targets);
+    }
+    let e = crossing_layers::pass(types, counts, v, targets);
+    if e != 0 {
+        return request_common::refused(s, e);
+    }
+    answered(s, j, Answer::Number(v))
+}
+
+// What is due and what is given (A4, A5, A13).
+fn give(
+    types: &mut [u8; TYPE_BYTES],
+    s: State,
+    who: usize,
+    j: usize,
+    x: Call,
+    c: Cell,
+    given: Given,
+) -> Served
+    requires { ⌜ Sound (whole (now types) s) × Called (whole (now types) s) j x c ⌝ }
+    ensures { λ r. ⌜ ((subject : ℤ) → named subject ≡ who → Step (whole (now (types .entry)) s) (give (systemIn (whole (now (types .entry)) s)) subject j (dueFor (systemIn (whole (now (types .entry)) s)) j) (givenAs given)) (done (now (types .exit)) r)) ⌝ }
+{
+    let counts = s.counts;
+    let due = crossing_layers::target_at(types, counts, wide(x.method), Slot::Answer, wide(c.sort));
+    match given {
+        Given::Value(v) => {
+            if due == 0 {
+                return request_common::refused(s, 15);
+            }
+            give_value(types, s, who, j, x, c, due - 1, v)
+        }
+        Given::Nothing => {
+            if due != 0 {
+                return request_common::refused(s, 15);
+            }
+            answered(s, j, Answer::Nothing)
+        }
+    }
+}
+
+// The tests that are left once the subject is known and j is the number of a call (A2, A3).
+fn answer_call(types: &mut [u8; TYPE_BYTES], s: State, who: usize, j: usize, given: Given) -> Served
+    requires { ⌜ Sound (whole (now types) s) × (j < s .calls .count) ⌝ }
+    ensures { λ r. ⌜ ((subject : ℤ) → named subject ≡ who → Step (whole (now (types .entry)) s) (answerCall (systemIn (whole (now (types .entry)) s)) subject j (givenAs given)) (done (now (types .exit)) r)) ⌝ }
+{
+    let x = state_record::call_at(s.calls, j);
+    let c = state_record::cell_at(s.cells, wide(x.cell));
+    let ps = s.places;
+    let owner = state_record::base_owner(ps, wide(c.place));
+    if owner != who {
+        return request_common::refused(s, 6);
+    }
+    if x.answered {
+        return request_common::refused(s, 17);
+    }
+    give(types, s, who, j, x, c, given)
+}
+
+// Answer (A).
+pub fn answer_step(
+    types: &mut [u8; TYPE_BYTES],
+    s: State,
+    subject: i64,
+    call: i64,
+    given: Given,
+) -> Served
+    requires { ⌜ Sound (whole (now types) s) ⌝ }
+    ensures { λ r. ⌜ Step (whole (now (types .entry)) s) (answerRequest (systemIn (whole (now (types .entry)) s)) subject call (givenAs given)) (done (now (types .exit)) r) ⌝ }
+{
+    let counts = s.counts;
+    let calls = s.calls;
+    if !request_common::is_subject(counts, subject) {
+        return request_common::refused(s, 5);
+    }
+    let who = index_of(subject, counts.subjects);
+    let j = index_of(call, calls.count);
+    if calls.count <= j {
+        return request_common::refused(s, 6);
+    }
+    answer_call(types, s, who, j, given)
+}

@@ -1,0 +1,198 @@
+// The request call as a step on a sound state (C1 to C20). A refusal gives back the state that was handed in, so what earlier arguments made on the way is gone (C20).
+ghost use mathlib.Core.Path.{_≡_};
+ghost use mathlib.Core.Bool.{not, _||_};
+ghost use mathlib.Core.List.{List};
+ghost use Prim.Native.Nat.{ℕ, _<_};
+ghost use lib.IntN.{ℤ};
+ghost use Rattle.spec_model.specs.Basics.{ok, named};
+ghost use Rattle.spec_model.specs.Table.{typeAt, methodAt, isRef};
+ghost use Rattle.spec_model.specs.Check.{methodOf};
+ghost use Rattle.spec_model.specs.Requests.{pair, held, argumentsHeld, withCall, callRequest};
+ghost use Rattle.table_record.specs.Store.{tableIn, rawMethod};
+ghost use Rattle.table_record.specs.Limits.{Limits};
+ghost use Rattle.state_record.specs.Whole.{whole};
+ghost use Rattle.state_record.specs.View.{systemIn};
+ghost use Rattle.state_record.specs.Sound.{Sound};
+ghost use Rattle.request_common.specs.Served.{Step, done};
+ghost use Rattle.request_value.specs.Sent.{argumentsOf};
+ghost use Rattle.request_call.specs.Called.{newCall, callThrough, callHeld};
+use base_numbers::narrow;
+use base_numbers::wide;
+use base_operand::index_of;
+use request_common::Answer;
+use request_common::Served;
+use state_record::Call;
+use state_record::State;
+use table_record::Counts;
+use table_record::Head;
+use table_record::Method;
+use table_record::TYPE_BYTES;
+
+// Method m of type t; a number type has none (T19).
+fn method_at(types: &[u8; TYPE_BYTES], c: Counts, t: usize, m: usize) -> Method
+    requires { ⌜ Limits c × (t < c .types) × (m < c .methods) ⌝ }
+    ensures { λ r. ⌜ ((l : List ℕ) → methodOf (rawMethod r) ≡ methodAt (tableIn (now (types .entry)) l c) t m) ⌝ }
+{
+    let h = table_record::get_head(types, t);
+    if h.rep != Head::REF {
+        return Method::empty();
+    }
+    table_record::get_method(types, t, m)
+}
+
+// A value for type a of the signature: a reference is one that the subject holds (C5).
+fn argument_held(types: &[u8; TYPE_BYTES], s: State, who: usize, a: usize, v: i64) -> bool
+    requires { ⌜ Sound (whole (now types) s) ⌝ }
+    ensures { λ r. ⌜ ((subject : ℤ) → named subject ≡ who → r ≡ not (isRef (typeAt (systemIn (whole (now (types .entry)) s) .table) a .rep)) || held (systemIn (whole (now (types .entry)) s)) subject v) ⌝ }
+{
+    let c = s.counts;
+    let cs = s.cells;
+    if !request_value::is_ref(types, c, a) {
+        return true;
+    }
+    request_common::is_held(cs, who, v)
+}
+
+// As many values as the signature has arguments, and each reference held (C4, C5).
+fn arguments_held(types: &[u8; TYPE_BYTES], s: State, who: usize, x: Method, vs: &[i64]) -> bool
+    requires { ⌜ Sound (whole (now types) s) ⌝ }
+    ensures { λ r. ⌜ ((subject : ℤ) → named subject ≡ who → r ≡ argumentsHeld (systemIn (whole (now (types .entry)) s)) subject (argumentsOf x) (now (vs .entry))) ⌝ }
+{
+    let n = vs.len();
+    let mut i: usize = 0;
+    while i < n {
+        let a = crossing_layers::argument_in(x, i);
+        if a == 0 {
+            return false;
+        }
+        if !argument_held(types, s, who, a - 1, vs[i]) {
+            return false;
+        }
+        i += 1;
+    }
+    crossing_layers::argument_in(x, n) == 0
+}
+
+// One more call (C18), and its answer (C19).
+fn add_call(s: State, who: usize, k: usize, m: usize, adapters: usize) -> Served
+    requires { ⌜ (s .calls .count < 256) × (who < 256) × (k < 256) × (m < 256) ⌝ }
+    ensures { λ r. ⌜ ((b : List ℕ) → Sound (whole b s) → k < s .cells .count → m < s .counts .methods → Step (whole b s) (ok (withCall (systemIn (whole b s)) (newCall who k m), pair (s .calls .count) adapters)) (done b r)) ⌝ }
+{
+    let first = s.calls.count;
+    let c = Call {
+        caller: narrow(who),
+        cell: narrow(k),
+        method: narrow(m),
+        answered: false,
+    };
+    let calls = s.calls.add(c);
+    let links = s.links;
+    let counts = s.counts;
+    let cells = s.cells;
+    let places = s.places;
+    let state = State {
+        links,
+        counts,
+        cells,
+        places,
+        calls,
+    };
+    Served {
+        answer: Answer::Pair {
+            first,
+            second: adapters,
+        },
+        state,
+    }
+}
+
+// The call of method m, whose signature is x, through cell k (C9, C12, C18, C19).
+fn call_through(
+    types: &mut [u8; TYPE_BYTES],
+    s: State,
+    who: usize,
+    k: usize,
+    m: usize,
+    x: Method,
+    vs: &[i64],
+) -> Served
+    requires { ⌜ Sound (whole (now types) s) × (s .calls .count < 256) × (who < 256) × (k < s .cells .count) × (m < s .counts .methods) ⌝ }
+    ensures { λ r. ⌜ Step (whole (now (types .entry)) s) (callThrough (systemIn (whole (now (types .entry)) s)) who k m (argumentsOf x) (now (vs .entry))) (done (now (types .exit)) r) ⌝ }
+{
+    let c = state_record::cell_at(s.cells, k);
+    let p = wide(c.place);
+    let ps = s.places;
+    let owner = state_record::base_owner(ps, p);
+    let layers = state_record::layers_of(ps, p);
+    let q = request_value::send_arguments(
+        types,
+        s,
+        owner,
+        crossing_layers::way_of(c.sort, layers),
+        m,
+        x,
+        vs,
+    );
+    let answer = q.answer;
+    let sent = q.state;
+    if !request_value::accepted(answer) {
+        return Served { answer, state: s };
+    }
+    add_call(sent, who, k, m, state_record::adapters_of(ps, p))
+}
+
+// The tests that are left once the subject, its cell and the method are known (C3, C4, C5, C7).
+fn call_held(
+    types: &mut [u8; TYPE_BYTES],
+    s: State,
+    who: usize,
+    k: usize,
+    m: usize,
+    vs: &[i64],
+) -> Served
+    requires { ⌜ Sound (whole (now types) s) × (who < 256) × (k < s .cells .count) × (m < s .counts .methods) ⌝ }
+    ensures { λ r. ⌜ ((subject : ℤ) → named subject ≡ who → Step (whole (now (types .entry)) s) (callHeld (systemIn (whole (now (types .entry)) s)) subject k m (now (vs .entry))) (done (now (types .exit)) r)) ⌝ }
+{
+    let c = state_record::cell_at(s.cells, k);
+    let counts = s.counts;
+    let x = method_at(types, counts, wide(c.sort), m);
+    if x.state != Method::AVAIL {
+        return request_common::refused(s, 14);
+    }
+    if !arguments_held(types, s, who, x, vs) {
+        return request_common::refused(s, 15);
+    }
+    if State::CALLS <= s.calls.count {
+        return request_common::refused(s, 18);
+    }
+    call_through(types, s, who, k, m, x, vs)
+}
+
+// Call (C).
+pub fn call_step(
+    types: &mut [u8; TYPE_BYTES],
+    s: State,
+    subject: i64,
+    cell: i64,
+    method: i64,
+    arguments: &[i64],
+) -> Served
+    requires { ⌜ Sound (whole (now types) s) ⌝ }
+    ensures { λ r. ⌜ Step (whole (now (types .entry)) s) (callRequest (systemIn (whole (now (types .entry)) s)) subject cell method (now (arguments .entry))) (done (now (types .exit)) r) ⌝ }
+{
+    let counts = s.counts;
+    let cells = s.cells;
+    if !request_common::is_subject(counts, subject) {
+        return request_common::refused(s, 5);
+    }
+    let who = index_of(subject, counts.subjects);
+    if !request_common::is_held(cells, who, cell) {
+        return request_common::refused(s, 6);
+    }
+    let k = index_of(cell, cells.count);
+    let m = index_of(method, counts.methods);
+    if counts.methods <= m {
+        return request_common::refused(s, 14);
+    }
+    call_held(types, s, who, k, m, arguments)
+}

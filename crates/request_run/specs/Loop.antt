@@ -1,0 +1,36 @@
+-- What the functions of a run find and need on their way.
+use mathlib.Core.Bool.{cond}
+use mathlib.Core.List.{List}
+use mathlib.Core.Option.{Option, none}
+use Prim.Native.Nat.{ℕ, _+_, _-_, _<_}
+use lib.Dec.{ltb}
+use lib.IntN.{ℤ, pos}
+use lib.ListN.{length, getD, take, drop}
+use Rattle.spec_model.specs.Requests.{Request}
+use Rattle.base_operand.specs.Index.{indexOf}
+use Rattle.request_common.specs.declared.Answer.{Answer}
+use Rattle.request_common.specs.declared.Answer.the-variants.{Refused, Pair, Number, Nothing}
+use Rattle.request_run.specs.Requested.{request}
+
+-- The numbers of an answer, small enough to be words as they are; those of a sound state are (proofs/Small.antt).
+abbrev pub SmallAnswer : Answer → Type 0
+SmallAnswer (Refused e) = e < 65536
+SmallAnswer (Pair a b) = (a < 65536) × (b < 65536)
+SmallAnswer (Number v) = Unit
+SmallAnswer Nothing = Unit
+
+-- The request that begins at a word, as the functions find it.
+-- the words behind the code
+abbrev pub leftAt : List ℤ → ℕ → ℕ
+leftAt ws at = length ws - at - 1
+
+-- how many operands it has: as many as the words behind its code where there are not so many
+abbrev pub countAt : List ℤ → ℕ → ℕ
+countAt ws at = indexOf (getD ws (at + 1) (pos 0)) (leftAt ws at)
+
+abbrev pub askedAt : List ℤ → ℕ → Option Request
+askedAt ws at = cond (ltb (countAt ws at) (leftAt ws at)) (request (getD ws at (pos 0)) (take (countAt ws at) (drop (at + 2) ws))) none
+
+-- where the next one begins
+abbrev pub nextAt : List ℤ → ℕ → ℕ
+nextAt ws at = cond (ltb (countAt ws at) (leftAt ws at)) (at + 2 + countAt ws at) (length ws)

@@ -1,0 +1,50 @@
+-- What comes of one argument, and of all of them.
+use mathlib.Core.Path.{_≡_}
+use mathlib.Core.Bool.{Bool, true, false}
+use mathlib.Core.List.{List, map}
+use Prim.Native.Nat.{ℕ, _≤_}
+use lib.IntN.{ℤ}
+use lib.ListN.{take}
+use Rattle.spec_model.specs.Basics.{Res, ok, try, named}
+use Rattle.spec_model.specs.Table.{typeAt, argumentAt, isRef}
+use Rattle.spec_model.specs.Requests.{System, Result, nothing, send, passLayers}
+use Rattle.table_record.specs.declared.Method.{Method}
+use Rattle.state_record.specs.Whole.{Whole as State}
+use Rattle.state_record.specs.Sound.{Sound}
+use Rattle.request_common.specs.declared.Answer.{Answer}
+use Rattle.request_common.specs.declared.Answer.the-variants.{Refused, Pair, Number, Nothing}
+use Rattle.request_common.specs.Served.{Done as Served}
+use Rattle.request_common.specs.Served.{servedAs, Stored}
+
+abbrev pub isAccepted : Answer → Bool
+isAccepted (Refused e) = false
+isAccepted (Pair a b) = true
+isAccepted (Number v) = true
+isAccepted Nothing = true
+
+-- argument types of a signature as it is stored
+abbrev pub argumentsOf : Method → List ℕ
+argumentsOf x = take (x .count) (x .args)
+
+-- Argument i, whose type in the cell type's signature is a: what `sendArguments` does with it before it goes on.
+abbrev pub sendArgument : System → ℕ → List ℕ → ℕ → ℕ → ℕ → ℤ → Res (System × Result)
+sendArgument s r way m i a v = elim (isRef (typeAt (s .table) a .rep)) [
+  | true ↦ send s r (named v) (map (argumentAt (s .table) m i) way)
+  | false ↦ try (passLayers true (s .table) v (map (argumentAt (s .table) m i) way)) λ _. ok (s, nothing)
+]
+
+abbrev pub allSent : Res System → Res (System × Result)
+allSent x = try x λ s. ok (s, nothing)
+
+-- What a step on the way leaves of the counts: nothing is taken away, and calls are made at the end alone.
+pub record Went (s s′ : State) : Type 0 where
+  pub cells : s .cells .count ≤ s′ .cells .count
+  pub places : s .places .count ≤ s′ .places .count
+  pub calls : s′ .calls .count ≡ s .calls .count
+
+-- What comes of the arguments together. After a refusal the state is the one that the refused argument met, and the call gives back its own (C20).
+pub record Sent (s : State) (m : Res (System × Result)) (q : Served) : Type 0 where
+  pub is : servedAs q ≡ m
+  pub stored : Stored s (q .state)
+  pub sound : Sound (q .state)
+  pub went : Went s (q .state)

@@ -1,0 +1,178 @@
+// What the arguments of a call and a reference that is answered share: each meets its way by the state as it stands, and a reference becomes a cell (C8 to
+// C11, C17; A8, A10).
+ghost use mathlib.Core.Path.{_≡_};
+ghost use mathlib.Core.List.{List};
+ghost use Prim.Native.Nat.{ℕ, _≤_, _<_};
+ghost use lib.IntN.{pos};
+ghost use lib.ListN.{getD};
+ghost use Rattle.spec_model.specs.Basics.{named};
+ghost use Rattle.spec_model.specs.Table.{typeAt, isRef};
+ghost use Rattle.spec_model.specs.Requests.{noCell, send, sendArguments};
+ghost use Rattle.table_record.specs.Store.{tableIn};
+ghost use Rattle.table_record.specs.Limits.{Limits};
+ghost use Rattle.state_record.specs.Whole.{whole};
+ghost use Rattle.state_record.specs.View.{cellOf, cellsIn, systemIn};
+ghost use Rattle.state_record.specs.Sound.{Sound};
+ghost use Rattle.crossing_layers.specs.Carried.{wayIn, targetsIn};
+ghost use Rattle.request_common.specs.Served.{Step, done};
+ghost use Rattle.request_value.specs.Sent.{isAccepted, argumentsOf, sendArgument, allSent, Went, Sent};
+use base_numbers::wide;
+use base_operand::index_of;
+use crossing_layers::Slot;
+use crossing_layers::Targets;
+use crossing_layers::Way;
+use request_common::Answer;
+use request_common::Served;
+use state_record::Cell;
+use state_record::Cells;
+use state_record::State;
+use table_record::Counts;
+use table_record::Head;
+use table_record::Method;
+use table_record::TYPE_BYTES;
+
+// What v names, and 0 where it is negative: as the model reads a number.
+fn from_zero(v: i64) -> i64
+    ensures { λ r. ⌜ r ≡ pos (named v) ⌝ }
+{
+    if v < 0 {
+        return 0;
+    }
+    v
+}
+
+// The cell that v names. Where it names none it is read as one of zeros, as in the model. No state that passed the check comes to that (H6, C5), but `Sound`
+// says nothing of signatures.
+fn named_cell(cs: Cells, v: i64) -> Cell
+    requires { ⌜ cs .count ≤ 256 ⌝ }
+    ensures { λ r. ⌜ cellOf r ≡ getD (cellsIn cs) (named v) noCell ⌝ }
+{
+    let k = index_of(from_zero(v), cs.count);
+    if k < cs.count {
+        return state_record::cell_at(cs, k);
+    }
+    Cell {
+        holder: 0,
+        sort: 0,
+        place: 0,
+    }
+}
+
+// Whether a number, which may name no type, names a reference type.
+pub fn is_ref(types: &[u8; TYPE_BYTES], c: Counts, a: usize) -> bool
+    requires { ⌜ Limits c ⌝ }
+    ensures { λ r. ⌜ ((l : List ℕ) → r ≡ isRef (typeAt (tableIn (now (types .entry)) l c) a .rep)) ⌝ }
+{
+    if c.types <= a {
+        return false;
+    }
+    let h = table_record::get_head(types, a);
+    h.rep == Head::REF
+}
+
+// The reference in the cell that v names crosses to each target and becomes a cell of r (C11, C17; A8, A10).
+pub fn send(types: &mut [u8; TYPE_BYTES], s: State, r: usize, v: i64, targets: Targets) -> Served
+    requires { ⌜ Sound (whole (now types) s) × (0 < s .places .count) × (0 < s .counts .types) × (r < 256) × (targets .count ≤ 129) ⌝ }
+    ensures { λ q. ⌜ Step (whole (now (types .entry)) s) (send (systemIn (whole (now (types .entry)) s)) r (named v) (targetsIn targets)) (done (now (types .exit)) q) × Went (whole (now (types .entry)) s) (whole (now (types .exit)) (q .state)) ⌝ }
+{
+    let c = named_cell(s.cells, v);
+    let links = s.links;
+    let counts = s.counts;
+    let ps = s.places;
+    let x = crossing_layers::carry(
+        types,
+        &links,
+        counts,
+        ps,
+        wide(c.sort),
+        wide(c.place),
+        targets,
+        r,
+    );
+    if x.refusal != 0 {
+        return request_common::refused(s, x.refusal);
+    }
+    request_common::add_cell(s, x.types, x.places, r, x.sort, x.place)
+}
+
+// Whether a request was accepted.
+pub fn accepted(a: Answer) -> bool
+    ensures { λ r. ⌜ r ≡ isAccepted a ⌝ }
+{
+    match a {
+        Answer::Refused(_) => false,
+        Answer::Pair {
+            first: _,
+            second: _,
+        } => true,
+        Answer::Number(_) => true,
+        Answer::Nothing => true,
+    }
+}
+
+// Argument i, of type a in the signature of the cell's type, meets the layers by the types as they are now (C8, C10).
+fn send_argument(
+    types: &mut [u8; TYPE_BYTES],
+    s: State,
+    r: usize,
+    w: Way,
+    m: usize,
+    i: usize,
+    a: usize,
+    v: i64,
+) -> Served
+    requires { ⌜ Sound (whole (now types) s) × (0 < s .places .count) × (0 < s .counts .types) × (r < 256) × (w .count ≤ 129) ⌝ }
+    ensures { λ q. ⌜ Step (whole (now (types .entry)) s) (sendArgument (systemIn (whole (now (types .entry)) s)) r (wayIn w) m i a v) (done (now (types .exit)) q) × Went (whole (now (types .entry)) s) (whole (now (types .exit)) (q .state)) ⌝ }
+{
+    let c = s.counts;
+    let targets = crossing_layers::targets_of(types, c, m, Slot::Argument(i), w);
+    if is_ref(types, c, a) {
+        return send(types, s, r, v, targets);
+    }
+    let e = crossing_layers::pass(types, c, v, targets);
+    if e != 0 {
+        return request_common::refused(s, e);
+    }
+    Served {
+        answer: Answer::Nothing,
+        state: s,
+    }
+}
+
+// The arguments in order, each before the next is begun (C10, C17).
+pub fn send_arguments(
+    types: &mut [u8; TYPE_BYTES],
+    s: State,
+    r: usize,
+    w: Way,
+    m: usize,
+    x: Method,
+    vs: &[i64],
+) -> Served
+    requires { ⌜ Sound (whole (now types) s) × (0 < s .places .count) × (0 < s .counts .types) × (r < 256) × (w .count ≤ 129) ⌝ }
+    ensures { λ q. ⌜ Sent (whole (now (types .entry)) s) (allSent (sendArguments (systemIn (whole (now (types .entry)) s)) r (wayIn w) m 0 (argumentsOf x) (now (vs .entry)))) (done (now (types .exit)) q) ⌝ }
+{
+    let n = vs.len();
+    let mut at = s;
+    let mut i: usize = 0;
+    while i < n {
+        let a = crossing_layers::argument_in(x, i);
+        if a == 0 {
+            return Served {
+                answer: Answer::Nothing,
+                state: at,
+            };
+        }
+        let q = send_argument(types, at, r, w, m, i, a - 1, vs[i]);
+        let answer = q.answer;
+        if !accepted(answer) {
+            return q;
+        }
+        at = q.state;
+        i += 1;
+    }
+    Served {
+        answer: Answer::Nothing,
+        state: at,
+    }
+}

@@ -1,0 +1,62 @@
+-- The line of two numbers: the second is written in the rest behind the first (`fill-rest`), and both together are its text (`pair-is`).
+use Rattle.script_write_outcome.proofs.Laws.{pair-is}
+use Rattle.text_write.proofs.Laws.{fill-rest, fill-is, ended}
+use native.Mathlib.Omega.{arith}
+use borrow.Author.Needs.{needs}
+use Rattle.script_write_outcome.proofs.write_pair.Statement.{statement}
+use Rattle.script_write_outcome.proofs.write_pair.Tie as tie
+
+slice-aggregate-put-number : tie.Need-slice-aggregate-put-number
+slice-aggregate-put-number c = search needs
+
+put-number-requires : tie.Need-put-number-requires
+put-number-requires c κs = search needs
+
+least-requires : tie.Need-least-requires
+least-requires c κs = search needs
+
+sub-write-number : tie.Need-sub-write-number
+sub-write-number c = search needs
+
+part-write-number-start : tie.Need-part-write-number-start
+part-write-number-start c = search needs
+
+part-write-number-end : tie.Need-part-write-number-end
+part-write-number-end c = search needs
+
+slice-aggregate-write-number : tie.Need-slice-aggregate-write-number
+slice-aggregate-write-number c = search needs
+
+write-number-requires : tie.Need-write-number-requires
+write-number-requires c κs = search needs
+
+add-result : tie.Need-add-result
+add-result c = search needs
+
+same-length : tie.Need-same-length
+same-length c = search needs
+
+returns : tie.Need-returns
+returns c =
+    let a = c .before .before .before .before .before .before .before .before .before .before .before .before .args in
+    let put-number = c .before .before .before .before .before .before .before .before .put-number .ensures in
+    let least = c .before .before .before .before .before .least .ensures .0 in
+    let write-number = c .before .before .write-number .ensures in
+    let f = fill-rest (put-number .0) least (write-number .0 .filled) in
+    (ended (fill-is (pair-is (a .first) (a .second)) f), omega (arith, put-number .1, write-number .1))
+
+pub write-pair-spec : {M : Type 1} → statement M
+write-pair-spec =
+    tie.close
+    (tie.spec
+    slice-aggregate-put-number
+    put-number-requires
+    least-requires
+    sub-write-number
+    part-write-number-start
+    part-write-number-end
+    slice-aggregate-write-number
+    write-number-requires
+    add-result
+    same-length
+    returns)

@@ -1,0 +1,208 @@
+-- What is read out of the bytes and written back, as records of numbers: the same state, but for what lies past a count.
+use mathlib.Core.Path.{_≡_, refl, ap, sym, _∙_, subst}
+use mathlib.Core.Bool.{Bool, true, false, _&&_, So, cond}
+use mathlib.Core.List.{List, map}
+use mathlib.Core.Logic.{⊎-elim}
+use Prim.Native.Nat.{ℕ, zero, suc, _+_, _*_, _≤_, _<_, min}
+use native.Mathlib.Omega.{arith}
+use lib.Dec.{ltb}
+use lib.ListN.{length, getD, length-map, List·getD-map, List·getD-eq-default}
+use borrow.Author.Tests.{ltb-true, lt-ltb}
+use Rattle.spec_model.specs.Basics.{from, all}
+use Rattle.spec_model.specs.Requests.{noCell}
+use Rattle.spec_model.specs.Check.{RawPlace, RawCall, noRawPlace, noRawCall, firstOf, stateCodesFit, systemFits, systemOf, codesFit, systemAccepted}
+use Rattle.spec_model.specs.Check.{placeOf as placeMeant, callOf as callMeant}
+use Rattle.spec_model.specs.Handed.{placeRecord, callRecord, counted}
+use Rattle.spec_model.proofs.Rules.{first, second}
+use Rattle.spec_model.proofs.Lists.{from-same, from-first, length-from, map-from}
+use Rattle.law_model.proofs.Fitting.{all-at}
+use Rattle.table_record.proofs.Lists.{lt-or-ge}
+use Rattle.state_record.specs.declared.Place.{Place}
+use Rattle.state_record.specs.declared.Place.the-variants.{Object, Adapter}
+use Rattle.state_record.specs.declared.PlaceRec.{PlaceRec}
+use Rattle.state_record.specs.declared.Call.{Call}
+use Rattle.state_record.specs.declared.Cells.{Cells}
+use Rattle.state_record.specs.declared.Places.{Places}
+use Rattle.state_record.specs.declared.Calls.{Calls}
+use Rattle.state_record.specs.Whole.{Whole as State}
+use Rattle.state_record.specs.View.{cellOf, placeOf, callOf, blankCell, blankPlace, blankCall, rawState}
+use Rattle.state_bytes.specs.Flat.{Flat, countsIn, cellCount, placeCount, callCount, rawCellAt, rawPlaceAt, rawCallAt, rawCells, rawPlaces, rawCalls, rawFlat}
+use Rattle.state_bytes.specs.Records.{placeCodes, callCodes, cellFrom, placeBy, placeFrom, callFrom, upTo, cellsFrom, placesFrom, callsFrom, stateFrom, cellBytes, placeBytes, callBytes}
+use Rattle.state_bytes.specs.Records.{cellRecords, placeRecords, callRecords, CellsTo, PlacesTo, CallsTo}
+use Rattle.state_bytes.proofs.Filling.{below-least}
+use Rattle.state_bytes.proofs.Rows.{Rows, rows-behind, row-first}
+
+-- ---- Written: each record's row is its bytes.
+abbrev pub recOf : PlaceRec → RawPlace
+recOf p = placeRecord (placeOf (p .place))
+
+abbrev pub callRec : Call → RawCall
+callRec c = callRecord (callOf c)
+
+abbrev pub cellRow : Cells → ℕ → List ℕ
+cellRow cs k = cellBytes (getD (cs .list) k blankCell)
+
+abbrev pub placeRow : Places → ℕ → List ℕ
+placeRow ps p = placeBytes (getD (ps .list) p blankPlace .place)
+
+abbrev pub callRow : Calls → ℕ → List ℕ
+callRow js j = callBytes (getD (js .list) j blankCall)
+
+pub place-wide : (x : Place) → length (placeBytes x) ≡ 3
+place-wide (Object c o) = refl
+place-wide (Adapter b t) = refl
+
+pub below-3 : (i k j : ℕ) → i < k → j < 3 → i * 3 + j < k * 3
+below-3 i k j p q = omega arith
+
+pub next-3 : (k : ℕ) → (k + 1) * 3 ≡ k * 3 + 3
+next-3 k = omega arith
+
+pub next-4 : (k : ℕ) → (k + 1) * 4 ≡ k * 4 + 4
+next-4 k = omega arith
+
+pub below-4 : (i k j : ℕ) → i < k → j < 4 → i * 4 + j < k * 4
+below-4 i k j p q = omega arith
+
+place-read : (x : Place) → _≡_ {A = RawPlace} (record { code = getD (placeBytes x) 0 0; first = getD (placeBytes x) 1 0; second = getD (placeBytes x) 2 0 }) (placeRecord (placeOf x))
+place-read (Object c o) = refl
+place-read (Adapter b t) = refl
+
+-- counted records of two arrays of one size are the same where those are that lie in the array
+counted-alike : {A : Type 0} (d : A) (size n : ℕ) (xs ys : List A) → length xs ≡ size → length ys ≡ size → ((k : ℕ) → k < n → k < size → getD xs k d ≡ getD ys k d)
+    → firstOf n d xs ≡ firstOf n d ys
+counted-alike d size n xs ys lx ly h = from-same _ _ n 0 (λ k p q. ⊎-elim
+    (λ (l : k < size). h k (omega arith) l)
+    (λ (l : size ≤ k). List·getD-eq-default xs d (omega (arith, lx, l)) ∙ sym (List·getD-eq-default ys d (omega (arith, ly, l))))
+    (lt-or-ge k size))
+
+-- k rows were written: as many as are counted, or all that the array has
+module _ (old b : List ℕ) (k : ℕ) where
+  pub cells-written : (cs : Cells) → length (cs .list) ≡ 256 → k ≡ min (cs .count) 256 → k ≤ cs .count → Rows 3 (cellRow cs) old k b → CellsTo cs old b
+  unfolding rawCells
+  cells-written cs e m few rows = record {
+    counted = counted-alike noCell 256 (cs .count) (rawCells b) (cellRecords cs) (length-from (λ i. rawCellAt b (i * 3)) 256 0) (length-map (cs .list) cellOf ∙ e) (λ i p q.
+        let l : i < k = below-least (cs .count) 256 k i m p q in
+        from-first (λ i. rawCellAt b (i * 3)) 256 i noCell q
+        ∙ rw (row-first 3 (cellRow cs) old k b rows i l (omega arith), rows .are i l 1 (omega arith), rows .are i l 2 (omega arith)) (sym (List·getD-map cellOf (cs .list) i blankCell)));
+    behind = rows-behind 3 (cellRow cs) old (cs .count * 3) k b (omega (arith, few)) rows;
+  }
+
+  pub places-written : (ps : Places) → length (ps .list) ≡ 128 → k ≡ min (ps .count) 128 → k ≤ ps .count → Rows 3 (placeRow ps) old k b → PlacesTo ps old b
+  unfolding rawPlaces
+  places-written ps e m few rows = record {
+    counted = counted-alike noRawPlace 128 (ps .count) (rawPlaces b) (placeRecords ps) (length-from (λ i. rawPlaceAt b (i * 3)) 128 0) (length-map (ps .list) recOf ∙ e) (λ i p q.
+        let l : i < k = below-least (ps .count) 128 k i m p q in let x = getD (ps .list) i blankPlace .place in
+        from-first (λ i. rawPlaceAt b (i * 3)) 128 i noRawPlace q
+        ∙ rw (row-first 3 (placeRow ps) old k b rows i l (omega arith), rows .are i l 1 (omega arith), rows .are i l 2 (omega arith))
+        (place-read x ∙ sym (List·getD-map recOf (ps .list) i blankPlace)));
+    behind = rows-behind 3 (placeRow ps) old (ps .count * 3) k b (omega (arith, few)) rows;
+  }
+
+  pub calls-written : (js : Calls) → length (js .list) ≡ 256 → k ≡ min (js .count) 256 → k ≤ js .count → Rows 4 (callRow js) old k b → CallsTo js old b
+  unfolding rawCalls
+  calls-written js e m few rows = record {
+    counted = counted-alike noRawCall 256 (js .count) (rawCalls b) (callRecords js) (length-from (λ i. rawCallAt b (i * 4)) 256 0) (length-map (js .list) callRec ∙ e) (λ i p q.
+        let l : i < k = below-least (js .count) 256 k i m p q in
+        from-first (λ i. rawCallAt b (i * 4)) 256 i noRawCall q
+        ∙ rw (row-first 4 (callRow js) old k b rows i l (omega arith), rows .are i l 1 (omega arith), rows .are i l 2 (omega arith), rows .are i l 3 (omega arith))
+        (sym (List·getD-map callRec (js .list) i blankCall)));
+    behind = rows-behind 4 (callRow js) old (js .count * 4) k b (omega (arith, few)) rows;
+  }
+
+-- ---- Read: counted cells are the records of the bytes; a place or call is so where its code names something.
+-- the counted records of an array that was read up to its count, seen through h
+read-first : {A B : Type 0} (h : A → B) (d : A) (f : ℕ → A) (g : ℕ → B) → ((k : ℕ) → h (f k) ≡ g k) → (size n : ℕ) → firstOf n (h d) (map h (upTo size n d f)) ≡ firstOf n (h d) (from size 0 g)
+read-first h d f g e size n = counted-alike (h d) size n (map h (upTo size n d f)) (from size 0 g) (length-map (upTo size n d f) h ∙ length-from (λ k. cond (ltb k n) (f k) d) size 0)
+    (length-from g size 0) (λ k p q.
+    List·getD-map h (upTo size n d f) k d ∙ ap h (from-first (λ k. cond (ltb k n) (f k) d) size k d q ∙ ap (λ (b : Bool). cond b (f k) d) (lt-ltb k n p)) ∙ e k ∙ sym (from-first g size k (h d) q))
+
+cells-read : (b : List ℕ) (n : ℕ) → firstOf n noCell (cellRecords (cellsFrom b n)) ≡ firstOf n noCell (rawCells b)
+unfolding cellsFrom rawCells
+cells-read b n = read-first cellOf blankCell (cellFrom b) (λ k. rawCellAt b (k * 3)) (λ k. refl) 256 n
+
+-- what a code is read as
+abbrev placeAgain : RawPlace → RawPlace
+placeAgain x = placeRecord (placeMeant x)
+
+abbrev callAgain : RawCall → RawCall
+callAgain x = callRecord (callMeant x)
+
+-- a code other than 0
+pub is-adapter : (c x y : ℕ) → (c ≡ 0 → ⊥) → Adapter x y ≡ placeBy c x y
+is-adapter zero x y h = absurd (h refl)
+is-adapter (suc c) x y h = refl
+
+place-by : (c x y : ℕ) → placeRecord (placeOf (placeBy c x y)) ≡ placeAgain (record { code = c; first = x; second = y })
+place-by zero x y = refl
+place-by (suc c) x y = refl
+
+places-read : (b : List ℕ) (n : ℕ) → firstOf n noRawPlace (placeRecords (placesFrom b n)) ≡ firstOf n noRawPlace (map placeAgain (rawPlaces b))
+unfolding placesFrom rawPlaces
+places-read b n =
+    read-first recOf blankPlace (placeFrom b) (λ p. placeAgain (rawPlaceAt b (p * 3))) (λ p. place-by (getD b (p * 3) 0) (getD b (p * 3 + 1) 0) (getD b (p * 3 + 2) 0)) 128 n
+    ∙ ap (firstOf n noRawPlace) (sym (map-from placeAgain (λ p. rawPlaceAt b (p * 3)) 128 0))
+
+calls-read : (b : List ℕ) (n : ℕ) → firstOf n noRawCall (callRecords (callsFrom b n)) ≡ firstOf n noRawCall (map callAgain (rawCalls b))
+unfolding callsFrom rawCalls
+calls-read b n = read-first callRec blankCall (callFrom b) (λ j. callAgain (rawCallAt b (j * 4))) (λ j. refl) 256 n
+    ∙ ap (firstOf n noRawCall) (sym (map-from callAgain (λ j. rawCallAt b (j * 4)) 256 0))
+
+place-same : (x : RawPlace) → So (ltb (x .code) 2) → placeAgain x ≡ x
+place-same x h = go (x .code) (x .first) (x .second) (ltb-true (x .code) 2 h)
+  where
+    go : (c y z : ℕ) → c < 2 → _≡_ {A = RawPlace} (placeAgain (record { code = c; first = y; second = z })) (record { code = c; first = y; second = z })
+    go zero y z l = refl
+    go (suc c) y z l = let e : c ≡ 0 = omega arith in rw e
+
+call-same : (x : RawCall) → So (ltb (x .answered) 2) → callAgain x ≡ x
+call-same x h = go (x .answered) (ltb-true (x .answered) 2 h)
+  where
+    go : (a : ℕ) → a < 2 → _≡_ {A = RawCall} (callAgain (record { caller = x .caller; cell = x .cell; method = x .method; answered = a }))
+        (record { caller = x .caller; cell = x .cell; method = x .method; answered = a })
+    go zero l = refl
+    go (suc a) l = let e : a ≡ 0 = omega arith in rw e
+
+-- the counted records of a list that are read as themselves
+again : {A : Type 0} (d : A) (h : A → A) (p : A → Bool) → h d ≡ d → ((x : A) → So (p x) → h x ≡ x) → (xs : List A) (n : ℕ) → So (all p (firstOf n d xs))
+    → firstOf n d (map h xs) ≡ firstOf n d xs
+again d h p e same xs n fits = from-same (λ k. getD (map h xs) k d) (λ k. getD xs k d) n 0 (λ k l m.
+    let q : k < n = omega arith in
+    ap (λ (z : _). getD (map h xs) k z) (sym e) ∙ List·getD-map h xs k d ∙ same (getD xs k d)
+    (subst (λ x. So (p x)) (from-first (λ i. getD xs i d) n k d q) (all-at p d (firstOf n d xs) fits k (rw (length-from (λ i. getD xs i d) n 0) q))))
+
+-- every counted code of the state names something
+abbrev pub codesIn : Flat → Bool
+codesIn f = placeCodes (f .places) (placeCount (f .counts)) && callCodes (f .calls) (callCount (f .counts))
+
+module _ (f : Flat) where
+  codes-are : stateCodesFit (rawFlat f) ≡ codesIn f
+  unfolding stateCodesFit placeCodes callCodes
+  codes-are = refl
+
+  -- Where the codes fit, the state that is read is the one handed in.
+  pub read-counted : codesIn f ≡ true → counted (rawState (stateFrom f)) ≡ counted (rawFlat f)
+  unfolding counted placeCodes callCodes cellsFrom placesFrom callsFrom
+  read-counted h =
+      let ps = again noRawPlace placeAgain (λ p. ltb (p .code) 2) refl place-same (rawPlaces (f .places)) (placeCount (f .counts)) (first (placeCodes (f .places) (placeCount (f .counts))) _ h) in
+      let js = again noRawCall callAgain (λ c. ltb (c .answered) 2) refl call-same (rawCalls (f .calls)) (callCount (f .counts)) (second (placeCodes (f .places) (placeCount (f .counts))) _ h) in
+      rw (cells-read (f .cells) (cellCount (f .counts)), places-read (f .places) (placeCount (f .counts)), calls-read (f .calls) (callCount (f .counts)), ps, js)
+
+  -- Where one does not, the check says so.
+  pub codes-refused : codesIn f ≡ false → systemAccepted (rawFlat f) ≡ false
+  unfolding systemAccepted
+  codes-refused h = go (codesFit (rawFlat f .table)) (stateCodesFit (rawFlat f)) (systemFits (systemOf (rawFlat f))) (codes-are ∙ h)
+    where
+      go : (a b c : Bool) → b ≡ false → (a && (b && c)) ≡ false
+      go true b c e = rw e
+      go false b c e = refl
+
+-- A state that is written back is the one written: its counted records.
+pub written-counted : (s : State) (f : Flat) → f .types ≡ s .types → f .links ≡ s .links → countsIn (f .counts) ≡ s .counts
+    → (cellCount (f .counts) ≡ s .cells .count) × (placeCount (f .counts) ≡ s .places .count) × (callCount (f .counts) ≡ s .calls .count)
+    → firstOf (s .cells .count) noCell (rawCells (f .cells)) ≡ firstOf (s .cells .count) noCell (cellRecords (s .cells))
+    → firstOf (s .places .count) noRawPlace (rawPlaces (f .places)) ≡ firstOf (s .places .count) noRawPlace (placeRecords (s .places))
+    → firstOf (s .calls .count) noRawCall (rawCalls (f .calls)) ≡ firstOf (s .calls .count) noRawCall (callRecords (s .calls))
+    → counted (rawFlat f) ≡ counted (rawState s)
+unfolding counted
+written-counted s f t l n m cs ps js = rw (t, l, ← n, m .0, m .1, m .2, cs, ps, js)

@@ -1,0 +1,227 @@
+// The check of a state that is handed in (H1 to H11): any counts and any records. Counts first, so that every index is below its array's length, then the table, then cells,
+// places and calls.
+ghost use mathlib.Core.Path.{_≡_};
+ghost use Prim.Native.Nat.{_≤_, _<_};
+ghost use lib.ListN.{getD};
+ghost use Rattle.spec_model.specs.Check.{noRawType, systemAccepted};
+ghost use Rattle.table_record.specs.Limits.{Limits};
+ghost use Rattle.table_record.specs.Store.{typesIn};
+ghost use Rattle.state_record.specs.Whole.{whole};
+ghost use Rattle.state_record.specs.View.{cellOf, placeOf, callOf, rawState};
+ghost use Rattle.state_check.specs.Parts.{settledAs, classAs, refAs, cellAccepted, cellsAccepted, objectAccepted};
+ghost use Rattle.state_check.specs.Parts.{adapterAccepted, placeAccepted, placesAccepted, callAccepted, callsAccepted, sizesAccepted, recordsAccepted};
+use state_record::Call;
+use state_record::Calls;
+use state_record::Cell;
+use state_record::Cells;
+use state_record::PlaceRec;
+use state_record::Places;
+use state_record::State;
+use table_record::Counts;
+use table_record::Head;
+use table_record::Method;
+use table_record::TYPE_BYTES;
+
+// Whether type i is a reference type.
+pub fn is_ref(b: &[u8; TYPE_BYTES], i: usize) -> bool
+    requires { ⌜ i < 128 ⌝ }
+    ensures { λ r. ⌜ r ≡ refAs (getD (typesIn (now (b .entry))) i noRawType) ⌝ }
+{
+    let h = table_record::get_head(b, i);
+    h.rep == Head::REF
+}
+
+// Whether every method of type i is avail or unavail.
+fn settled(b: &[u8; TYPE_BYTES], methods: usize, i: usize) -> bool
+    requires { ⌜ (methods ≤ 16) × (i < 128) ⌝ }
+    ensures { λ r. ⌜ r ≡ settledAs methods (getD (typesIn (now (b .entry))) i noRawType) ⌝ }
+{
+    let mut j: usize = 0;
+    while j < methods {
+        let m = table_record::get_method(b, i, j);
+        if m.state < Method::AVAIL {
+            return false;
+        }
+        j += 1;
+    }
+    true
+}
+
+// Whether type i is a class (T16), in a table of so many methods.
+pub fn is_class(b: &[u8; TYPE_BYTES], methods: usize, i: usize) -> bool
+    requires { ⌜ (methods ≤ 16) × (i < 128) ⌝ }
+    ensures { λ r. ⌜ r ≡ classAs methods (getD (typesIn (now (b .entry))) i noRawType) ⌝ }
+{
+    if !is_ref(b, i) {
+        return false;
+    }
+    if !table_record::may_stand(b, i) {
+        return false;
+    }
+    settled(b, methods, i)
+}
+
+// A cell (H9), in a state of so many places.
+fn cell_fits(b: &[u8; TYPE_BYTES], c: Counts, places: usize, x: Cell) -> bool
+    requires { ⌜ Limits c ⌝ }
+    ensures { λ r. ⌜ r ≡ cellAccepted (typesIn (now (b .entry))) c places (cellOf x) ⌝ }
+{
+    if c.subjects <= base_numbers::wide(x.holder) {
+        return false;
+    }
+    if places <= base_numbers::wide(x.place) {
+        return false;
+    }
+    let i = base_numbers::wide(x.sort);
+    if c.sheet <= i {
+        return false;
+    }
+    is_ref(b, i)
+}
+
+fn cells_fit(b: &[u8; TYPE_BYTES], c: Counts, places: usize, cs: Cells) -> bool
+    requires { ⌜ Limits c × (cs .count ≤ 256) ⌝ }
+    ensures { λ r. ⌜ r ≡ cellsAccepted (typesIn (now (b .entry))) c places cs ⌝ }
+{
+    let n = cs.count;
+    let mut k: usize = 0;
+    while k < n {
+        let x = cs.list[k];
+        if !cell_fits(b, c, places, x) {
+            return false;
+        }
+        k += 1;
+    }
+    true
+}
+
+// An object (H10).
+fn object_fits(b: &[u8; TYPE_BYTES], c: Counts, class: usize, owner: usize) -> bool
+    requires { ⌜ Limits c ⌝ }
+    ensures { λ r. ⌜ r ≡ objectAccepted (typesIn (now (b .entry))) c class owner ⌝ }
+{
+    if c.subjects <= owner {
+        return false;
+    }
+    if c.sheet <= class {
+        return false;
+    }
+    is_class(b, c.methods, class)
+}
+
+// An adapter at place p (H10).
+fn adapter_fits(b: &[u8; TYPE_BYTES], c: Counts, p: usize, behind: usize, closed: usize) -> bool
+    requires { ⌜ Limits c ⌝ }
+    ensures { λ r. ⌜ r ≡ adapterAccepted (typesIn (now (b .entry))) c p behind closed ⌝ }
+{
+    if p <= behind {
+        return false;
+    }
+    if c.types <= closed {
+        return false;
+    }
+    is_ref(b, closed)
+}
+
+fn place_fits(b: &[u8; TYPE_BYTES], c: Counts, p: usize, x: PlaceRec) -> bool
+    requires { ⌜ Limits c ⌝ }
+    ensures { λ r. ⌜ r ≡ placeAccepted (typesIn (now (b .entry))) c p (placeOf (x .place)) ⌝ }
+{
+    let t = state_record::place_type(x);
+    if state_record::is_object(x) {
+        return object_fits(b, c, t, state_record::place_owner(x));
+    }
+    adapter_fits(b, c, p, state_record::place_behind(x), t)
+}
+
+fn places_fit(b: &[u8; TYPE_BYTES], c: Counts, ps: Places) -> bool
+    requires { ⌜ Limits c × (ps .count ≤ 128) ⌝ }
+    ensures { λ r. ⌜ r ≡ placesAccepted (typesIn (now (b .entry))) c ps ⌝ }
+{
+    let n = ps.count;
+    let mut p: usize = 0;
+    while p < n {
+        let x = ps.list[p];
+        if !place_fits(b, c, p, x) {
+            return false;
+        }
+        p += 1;
+    }
+    true
+}
+
+// A call (H11), in a state of so many cells.
+fn call_fits(c: Counts, cells: usize, x: Call) -> bool
+    ensures { λ r. ⌜ r ≡ callAccepted c cells (callOf x) ⌝ }
+{
+    if c.subjects <= base_numbers::wide(x.caller) {
+        return false;
+    }
+    if cells <= base_numbers::wide(x.cell) {
+        return false;
+    }
+    base_numbers::wide(x.method) < c.methods
+}
+
+fn calls_fit(c: Counts, cells: usize, js: Calls) -> bool
+    requires { ⌜ js .count ≤ 256 ⌝ }
+    ensures { λ r. ⌜ r ≡ callsAccepted c cells js ⌝ }
+{
+    let n = js.count;
+    let mut j: usize = 0;
+    while j < n {
+        let x = js.list[j];
+        if !call_fits(c, cells, x) {
+            return false;
+        }
+        j += 1;
+    }
+    true
+}
+
+// The counts of cells, places and calls (H1).
+fn sizes_fit(cells: usize, places: usize, calls: usize) -> bool
+    ensures { λ r. ⌜ r ≡ sizesAccepted cells places calls ⌝ }
+{
+    if State::CELLS < cells {
+        return false;
+    }
+    if State::PLACES < places {
+        return false;
+    }
+    calls <= State::CALLS
+}
+
+// Cells, places and calls, in a table that is accepted.
+fn records_fit(b: &[u8; TYPE_BYTES], c: Counts, cs: Cells, ps: Places, js: Calls) -> bool
+    requires { ⌜ Limits c × (cs .count ≤ 256) × (ps .count ≤ 128) × (js .count ≤ 256) ⌝ }
+    ensures { λ r. ⌜ r ≡ recordsAccepted (typesIn (now (b .entry))) c cs ps js ⌝ }
+{
+    let places = ps.count;
+    if !cells_fit(b, c, places, cs) {
+        return false;
+    }
+    if !places_fit(b, c, ps) {
+        return false;
+    }
+    let cells = cs.count;
+    calls_fit(c, cells, js)
+}
+
+// Whether a state that is handed in is taken.
+pub fn state_fits(types: &[u8; TYPE_BYTES], s: State) -> bool
+    ensures { λ r. ⌜ r ≡ systemAccepted (rawState (whole (now (types .entry)) s)) ⌝ }
+{
+    let cs = s.cells;
+    let ps = s.places;
+    let js = s.calls;
+    if !sizes_fit(cs.count, ps.count, js.count) {
+        return false;
+    }
+    let links = s.links;
+    let c = s.counts;
+    if !table_check::table_fits(types, &links, c) {
+        return false;
+    }
+    records_fit(types, c, cs, ps, js)
+}

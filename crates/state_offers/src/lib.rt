@@ -1,0 +1,103 @@
+// Whether a cell of a state offers a chain of methods (L15 to L18, E11): so that demand 3 can be watched on what runs. What this answers is the definition `offersHanded` in
+// specs/Chained.antt.
+ghost use mathlib.Core.Path.{_≡_};
+ghost use mathlib.Core.List.{List};
+ghost use Prim.Native.Nat.{ℕ};
+ghost use lib.ListN.{length};
+ghost use Rattle.table_record.specs.Limits.{Limits};
+ghost use Rattle.table_record.specs.Store.{tableIn};
+ghost use Rattle.state_record.specs.Whole.{whole};
+ghost use Rattle.state_record.specs.View.{rawState, systemIn};
+ghost use Rattle.state_record.specs.Sound.{Sound};
+ghost use Rattle.state_offers.specs.Chained.{offersNamed, offersHanded, offeredAs};
+ghost use Rattle.state_offers.specs.Steps.{stepCode, permitsNamed};
+use base_numbers::wide;
+use state_record::State;
+use table_record::Counts;
+use table_record::TYPE_BYTES;
+
+// What a cell of a state handed in says of a chain; `Unfit` is 2, for a state that does not pass the check.
+pub enum Offered {
+    Unfit,
+    Yes,
+    No,
+}
+
+// One method of a chain, by type t (L16): 0 where it is not permitted; else 1 and the code of its answer type, which is 0 for none.
+fn after_method(types: &[u8; TYPE_BYTES], c: Counts, t: usize, z: i64) -> usize
+    requires { ⌜ Limits c ⌝ }
+    ensures { λ r. ⌜ ((l : List ℕ) → r ≡ stepCode (tableIn (now (types .entry)) l c) t z) ⌝ }
+{
+    let m = base_operand::index_of(z, c.methods);
+    if c.methods <= m {
+        return 0;
+    }
+    if !derive_record::is_ref(types, c.types, t) {
+        return 0;
+    }
+    let x = table_record::get_method(types, t, m);
+    if !table_record::permits(x.state) {
+        return 0;
+    }
+    wide(x.answer) + 1
+}
+
+// Whether type t permits a chain: each method by the answer type of the one before (L15 to L17).
+fn type_permits(types: &[u8; TYPE_BYTES], c: Counts, t: usize, chain: &[i64]) -> bool
+    requires { ⌜ Limits c ⌝ }
+    ensures { λ r. ⌜ ((l : List ℕ) → r ≡ permitsNamed (tableIn (now (types .entry)) l c) t (now (chain .entry))) ⌝ }
+{
+    let mut at = t;
+    let mut i: usize = 0;
+    while i < chain.len() {
+        let z = chain[i];
+        let a = after_method(types, c, at, z);
+        if a == 0 {
+            return false;
+        }
+        i += 1;
+        if i == chain.len() {
+            return true;
+        }
+        if a == 1 {
+            return false;
+        }
+        at = a - 2;
+    }
+    derive_record::is_ref(types, c.types, at)
+}
+
+// Of a state that passes the check: the type of the cell and the type of its place both permit the chain (L18).
+fn cell_offers(types: &[u8; TYPE_BYTES], s: State, cell: i64, chain: &[i64]) -> bool
+    requires { ⌜ ((t : List ℕ) → length t ≡ 16384 → Sound (whole t s)) ⌝ }
+    ensures { λ r. ⌜ r ≡ offersNamed (systemIn (whole (now (types .entry)) s)) cell (now (chain .entry)) ⌝ }
+{
+    let cells = s.cells;
+    let k = base_operand::index_of(cell, cells.count);
+    if cells.count <= k {
+        return false;
+    }
+    let x = state_record::cell_at(cells, k);
+    let places = s.places;
+    let p = state_record::place_at(places, wide(x.place));
+    let cell_type = wide(x.sort);
+    let place_type = state_record::place_type(p);
+    let c = s.counts;
+    if !type_permits(types, c, cell_type, chain) {
+        return false;
+    }
+    type_permits(types, c, place_type, chain)
+}
+
+// On any state handed in: 2 before all else (E11).
+pub fn offers(types: &[u8; TYPE_BYTES], s: State, cell: i64, chain: &[i64]) -> Offered
+    ensures { λ r. ⌜ offeredAs r ≡ offersHanded (rawState (whole (now (types .entry)) s)) cell (now (chain .entry)) ⌝ }
+{
+    if !state_check::state_fits(types, s) {
+        return Offered::Unfit;
+    }
+    if cell_offers(types, s, cell, chain) {
+        return Offered::Yes;
+    }
+    Offered::No
+}

@@ -1,0 +1,67 @@
+-- What the steps keep: one record more leaves a state sound, where the record's numbers are below their counts.
+use mathlib.Core.Path.{_≡_, sym, subst}
+use mathlib.Core.Bool.{false}
+use mathlib.Core.List.{List, [], _∷_, _++_}
+use Prim.Native.Nat.{ℕ, _+_, _<_}
+use native.Mathlib.Nat.{not-suc-le-zero}
+use native.Mathlib.Omega.{arith}
+use native.Mathlib.Decide.{decLt}
+use lib.ListN.{length, getD, List·getD-append}
+use lib.Seq.{getD-at}
+use Rattle.spec_model.specs.Crossing.{Place as Placeᵐ, noPlace, placeAt, placeType}
+use Rattle.table_record.specs.declared.Counts.{Counts}
+use Rattle.table_record.specs.Limits.{Checked}
+use Rattle.state_record.specs.declared.Places.{Places}
+use Rattle.state_record.specs.Whole.{Whole, whole}
+use Rattle.state_record.specs.View.{placesIn, isObject, behindOf, stateLoaded, withTypes}
+use Rattle.state_record.specs.Sound.{Falling, Typed, Sound}
+use Rattle.state_record.proofs.Laws.{places-length}
+
+-- what holds of every element of a list and of one more
+more : {A : Type 0} (d : A) (P : ℕ → A → Type 0) (xs : List A) (x : A) → ((i : ℕ) → i < length xs → P i (getD xs i d)) → P (length xs) x → (i : ℕ) → i < length xs + 1
+    → P i (getD (xs ++ (x ∷ [])) i d)
+more d P xs x each new i l = go (decLt i (length xs))
+  where
+    go : Dec (i < length xs) → P i (getD (xs ++ (x ∷ [])) i d)
+    go (yes h) = rw (List·getD-append xs (x ∷ []) d i h) (each i h)
+    go (no h) = let e : length xs ≡ i = omega arith in rw (getD-at xs x [] d i e) (subst (λ n. P n x) e new)
+
+-- places ps with one more, x
+module _ (ps qs : Places) (x : Placeᵐ) (count : qs .count ≡ ps .count + 1) (e : placesIn qs ≡ placesIn ps ++ (x ∷ [])) where
+  each-more : (P : ℕ → Placeᵐ → Type 0) → ((p : ℕ) → p < ps .count → P p (placeAt (placesIn ps) p)) → P (ps .count) x → (p : ℕ) → p < qs .count
+      → P p (placeAt (placesIn qs) p)
+  each-more P each new p l =
+      let n : length (placesIn ps) ≡ ps .count = places-length ps in
+      subst (λ xs. P p (placeAt xs p)) (sym e) (more noPlace P (placesIn ps) x (λ i h. each i (omega arith)) (subst (λ k. P k x) (sym n) new) p (omega arith))
+
+  pub falling-more : Falling ps → ps .count < 128 → (isObject x ≡ false → behindOf x < ps .count) → Falling qs
+  falling-more h room new = record { count = omega (arith, count, room); behind = each-more (λ p y. isObject y ≡ false → behindOf y < p) (h .behind) new }
+
+  pub typed-more : (c : Counts) → Typed ps c → placeType x < c .types → Typed qs c
+  typed-more c h new = each-more (λ p y. placeType y < c .types) h new
+
+-- the state of a loaded sheet
+pub loaded-sound : (types links : List ℕ) (counts : Counts) → length types ≡ 16384 → Checked links counts → Sound (whole types (stateLoaded links counts))
+loaded-sound types links counts long h = record {
+  long = long;
+  checked = h;
+  falling = record { count = omega arith; behind = λ p l. absurd (not-suc-le-zero l) };
+  typed = λ p l. absurd (not-suc-le-zero l);
+  cellCount = omega arith;
+  callCount = omega arith;
+  cells = λ k l. absurd (not-suc-le-zero l);
+  calls = λ j l. absurd (not-suc-le-zero l);
+}
+
+-- nothing of soundness is in the bytes of the types
+pub sound-types : (s : Whole) (b : List ℕ) → length b ≡ 16384 → Sound s → Sound (withTypes s b)
+sound-types s b long h = record {
+  long = long;
+  checked = h .checked;
+  falling = h .falling;
+  typed = h .typed;
+  cellCount = h .cellCount;
+  callCount = h .callCount;
+  cells = λ k l. let x = h .cells k l in record { type = x .type; place = x .place };
+  calls = λ j l. let x = h .calls j l in record { cell = x .cell; method = x .method };
+}

@@ -1,0 +1,372 @@
+// What the four requests work on: cells, places and calls, beside the table (Q1 to Q10). A record has a byte for each number; a count may be any number where a state
+// is handed in. Contracts speak of the model's lists (specs/View.antt); functions take the part that they need, so that the table is not copied.
+ghost use mathlib.Core.Path.{_≡_};
+ghost use mathlib.Core.Bool.{true};
+ghost use mathlib.Core.List.{[], _∷_, _++_};
+ghost use Prim.Native.Nat.{_≤_, _<_};
+ghost use lib.ListN.{length, getD, set};
+ghost use Rattle.spec_model.specs.Crossing.{placeAt, placeType, ownerOf, baseOwner};
+ghost use Rattle.spec_model.specs.Requests.{noCell, noCall, flagged, adapterCount};
+ghost use Rattle.state_record.specs.View.{cellOf, placeOf, callOf, cellsIn, placesIn, callsIn, blankCell, blankPlace, blankCall};
+ghost use Rattle.state_record.specs.View.{noCells, noPlaces, noCalls, stateLoaded, cellAdded, placeAdded, callAdded, callAnswered, isObject, behindOf};
+ghost use Rattle.state_record.specs.Sound.{Falling, BaseAt, LayersAt};
+use table_record::Counts;
+use table_record::LINK_BYTES;
+
+// A cell: a reference as a subject holds it. Its holder, the sheet type by which it is held, and the place it leads to.
+pub struct Cell {
+    pub holder: u8,
+    pub sort: u8,
+    pub place: u8,
+}
+
+// A place: an object, of a class and with an owner; or an adapter of a closed type in front of another place.
+pub enum Place {
+    Object { class: u8, owner: u8 },
+    Adapter { behind: u8, closed: u8 },
+}
+
+pub struct PlaceRec {
+    pub place: Place,
+}
+
+// A call (Q5): by whom, through which cell, of which method; and its answered flag.
+pub struct Call {
+    pub caller: u8,
+    pub cell: u8,
+    pub method: u8,
+    pub answered: bool,
+}
+
+pub struct Cells {
+    pub list: [Cell; State::CELLS],
+    pub count: usize,
+}
+
+pub struct Places {
+    pub list: [PlaceRec; State::PLACES],
+    pub count: usize,
+}
+
+pub struct Calls {
+    pub list: [Call; State::CALLS],
+    pub count: usize,
+}
+
+pub struct State {
+    pub links: [u8; LINK_BYTES],
+    pub counts: Counts,
+    pub cells: Cells,
+    pub places: Places,
+    pub calls: Calls,
+}
+
+// The types that a value passes at a place (C9): the closed types of the adapters, outermost first, and the class last.
+pub struct Layers {
+    pub list: [u8; State::PLACES],
+    pub count: usize,
+}
+
+// F6, the cells lent as a slice: lookup reads a record, append stores one. They decide nothing: whether a number is in use, who holds the cell and whether
+// there is room is asked above them.
+fn lookup(cells: &[Cell], k: usize) -> Cell
+    requires { ⌜ k < length (now cells) ⌝ }
+    ensures { λ r. ⌜ r ≡ getD (now (cells .entry)) k blankCell ⌝ }
+{
+    cells[k]
+}
+
+fn append(cells: &mut [Cell], count: usize, c: Cell)
+    requires { ⌜ count < length (now cells) ⌝ }
+    ensures { λ _. ⌜ now (cells .exit) ≡ set (now (cells .entry)) count c ⌝ }
+{
+    cells[count] = c;
+}
+
+// The same for an array by value, which is lent here, so that no caller has a reference to a record.
+fn looked_up(cells: [Cell; State::CELLS], k: usize) -> Cell
+    requires { ⌜ k < 256 ⌝ }
+    ensures { λ r. ⌜ r ≡ getD cells k blankCell ⌝ }
+{
+    lookup(&cells, k)
+}
+
+fn appended(cells: [Cell; State::CELLS], count: usize, c: Cell) -> [Cell; State::CELLS]
+    requires { ⌜ count < 256 ⌝ }
+    ensures { λ r. ⌜ r ≡ set cells count c ⌝ }
+{
+    let mut a = cells;
+    append(&mut a, count, c);
+    a
+}
+
+impl Cells {
+    pub fn none() -> Self
+        ensures { λ r. ⌜ r ≡ noCells ⌝ }
+    {
+        let c = Cell {
+            holder: 0,
+            sort: 0,
+            place: 0,
+        };
+        Self {
+            list: [c; State::CELLS],
+            count: 0,
+        }
+    }
+
+    // one more cell (Q6)
+    pub fn add(self, c: Cell) -> Self
+        requires { ⌜ self .count < 256 ⌝ }
+        ensures { λ r. ⌜ (r ≡ cellAdded self c) × (cellsIn r ≡ cellsIn self ++ (cellOf c ∷ [])) ⌝ }
+    {
+        let list = self.list;
+        let count = self.count;
+        let list = appended(list, count, c);
+        Self {
+            list,
+            count: count + 1,
+        }
+    }
+}
+
+impl Places {
+    pub fn none() -> Self
+        ensures { λ r. ⌜ r ≡ noPlaces ⌝ }
+    {
+        let p = PlaceRec {
+            place: Place::Object { class: 0, owner: 0 },
+        };
+        Self {
+            list: [p; State::PLACES],
+            count: 0,
+        }
+    }
+
+    // one more place (Q6)
+    pub fn add(self, p: PlaceRec) -> Self
+        requires { ⌜ self .count < 128 ⌝ }
+        ensures { λ r. ⌜ (r ≡ placeAdded self p) × (placesIn r ≡ placesIn self ++ (placeOf (p .place) ∷ [])) ⌝ }
+    {
+        let mut ps = self;
+        let at = ps.count;
+        ps.list[at] = p;
+        ps.count = at + 1;
+        ps
+    }
+}
+
+impl Calls {
+    pub fn none() -> Self
+        ensures { λ r. ⌜ r ≡ noCalls ⌝ }
+    {
+        let c = Call {
+            caller: 0,
+            cell: 0,
+            method: 0,
+            answered: false,
+        };
+        Self {
+            list: [c; State::CALLS],
+            count: 0,
+        }
+    }
+
+    // one more call (Q6)
+    pub fn add(self, c: Call) -> Self
+        requires { ⌜ self .count < 256 ⌝ }
+        ensures { λ r. ⌜ (r ≡ callAdded self c) × (callsIn r ≡ callsIn self ++ (callOf c ∷ [])) ⌝ }
+    {
+        let mut js = self;
+        let at = js.count;
+        js.list[at] = c;
+        js.count = at + 1;
+        js
+    }
+
+    // call j is answered: the flag of its record, and nothing else (Q15)
+    pub fn answered(self, j: usize) -> Self
+        requires { ⌜ (j < self .count) × (self .count ≤ 256) ⌝ }
+        ensures { λ r. ⌜ (r ≡ callAnswered self j) × (callsIn r ≡ set (callsIn self) j (flagged (getD (callsIn self) j noCall) true)) ⌝ }
+    {
+        let mut js = self;
+        let old = js.list[j];
+        let c = Call {
+            caller: old.caller,
+            cell: old.cell,
+            method: old.method,
+            answered: true,
+        };
+        js.list[j] = c;
+        js
+    }
+}
+
+impl State {
+    pub const CELLS: usize = 256;
+
+    pub const PLACES: usize = 128;
+
+    pub const CALLS: usize = 256;
+
+    // the state of a loaded sheet
+    pub fn loaded(links: [u8; LINK_BYTES], counts: Counts) -> Self
+        ensures { λ r. ⌜ r ≡ stateLoaded links counts ⌝ }
+    {
+        let cells = Cells::none();
+        let places = Places::none();
+        let calls = Calls::none();
+        Self {
+            links,
+            counts,
+            cells,
+            places,
+            calls,
+        }
+    }
+}
+
+// The record of a cell, of a place and of a call, by its number.
+pub fn cell_at(cs: Cells, k: usize) -> Cell
+    requires { ⌜ k < 256 ⌝ }
+    ensures { λ r. ⌜ (r ≡ getD (cs .list) k blankCell) × (k < cs .count → cellOf r ≡ getD (cellsIn cs) k noCell) ⌝ }
+{
+    let list = cs.list;
+    looked_up(list, k)
+}
+
+pub fn place_at(ps: Places, p: usize) -> PlaceRec
+    requires { ⌜ p < 128 ⌝ }
+    ensures { λ r. ⌜ (r ≡ getD (ps .list) p blankPlace) × (p < ps .count → placeOf (r .place) ≡ placeAt (placesIn ps) p) ⌝ }
+{
+    ps.list[p]
+}
+
+pub fn call_at(js: Calls, j: usize) -> Call
+    requires { ⌜ j < 256 ⌝ }
+    ensures { λ r. ⌜ (r ≡ getD (js .list) j blankCall) × (j < js .count → callOf r ≡ getD (callsIn js) j noCall) ⌝ }
+{
+    js.list[j]
+}
+
+fn type_in(p: Place) -> u8
+    ensures { λ r. ⌜ r ≡ placeType (placeOf p) ⌝ }
+{
+    match p {
+        Place::Object { class, owner: _ } => class,
+        Place::Adapter { behind: _, closed } => closed,
+    }
+}
+
+fn owner_in(p: Place) -> u8
+    ensures { λ r. ⌜ r ≡ ownerOf (placeOf p) ⌝ }
+{
+    match p {
+        Place::Object { class: _, owner } => owner,
+        Place::Adapter {
+            behind: _,
+            closed: _,
+        } => 0,
+    }
+}
+
+fn behind_in(p: Place) -> u8
+    ensures { λ r. ⌜ r ≡ behindOf (placeOf p) ⌝ }
+{
+    match p {
+        Place::Object { class: _, owner: _ } => 0,
+        Place::Adapter { behind, closed: _ } => behind,
+    }
+}
+
+fn object_in(p: Place) -> bool
+    ensures { λ r. ⌜ r ≡ isObject (placeOf p) ⌝ }
+{
+    match p {
+        Place::Object { class: _, owner: _ } => true,
+        Place::Adapter {
+            behind: _,
+            closed: _,
+        } => false,
+    }
+}
+
+// The type of a place (Q3).
+pub fn place_type(p: PlaceRec) -> usize
+    ensures { λ r. ⌜ (r ≡ placeType (placeOf (p .place))) × (r < 256) ⌝ }
+{
+    let x = p.place;
+    base_numbers::wide(type_in(x))
+}
+
+// The owner of an object; 0 for an adapter.
+pub fn place_owner(p: PlaceRec) -> usize
+    ensures { λ r. ⌜ (r ≡ ownerOf (placeOf (p .place))) × (r < 256) ⌝ }
+{
+    let x = p.place;
+    base_numbers::wide(owner_in(x))
+}
+
+// The place behind an adapter; 0 for an object.
+pub fn place_behind(p: PlaceRec) -> usize
+    ensures { λ r. ⌜ (r ≡ behindOf (placeOf (p .place))) × (r < 256) ⌝ }
+{
+    let x = p.place;
+    base_numbers::wide(behind_in(x))
+}
+
+pub fn is_object(p: PlaceRec) -> bool
+    ensures { λ r. ⌜ r ≡ isObject (placeOf (p .place)) ⌝ }
+{
+    let x = p.place;
+    object_in(x)
+}
+
+// The base of place p (Q2): what is behind lies below, so it is reached.
+pub fn base_of(ps: Places, p: usize) -> usize
+    requires { ⌜ Falling ps × (p < ps .count) ⌝ }
+    ensures { λ r. ⌜ BaseAt ps p r ⌝ }
+{
+    let mut base = p;
+    while !is_object(ps.list[base]) {
+        base = place_behind(ps.list[base]);
+    }
+    base
+}
+
+pub fn base_owner(ps: Places, p: usize) -> usize
+    requires { ⌜ Falling ps × (p < ps .count) ⌝ }
+    ensures { λ r. ⌜ (r ≡ baseOwner (placesIn ps) p) × (r < 256) ⌝ }
+{
+    place_owner(place_at(ps, base_of(ps, p)))
+}
+
+// The layers of place p (C9).
+pub fn layers_of(ps: Places, p: usize) -> Layers
+    requires { ⌜ Falling ps × (p < ps .count) ⌝ }
+    ensures { λ r. ⌜ LayersAt ps p r ⌝ }
+{
+    let mut list = [0u8; State::PLACES];
+    let mut count: usize = 0;
+    let mut at = p;
+    while !is_object(ps.list[at]) {
+        let x = ps.list[at];
+        list[count] = base_numbers::narrow(place_type(x));
+        count += 1;
+        at = place_behind(x);
+    }
+    list[count] = base_numbers::narrow(place_type(ps.list[at]));
+    Layers {
+        list,
+        count: count + 1,
+    }
+}
+
+// How many adapters stand between place p and its base (C19).
+pub fn adapters_of(ps: Places, p: usize) -> usize
+    requires { ⌜ Falling ps × (p < ps .count) ⌝ }
+    ensures { λ r. ⌜ r ≡ adapterCount (placesIn ps) p ⌝ }
+{
+    let l = layers_of(ps, p);
+    l.count - 1
+}

@@ -1,0 +1,226 @@
+-- From bytes to records: where a record stands, and what storing one does to the list of records.
+use mathlib.Core.Path.{_≡_, refl, sym, ap, _∙_, subst}
+use mathlib.Core.Logic.{⊎-elim}
+use mathlib.Core.List.{List, [], _∷_, _++_, map}
+use Prim.Native.Nat.{ℕ, zero, suc, _+_, _*_, _≤_, _<_}
+use native.Mathlib.Nat.{le-of-suc-le-suc, not-suc-le-zero}
+use native.Mathlib.Numerals.{add-one}
+use native.Mathlib.Omega.{arith}
+use lib.ListN.{length, getD, set, length-set, take, length-map, List·getD-append, List·getD-map}
+use lib.Seq.{sets, ext-getD, getD-set-same, getD-set-other, length-sets, getD-append-add, length-take-le}
+use Rattle.spec_model.specs.Basics.{from}
+use Rattle.spec_model.specs.Check.{RawMethod, RawType, RawLinks, noRawType, noRawMethod}
+use Rattle.table_record.specs.declared.Method.{Method}
+use Rattle.table_record.specs.declared.Head.{Head}
+use Rattle.table_record.specs.Store.{headOf, rawMethodAt, rawMethodsAt, rawTypeAt, rawLinksAt, typesIn, linksIn, rawMethod, rawOf, methodBytes, methodsBytes, headBytes, spareBytes}
+use Rattle.table_record.specs.Store.{recordBytes, Shaped, Put}
+use Rattle.table_record.proofs.Lists.{lt-or-ge, same-or, length-from, from-first, from-same, is-from, sets-append, getD-sets-below, getD-sets-above, getD-sets-in}
+
+-- Where a type, its methods and the links of a category stand.
+pub types-length : (b : List ℕ) → length (typesIn b) ≡ 128
+unfolding typesIn
+types-length b = length-from (λ i. rawTypeAt b (i * 128)) 128 0
+
+pub type-in : (b : List ℕ) (i : ℕ) (d : RawType) → i < 128 → getD (typesIn b) i d ≡ rawTypeAt b (i * 128)
+unfolding typesIn
+type-in b i d h = from-first (λ i. rawTypeAt b (i * 128)) 128 i d h
+
+pub methods-length : (b : List ℕ) (i : ℕ) → i < 128 → length (getD (typesIn b) i noRawType .methods) ≡ 16
+unfolding rawMethodsAt
+methods-length b i h = ap (λ (t : RawType). length (t .methods)) (type-in b i noRawType h) ∙ length-from (λ j. rawMethodAt b (i * 128 + 16 + j * 7)) 16 0
+
+pub method-in : (b : List ℕ) (i j : ℕ) → i < 128 → j < 16 → getD (getD (typesIn b) i noRawType .methods) j noRawMethod ≡ rawMethodAt b (i * 128 + 16 + j * 7)
+unfolding rawMethodsAt
+method-in b i j p q = ap (λ (t : RawType). getD (t .methods) j noRawMethod) (type-in b i noRawType p) ∙ from-first (λ j. rawMethodAt b (i * 128 + 16 + j * 7)) 16 j noRawMethod q
+
+pub links-length : (l : List ℕ) → length (linksIn l) ≡ 32
+unfolding linksIn
+links-length l = length-from (λ k. rawLinksAt l (k * 3)) 32 0
+
+pub links-in : (l : List ℕ) (k : ℕ) (d : RawLinks) → k < 32 → getD (linksIn l) k d ≡ rawLinksAt l (k * 3)
+unfolding linksIn
+links-in l k d h = from-first (λ k. rawLinksAt l (k * 3)) 32 k d h
+
+-- what stands for a method past the end of a list of the code's
+abbrev pub absent : Method
+absent = record { state = 0; count = 0; args = []; answer = 0 }
+
+-- methods of the code that are those of a record
+pub methods-are : (ms : List Method) (rs : List RawMethod) → length ms ≡ 16 → length rs ≡ 16 → ((k : ℕ) → k < 16 → rawMethod (getD ms k absent) ≡ getD rs k noRawMethod)
+    → map rawMethod ms ≡ rs
+methods-are ms rs e f h =
+    ext-getD noRawMethod (map rawMethod ms) rs (length-map ms rawMethod ∙ e ∙ sym f)
+    (λ k p. let q : k < 16 = subst (λ (n : ℕ). k < n) (length-map ms rawMethod ∙ e) p in List·getD-map rawMethod ms k absent ∙ h k q)
+
+-- a type of the code, put together from a record's head and methods, is the record
+pub read-is : (x : RawType) (h : Head) (ms : List Method) → h ≡ headOf x → map rawMethod ms ≡ x .methods → rawOf (record { head = h; methods = ms }) ≡ x
+read-is x h ms e f =
+    ap (λ (l : List RawMethod). let r : RawType = record { rep = h .rep; cat = h .cat; own = h .own; kind = h .kind; left = h .left; right = h .right; methods = l } in r) f
+    ∙ ap (λ (g : Head). let r : RawType = record { rep = g .rep; cat = g .cat; own = g .own; kind = g .kind; left = g .left; right = g .right; methods = x .methods } in r) e
+
+-- The bytes of a run of methods, seven to each.
+pub bytes-snoc : (ms : List RawMethod) (j : ℕ) → j < length ms → methodsBytes (take (suc j) ms) ≡ methodsBytes (take j ms) ++ methodBytes (getD ms j noRawMethod)
+bytes-snoc [] j h = absurd (not-suc-le-zero h)
+bytes-snoc (m ∷ ms) zero h = refl
+bytes-snoc (m ∷ ms) (suc j) h = ap (λ l. methodBytes m ++ l) (bytes-snoc ms j (le-of-suc-le-suc h))
+
+pub bytes-length : (ms : List RawMethod) → length (methodsBytes ms) ≡ length ms * 7
+bytes-length [] = refl
+bytes-length (m ∷ ms) = let e : length (methodsBytes ms) ≡ length ms * 7 = bytes-length ms in omega arith
+
+-- one method more is stored behind those before it
+pub run-more : (b : List ℕ) (at : ℕ) (ms : List RawMethod) (j : ℕ) (now next : List ℕ) → j < length ms → now ≡ sets b at (methodsBytes (take j ms))
+    → next ≡ sets now (at + j * 7) (methodBytes (getD ms j noRawMethod)) → next ≡ sets b at (methodsBytes (take (j + 1) ms))
+run-more b at ms j now next h e f =
+    let k : length (methodsBytes (take j ms)) ≡ j * 7 = bytes-length (take j ms) ∙ ap (λ (n : ℕ). n * 7) (length-take-le j ms (omega arith)) in
+    f ∙ ap (λ (x : List ℕ). sets x (at + j * 7) (methodBytes (getD ms j noRawMethod))) e
+    ∙ ap (λ (n : ℕ). sets (sets b at (methodsBytes (take j ms))) (at + n) (methodBytes (getD ms j noRawMethod))) (sym k)
+    ∙ sym (sets-append b at (methodsBytes (take j ms)) (methodBytes (getD ms j noRawMethod)))
+    ∙ ap (sets b at) (sym (bytes-snoc ms j h)) ∙ ap (λ (n : ℕ). sets b at (methodsBytes (take n ms))) (sym (add-one j))
+
+bytes-at : (ms : List RawMethod) (j k : ℕ) → j < length ms → k < 7 → getD (methodsBytes ms) (j * 7 + k) 0 ≡ getD (methodBytes (getD ms j noRawMethod)) k 0
+bytes-at [] j k h l = absurd (not-suc-le-zero h)
+bytes-at (m ∷ ms) zero k h l = let e : 0 * 7 + k ≡ k = omega arith in ap (λ (x : ℕ). getD (methodBytes m ++ methodsBytes ms) x 0) e ∙ List·getD-append (methodBytes m) (methodsBytes ms) 0 k l
+bytes-at (m ∷ ms) (suc j) k h l =
+    let e : suc j * 7 + k ≡ 7 + (j * 7 + k) = omega arith in
+    ap (λ (x : ℕ). getD (methodBytes m ++ methodsBytes ms) x 0) e ∙ getD-append-add (methodBytes m) (methodsBytes ms) (j * 7 + k) 0 ∙ bytes-at ms j k (le-of-suc-le-suc h) l
+
+-- Records by their parts.
+unfoldable pub mk : ℕ → ℕ → ℕ → ℕ → ℕ → ℕ → ℕ → RawMethod
+mk s n a₀ a₁ a₂ a₃ r = record { state = s; count = n; args = a₀ ∷ a₁ ∷ a₂ ∷ a₃ ∷ []; answer = r }
+
+pub mk-eq : {s n a₀ a₁ a₂ a₃ r s′ n′ b₀ b₁ b₂ b₃ r′ : ℕ} → s ≡ s′ → n ≡ n′ → a₀ ≡ b₀ → a₁ ≡ b₁ → a₂ ≡ b₂ → a₃ ≡ b₃ → r ≡ r′
+    → mk s n a₀ a₁ a₂ a₃ r ≡ mk s′ n′ b₀ b₁ b₂ b₃ r′
+mk-eq p₀ p₁ p₂ p₃ p₄ p₅ p₆ = cc
+
+unfoldable pub mkT : ℕ → ℕ → ℕ → ℕ → ℕ → ℕ → List RawMethod → RawType
+mkT a b c d e f ms = record { rep = a; cat = b; own = c; kind = d; left = e; right = f; methods = ms }
+
+pub mkT-eq : {a b c d e f a′ b′ c′ d′ e′ f′ : ℕ} {m m′ : List RawMethod} → a ≡ a′ → b ≡ b′ → c ≡ c′ → d ≡ d′ → e ≡ e′ → f ≡ f′ → m ≡ m′
+    → mkT a b c d e f m ≡ mkT a′ b′ c′ d′ e′ f′ m′
+mkT-eq p₀ p₁ p₂ p₃ p₄ p₅ p₆ = cc
+
+-- n bytes of one list from `at` on are those of another from `at′` on
+unfoldable pub Agree : List ℕ → ℕ → List ℕ → ℕ → ℕ → Type 0
+Agree b at b′ at′ n = (p : ℕ) → p < n → getD b (at + p) 0 ≡ getD b′ (at′ + p) 0
+
+pub at-zero : (b : List ℕ) (at : ℕ) → getD b (at + 0) 0 ≡ getD b at 0
+at-zero b at = let e : at + 0 ≡ at = omega arith in ap (λ (k : ℕ). getD b k 0) e
+
+module _ (b : List ℕ) (at : ℕ) (b′ : List ℕ) (at′ n : ℕ) where
+  agree-first : Agree b at b′ at′ n → 0 < n → getD b at 0 ≡ getD b′ at′ 0
+  unfolding Agree
+  agree-first h p = sym (at-zero b at) ∙ h 0 p ∙ at-zero b′ at′
+
+  agree-part : (k m : ℕ) → k + m ≤ n → Agree b at b′ at′ n → Agree b (at + k) b′ (at′ + k) m
+  unfolding Agree
+  agree-part k m q h p l =
+      let e : at + k + p ≡ at + (k + p) = omega arith in
+      let e′ : at′ + k + p ≡ at′ + (k + p) = omega arith in
+      ap (λ (x : ℕ). getD b x 0) e ∙ h (k + p) (omega arith) ∙ ap (λ (x : ℕ). getD b′ x 0) (sym e′)
+
+method-agree : (b : List ℕ) (at : ℕ) (b′ : List ℕ) (at′ : ℕ) → Agree b at b′ at′ 7 → rawMethodAt b at ≡ rawMethodAt b′ at′
+unfolding Agree mk
+method-agree b at b′ at′ h =
+    mk-eq (agree-first b at b′ at′ 7 h (omega arith)) (h 1 (omega arith)) (h 2 (omega arith)) (h 3 (omega arith)) (h 4 (omega arith)) (h 5 (omega arith)) (h 6 (omega arith))
+
+pub type-agree : (b : List ℕ) (at : ℕ) (b′ : List ℕ) (at′ : ℕ) → Agree b at b′ at′ 128 → rawTypeAt b at ≡ rawTypeAt b′ at′
+unfolding Agree mkT rawMethodsAt
+type-agree b at b′ at′ h =
+    mkT-eq (agree-first b at b′ at′ 128 h (omega arith)) (h 1 (omega arith)) (h 2 (omega arith)) (h 3 (omega arith)) (h 4 (omega arith)) (h 5 (omega arith))
+    (from-same (λ j. rawMethodAt b (at + 16 + j * 7)) (λ j. rawMethodAt b′ (at′ + 16 + j * 7)) 16 0
+    (λ j p l. let e : at + 16 + j * 7 ≡ at + (16 + j * 7) = omega arith in
+    let e′ : at′ + 16 + j * 7 ≡ at′ + (16 + j * 7) = omega arith in
+    ap (rawMethodAt b) e ∙ method-agree b (at + (16 + j * 7)) b′ (at′ + (16 + j * 7)) (agree-part b at b′ at′ 128 (16 + j * 7) 7 (omega arith) h) ∙ ap (rawMethodAt b′) (sym e′)))
+
+-- A type's own bytes, read back.
+pub four : (l : List ℕ) → length l ≡ 4 → getD l 0 0 ∷ getD l 1 0 ∷ getD l 2 0 ∷ getD l 3 0 ∷ [] ≡ l
+four l e = ext-getD 0 (getD l 0 0 ∷ getD l 1 0 ∷ getD l 2 0 ∷ getD l 3 0 ∷ []) l (sym e) go
+  where
+    go : (i : ℕ) → i < 4 → getD (getD l 0 0 ∷ getD l 1 0 ∷ getD l 2 0 ∷ getD l 3 0 ∷ []) i 0 ≡ getD l i 0
+    go zero p = refl
+    go (suc zero) p = refl
+    go (suc (suc zero)) p = refl
+    go (suc (suc (suc zero))) p = refl
+    go (suc (suc (suc (suc i)))) p = absurd (not-suc-le-zero (le-of-suc-le-suc (le-of-suc-le-suc (le-of-suc-le-suc (le-of-suc-le-suc p)))))
+
+method-own : (m : RawMethod) → length (m .args) ≡ 4 → rawMethodAt (methodBytes m) 0 ≡ m
+method-own m e = ap (λ (l : List ℕ). let r : RawMethod = record { state = m .state; count = m .count; args = l; answer = m .answer } in r) (four (m .args) e)
+
+-- head, spare bytes and methods stored one behind the other are the record stored
+pub record-parts : (b : List ℕ) (at : ℕ) (x : RawType) → sets (sets (sets b at (headBytes (headOf x))) (at + 6) spareBytes) (at + 16) (methodsBytes (x .methods)) ≡ sets b at (recordBytes x)
+unfolding recordBytes
+record-parts b at x =
+    let h : List ℕ = headBytes (headOf x) in
+    let m : List ℕ = methodsBytes (x .methods) in
+    let e : at + 6 + 10 ≡ at + 16 = omega arith in
+    ap (λ (k : ℕ). sets (sets (sets b at h) (at + 6) spareBytes) k m) (sym e)
+    ∙ sym (sets-append (sets b at h) (at + 6) spareBytes m) ∙ sym (sets-append b at h (spareBytes ++ m))
+
+module _ (x : RawType) (s : Shaped x) where
+  pub record-length : length (recordBytes x) ≡ 128
+  unfolding recordBytes
+  record-length = let e : length (methodsBytes (x .methods)) ≡ 112 = bytes-length (x .methods) ∙ ap (λ (n : ℕ). n * 7) (s .methods) in omega arith
+
+  own-method : (j : ℕ) → j < 16 → rawMethodAt (recordBytes x) (16 + j * 7) ≡ getD (x .methods) j noRawMethod
+  unfolding recordBytes Agree
+  own-method j h =
+      let f : List ℕ = headBytes (headOf x) ++ spareBytes in
+      let q : j < length (x .methods) = omega (arith, s .methods) in
+      method-agree (recordBytes x) (16 + j * 7) (methodBytes (getD (x .methods) j noRawMethod)) 0
+      (λ p l. let g : 16 + j * 7 + p ≡ 16 + (j * 7 + p) = omega arith in
+      let z : 0 + p ≡ p = omega arith in
+      ap (λ (k : ℕ). getD (recordBytes x) k 0) g ∙ getD-append-add f (methodsBytes (x .methods)) (j * 7 + p) 0 ∙ bytes-at (x .methods) j p q l
+      ∙ ap (λ (k : ℕ). getD (methodBytes (getD (x .methods) j noRawMethod)) k 0) (sym z))
+      ∙ method-own (getD (x .methods) j noRawMethod) (s .slots j h)
+
+  -- a record's own bytes, read back
+  pub record-own : rawTypeAt (recordBytes x) 0 ≡ x
+  unfolding recordBytes mkT rawMethodsAt
+  record-own =
+      mkT-eq refl refl refl refl refl refl
+      (is-from (λ j. rawMethodAt (recordBytes x) (0 + 16 + j * 7)) 16 noRawMethod (x .methods) (s .methods) (λ j l. sym (own-method j l)))
+
+-- A record's bytes stored at `at`: it stands there, and nothing else changes.
+module _ (b : List ℕ) (at : ℕ) (x : RawType) (s : Shaped x) where
+  below : (k : ℕ) → k < at → getD (sets b at (recordBytes x)) k 0 ≡ getD b k 0
+  below k h = getD-sets-below b at (recordBytes x) k 0 h
+
+  above : (k : ℕ) → at + 128 ≤ k → getD (sets b at (recordBytes x)) k 0 ≡ getD b k 0
+  above k h = let e : length (recordBytes x) ≡ 128 = record-length x s in getD-sets-above b at (recordBytes x) k 0 (omega arith)
+
+  stands : at + 128 ≤ length b → rawTypeAt (sets b at (recordBytes x)) at ≡ x
+  unfolding Agree
+  stands room =
+      let e : length (recordBytes x) ≡ 128 = record-length x s in
+      type-agree (sets b at (recordBytes x)) at (recordBytes x) 0
+      (λ p l. let z : 0 + p ≡ p = omega arith in getD-sets-in b at (recordBytes x) p 0 (omega arith) (omega arith) ∙ ap (λ (k : ℕ). getD (recordBytes x) k 0) (sym z))
+      ∙ record-own x s
+
+-- Storing a record is storing it in the list of records.
+pub stored : (b : List ℕ) (i : ℕ) (x : RawType) → length b ≡ 16384 → i < 128 → Shaped x → typesIn (sets b (i * 128) (recordBytes x)) ≡ set (typesIn b) i x
+unfolding typesIn Agree
+stored b i x eb hi s =
+    let b′ : List ℕ = sets b (i * 128) (recordBytes x) in
+    let f : ℕ → RawType = λ k. rawTypeAt b (k * 128) in
+    let own : rawTypeAt b′ (i * 128) ≡ x = stands b (i * 128) x s (omega arith) in
+    let other : (k : ℕ) → (k ≡ i → ⊥) → rawTypeAt b (k * 128) ≡ rawTypeAt b′ (k * 128) =
+    λ k ne. type-agree b (k * 128) b′ (k * 128)
+    (λ p l. ⊎-elim
+    (λ (lt : k < i). sym (below b (i * 128) x s (k * 128 + p) (omega arith)))
+    (λ (ge : i ≤ k). let gt : i < k = omega (arith, ne) in sym (above b (i * 128) x s (k * 128 + p) (omega arith)))
+    (lt-or-ge k i)) in
+    is-from (λ k. rawTypeAt b′ (k * 128)) 128 x (set (from 128 0 f) i x) (length-set (from 128 0 f) i x ∙ length-from f 128 0)
+    (λ k l. ⊎-elim
+    (λ (e : k ≡ i). ap (λ (n : ℕ). getD (set (from 128 0 f) i x) n x) e ∙ getD-set-same (from 128 0 f) i x x (rw (length-from f 128 0) hi) ∙ sym own
+    ∙ ap (λ (n : ℕ). rawTypeAt b′ (n * 128)) (sym e))
+    (λ (ne : k ≡ i → ⊥). getD-set-other (from 128 0 f) i k x x ne ∙ from-first f 128 k x l ∙ other k ne)
+    (same-or k i))
+
+-- What `put_type` promises, as its callers use it.
+module _ {b : List ℕ} {i : ℕ} {x : RawType} {b′ : List ℕ} (w : Put b i x b′) where
+  pub put-length : length b′ ≡ length b
+  put-length = ap length (w .bytes) ∙ length-sets b (i * 128) (recordBytes x)
+
+  pub put-types : length b ≡ 16384 → i < 128 → typesIn b′ ≡ set (typesIn b) i x
+  put-types e h = ap typesIn (w .bytes) ∙ stored b i x e h (w .shaped)

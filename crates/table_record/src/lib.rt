@@ -1,0 +1,251 @@
+// The table (T) as it is stored: flat bytes for the types, flat bytes for the broader links of the categories, and the counts. Records are read here and stored
+// by crate `table_store`: these two alone know where in the bytes a record stands. Contracts speak of the list of records that the bytes hold
+// (specs/Layout.antt).
+ghost use mathlib.Core.Path.{_≡_};
+ghost use Prim.Native.Nat.{_<_};
+ghost use lib.ListN.{length, getD};
+ghost use Rattle.spec_model.specs.Table.{permit};
+ghost use Rattle.spec_model.specs.Check.{noRawType, noRawMethod, noRawLinks, stateOf};
+ghost use Rattle.table_record.specs.Store.{typesIn, linksIn, rawMethod, rawOf, headOf, rawLinks};
+ghost use Rattle.table_record.specs.Store.{mayStandAs, emptyCounts, emptyMethod, emptyType, emptyTypes, emptyLinks};
+
+// The bytes of the types of a table, and of its broader links.
+pub const TYPE_BYTES: usize = 16384;
+
+pub const LINK_BYTES: usize = 96;
+
+// How many of each kind a table has. In a table handed in a count may be any number.
+pub struct Counts {
+    pub subjects: usize,
+    pub methods: usize,
+    pub cats: usize,
+    pub sheet: usize,
+    pub types: usize,
+}
+
+// The limits of a table, and of the arguments of a signature.
+impl Counts {
+    pub const SUBJECTS: usize = 16;
+
+    pub const METHODS: usize = 16;
+
+    pub const CATEGORIES: usize = 31;
+
+    pub const SHEET_TYPES: usize = 48;
+
+    pub const TYPES: usize = 128;
+
+    pub const ARGUMENTS: usize = 2;
+
+    // the counts of a table that holds nothing
+    pub fn empty() -> Self
+        ensures { λ r. ⌜ r ≡ emptyCounts ⌝ }
+    {
+        Self {
+            subjects: 0,
+            methods: 0,
+            cats: 0,
+            sheet: 0,
+            types: 0,
+        }
+    }
+}
+
+// A method of a type: the state's code, and the signature. `count` arguments are used; `answer` is 0 for none, else the type's number plus 1.
+pub struct Method {
+    pub state: u8,
+    pub count: u8,
+    pub args: [u8; Method::SLOTS],
+    pub answer: u8,
+}
+
+// The codes of the four states, and the argument slots of a record.
+impl Method {
+    pub const SLOTS: usize = 4;
+
+    pub const DENIED: u8 = 0;
+
+    pub const OPTIONAL: u8 = 1;
+
+    pub const AVAIL: u8 = 2;
+
+    pub const UNAVAIL: u8 = 3;
+
+    // denied, without a signature
+    pub fn empty() -> Self
+        ensures { λ r. ⌜ r ≡ emptyMethod ⌝ }
+    {
+        Self {
+            state: Method::DENIED,
+            count: 0,
+            args: [0u8; Method::SLOTS],
+            answer: 0,
+        }
+    }
+}
+
+// A type without its methods: codes of representation, category and own; of a derived type its kind, left and right, else 0.
+pub struct Head {
+    pub rep: u8,
+    pub cat: u8,
+    pub own: u8,
+    pub kind: u8,
+    pub left: u8,
+    pub right: u8,
+}
+
+// The codes of the three representations, and of own=yes.
+impl Head {
+    pub const REF: u8 = 0;
+
+    pub const W32: u8 = 1;
+
+    pub const W64: u8 = 2;
+
+    pub const OWN: u8 = 1;
+}
+
+// A type.
+pub struct TypeRec {
+    pub head: Head,
+    pub methods: [Method; Counts::METHODS],
+}
+
+impl TypeRec {
+    // a reference type of no category that denies every method
+    pub fn empty() -> Self
+        ensures { λ r. ⌜ r ≡ emptyType ⌝ }
+    {
+        let m = Method::empty();
+        let methods = [m; Counts::METHODS];
+        let head = Head {
+            rep: Head::REF,
+            cat: 0,
+            own: 0,
+            kind: 0,
+            left: 0,
+            right: 0,
+        };
+        Self { head, methods }
+    }
+}
+
+// By which a derived type is known: its kind and the numbers of the two types that it is derived from.
+pub struct Key {
+    pub kind: u8,
+    pub left: usize,
+    pub right: usize,
+}
+
+// The codes of the three kinds.
+impl Key {
+    pub const SUB: u8 = 0;
+
+    pub const SUP: u8 = 1;
+
+    pub const CLOSED: u8 = 2;
+}
+
+// The broader categories of a category: how many, and their numbers.
+pub struct Links {
+    pub count: u8,
+    pub first: u8,
+    pub second: u8,
+}
+
+// Optional and avail permit a method.
+pub fn permits(state: u8) -> bool
+    ensures { λ r. ⌜ r ≡ permit (stateOf state) ⌝ }
+{
+    if state == Method::OPTIONAL {
+        return true;
+    }
+    state == Method::AVAIL
+}
+
+// Bytes for the types of an empty table, and for its links.
+pub fn empty_types() -> [u8; TYPE_BYTES]
+    ensures { λ r. ⌜ r ≡ emptyTypes ⌝ }
+{
+    [0u8; TYPE_BYTES]
+}
+
+pub fn empty_links() -> [u8; LINK_BYTES]
+    ensures { λ r. ⌜ r ≡ emptyLinks ⌝ }
+{
+    [0u8; LINK_BYTES]
+}
+
+// The broader categories of category k.
+pub fn get_links(l: &[u8; LINK_BYTES], k: usize) -> Links
+    requires { ⌜ k < 32 ⌝ }
+    ensures { λ r. ⌜ rawLinks r ≡ getD (linksIn (now (l .entry))) k noRawLinks ⌝ }
+{
+    let at = k * 3;
+    Links {
+        count: l[at],
+        first: l[at + 1],
+        second: l[at + 2],
+    }
+}
+
+// Type i without its methods.
+pub fn get_head(b: &[u8; TYPE_BYTES], i: usize) -> Head
+    requires { ⌜ i < 128 ⌝ }
+    ensures { λ r. ⌜ r ≡ headOf (getD (typesIn (now (b .entry))) i noRawType) ⌝ }
+{
+    let at = i * 128;
+    Head {
+        rep: b[at],
+        cat: b[at + 1],
+        own: b[at + 2],
+        kind: b[at + 3],
+        left: b[at + 4],
+        right: b[at + 5],
+    }
+}
+
+// Method j of type i.
+pub fn get_method(b: &[u8; TYPE_BYTES], i: usize, j: usize) -> Method
+    requires { ⌜ (i < 128) × (j < 16) ⌝ }
+    ensures { λ r. ⌜ rawMethod r ≡ getD (getD (typesIn (now (b .entry))) i noRawType .methods) j noRawMethod ⌝ }
+{
+    let at = i * 128 + 16 + j * 7;
+    let args = [b[at + 2], b[at + 3], b[at + 4], b[at + 5]];
+    Method {
+        state: b[at],
+        count: b[at + 1],
+        args,
+        answer: b[at + 6],
+    }
+}
+
+// Whether type i may stand in a signature: a type without own, which a number type always is.
+pub fn may_stand(b: &[u8; TYPE_BYTES], i: usize) -> bool
+    requires { ⌜ i < 128 ⌝ }
+    ensures { λ r. ⌜ r ≡ mayStandAs (getD (typesIn (now (b .entry))) i noRawType) ⌝ }
+{
+    let h = get_head(b, i);
+    if h.rep != Head::REF {
+        return true;
+    }
+    h.own != Head::OWN
+}
+
+// Type i.
+pub fn get_type(b: &[u8; TYPE_BYTES], i: usize) -> TypeRec
+    requires { ⌜ i < 128 ⌝ }
+    ensures is { λ r. ⌜ rawOf r ≡ getD (typesIn (now (b .entry))) i noRawType ⌝ }
+    ensures shape { λ r. ⌜ length (r .methods) ≡ 16 ⌝ }
+{
+    let head = get_head(b, i);
+    let none = Method::empty();
+    let mut methods = [none; Counts::METHODS];
+    let mut j: usize = 0;
+    while j < 16 {
+        let m = get_method(b, i, j);
+        methods[j] = m;
+        j += 1;
+    }
+    TypeRec { head, methods }
+}

@@ -1,1 +1,0 @@
-// Laws about the bytes that stand for a table (crate table): when a record is exact (B13), and what whole tables mean. No code.
