@@ -1,6 +1,8 @@
-// Small numbers: a byte as a number and back, and the smaller of two. Every crate that reads or writes bytes uses these.
+// Small numbers: a byte as a number and back, and the smaller of two. Every crate that reads or writes bytes uses these. And operands: signed 64-bit numbers at
+// every entry point, of which one becomes the number of a thing of which there are n.
 ghost use mathlib.Core.Path.{_≡_};
 ghost use Prim.Native.Nat.{_≤_, _<_, min};
+ghost use Rattle.base_numbers.specs.Index.{indexOf};
 
 // A byte as a number.
 pub fn wide(x: u8) -> usize
@@ -32,4 +34,18 @@ pub fn least(a: usize, b: usize) -> usize
         return a;
     }
     b
+}
+
+// The number that z names, or n itself, which is none of them.
+pub fn index_of(z: i64, n: usize) -> usize
+    ensures { λ r. ⌜ r ≡ indexOf z n ⌝ }
+{
+    if z < 0 {
+        return n;
+    }
+    let k = z as usize;
+    if k < n {
+        return k;
+    }
+    n
 }

@@ -29,7 +29,7 @@ use Rattle.table_record.proofs.Codes.{rep-code, answer-is}
 use Rattle.crossing_layers.specs.declared.Slot.{Slot}
 use Rattle.crossing_layers.specs.declared.Slot.the-variants.{Argument, Answer}
 use Rattle.crossing_layers.specs.Carried.{argumentOf, slotIn, slotAt, widthAt, passAs, passTo, passedOf}
-use Rattle.crossing_layers.proofs.Methods.{ref-is, method-is, method-out}
+use Rattle.law_table.proofs.Methods.{ref-is, method-is, method-out}
 
 -- ---- Lists.
 module _ {A B : Type 0} (f : A → B) where

@@ -1,3 +1,2 @@
-pub mod Methods
 pub mod Laws
 pub mod Carrying

@@ -16,8 +16,8 @@ use Rattle.table_record.specs.declared.Counts.{Counts}
 use Rattle.table_record.specs.Store.{rawTable, tableIn}
 use Rattle.table_record.specs.Limits.{Limits}
 use Rattle.table_record.proofs.Tables.{size-is}
-use Rattle.base_operand.specs.Index.{indexOf}
-use Rattle.base_operand.proofs.Laws.{index-unknown, index-known}
+use Rattle.base_numbers.specs.Index.{indexOf}
+use Rattle.base_numbers.proofs.Laws.{index-unknown, index-known}
 use Rattle.derive_record.specs.declared.Derived.{Derived}
 use Rattle.derive_record.specs.declared.Derived.the-variants.{Full, At}
 use Rattle.derive_record.specs.Begins.{refIn}

@@ -86,11 +86,11 @@ fn derive_named(b: &mut [u8; TYPE_BYTES], c: Counts, kind: usize, t: i64, s: i64
     requires { ⌜ Limits c ⌝ }
     ensures { λ r. ⌜ ((l : List ℕ) → Answered (now (b .entry)) l c (deriveNamed (tableIn (now (b .entry)) l c) kind t s) (left c r (now (b .exit)))) ⌝ }
 {
-    let x = base_operand::index_of(t, c.types);
+    let x = base_numbers::index_of(t, c.types);
     if c.types <= x {
         return Made::Unknown;
     }
-    let y = base_operand::index_of(s, c.types);
+    let y = base_numbers::index_of(s, c.types);
     if c.types <= y {
         return Made::Unknown;
     }

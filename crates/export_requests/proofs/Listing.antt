@@ -11,7 +11,7 @@ use lib.Seq.{take-all, take-suc, take-suc-set}
 use borrow.Author.Tests.{le-leb}
 use Rattle.spec_model.specs.Table.{maxArguments}
 use Rattle.spec_model.specs.Requests.{call, answer}
-use Rattle.base_operand.specs.Coded.{byCode}
+use Rattle.spec_model.specs.Coded.{byCode}
 use Rattle.export_requests.specs.States.{givenIn, answerOperands, callOperands, Listed}
 
 -- ---- Answer: a third operand where a value is given.

@@ -5,7 +5,7 @@ ghost use mathlib.Core.Path.{_≡_};
 ghost use mathlib.Core.Option.{some};
 ghost use Prim.Native.Nat.{_≤_};
 ghost use Rattle.spec_model.specs.Requests.{Request, new, move, call, answer};
-ghost use Rattle.base_operand.specs.Coded.{byCode};
+ghost use Rattle.spec_model.specs.Coded.{byCode};
 ghost use Rattle.state_bytes.specs.Flat.{flat};
 ghost use Rattle.request_results.specs.States.{Handed, lentState};
 ghost use Rattle.export_requests.specs.States.{givenIn, answerOperands, callOperands, Listed};

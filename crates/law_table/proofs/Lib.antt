@@ -1,2 +1,3 @@
 pub mod Exact
+pub mod Methods
 pub mod Whole

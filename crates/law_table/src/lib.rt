@@ -1,1 +1,2 @@
-// Laws about the bytes that stand for a table (crate table_record): when a record is exact (B13), and what whole tables mean. No code.
+// Laws about the bytes that stand for a table (crate table_record): when a record is exact (B13), what whole tables mean, and which
+// methods a type has. No code.

@@ -17,8 +17,8 @@ use Rattle.table_record.specs.Store.{rawTable, tableIn}
 use Rattle.table_record.proofs.Lists.{is-from, from-first}
 use Rattle.relation_search.specs.declared.Answers.{Answers}
 use Rattle.relation_search.specs.Answered.{answersOf, answersAt}
-use Rattle.base_operand.specs.Index.{indexOf}
-use Rattle.base_operand.proofs.Laws.{index-unknown, index-known}
+use Rattle.base_numbers.specs.Index.{indexOf}
+use Rattle.base_numbers.proofs.Laws.{index-unknown, index-known}
 use Rattle.relation_compare.specs.declared.Compared.{Compared}
 use Rattle.relation_compare.specs.declared.Compared.the-variants.{Unfit, Unknown, Answers as Given}
 use Rattle.relation_compare.specs.declared.Pairs.{Pairs}

@@ -34,11 +34,11 @@ fn compare_checked(
     requires { ⌜ Checked (now l) c ⌝ }
     ensures { λ r. ⌜ comparedOf r ≡ compare (tableIn (now (b .entry)) (now (l .entry)) c) t s ⌝ }
 {
-    let x = base_operand::index_of(t, c.types);
+    let x = base_numbers::index_of(t, c.types);
     if c.types <= x {
         return Compared::Unknown;
     }
-    let y = base_operand::index_of(s, c.types);
+    let y = base_numbers::index_of(s, c.types);
     if c.types <= y {
         return Compared::Unknown;
     }

@@ -8,7 +8,7 @@ use lib.ListN.{length, getD, drop}
 use borrow.Author.Tests.{eq-eqb, ne-eqb, le-leb, lt-leb}
 use Rattle.spec_model.specs.Basics.{Res}
 use Rattle.spec_model.specs.Requests.{System, Request, Result, Outcome, got, refused, serve, newRequest, moveRequest, callRequest, answerRequest, after, outcome}
-use Rattle.base_operand.specs.Coded.{byCode}
+use Rattle.spec_model.specs.Coded.{byCode}
 use Rattle.state_record.specs.Whole.{Whole as State}
 use Rattle.state_record.specs.View.{systemIn}
 use Rattle.state_record.specs.Sound.{Sound}

@@ -4,7 +4,7 @@ ghost use Rattle.state_record.specs.Whole.{whole};
 ghost use Rattle.state_record.specs.View.{systemIn};
 ghost use Rattle.state_record.specs.Sound.{Sound};
 ghost use Rattle.request_common.specs.Served.{Step, done};
-ghost use Rattle.base_operand.specs.Coded.{byCode};
+ghost use Rattle.spec_model.specs.Coded.{byCode};
 ghost use Rattle.request_by_code.specs.Coded.{serveAsked};
 use request_answer::Given;
 use request_common::Served;

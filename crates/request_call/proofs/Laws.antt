@@ -24,7 +24,7 @@ use Rattle.table_record.proofs.Codes.{rep-code}
 use Rattle.state_record.specs.Whole.{Whole as State}
 use Rattle.state_record.specs.View.{systemIn}
 use Rattle.crossing_layers.specs.Carried.{argumentOf}
-use Rattle.crossing_layers.proofs.Methods.{ref-is, method-is}
+use Rattle.law_table.proofs.Methods.{ref-is, method-is}
 use Rattle.request_common.proofs.Laws.{table-is}
 use Rattle.request_value.specs.Sent.{argumentsOf}
 use Rattle.request_value.proofs.Laws.{none-left, some-left}

@@ -23,8 +23,8 @@ use Rattle.table_record.specs.Limits.{Limits}
 use Rattle.table_record.proofs.Lists.{lt-or-ge}
 use Rattle.table_record.proofs.Tables.{types-same}
 use Rattle.derive_sub_sup.proofs.Bytes.{record-same}
-use Rattle.base_operand.specs.Index.{indexOf}
-use Rattle.base_operand.proofs.Laws.{index-unknown, index-known}
+use Rattle.base_numbers.specs.Index.{indexOf}
+use Rattle.base_numbers.proofs.Laws.{index-unknown, index-known}
 use Rattle.state_record.specs.declared.Cell.{Cell}
 use Rattle.state_record.specs.declared.Cells.{Cells}
 use Rattle.state_record.specs.declared.Places.{Places}

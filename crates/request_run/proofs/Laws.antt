@@ -14,7 +14,7 @@ use Rattle.spec_model.specs.Table.{size}
 use Rattle.spec_model.specs.Requests.{System, Request, Outcome, after}
 use Rattle.spec_model.specs.Check.{systemOf, systemAccepted}
 use Rattle.spec_model.specs.Handed.{counted, storedFrom}
-use Rattle.base_operand.specs.Index.{indexOf}
+use Rattle.base_numbers.specs.Index.{indexOf}
 use Rattle.table_record.specs.Store.{withCount}
 use Rattle.table_record.specs.Records.{bytesOf}
 use Rattle.state_record.specs.Whole.{Whole as State}
@@ -26,7 +26,7 @@ use Rattle.request_common.specs.Served.{Done as Served}
 use Rattle.request_common.specs.Served.{outcomeOf, Stored, Step}
 use Rattle.request_common.proofs.Laws.{stored-self, stored-on, system-kept}
 use Rattle.request_value.specs.Sent.{isAccepted}
-use Rattle.base_operand.specs.Coded.{byCode}
+use Rattle.spec_model.specs.Coded.{byCode}
 use Rattle.request_by_code.specs.Coded.{serveAsked}
 use Rattle.request_by_code.proofs.Laws.{outcome-is, after-is}
 use Rattle.request_run.specs.Requested.{request, requests, runAsked, runHanded}

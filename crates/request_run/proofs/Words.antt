@@ -12,7 +12,7 @@ use lib.Seq.{drop-cons, sets, getD-drop, drop-drop}
 use borrow.Author.Tests.{lt-ltb, le-ltb}
 use Rattle.spec_model.specs.Basics.{names, named}
 use Rattle.spec_model.specs.Requests.{Request, pair, number, nothing, Outcome, got, refused}
-use Rattle.base_operand.specs.Index.{indexOf}
+use Rattle.base_numbers.specs.Index.{indexOf}
 use Rattle.request_run.specs.Requested.{request, requests}
 use Rattle.request_common.specs.declared.Answer.{Answer}
 use Rattle.request_common.specs.declared.Answer.the-variants.{Refused, Pair, Number, Nothing}

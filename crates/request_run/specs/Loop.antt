@@ -7,7 +7,7 @@ use lib.Dec.{ltb}
 use lib.IntN.{ℤ, pos}
 use lib.ListN.{length, getD, take, drop}
 use Rattle.spec_model.specs.Requests.{Request}
-use Rattle.base_operand.specs.Index.{indexOf}
+use Rattle.base_numbers.specs.Index.{indexOf}
 use Rattle.request_common.specs.declared.Answer.{Answer}
 use Rattle.request_common.specs.declared.Answer.the-variants.{Refused, Pair, Number, Nothing}
 use Rattle.request_run.specs.Requested.{request}

@@ -8,7 +8,7 @@ use lib.ListN.{length, take, drop}
 use Rattle.spec_model.specs.Basics.{Res, ok, need, names, named}
 use Rattle.spec_model.specs.Requests.{System, Request, Outcome, refused, run}
 use Rattle.spec_model.specs.Check.{RawSystem, systemOf, systemAccepted}
-use Rattle.base_operand.specs.Coded.{byCode}
+use Rattle.spec_model.specs.Coded.{byCode}
 
 abbrev pub request : ℤ → List ℤ → Option Request
 request code ws = cond (names code 4) (byCode (named code) ws) none

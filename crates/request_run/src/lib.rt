@@ -16,7 +16,7 @@ ghost use Rattle.request_by_code.specs.Coded.{serveAsked};
 ghost use Rattle.request_run.specs.Requested.{request, requests, runAsked, runHanded};
 ghost use Rattle.request_run.specs.Ran.{wordsOf, room, over, Runs};
 ghost use Rattle.request_run.specs.Loop.{SmallAnswer, countAt, askedAt, nextAt};
-use base_operand::index_of;
+use base_numbers::index_of;
 use request_by_code::CODES;
 use request_by_code::serve_coded;
 use request_common::Answer;

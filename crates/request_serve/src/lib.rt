@@ -2,7 +2,7 @@
 // any state and any numbers: 2 where the state does not pass, before all else; then the step that the run and the script take too.
 ghost use mathlib.Core.Path.{_≡_};
 ghost use lib.ListN.{length};
-ghost use Rattle.base_operand.specs.Coded.{byCode};
+ghost use Rattle.spec_model.specs.Coded.{byCode};
 ghost use Rattle.state_record.specs.Whole.{whole};
 ghost use Rattle.request_common.specs.Served.{done};
 ghost use Rattle.request_serve.specs.Serves.{ServesAsked};

@@ -17,7 +17,7 @@ use borrow.Author.Tests.{le-leb, lt-leb, lt-ltb, le-ltb, eq-eqb, ne-eqb, eqb-tru
 use Rattle.spec_model.specs.Requests.{Request}
 use Rattle.spec_model.specs.Table.{isNone}
 use Rattle.spec_model.proofs.Rules.{both}
-use Rattle.base_operand.specs.Coded.{byCode}
+use Rattle.spec_model.specs.Coded.{byCode}
 use Rattle.spec_sheet.specs.Lines.{bytes, starts, same}
 use Rattle.spec_sheet.specs.Numbers.{Scan, fail, took, bindScan, number}
 use Rattle.text_read.specs.View.{scanBy, ScanWithin}

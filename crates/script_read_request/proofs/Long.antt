@@ -12,7 +12,7 @@ use lib.ListN.{length, getD, drop, length-append}
 use borrow.Author.Tests.{ltb-true, leb-true, eqb-true}
 use Rattle.spec_model.specs.Requests.{Request, new, move, call, answer}
 use Rattle.spec_model.proofs.Rules.{first, second}
-use Rattle.base_operand.specs.Coded.{byCode}
+use Rattle.spec_model.specs.Coded.{byCode}
 use Rattle.spec_sheet.specs.Lines.{bytes, starts, same}
 use Rattle.spec_sheet.specs.Numbers.{Scan, fail, took, number, decimalIn, decimal}
 use Rattle.spec_sheet.proofs.Steps.{cond-cases, fail-took, took-value, took-rest, bindScan-took}

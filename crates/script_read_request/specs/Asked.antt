@@ -8,7 +8,7 @@ use lib.Dec.{eqb, ltb, leb}
 use lib.IntN.{ℤ, pos, negsuc}
 use lib.ListN.{length, drop}
 use Rattle.spec_model.specs.Requests.{Request}
-use Rattle.base_operand.specs.Coded.{byCode}
+use Rattle.spec_model.specs.Coded.{byCode}
 use Rattle.spec_sheet.specs.Lines.{bytes, starts, same}
 use Rattle.spec_sheet.specs.Numbers.{Scan, fail, took, bindScan, number}
 

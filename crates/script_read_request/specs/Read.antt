@@ -9,7 +9,7 @@ use lib.IntN.{ℤ}
 use lib.ListN.{length, take, drop}
 use Rattle.spec_model.specs.Requests.{Request}
 use Rattle.spec_model.specs.Table.{isNone}
-use Rattle.base_operand.specs.Coded.{byCode}
+use Rattle.spec_model.specs.Coded.{byCode}
 use Rattle.spec_sheet.specs.Numbers.{Scan, fail, took}
 use Rattle.script_read_request.specs.Asked.{maxOperands}
 use Rattle.script_read_request.specs.declared.Integer.{Integer}

@@ -4,6 +4,7 @@ pub mod Relations
 pub mod Restriction
 pub mod Crossing
 pub mod Requests
+pub mod Coded
 pub mod Check
 pub mod Records
 pub mod Handed

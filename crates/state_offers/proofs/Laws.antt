@@ -27,9 +27,9 @@ use Rattle.state_record.specs.Whole.{Whole as State}
 use Rattle.state_record.specs.View.{cellsIn, placesIn, rawState, systemIn}
 use Rattle.state_record.specs.Sound.{Sound}
 use Rattle.state_record.proofs.Laws.{cells-length, system-is}
-use Rattle.base_operand.specs.Index.{indexOf}
-use Rattle.base_operand.proofs.Laws.{index-unknown, index-known}
-use Rattle.crossing_layers.proofs.Methods.{method-is}
+use Rattle.base_numbers.specs.Index.{indexOf}
+use Rattle.base_numbers.proofs.Laws.{index-unknown, index-known}
+use Rattle.law_table.proofs.Methods.{method-is}
 use Rattle.state_offers.specs.declared.Offered.the-variants.{Unfit}
 use Rattle.state_offers.specs.Chained.{methodsNamed, offersNamed, offersHanded, offeredAs}
 use Rattle.state_offers.specs.Steps.{permitsNamed, stepOf, stepCode}

@@ -28,7 +28,7 @@ fn after_method(types: &[u8; TYPE_BYTES], c: Counts, t: usize, z: i64) -> usize
     requires { ⌜ Limits c ⌝ }
     ensures { λ r. ⌜ ((l : List ℕ) → r ≡ stepCode (tableIn (now (types .entry)) l c) t z) ⌝ }
 {
-    let m = base_operand::index_of(z, c.methods);
+    let m = base_numbers::index_of(z, c.methods);
     if c.methods <= m {
         return 0;
     }
@@ -73,7 +73,7 @@ fn cell_offers(types: &[u8; TYPE_BYTES], s: State, cell: i64, chain: &[i64]) -> 
     ensures { λ r. ⌜ r ≡ offersNamed (systemIn (whole (now (types .entry)) s)) cell (now (chain .entry)) ⌝ }
 {
     let cells = s.cells;
-    let k = base_operand::index_of(cell, cells.count);
+    let k = base_numbers::index_of(cell, cells.count);
     if cells.count <= k {
         return false;
     }

@@ -3,7 +3,7 @@ use mathlib.Core.Path.{refl, subst}
 use mathlib.Core.Option.{Option}
 use borrow.Author.Needs.{needs}
 use Rattle.spec_model.specs.Requests.{Request}
-use Rattle.base_operand.specs.Coded.{byCode}
+use Rattle.spec_model.specs.Coded.{byCode}
 use Rattle.state_record.specs.Whole.{whole}
 use Rattle.request_common.specs.Served.{done}
 use Rattle.request_serve.specs.Serves.{ServesAsked}

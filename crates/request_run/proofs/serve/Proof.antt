@@ -4,8 +4,8 @@ use mathlib.Core.List.{List}
 use Prim.Native.Nat.{ℕ}
 use lib.IntN.{ℤ}
 use mir.Facts.{toZ-ofZ}
-use Rattle.base_operand.specs.Index.{indexOf}
-use Rattle.base_operand.specs.Coded.{byCode}
+use Rattle.base_numbers.specs.Index.{indexOf}
+use Rattle.spec_model.specs.Coded.{byCode}
 use Rattle.state_record.specs.View.{systemIn}
 use Rattle.request_by_code.specs.Coded.{serveAsked}
 use Rattle.request_run.specs.Requested.{request}

@@ -3,7 +3,7 @@ use mathlib.Core.Path.{ap, _∙_}
 use mathlib.Core.List.{List}
 use Prim.Native.Nat.{ℕ}
 use borrow.Author.Needs.{needs}
-use Rattle.base_operand.specs.Coded.{byCode}
+use Rattle.spec_model.specs.Coded.{byCode}
 use Rattle.table_check.proofs.Steps.{refused, passed}
 use Rattle.state_record.specs.Whole.{whole}
 use Rattle.state_check.proofs.Sound.{accepted-sound}

@@ -1,6 +1,6 @@
 -- A number past the count names no type; below it the code of the representation decides.
 use borrow.Author.Needs.{needs}
-use Rattle.crossing_layers.proofs.Methods.{ref-out, ref-is}
+use Rattle.law_table.proofs.Methods.{ref-out, ref-is}
 use Rattle.request_value.proofs.is_ref.Statement.{statement}
 use Rattle.request_value.proofs.is_ref.Tie as tie
 

@@ -5,7 +5,7 @@ use mathlib.Core.Path.{_≡_, sym, ap}
 -- What is no request is refused (`refuses`); else the request is that of the code and the operands.
 use lib.ListN.{take}
 use Rattle.script_read_request.specs.Read.{askedAs}
-use Rattle.base_operand.specs.Coded.{byCode}
+use Rattle.spec_model.specs.Coded.{byCode}
 use Rattle.state_record.specs.View.{systemIn}
 use Rattle.request_by_code.specs.Coded.{serveAsked}
 use Rattle.request_by_code.proofs.Laws.{refuses}

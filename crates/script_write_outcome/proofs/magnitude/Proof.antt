@@ -1,7 +1,7 @@
 -- A number without its sign: a negative one is turned round before the 1 is added, so that the least 64-bit number is met too (`opposite`).
 use mir.Facts.{toZ-ofZ}
 use native.Mathlib.Omega.{arith}
-use Rattle.base_operand.proofs.Laws.{index-cast}
+use Rattle.base_numbers.proofs.Laws.{index-cast}
 use Rattle.script_write_outcome.proofs.Laws.{opposite}
 use Rattle.script_write_outcome.proofs.magnitude.Statement.{statement}
 use Rattle.script_write_outcome.proofs.magnitude.Tie as tie

@@ -1,8 +1,8 @@
 -- A signed operand becomes the index that it names, or n: a negative one and one from n on name nothing. It is kept as 64 bits and read back (`toZ-ofZ`).
 use mir.Facts.{toZ-ofZ}
-use Rattle.base_operand.proofs.Laws.{index-negative, index-cast, index-within, index-above}
-use Rattle.base_operand.proofs.index_of.Statement.{statement}
-use Rattle.base_operand.proofs.index_of.Tie as tie
+use Rattle.base_numbers.proofs.Laws.{index-negative, index-cast, index-within, index-above}
+use Rattle.base_numbers.proofs.index_of.Statement.{statement}
+use Rattle.base_numbers.proofs.index_of.Tie as tie
 
 returns : tie.Need-returns
 returns c = let a = c .before .args in index-negative (a .z) (a .n) (rw (toZ-ofZ (c .before .fits .z)) at (c .if1 .taken))

@@ -10,7 +10,7 @@ use mir.Syntax.{w64}
 use mir.Val.{SFits, Fits}
 use borrow.Author.Tests.{ltb-true, lt-ltb, le-ltb}
 use Rattle.spec_model.specs.Basics.{names, named}
-use Rattle.base_operand.specs.Index.{indexOf}
+use Rattle.base_numbers.specs.Index.{indexOf}
 
 pub index-negative : (z : ℤ) (n : ℕ) → ltZ z (pos 0) ≡ true → n ≡ indexOf z n
 index-negative (pos k) n h = let l : k < 0 = ltb-true k 0 h in absurd (omega arith)
