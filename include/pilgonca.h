@@ -13,7 +13,7 @@
  *   - arrays of one call do not overlap, but for two of which both are only read;
  *   - a size_t has 64 bits.
  *
- * Stack. The deepest request takes less than 512 KB; load 76, offers 100 (docs/MEASURED.md).
+ * Stack. The deepest request takes less than 256 KB; load 20, offers 8 (docs/MEASURED.md).
  */
 #ifndef PILGONCA_H
 #define PILGONCA_H
@@ -151,7 +151,7 @@ size_t pilgonca_pairs(
 /* ---- a state ----
  *
  * A request that is accepted stores the new state in the arrays lent, and three values: how many there are of it (0, 1 or 2), the first and the second, 0 where there is none.
- * What is proved of references (L19 to L23) is proved of a state that pilgonca_load began, and that only the functions below have changed since, refused calls included.
+ * What is proved of references (L19 to L27) is proved of a state that pilgonca_load began, and that only the functions below have changed since, refused calls included.
  */
 
 /* The state of a sheet (Q10): as pilgonca_read, with no cells, places or calls. */
