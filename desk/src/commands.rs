@@ -18,11 +18,13 @@ pub struct Paints {
     pub error: Paint,
 }
 
-/// Exit statuses.
+/// Exit statuses besides 0: what is asked is not so; input that is refused or cannot be read; words that are not understood; a question that input kept from being answered.
+pub const NO: u8 = 1;
 pub const BAD_INPUT: u8 = 1;
 pub const BAD_USAGE: u8 = 2;
+pub const NO_ANSWER: u8 = 3;
 
-/// A command that came to nothing: what was to print before, the message, and the exit status.
+/// A command that does not end with 0: what was to print before, the message if there is one, and the exit status.
 #[derive(Debug)]
 pub struct Stop {
     pub printed: String,
@@ -60,12 +62,14 @@ pub fn perform(args: &Args, paints: Paints) -> Result<String, Stop> {
         Command::Pairs { sheet, plain, svg } => desk.pairs(sheet, *plain, svg.as_deref()),
         Command::Compare { sheet, types } => desk.compare(sheet, types),
         Command::Run { script, svg } => desk.run(script, svg.as_deref()),
-        Command::Audit(path) => desk.audit(path),
+        Command::Audit { script, asked } => desk.audit(script, asked),
+        Command::Powers(path) => desk.powers(path),
+        Command::Diff { old, new } => desk.diff(old, new),
         Command::Explain(number) => desk.explain(number),
     }
 }
 
-/// What the commands share; desk run and desk audit are in `scripts`.
+/// What the commands share; desk run and desk audit are in `scripts`, desk powers and desk diff in modules of those names.
 pub struct Desk {
     pub names: Names,
     pub paints: Paints,
@@ -106,7 +110,7 @@ impl Desk {
         let (Some(t), Some(s)) = (sheet.type_info(t), sheet.type_info(s)) else {
             return Err(refused(Refusal::UnknownType).into());
         };
-        Ok(compared(&t, &s, &answers, &self.names, self.paints.out))
+        Ok(compared(&sheet, [&t, &s], &answers, &self.names, self.paints.out))
     }
 
     fn explain(&self, number: &str) -> Result<String, Stop> {
@@ -126,10 +130,15 @@ impl Desk {
     }
 
     /// A sheet that is accepted, with names that fit it.
-    fn accepted(&self, path: &Path, bytes: &[u8]) -> Result<Sheet, Stop> {
-        let sheet = Sheet::read(bytes).map_err(|refused| self.refused(path, bytes, &refused))?;
+    pub fn accepted(&self, path: &Path, bytes: &[u8]) -> Result<Sheet, Stop> {
+        let sheet = self.accepted_unnamed(path, bytes)?;
         self.names.fit(&sheet)?;
         Ok(sheet)
+    }
+
+    /// A sheet that is accepted, whatever the names are for.
+    pub fn accepted_unnamed(&self, path: &Path, bytes: &[u8]) -> Result<Sheet, Stop> {
+        Sheet::read(bytes).map_err(|refused| self.refused(path, bytes, &refused))
     }
 
     /// The end of a command whose sheet, from the file, is refused.
@@ -140,14 +149,19 @@ impl Desk {
 
     /// A type by its number or its name.
     fn type_(&self, word: &str) -> Result<Type, String> {
+        self.number(Kind::Type, word).map(Type)
+    }
+
+    /// Something by its number or its name.
+    pub fn number(&self, kind: Kind, word: &str) -> Result<i64, String> {
         if let Ok(number) = word.parse() {
-            return Ok(Type(number));
+            return Ok(number);
         }
-        let number = self.names.number(Kind::Type, word);
+        let number = self.names.number(kind, word);
         let number = number.ok_or_else(|| {
-            format!("no type is named {word:?} (names come from a file: --names FILE)")
+            format!("no {kind} is named {word:?} (names come from a file: --names FILE)")
         })?;
-        Ok(Type(number as i64))
+        Ok(number as i64)
     }
 }
 

@@ -23,7 +23,9 @@ fn main() -> ExitCode {
             status,
         }) => {
             let status = print(&printed, ExitCode::from(status));
-            complain(&problem);
+            if !problem.is_empty() {
+                complain(&problem);
+            }
             status
         }
     }

@@ -1,18 +1,24 @@
 //! Scripts: the commands `desk run` and `desk audit`, and what they follow a script with. Without the feature `visits` there is `no_scripts` instead.
 
 mod audit;
+mod calls;
 pub mod follow;
 pub mod requests;
 mod run_picture;
 mod run_plan;
 mod told;
 mod trails;
+pub mod trial;
+pub mod why;
 
-use crate::commands::{short, Desk, Stop, BAD_INPUT};
+use crate::args::Asked;
+use crate::commands::{short, Desk, Stop, BAD_INPUT, BAD_USAGE, NO, NO_ANSWER};
 use crate::diagnosis::block;
 use crate::explain::refused;
 use crate::input;
+use crate::names::Kind;
 use crate::paint::Tone;
+use audit::{audit, Question};
 use follow::{follow, output, Run};
 use pilgonca::raw;
 use requests::{right, split};
@@ -36,11 +42,57 @@ impl Desk {
         self.ended(path, &run, teller.told())
     }
 
-    pub fn audit(&self, path: &Path) -> Result<String, Stop> {
-        let bytes = input::read(path)?;
-        let run = self.followed(path, &bytes)?;
-        let text = audit::audit(&run, &self.names, self.paints.out).map_err(refused)?;
-        self.ended(path, &run, text)
+    pub fn audit(&self, path: &Path, asked: &Asked) -> Result<String, Stop> {
+        let narrowed = *asked != Asked::default();
+        // no answer is not the answer no
+        let unanswered = |stop: Stop| match narrowed {
+            true => Stop {
+                status: NO_ANSWER,
+                ..stop
+            },
+            false => stop,
+        };
+        let bytes = input::read(path).map_err(|why| unanswered(why.into()))?;
+        let run = self.followed(path, &bytes).map_err(unanswered)?;
+        let question = self.question(asked, &run)?;
+        let audited = audit(&run, question, &self.names, self.paints.out).map_err(refused)?;
+        let ended = self.ended(path, &run, audited.text);
+        match (narrowed, audited.yes, ended) {
+            (false, _, ended) | (true, true, ended @ Ok(_)) => ended,
+            (true, false, Ok(printed)) => Err(Stop {
+                printed,
+                problem: String::new(),
+                status: NO,
+            }),
+            // what was found before the line at fault is there
+            (true, true, Err(stop)) => Err(Stop { status: 0, ..stop }),
+            (true, false, Err(stop)) => Err(unanswered(stop)),
+        }
+    }
+
+    /// What the words ask about, by number.
+    fn question(&self, asked: &Asked, run: &Run) -> Result<Question, Stop> {
+        let sheet = run.visit.sheet();
+        let find = |kind: Kind, word: &Option<String>, count: usize| {
+            let Some(word) = word else {
+                return Ok(None);
+            };
+            let number = self.number(kind, word)?;
+            let found = usize::try_from(number).ok().filter(|one| *one < count);
+            let most = count - 1;
+            let found = found.ok_or_else(|| format!("there is no {kind} {number}: the sheet has 0 to {most}"))?;
+            Ok(Some(found))
+        };
+        let usage = |why: String| Stop {
+            printed: String::new(),
+            problem: why + "\n",
+            status: BAD_USAGE,
+        };
+        Ok(Question {
+            subject: find(Kind::Subject, &asked.subject, sheet.subjects()).map_err(usage)?,
+            method: find(Kind::Method, &asked.method, sheet.methods()).map_err(usage)?,
+            calls: asked.calls,
+        })
     }
 
     /// A script that was run here and by the core's own run, with one outcome.
