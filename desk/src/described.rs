@@ -6,8 +6,8 @@ use crate::words::listed;
 use pilgonca::{MethodInfo, Sheet, Type, TypeInfo};
 use std::collections::BTreeSet;
 
-/// From so many levels down on, only the sheet's types are named.
-const DEEPEST: usize = 2;
+/// So many levels down, only the sheet's types are named.
+const DEEPEST: usize = 1;
 
 /// A type as it is told. It keeps what the words need: a request that is refused leaves none of its derived types in a table.
 #[derive(Clone, PartialEq, Eq, Debug)]

@@ -11,13 +11,13 @@ use pilgonca::{Refusal, Sheet, Type, Visit};
 use std::path::Path;
 
 const HEAD: &str = "\
-What the holder of a reference can do, by its type. The holder does not own the object, unless the type has own: an owner can always
-take its object back as a type with own.
+What the holder of a reference can do, by its type. The holder does not own the object, unless the type
+has own: an owner can always take its object back as a type with own.
 
   can call          the type lets its holder call the method
-  can come to call  its holder can hand the reference to itself as the types named, and then call it, if what it leads to has the
-                    method still: a type on the way here may have hidden it
-  never             through no reference of this type, however it is handed on
+  can come to call  its holder can hand the reference to itself as the types named, and then call it, if no
+                    type hid the method before
+  never             whatever such a reference leads to, and whatever type it is handed on as
 ";
 
 /// The same where nobody else is there.

@@ -7,7 +7,7 @@ pub mod requests;
 mod run_picture;
 mod run_plan;
 mod told;
-mod trails;
+pub mod trails;
 pub mod trial;
 pub mod why;
 

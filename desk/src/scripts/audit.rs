@@ -9,12 +9,15 @@ use crate::words::under;
 use pilgonca::{CellInfo, Place, PlaceInfo, PlaceKind, Refusal, Sheet, Type};
 
 const HEAD: &str = "\
-Who could call what. Nothing is ever taken away: who held a reference at any time holds it at the end, so this is about all of the visit.
+Who could call what. Nothing is ever taken away: who held a reference at any time holds it at the end,
+so this covers the whole visit.
 
   can call          the type of the cell lets its holder call the method, given arguments that fit
   can come to call  its holder can hand the reference to itself as the types named, and then call it
-  offers            the method is there, and no type of the sheet that the reference can become lets it be called
+  offers            the method is there, and no type that the reference can be handed on as lets it be called
 ";
+
+const WAYS: &str = "how they came, since the object was made or its owner last took it back";
 
 /// What of a run is asked about.
 #[derive(Clone, Copy, Default, PartialEq, Eq, Debug)]
@@ -195,7 +198,7 @@ impl Auditor<'_> {
             Power::Unsettled => {
                 format!("offers: whether its holder can come to call it is not settled in {MOST_STEPS} steps")
             }
-            Power::Never => "offers: no type that it can become lets it be called".to_string(),
+            Power::Never => "offers: no type of the sheet lets it be called".to_string(),
         }
     }
 
@@ -210,7 +213,7 @@ impl Auditor<'_> {
         }
         match text.is_empty() {
             true => text,
-            false => format!("  how they came, since the object was made or its owner last took it back\n{text}"),
+            false => format!("  {WAYS}\n{text}"),
         }
     }
 }

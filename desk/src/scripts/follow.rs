@@ -122,7 +122,7 @@ impl<'a> Run<'a> {
 
     fn step(&mut self, line_number: usize, line: &'a [u8], request: Request) {
         let before = self.trails.count();
-        let outcome = self.put(&request);
+        let outcome = put(&mut self.visit, &request);
         let why = match outcome {
             Ok(_) => {
                 self.trails.note(&self.visit, &request);
@@ -143,42 +143,42 @@ impl<'a> Run<'a> {
             cells: before..self.trails.count(),
         });
     }
+}
 
-    fn put(&mut self, request: &Request) -> Result<Got, Refusal> {
-        let visit = &mut self.visit;
-        match request {
-            Request::New { subject, class, to } => visit
-                .new_object(Subject(*subject), Type(*class), Type(*to))
-                .map(Got::Held),
-            Request::Move {
-                subject,
-                cell,
-                receiver,
-                to,
-            } => visit
-                .move_reference(
-                    Subject(*subject),
-                    Cell(*cell),
-                    Subject(*receiver),
-                    Type(*to),
-                )
-                .map(Got::Held),
-            Request::Call {
-                subject,
-                cell,
-                method,
-                arguments,
-            } => visit
-                .call(Subject(*subject), Cell(*cell), Method(*method), arguments)
-                .map(Got::Called),
-            Request::Answer {
-                subject,
-                call,
-                value,
-            } => visit
-                .answer(Subject(*subject), Call(*call), *value)
-                .map(Got::Answered),
-        }
+/// Puts a request to the core.
+pub fn put(visit: &mut Visit, request: &Request) -> Result<Got, Refusal> {
+    match request {
+        Request::New { subject, class, to } => visit
+            .new_object(Subject(*subject), Type(*class), Type(*to))
+            .map(Got::Held),
+        Request::Move {
+            subject,
+            cell,
+            receiver,
+            to,
+        } => visit
+            .move_reference(
+                Subject(*subject),
+                Cell(*cell),
+                Subject(*receiver),
+                Type(*to),
+            )
+            .map(Got::Held),
+        Request::Call {
+            subject,
+            cell,
+            method,
+            arguments,
+        } => visit
+            .call(Subject(*subject), Cell(*cell), Method(*method), arguments)
+            .map(Got::Called),
+        Request::Answer {
+            subject,
+            call,
+            value,
+        } => visit
+            .answer(Subject(*subject), Call(*call), *value)
+            .map(Got::Answered),
     }
 }
 

@@ -1,0 +1,240 @@
+//! Every refused request is told by where it fails: to the core's own number, and with nothing said that is not so of the state.
+
+use crate::files::{accepted, read, with_file, NAMES, SCRIPT};
+use crate::scripts::same;
+use desk::names::Names;
+use desk::scripts::follow::put;
+use desk::scripts::requests::{split, Request};
+use desk::scripts::trial::{served, why};
+use desk::scripts::why::{Layer, LeadsTo, NoClass, Why};
+use pilgonca::{raw, Cell, MethodInfo, PlaceKind, Representation, Subject, Type, Visit};
+use reference::gen::{generate, Profile, PROFILES};
+use std::collections::BTreeMap;
+
+fn is_ref(visit: &Visit, type_: Type) -> bool {
+    visit.type_info(type_).expect("a type").representation == Representation::Ref
+}
+
+fn owner(visit: &Visit, cell: Cell) -> Subject {
+    let place = visit.cell_info(cell).expect("a cell").place;
+    let base = visit.base_of(place).expect("a base");
+    match visit.place_info(base).expect("a place").kind {
+        PlaceKind::Object { owner, .. } => owner,
+        PlaceKind::Adapter { .. } => panic!("a base is an object"),
+    }
+}
+
+fn method(visit: &Visit, type_: Type, method: usize) -> MethodInfo {
+    visit.type_info(type_).expect("a type").methods[method].clone()
+}
+
+/// Whether what is said is so, as far as a state tells; what is said of relations is tried elsewhere. Gives a word for what it is.
+fn holds(visit: &Visit, request: &Request, why: &Why) -> &'static str {
+    let sheet = visit.sheet();
+    let known = |number: i64, count: usize| (0..count as i64).contains(&number);
+    match why {
+        Why::NoSubject { number, receiver, count } => {
+            assert!(!known(*number, *count) && *count == sheet.subjects());
+            if *receiver { "receiver" } else { "subject" }
+        }
+        Why::NoCell { cell, count } => {
+            assert!(!known(*cell, *count) && *count == visit.cells().count());
+            "no cell"
+        }
+        Why::CellOf { cell, holder } => {
+            assert_eq!(visit.cell_info(Cell(*cell)).expect("a cell").holder, *holder);
+            "cell of another"
+        }
+        Why::NoCall { call, count } => {
+            assert!(!known(*call, *count) && *count == visit.calls().count());
+            "no call"
+        }
+        Why::CallFor { call, owner: named } => {
+            let call = visit.calls().nth(*call as usize).expect("a call");
+            assert_eq!(owner(visit, call.cell), *named);
+            "call for another"
+        }
+        Why::Answered { call } => {
+            assert!(visit.calls().nth(*call as usize).expect("a call").answered);
+            "answered"
+        }
+        Why::NoType { number, count } => {
+            assert!(!known(*number, *count) && *count == sheet.sheet_types());
+            "no type"
+        }
+        Why::NumberType { number } => {
+            assert!(!is_ref(visit, Type(*number)));
+            "number type"
+        }
+        Why::NoClass { number, because } => {
+            let info = visit.type_info(Type(*number)).expect("a type");
+            assert!(!info.is_class());
+            match because {
+                NoClass::Own => assert!(info.own),
+                NoClass::Says { method, .. } => {
+                    assert!(matches!(info.methods[*method], MethodInfo::Denied | MethodInfo::Optional(_)));
+                }
+            }
+            "no class"
+        }
+        Why::NoMethod { number, count } => {
+            assert!(!known(*number, *count) && *count == sheet.methods());
+            "no method"
+        }
+        Why::NotAvail { type_, method: number, .. } => {
+            assert!(!matches!(method(visit, *type_, *number), MethodInfo::Avail(_)));
+            "not avail"
+        }
+        Why::Count { type_, method: number, due, given } => {
+            let MethodInfo::Avail(signature) = method(visit, *type_, *number) else {
+                panic!("avail");
+            };
+            assert!(signature.arguments.len() == *due && due != given);
+            "count"
+        }
+        Why::NothingDue { .. } => "nothing due",
+        Why::AnswerDue { due, .. } => {
+            assert!((due.0 as usize) < sheet.sheet_types());
+            "answer due"
+        }
+        Why::NoReference { number, due, holder, .. } => {
+            assert!(is_ref(visit, *due));
+            let cell = visit.cell_info(Cell(*number));
+            assert_eq!(cell.map(|cell| cell.holder), *holder);
+            "no reference"
+        }
+        Why::Types { .. } => "types",
+        Why::Owner { owner: named, .. } => {
+            match request {
+                Request::Move { cell, receiver, .. } => {
+                    assert_eq!(owner(visit, Cell(*cell)), *named);
+                    assert_ne!(*named, Subject(*receiver));
+                }
+                _ => panic!("new objects are their makers', and signatures name no own type"),
+            }
+            "owner"
+        }
+        Why::Lacks { leads_to, .. } => {
+            if let LeadsTo::Adapter { place: Some(place), .. } = leads_to {
+                let kind = visit.places().nth(*place).expect("a place").kind;
+                assert!(matches!(kind, PlaceKind::Adapter { .. }));
+            }
+            "lacks"
+        }
+        Why::Wide { number } => {
+            assert!(i32::try_from(*number).is_err());
+            "wide"
+        }
+        Why::TypesFull { used } => {
+            assert_eq!(*used, visit.types().count());
+            "types full"
+        }
+        Why::PlacesFull { used } => {
+            assert_eq!(*used, visit.places().count());
+            "places full"
+        }
+        Why::CellsFull { used } => {
+            assert_eq!(*used, visit.cells().count());
+            "cells full"
+        }
+        Why::CallsFull => {
+            assert_eq!(visit.calls().count(), raw::MAX_CALLS);
+            "calls full"
+        }
+        Why::Unexplained => panic!("{request:?}"),
+        Why::Passing { layer, why, .. } => {
+            if let Layer::Adapter { place } = layer {
+                assert!(*place < visit.places().count());
+            }
+            match holds(visit, request, why) {
+                "types" => "argument's or answer's types",
+                "lacks" => "what an argument or answer leads to",
+                other => other,
+            }
+        }
+    }
+}
+
+#[test]
+fn every_refusal_has_a_reason_that_is_so() {
+    let (mut met, mut passed) = (BTreeMap::new(), 0);
+    for profile in PROFILES {
+        let seeds = if profile == Profile::Full { 15 } else { 150 };
+        for seed in 0..seeds {
+            let input = generate(seed, profile);
+            let Some(run) = same(&input) else {
+                continue;
+            };
+            let mut visit = Visit::load(split(&input).0).expect("it was followed");
+            for step in &run.steps {
+                match step.outcome {
+                    Ok(_) => {
+                        assert_eq!(served(&visit, &step.request), Ok(()), "{:?}", step.request);
+                        passed += 1;
+                    }
+                    Err(refusal) => {
+                        let found = why(&visit, &step.request, refusal);
+                        assert_eq!(found, step.why);
+                        let found = found.unwrap_or_else(|| panic!("{:?}: {refusal}", step.request));
+                        let words = found.words(&Names::default());
+                        assert!(!words.is_empty() && !words.contains(" or "), "{words}");
+                        *met.entry(holds(&visit, &step.request, &found)).or_insert(0) += 1;
+                    }
+                }
+                assert_eq!(put(&mut visit, &step.request), step.outcome);
+            }
+        }
+    }
+    println!("{passed} accepted; {met:?}");
+    assert!(passed > 10_000 && met.len() >= 22, "{passed} {met:?}");
+}
+
+/// Each number that a script can meet, with a part of what is said of its last line.
+const SAID: [(&str, &str); 14] = [
+    ("05", "there is no receiver 2: the sheet has subjects 0 to 1"),
+    ("06", "cell 0 is held by subject 0"),
+    ("07", "type 2 is no class: it says denied of method 1"),
+    ("08", "a reference of type 2 cannot become type 5: of method 1 type 5 says avail and type 2 says denied"),
+    ("09", "type 4 has own, and subject 0 owns the object"),
+    ("10", "of method 1 type 5 says avail and the adapter at place 1 (it lets through method 0) says unavail"),
+    ("11", "types"),
+    ("12", "it needs another of the 128 places, and all are used up"),
+    ("13", "it needs another of the 256 cells, and all are used up"),
+    ("14", "type 3 says optional of method 1, and only avail can be called"),
+    ("15", "method 1 takes 1 argument in type 1, and none came"),
+    ("16", "argument 1, at the cell's type 1: 2147483648 does not fit 32 bits"),
+    ("17", "call 0 is answered already"),
+    ("18", "it needs another of the 256 calls, and all are used up"),
+];
+
+#[test]
+fn a_refused_line_says_why() {
+    for (number, part) in SAID {
+        let out = accepted(&["run", &format!("examples/refused-{number}.script")]);
+        let last = out.lines().rfind(|line| line.contains("refused with")).expect("a refusal");
+        let refused = format!("refused with {}: ", number.trim_start_matches('0'));
+        assert!(last.contains(&refused) && last.contains(part), "{last}");
+    }
+    let named = accepted(&["run", SCRIPT, "--names", NAMES]);
+    assert!(named.contains("of method 1 (mark) type 5 (marker) says avail and type 2 (reader) says denied"), "{named}");
+}
+
+/// A call whose second argument fails is told by that argument.
+#[test]
+fn the_argument_at_fault_is_named() {
+    let sheet = "guide=1\nsubjects=1\nmethods=2\ncats=0\ntypes=4\ntype=0\nrep=w32\ncat=0\ntype=1\nrep=ref\ncat=0\nown=no\n\
+        m=avail()0\nm=avail(0,2)-\ntype=2\nrep=ref\ncat=0\nown=no\nm=avail()0\nm=denied\ntype=3\nrep=ref\ncat=0\nown=no\nm=denied\n\
+        m=denied\nend=sheet\n";
+    let requests = "do=new 0 1 1\ndo=new 0 1 3\ndo=call 0 0 1 5 1\ndo=call 0 0 1 5 9\ndo=call 0 0 1 2147483648 0\n";
+    with_file("argument", (sheet.to_string() + requests).as_bytes(), |path| {
+        let out = accepted(&["run", path]);
+        for part in [
+            "refused with 8: argument 2, at the cell's type 1: a reference of type 3 cannot become type 2: of method 0 type 2 says avail and type 3 says denied",
+            "refused with 15: argument 2 is to be a reference (type 2), and there is no cell 9",
+            "refused with 16: argument 1, at the cell's type 1: 2147483648 does not fit 32 bits",
+        ] {
+            assert!(out.contains(part), "{part}: {out}");
+        }
+    });
+    assert!(!read(SCRIPT).is_empty());
+}
