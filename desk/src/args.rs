@@ -62,6 +62,21 @@ pub struct Asked {
     pub calls: bool,
 }
 
+impl Asked {
+    /// The word behind --subject or --method.
+    fn take(&mut self, option: &str, word: Option<OsString>) -> Result<(), String> {
+        let slot = match option {
+            "--subject" => &mut self.subject,
+            _ => &mut self.method,
+        };
+        let word = word.ok_or_else(|| format!("{option} takes a number or a name"))?;
+        match slot.replace(word.to_string_lossy().into_owned()) {
+            None => Ok(()),
+            Some(_) => Err(format!("{option} is given twice")),
+        }
+    }
+}
+
 /// A command, and the file of names if one is given.
 #[derive(Clone, PartialEq, Eq, Debug)]
 pub struct Args {
@@ -109,15 +124,7 @@ fn sorted(mut words: impl Iterator<Item = OsString>) -> Result<Words, String> {
                 continue;
             }
             "--subject" | "--method" => {
-                let word = words.next().ok_or_else(|| format!("{text} takes a number or a name"))?;
-                let slot = match text.as_str() {
-                    "--subject" => &mut found.asked.subject,
-                    _ => &mut found.asked.method,
-                };
-                let word = word.to_string_lossy().into_owned();
-                if slot.replace(word).is_some() {
-                    return Err(format!("{text} is given twice"));
-                }
+                found.asked.take(&text, words.next())?;
                 continue;
             }
             "--help" => {

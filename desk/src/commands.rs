@@ -18,7 +18,8 @@ pub struct Paints {
     pub error: Paint,
 }
 
-/// Exit statuses besides 0: what is asked is not so; input that is refused or cannot be read; words that are not understood; a question that input kept from being answered.
+/// Exit statuses besides 0: what is asked is not so; input that is refused or cannot be read; words that are not understood; a question that the input leaves
+/// without an answer.
 pub const NO: u8 = 1;
 pub const BAD_INPUT: u8 = 1;
 pub const BAD_USAGE: u8 = 2;
@@ -110,7 +111,13 @@ impl Desk {
         let (Some(t), Some(s)) = (sheet.type_info(t), sheet.type_info(s)) else {
             return Err(refused(Refusal::UnknownType).into());
         };
-        Ok(compared(&sheet, [&t, &s], &answers, &self.names, self.paints.out))
+        Ok(compared(
+            &sheet,
+            [&t, &s],
+            &answers,
+            &self.names,
+            self.paints.out,
+        ))
     }
 
     fn explain(&self, number: &str) -> Result<String, Stop> {

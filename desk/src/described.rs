@@ -1,5 +1,5 @@
-//! Types in words. A type of the sheet has its number and its name; a derived one is told by what it permits and by the two types that it comes from, since its number says
-//! nothing to anybody.
+//! Types in words. A type of the sheet has its number and its name; a derived one is told by what it permits and by the two types that it comes from, since
+//! its number says nothing to anybody.
 
 use crate::names::{Kind, Names};
 use crate::words::listed;
@@ -39,7 +39,10 @@ impl Described {
             Described::OfSheet(number) => names.words(Kind::Type, number.0),
             Described::Derived { permits, from } => {
                 let permits = methods(permits, names);
-                format!("the type that permits {permits}, made from {}", from.words(names))
+                format!(
+                    "the type that permits {permits}, made from {}",
+                    from.words(names)
+                )
             }
         }
     }

@@ -24,13 +24,24 @@ impl Desk {
         let old = self.accepted_unnamed(old, &old_bytes)?;
         let new = self.accepted_unnamed(new, &new_bytes)?;
         // a name is of something that either has
-        self.names.fit(&new).or_else(|why| self.names.fit(&old).map_err(|_| why))?;
+        self.names
+            .fit(&new)
+            .or_else(|why| self.names.fit(&old).map_err(|_| why))?;
         let old = Side::of(old, &old_bytes).map_err(refused)?;
         let new = Side::of(new, &new_bytes).map_err(refused)?;
-        let differ = Differ { old, new, names: &self.names, paint: self.paints.out };
+        let differ = Differ {
+            old,
+            new,
+            names: &self.names,
+            paint: self.paints.out,
+        };
         match differ.told() {
             None => Ok("The two sheets say the same.\n".to_string()),
-            Some(printed) => Err(Stop { printed, problem: String::new(), status: NO }),
+            Some(printed) => Err(Stop {
+                printed,
+                problem: String::new(),
+                status: NO,
+            }),
         }
     }
 }
@@ -71,7 +82,12 @@ impl Side {
         let answers = self.pairs.at(to, from);
         info.is_some_and(|info| {
             let is_ref = info.representation == Representation::Ref;
-            is_ref && if info.own { answers.free } else { answers.loose }
+            is_ref
+                && if info.own {
+                    answers.free
+                } else {
+                    answers.loose
+                }
         })
     }
 }
@@ -113,7 +129,9 @@ impl Differ<'_> {
             count(Change::Takes),
             count(Change::Other)
         );
-        let sections = sections.iter().map(|(title, changes)| self.section(title, changes));
+        let sections = sections
+            .iter()
+            .map(|(title, changes)| self.section(title, changes));
         Some(HEAD.to_string() + &sections.collect::<String>() + &end)
     }
 
@@ -153,7 +171,10 @@ impl Differ<'_> {
             if before != now {
                 let category = self.names.words(Kind::Category, category as i64);
                 let [before, now] = [before, now].map(|broader| self.categories(&broader));
-                changes.push((Change::Other, format!("{category}: under {before} before, under {now} now")));
+                changes.push((
+                    Change::Other,
+                    format!("{category}: under {before} before, under {now} now"),
+                ));
             }
         }
         changes
@@ -247,7 +268,10 @@ impl Differ<'_> {
     fn gained(&self, type_: Type) -> Vec<(Change, String)> {
         let mut changes = Vec::new();
         match (self.old.can_be_had(type_), self.new.can_be_had(type_)) {
-            (false, true) => changes.push((Change::Gives, "a reference of this type can be had now".to_string())),
+            (false, true) => changes.push((
+                Change::Gives,
+                "a reference of this type can be had now".to_string(),
+            )),
             (true, false) => {
                 let words = "no reference of this type can be had any more".to_string();
                 changes.push((Change::Takes, words));
@@ -273,7 +297,10 @@ impl Differ<'_> {
         match power {
             Power::Now => format!("can call {name}"),
             Power::Alone(types) => {
-                format!("can come to call {name} alone (as {})", path(types, self.names))
+                format!(
+                    "can come to call {name} alone (as {})",
+                    path(types, self.names)
+                )
             }
             Power::Never => format!("can never call {name}"),
             _ => format!("may come to call {}", can(method, power, self.names)),
@@ -288,14 +315,24 @@ impl Differ<'_> {
             let name = self.names.numbered(Kind::Type, to.0);
             let owner = |side: &Side| {
                 let own = side.types.get(to.0 as usize).is_some_and(|info| info.own);
-                if own { ", for the owner" } else { "" }
+                if own {
+                    ", for the owner"
+                } else {
+                    ""
+                }
             };
             match (self.old.becomes(from, to), self.new.becomes(from, to)) {
                 (false, true) => {
-                    changes.push((Change::Gives, format!("can become {name} now{}", owner(&self.new))));
+                    changes.push((
+                        Change::Gives,
+                        format!("can become {name} now{}", owner(&self.new)),
+                    ));
                 }
                 (true, false) => {
-                    changes.push((Change::Takes, format!("can no longer become {name}{}", owner(&self.old))));
+                    changes.push((
+                        Change::Takes,
+                        format!("can no longer become {name}{}", owner(&self.old)),
+                    ));
                 }
                 _ => {}
             }

@@ -12,7 +12,7 @@ use std::path::Path;
 
 const HEAD: &str = "\
 What the holder of a reference can do, by its type. The holder does not own the object, unless the type
-has own: an owner can always take its object back as a type with own.
+has own: an owner can do more, where it can take its object back as a type with own.
 
   can call          the type lets its holder call the method
   can come to call  its holder can hand the reference to itself as the types named, and then call it, if no
@@ -21,7 +21,8 @@ has own: an owner can always take its object back as a type with own.
 ";
 
 /// The same where nobody else is there.
-const LONE: &str = "The sheet has one subject: every holder owns the object, and can take it back.\n";
+const LONE: &str =
+    "The sheet has one subject: every holder owns the object, and can take it back.\n";
 
 impl Desk {
     pub fn powers(&self, path: &Path) -> Result<String, Stop> {
@@ -29,9 +30,15 @@ impl Desk {
         let sheet = self.accepted(path, &bytes)?;
         let powers = powers(&bytes).map_err(refused)?;
         let lone = if sheet.subjects() == 1 { LONE } else { "" };
-        let types = powers.iter().map(|one| told(&sheet, one, &self.names, self.paints.out));
+        let types = powers
+            .iter()
+            .map(|one| told(&sheet, one, &self.names, self.paints.out));
         let types: String = types.collect();
-        let none = if types.is_empty() { "\nThe sheet has no ref types.\n" } else { "" };
+        let none = if types.is_empty() {
+            "\nThe sheet has no ref types.\n"
+        } else {
+            ""
+        };
         Ok(format!("{HEAD}{lone}{types}{none}"))
     }
 }
@@ -44,7 +51,11 @@ pub fn powers(text: &[u8]) -> Result<Vec<TypePowers>, Refusal> {
 
 fn told(sheet: &Sheet, powers: &TypePowers, names: &Names, paint: Paint) -> String {
     let own = sheet.type_info(powers.type_).is_some_and(|info| info.own);
-    let own = if own { ", own: only the owner holds it" } else { "" };
+    let own = if own {
+        ", own: only the owner holds it"
+    } else {
+        ""
+    };
     let title = names.words(Kind::Type, powers.type_.0) + own;
     let head = format!("\n{}\n", paint.of(Tone::Strong, &title));
     if powers.classes.is_empty() {
@@ -60,12 +71,19 @@ fn told(sheet: &Sheet, powers: &TypePowers, names: &Names, paint: Paint) -> Stri
     let classes = listed(classes.map(|class| names.numbered(Kind::Type, class.0)));
     text += &under("  leads to objects of  ", &classes);
     text += &row("  can call             ", of(|power| *power == Power::Now));
-    text += &row("  can come to call     ", of(|power| matches!(power, Power::Alone(_))));
-    let open = |power: &Power| matches!(power, Power::Unsettled | Power::NoRoom(_) | Power::Once(..));
+    text += &row(
+        "  can come to call     ",
+        of(|power| matches!(power, Power::Alone(_))),
+    );
+    let open =
+        |power: &Power| matches!(power, Power::Unsettled | Power::NoRoom(_) | Power::Once(..));
     if powers.methods.iter().any(open) {
         text += &row("  not settled          ", of(open));
     }
-    text + &row("  never                ", of(|power| *power == Power::Never))
+    text + &row(
+        "  never                ",
+        of(|power| *power == Power::Never),
+    )
 }
 
 fn row(head: &str, words: impl Iterator<Item = String>) -> String {
@@ -81,7 +99,9 @@ pub fn can(method: usize, power: &Power, names: &Names) -> String {
     let method = names.short(Kind::Method, method as i64);
     match power {
         Power::Now | Power::Never => method,
-        Power::Alone(types) | Power::Once(types, _) => format!("{method} (as {})", path(types, names)),
+        Power::Alone(types) | Power::Once(types, _) => {
+            format!("{method} (as {})", path(types, names))
+        }
         Power::NoRoom(refusal) => format!("{method} ({refusal})"),
         Power::Unsettled => format!("{method} (not in {MOST_STEPS} steps)"),
     }

@@ -1,6 +1,6 @@
-//! What the holder of a reference can come to call by itself: it hands the reference on to itself, as one type after another, until it holds it as a type that lets it call.
-//! Every step is a request that the core serves, on a copy of the state. What a type on the way hides is gone, so a way that hides the method is not followed; and a step that
-//! the types rule out (X1, by the core's own pairs) is not tried.
+//! What the holder of a reference can come to call by itself: it hands the reference on to itself, as one type after another, until it holds it as a type that
+//! lets it call. Every step is a request that the core serves, on a copy of the state. What a type on the way hides is gone (L21), so a way that hides the
+//! method is not followed; and a step that the types rule out (X1, by the core's own pairs) is not tried.
 
 mod graph;
 
@@ -58,9 +58,17 @@ impl Reach {
     pub fn of(sheet: &Sheet) -> Reach {
         let types = sheet.types().take(sheet.sheet_types()).collect();
         let (pairs, methods) = (sheet.pairs(), sheet.methods());
-        let mut reach = Reach { types, pairs, methods, hopes: [Vec::new(), Vec::new()] };
-        reach.hopes = [false, true]
-            .map(|owner| (0..methods).map(|method| reach.hope(method, owner)).collect());
+        let mut reach = Reach {
+            types,
+            pairs,
+            methods,
+            hopes: [Vec::new(), Vec::new()],
+        };
+        reach.hopes = [false, true].map(|owner| {
+            (0..methods)
+                .map(|method| reach.hope(method, owner))
+                .collect()
+        });
         reach
     }
 
@@ -68,7 +76,9 @@ impl Reach {
     pub fn powers(&self, visit: &Visit, cell: &CellInfo) -> Result<Vec<Option<Power>>, Refusal> {
         let mut search = Search::of(self, visit, cell)?;
         search.go()?;
-        Ok((0..self.methods).map(|method| search.power(method)).collect())
+        Ok((0..self.methods)
+            .map(|method| search.power(method))
+            .collect())
     }
 
     /// The same for every cell, by number. What a holder can do depends on the type, the place, and whether it owns the object.
@@ -77,7 +87,11 @@ impl Reach {
         let mut known = HashMap::new();
         let mut all = Vec::new();
         for cell in visit.cells() {
-            let key = (cell.type_, cell.place, owner(visit, &cell) == Some(cell.holder));
+            let key = (
+                cell.type_,
+                cell.place,
+                owner(visit, &cell) == Some(cell.holder),
+            );
             let powers = match known.get(&key) {
                 Some(powers) => Clone::clone(powers),
                 None => reach.powers(visit, &cell)?,
@@ -93,7 +107,12 @@ impl Reach {
         self.types.iter().filter(move |to| {
             let answers = self.pairs.at(to.number, from);
             let is_ref = to.representation == Representation::Ref;
-            is_ref && if to.own { owner && answers.free } else { answers.loose }
+            is_ref
+                && if to.own {
+                    owner && answers.free
+                } else {
+                    answers.loose
+                }
         })
     }
 
@@ -136,6 +155,7 @@ struct Node {
     visit: Visit,
     cell: Cell,
     type_: Type,
+    offered: Vec<bool>,
     path: Vec<Type>,
 }
 
@@ -164,6 +184,7 @@ impl<'a> Search<'a> {
             visit: visit.clone(),
             cell: cell.number,
             type_: cell.type_,
+            offered: offered.clone(),
             path: Vec::new(),
         };
         Ok(Search {
@@ -183,8 +204,7 @@ impl<'a> Search<'a> {
 
     fn go(&mut self) -> Result<(), Refusal> {
         while let Some(node) = self.left.pop_front() {
-            let offered = offered(&node.visit, node.cell, self.reach.methods)?;
-            if !self.is_worth(node.type_, &offered) {
+            if !self.is_worth(node.type_, &node.offered) {
                 continue;
             }
             for to in self.reach.next(node.type_, self.owner) {
@@ -217,18 +237,27 @@ impl<'a> Search<'a> {
                 return Ok(());
             }
         };
-        if !self.seen.insert((to.number, self.keys.place(&visit, held.place))) {
+        if !self
+            .seen
+            .insert((to.number, self.keys.place(&visit, held.place)))
+        {
             return Ok(());
         }
         let path = [&node.path[..], &[to.number]].concat();
         let offered = offered(&visit, held.cell, self.reach.methods)?;
-        for (method, offered) in offered.into_iter().enumerate() {
-            if offered && calls(to, method) && self.found[method].is_none() {
+        for (method, offered) in offered.iter().enumerate() {
+            if *offered && calls(to, method) && self.found[method].is_none() {
                 self.found[method] = Some(path.clone());
             }
         }
         let (cell, type_) = (held.cell, to.number);
-        self.left.push_back(Node { visit, cell, type_, path });
+        self.left.push_back(Node {
+            visit,
+            cell,
+            type_,
+            offered,
+            path,
+        });
         Ok(())
     }
 
@@ -280,7 +309,10 @@ struct Keys {
 
 impl Keys {
     fn of(visit: &Visit) -> Keys {
-        Keys { common: visit.types().count(), known: HashMap::new() }
+        Keys {
+            common: visit.types().count(),
+            known: HashMap::new(),
+        }
     }
 
     /// Our number for the type of a place.

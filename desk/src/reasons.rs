@@ -1,8 +1,10 @@
-//! Why a relation does not hold between two types: the way through signatures to a pair that breaks a rule by itself, and that rule. A relation is the largest that keeps its
-//! rules (R3), so where it fails there is such a way; the shortest is told. Whether it holds is the core's word, and tests hold the two together.
+//! Why a relation does not hold between two types: the way through signatures to a pair that breaks a rule by itself, and that rule. A relation is the
+//! largest that keeps its rules (R3), so where it fails there is such a way; the shortest is told. Whether it holds is the core's word, and tests hold the two
+//! together.
 
 use crate::described::{signature, Described};
 use crate::names::{Kind, Names};
+use crate::words::plural;
 use pilgonca::{MethodInfo, Representation, Sheet, Type, TypeInfo};
 use std::collections::{HashSet, VecDeque};
 
@@ -78,16 +80,34 @@ impl Says {
 #[derive(Clone, Copy, PartialEq, Eq, Debug)]
 pub enum Broken {
     /// One is a number, the other a reference.
-    Kinds { t: Representation },
+    Kinds {
+        t: Representation,
+    },
     /// Numbers of two widths.
-    Widths { t: Representation },
+    Widths {
+        t: Representation,
+    },
     /// T's category is neither S's nor broader.
-    Categories { t: usize, s: usize },
+    Categories {
+        t: usize,
+        s: usize,
+    },
     /// T has own, S has not.
     Own,
-    States { method: usize, t: Says, s: Says },
-    Arguments { method: usize, t: usize, s: usize },
-    Answers { method: usize, in_t: bool },
+    States {
+        method: usize,
+        t: Says,
+        s: Says,
+    },
+    Arguments {
+        method: usize,
+        t: usize,
+        s: usize,
+    },
+    Answers {
+        method: usize,
+        in_t: bool,
+    },
 }
 
 /// Why a relation fails at a pair.
@@ -122,7 +142,12 @@ impl<'a> Reasons<'a> {
             if let Some(broken) = self.broken(relation, of_t, of_s) {
                 let told = [t, s].map(|one| Described::of(self.sheet, one));
                 let pair = [t, s];
-                return Some(Reason { hops, pair, broken, told });
+                return Some(Reason {
+                    hops,
+                    pair,
+                    broken,
+                    told,
+                });
             }
             for (hop, t, s) in named(of_t, of_s) {
                 if seen.insert((t, s)) {
@@ -142,10 +167,14 @@ impl<'a> Reasons<'a> {
         let is_ref = |info: &TypeInfo| info.representation == Representation::Ref;
         let subtype = matches!(relation, Relation::Subtype | Relation::SubtypeOwnAside);
         if is_ref(t) != is_ref(s) {
-            return Some(Broken::Kinds { t: t.representation });
+            return Some(Broken::Kinds {
+                t: t.representation,
+            });
         }
         if subtype && t.representation != s.representation {
-            return Some(Broken::Widths { t: t.representation });
+            return Some(Broken::Widths {
+                t: t.representation,
+            });
         }
         let compared = subtype || relation == Relation::Strict;
         if compared && !self.is_broader(t.category, s.category) {
@@ -166,7 +195,11 @@ impl<'a> Reasons<'a> {
     fn is_broader(&self, category: usize, than: usize) -> bool {
         category == 0
             || category == than
-            || self.sheet.broader(than).into_iter().any(|one| self.is_broader(category, one))
+            || self
+                .sheet
+                .broader(than)
+                .into_iter()
+                .any(|one| self.is_broader(category, one))
     }
 }
 
@@ -189,7 +222,12 @@ fn named(t: &TypeInfo, s: &TypeInfo) -> Vec<(Hop, Type, Type)> {
     found
 }
 
-fn state_broken(relation: Relation, method: usize, t: &MethodInfo, s: &MethodInfo) -> Option<Broken> {
+fn state_broken(
+    relation: Relation,
+    method: usize,
+    t: &MethodInfo,
+    s: &MethodInfo,
+) -> Option<Broken> {
     let (t, s) = (Says::of(t), Says::of(s));
     let keeps = match relation {
         Relation::Subtype | Relation::SubtypeOwnAside => t.is_below(s),
@@ -205,7 +243,11 @@ fn shape_broken(method: usize, t: &MethodInfo, s: &MethodInfo) -> Option<Broken>
     let (t, s) = (signature(t)?, signature(s)?);
     let (of_t, of_s) = (t.arguments.len(), s.arguments.len());
     if of_t != of_s {
-        return Some(Broken::Arguments { method, t: of_t, s: of_s });
+        return Some(Broken::Arguments {
+            method,
+            t: of_t,
+            s: of_s,
+        });
     }
     let in_t = t.answer.is_some();
     (in_t != s.answer.is_some()).then_some(Broken::Answers { method, in_t })
@@ -239,37 +281,49 @@ impl Broken {
     fn words(self, names: &Names, t: &str, s: &str) -> String {
         let method = |number: usize| names.words(Kind::Method, number as i64);
         match self {
-            Broken::Kinds { t: Representation::Ref } => {
+            Broken::Kinds {
+                t: Representation::Ref,
+            } => {
                 format!("{t} is a reference and {s} a number")
             }
             Broken::Kinds { .. } => format!("{t} is a number and {s} a reference"),
-            Broken::Widths { t: Representation::W32 } => format!("{t} has 32 bits and {s} has 64"),
+            Broken::Widths {
+                t: Representation::W32,
+            } => format!("{t} has 32 bits and {s} has 64"),
             Broken::Widths { .. } => format!("{t} has 64 bits and {s} has 32"),
-            Broken::Categories { t: of_t, s: of_s } => {
-                let of_t = names.words(Kind::Category, of_t as i64);
-                match of_s {
-                    0 => format!("{t} is of {of_t} and {s} of none"),
-                    _ => {
-                        let of_s = names.words(Kind::Category, of_s as i64);
-                        format!("{t} is of {of_t}, which is not {of_s} of {s}, nor broader")
-                    }
-                }
-            }
+            Broken::Categories { t: of_t, s: of_s } => categories(names, [t, s], [of_t, of_s]),
             Broken::Own => format!("{t} has own and {s} has not"),
-            Broken::States { method: number, t: of_t, s: of_s } => {
-                let (method, of_t, of_s) = (method(number), of_t.word(), of_s.word());
-                format!("of {method} {t} says {of_t} and {s} says {of_s}")
+            Broken::States {
+                method: of,
+                t: of_t,
+                s: of_s,
+            } => {
+                let (of, of_t, of_s) = (method(of), of_t.word(), of_s.word());
+                format!("of {of} {t} says {of_t} and {s} says {of_s}")
             }
-            Broken::Arguments { method: number, t: of_t, s: of_s } => {
-                let method = method(number);
-                let of_t = crate::words::plural(of_t, "argument");
-                format!("{method} takes {of_t} in {t} and {of_s} in {s}")
+            Broken::Arguments {
+                method: of,
+                t: of_t,
+                s: of_s,
+            } => {
+                let (of, of_t) = (method(of), plural(of_t, "argument"));
+                format!("{of} takes {of_t} in {t} and {of_s} in {s}")
             }
-            Broken::Answers { method: number, in_t } => {
-                let method = method(number);
+            Broken::Answers { method: of, in_t } => {
                 let (with, without) = if in_t { (t, s) } else { (s, t) };
-                format!("{method} has an answer in {with} and none in {without}")
+                format!(
+                    "{} has an answer in {with} and none in {without}",
+                    method(of)
+                )
             }
         }
+    }
+}
+
+fn categories(names: &Names, [t, s]: [&str; 2], [of_t, of_s]: [usize; 2]) -> String {
+    let [of_t, words] = [of_t, of_s].map(|number| names.words(Kind::Category, number as i64));
+    match of_s {
+        0 => format!("{t} is of {of_t} and {s} of none"),
+        _ => format!("{t} is of {of_t}, which is not {words} of {s}, nor broader"),
     }
 }

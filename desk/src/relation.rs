@@ -72,7 +72,7 @@ impl Strongest {
 
 pub const HEADING: &str = "The strongest relation of a type T (row) from a type S (column):";
 pub const OWN: &str =
-    "A T with own can be had from every S but one with none, by the owner of an object that has what T calls.";
+    "A T with own can be had from every S but one with none, by the owner of an object that has what T calls and whose category fits.";
 
 /// The four answers for T and S in words, why those that are no are so, and what they come to.
 pub fn compared(
@@ -112,7 +112,9 @@ fn holds(relation: Relation, t: &TypeInfo) -> &'static str {
         Relation::Subtype | Relation::SubtypeOwnAside => "S passes as T as it is",
         Relation::Strict if number => "both are numbers, and T's category is S's or a broader one",
         Relation::Loose | Relation::Free if number => "both are numbers",
-        Relation::Strict => "S has every method that T calls, and T's category is S's or a broader one",
+        Relation::Strict => {
+            "S has every method that T calls, and T's category is S's or a broader one"
+        }
         Relation::Loose => "S shows every method that T calls, optional at least",
         Relation::Free => "the methods that both show have signatures that agree",
     }

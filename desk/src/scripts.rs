@@ -80,7 +80,8 @@ impl Desk {
             let number = self.number(kind, word)?;
             let found = usize::try_from(number).ok().filter(|one| *one < count);
             let most = count - 1;
-            let found = found.ok_or_else(|| format!("there is no {kind} {number}: the sheet has 0 to {most}"))?;
+            let found = found
+                .ok_or_else(|| format!("there is no {kind} {number}: the sheet has 0 to {most}"))?;
             Ok(Some(found))
         };
         let usage = |why: String| Stop {

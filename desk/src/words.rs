@@ -60,7 +60,10 @@ mod tests {
     #[test]
     fn words_in_a_row() {
         let row = |words: &[&str]| listed(words.iter().map(|word| word.to_string()));
-        assert_eq!([row(&[]), row(&["a"]), row(&["a", "b", "c"])], ["", "a", "a, b and c"]);
+        assert_eq!(
+            [row(&[]), row(&["a"]), row(&["a", "b", "c"])],
+            ["", "a", "a, b and c"]
+        );
     }
 
     #[test]

@@ -2,9 +2,9 @@
 
 use crate::numbers::{Type, below};
 use crate::raw::{self, LINK_RECORD, MAX_SHEET_TYPES, MAX_TEXT, PairTable, Table};
-use crate::records::{TypeInfo, type_info};
 #[cfg(feature = "tools")]
 use crate::records::{Kind, numbered};
+use crate::records::{TypeInfo, type_info};
 use crate::refusal::{Refusal, SheetRefused};
 use std::fmt;
 
@@ -146,7 +146,7 @@ impl Sheet {
         Pairs { entries, types }
     }
 
-    /// A type derived in this table (E10), with all that its signatures name. It is for tools on types: a table of a visit is a copy, and the visit goes on without it.
+    /// A type derived in this table (E10), with all that its signatures name. It is for tools on types: what a visit gives is a copy of its table.
     ///
     /// ```
     /// use pilgonca::{Kind, Sheet, Type, EXAMPLE};

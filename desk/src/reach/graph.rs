@@ -1,4 +1,5 @@
-//! What a sheet lets the holders of references do, by the types that they hold them as: everything that can become of an object of each class, step by step, by the core.
+//! What a sheet lets the holders of references do, by the types that they hold them as: everything that can become of an object of each class, step by step,
+//! by the core.
 
 use super::{calls, lack_of_room, offered, permits, Keys, Power, Reach, MOST_STEPS};
 use pilgonca::{Cell, Refusal, Representation, Subject, Type, TypeInfo, Visit};
@@ -29,7 +30,9 @@ pub fn of_sheet(visit: &Visit) -> Result<Vec<TypePowers>, Refusal> {
     let refs = reach.types.iter();
     let refs = refs.filter(|info| info.representation == Representation::Ref);
     let alone = sheet.subjects() == 1;
-    Ok(refs.map(|info| of_type(&reach, &graphs, info, info.own || alone)).collect())
+    Ok(refs
+        .map(|info| of_type(&reach, &graphs, info, info.own || alone))
+        .collect())
 }
 
 fn of_type(reach: &Reach, graphs: &[Graph], info: &TypeInfo, owner: bool) -> TypePowers {
@@ -120,7 +123,13 @@ impl Graph {
     }
 
     /// Hands a reference on as every type: as one with own to the owner, else to the other, if there is one.
-    fn steps_from(&mut self, reach: &Reach, from: usize, visit: &Visit, cell: Cell) -> Result<(), Refusal> {
+    fn steps_from(
+        &mut self,
+        reach: &Reach,
+        from: usize,
+        visit: &Visit,
+        cell: Cell,
+    ) -> Result<(), Refusal> {
         let info = visit.cell_info(cell).ok_or(Refusal::NotHeld)?;
         let lone = visit.sheet().subjects() == 1;
         for to in reach.next(info.type_, true) {
@@ -164,7 +173,13 @@ impl Graph {
     }
 
     /// The types of the shortest way from one of these to a reference that lets the method be called.
-    fn shortest(&self, reach: &Reach, starts: Vec<usize>, method: usize, owner: bool) -> Option<Vec<Type>> {
+    fn shortest(
+        &self,
+        reach: &Reach,
+        starts: Vec<usize>,
+        method: usize,
+        owner: bool,
+    ) -> Option<Vec<Type>> {
         let info = |node: usize| &reach.types[self.nodes[node].type_.0 as usize];
         let offers = |node: usize| self.nodes[node].offered[method];
         let mut seen = vec![false; self.nodes.len()];
@@ -178,7 +193,11 @@ impl Graph {
                 return Some(path);
             }
             for next in self.nodes[at].next.iter().copied() {
-                let open = if info(next).own { owner } else { owner || offers(next) };
+                let open = if info(next).own {
+                    owner
+                } else {
+                    owner || offers(next)
+                };
                 if open && !std::mem::replace(&mut seen[next], true) {
                     left.push_back((next, [&path[..], &[info(next).number]].concat()));
                 }

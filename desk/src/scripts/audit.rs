@@ -62,30 +62,42 @@ pub struct Audited {
 }
 
 /// The answer for a whole run. What a cell offers, and what its holder can come to call, is asked of the core.
-pub fn audit(run: &Run, question: Question, names: &Names, paint: Paint) -> Result<Audited, Refusal> {
+pub fn audit(
+    run: &Run,
+    question: Question,
+    names: &Names,
+    paint: Paint,
+) -> Result<Audited, Refusal> {
     let sheet = run.visit.sheet();
-    let calls = Calls { run, sheet: &sheet, question, names, paint };
-    let cut = cut_short(run);
-    if question.calls {
-        let yes = calls.count() > 0;
-        let answer = question.answered(names, yes);
-        let text = format!("{}{}\n{answer}", before(&cut), calls.told());
-        return Ok(Audited { text, yes });
-    }
-    let powers = run.powers()?;
-    let auditor = Auditor { run, sheet: &sheet, question, names, paint, powers };
-    let mut text = format!("{}{HEAD}", before(&cut));
-    for place in run.visit.places() {
-        text += &auditor.object(&place);
-    }
-    if run.visit.places().next().is_none() {
-        text += "\nNo object was made.\n";
-    }
-    text += &format!("\n{}", calls.told());
-    let yes = auditor.any();
-    if question.is_asked() {
-        text += &format!("\n{}", question.answered(names, yes));
-    }
+    let sheet = &sheet;
+    let calls = Calls {
+        run,
+        sheet,
+        question,
+        names,
+        paint,
+    };
+    let cut = cut_short(run).map_or(String::new(), |cut| cut + "\n");
+    let (report, yes) = match question.calls {
+        true => (String::new(), calls.count() > 0),
+        false => {
+            let powers = run.powers()?;
+            let auditor = Auditor {
+                run,
+                sheet,
+                question,
+                names,
+                paint,
+                powers,
+            };
+            (auditor.told() + "\n", auditor.any())
+        }
+    };
+    let answer = match question.is_asked() {
+        true => format!("\n{}", question.answered(names, yes)),
+        false => String::new(),
+    };
+    let text = format!("{cut}{report}{}{answer}", calls.told());
     Ok(Audited { text, yes })
 }
 
@@ -96,10 +108,6 @@ pub fn cut_short(run: &Run) -> Option<String> {
         "The script is cut short: line {} is no request, and nothing from there on was taken.\n",
         malformed.line_number
     ))
-}
-
-fn before(cut: &Option<String>) -> String {
-    cut.as_ref().map_or(String::new(), |cut| format!("{cut}\n"))
 }
 
 struct Auditor<'a> {
@@ -113,6 +121,16 @@ struct Auditor<'a> {
 }
 
 impl Auditor<'_> {
+    /// All objects.
+    fn told(&self) -> String {
+        let visit = &self.run.visit;
+        let objects: String = visit.places().map(|place| self.object(&place)).collect();
+        match objects.is_empty() {
+            true => format!("{HEAD}\nNo object was made.\n"),
+            false => HEAD.to_string() + &objects,
+        }
+    }
+
     /// What the question is about, by cell.
     fn asked(&self, object: Option<Place>, method: usize) -> Vec<(CellInfo, &Power)> {
         let visit = &self.run.visit;
@@ -127,8 +145,11 @@ impl Auditor<'_> {
     }
 
     fn any(&self) -> bool {
-        (0..self.sheet.methods())
-            .any(|method| self.asked(None, method).iter().any(|(_, power)| power.is_yes()))
+        (0..self.sheet.methods()).any(|method| {
+            self.asked(None, method)
+                .iter()
+                .any(|(_, power)| power.is_yes())
+        })
     }
 
     /// All about one object; nothing for an adapter.

@@ -22,7 +22,10 @@ impl Calls<'_> {
     /// Those that are asked about.
     fn asked(&self) -> impl Iterator<Item = CallInfo> + '_ {
         let calls = self.run.visit.calls();
-        calls.filter(|call| self.question.is_about(call.caller.0, call.method.0 as usize))
+        calls.filter(|call| {
+            self.question
+                .is_about(call.caller.0, call.method.0 as usize)
+        })
     }
 
     pub fn count(&self) -> usize {
@@ -38,7 +41,13 @@ impl Calls<'_> {
     }
 
     fn call(&self, call: &CallInfo) -> String {
-        let CallInfo { number, caller, cell, method, .. } = call;
+        let CallInfo {
+            number,
+            caller,
+            cell,
+            method,
+            ..
+        } = call;
         let subject = self.names.words(Kind::Subject, caller.0);
         let method = self.names.words(Kind::Method, method.0);
         let made = self.run.steps.iter().find(|step| made(step, call));
@@ -47,7 +56,9 @@ impl Calls<'_> {
         });
         let object = self.run.visit.cell_info(*cell);
         let object = object.and_then(|info| self.run.visit.base_of(info.place));
-        let object = object.map_or(String::new(), |base| format!(" of the object at place {base}"));
+        let object = object.map_or(String::new(), |base| {
+            format!(" of the object at place {base}")
+        });
         let head = format!("  call {number:<3}  ");
         let margin = " ".repeat(head.len());
         let first = format!("{subject} called {method}{object} through cell {cell}{with}{line}");
@@ -73,16 +84,25 @@ impl Calls<'_> {
         }
         let mut steps = self.run.steps.iter();
         let told = steps.find_map(|step| match &step.request {
-            Request::Answer { subject, call: of, value } if *of == call.number.0 && step.outcome.is_ok() => {
+            Request::Answer {
+                subject,
+                call: of,
+                value,
+            } if *of == call.number.0 && step.outcome.is_ok() => {
                 let subject = self.names.words(Kind::Subject, *subject);
                 let value = value.map_or("nothing".to_string(), |value| value.to_string());
                 let cells: Vec<String> = step.cells.clone().map(|cell| cell.to_string()).collect();
                 let became = match &cells[..] {
                     [] => String::new(),
-                    _ => format!(", its cell, which became the caller's cell {}", cells.join(" and ")),
+                    _ => format!(
+                        ", its cell, which became the caller's cell {}",
+                        cells.join(" and ")
+                    ),
                 };
                 let line = step.line_number;
-                Some(format!("answered by {subject} with {value}{became}, line {line}"))
+                Some(format!(
+                    "answered by {subject} with {value}{became}, line {line}"
+                ))
             }
             _ => None,
         });

@@ -7,7 +7,8 @@ use crate::scripts::trails::Trails;
 use crate::scripts::trial::why;
 use crate::scripts::why::Why;
 use pilgonca::{
-    Answered, Call, Called, Cell, CellInfo, Held, Method, Refusal, SheetRefused, Subject, Type, Visit,
+    Answered, Call, Called, Cell, CellInfo, Held, Method, Refusal, SheetRefused, Subject, Type,
+    Visit,
 };
 use std::ops::Range;
 
@@ -107,7 +108,12 @@ impl<'a> Run<'a> {
     }
 
     /// Looks where the cell was new, for ways that there is no room for in the end.
-    fn once(&self, reach: &Reach, cell: &CellInfo, powers: &mut [Option<Power>]) -> Result<(), Refusal> {
+    fn once(
+        &self,
+        reach: &Reach,
+        cell: &CellInfo,
+        powers: &mut [Option<Power>],
+    ) -> Result<(), Refusal> {
         let number = usize::try_from(cell.number.0).unwrap_or(0);
         let Some((_, then)) = self.earlier.iter().find(|(count, _)| *count > number) else {
             return Ok(());

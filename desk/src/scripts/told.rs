@@ -95,7 +95,11 @@ impl Teller<'_> {
     fn outcome(&self, step: &Step) -> String {
         match &step.outcome {
             Err(refusal) => match &step.why {
-                Some(why) => format!("refused with {}: {}", refusal.number(), why.words(self.names)),
+                Some(why) => format!(
+                    "refused with {}: {}",
+                    refusal.number(),
+                    why.words(self.names)
+                ),
                 None => refused(*refusal),
             },
             Ok(Got::Called(called)) => self.called(called, step),

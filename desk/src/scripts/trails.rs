@@ -1,10 +1,12 @@
-//! The way that each cell's reference came, followed from the requests that were accepted (L9 to L13): the types that it crossed, and whose hands it went through.
+//! The way that each cell's reference came, followed from the requests that were accepted (L9 to L13): the types that it crossed, and whose hands it went
+//! through.
 
 use crate::described::{signature, Described};
 use crate::names::{Kind, Names};
 use crate::scripts::requests::Request;
 use pilgonca::{
-    Call, Cell, CellInfo, Method, PlaceKind, Representation, Sheet, Signature, Subject, Type, Visit,
+    Call, CallInfo, Cell, CellInfo, PlaceKind, Representation, Sheet, Signature, Subject, Type,
+    Visit,
 };
 
 /// One crossing of a reference.
@@ -17,10 +19,24 @@ pub struct Crossing {
 /// From whom to whom, and by what.
 #[derive(Clone, Copy, PartialEq, Eq, Debug)]
 pub enum Hands {
-    Made { by: Subject },
-    Moved { from: Subject, to: Subject },
-    Argument { from: Subject, to: Subject, call: usize, position: usize },
-    Answer { from: Subject, to: Subject, call: Call },
+    Made {
+        by: Subject,
+    },
+    Moved {
+        from: Subject,
+        to: Subject,
+    },
+    Argument {
+        from: Subject,
+        to: Subject,
+        call: Call,
+        position: usize,
+    },
+    Answer {
+        from: Subject,
+        to: Subject,
+        call: Call,
+    },
 }
 
 /// The way of one cell's reference.
@@ -67,7 +83,12 @@ impl Hands {
             Hands::Made { by } => format!("{} made it", short(by)),
             Hands::Moved { from, to } if from == to => format!("{} to itself", short(to)),
             Hands::Moved { from, to } => format!("{} to {}", short(from), short(to)),
-            Hands::Argument { from, to, call, position } => {
+            Hands::Argument {
+                from,
+                to,
+                call,
+                position,
+            } => {
                 let (from, to, position) = (short(from), short(to), position + 1);
                 format!("{from} to {to}, argument {position} of call {call},")
             }
@@ -100,24 +121,33 @@ impl Trails {
                 let by = Subject(*subject);
                 self.cross(&sheet, None, Hands::Made { by }, &[Type(*to)]);
             }
-            Request::Move { subject, cell, receiver, to } => {
-                let (from, to_type) = (Subject(*subject), Type(*to));
-                let hands = Hands::Moved { from, to: Subject(*receiver) };
-                self.cross(&sheet, Some(*cell), hands, &[to_type]);
+            Request::Move {
+                subject,
+                cell,
+                receiver,
+                to,
+            } => {
+                let [from, receiver] = [*subject, *receiver].map(Subject);
+                let hands = Hands::Moved { from, to: receiver };
+                self.cross(&sheet, Some(*cell), hands, &[Type(*to)]);
             }
-            Request::Call { subject, cell, method, arguments } => {
-                let layers = Layers::of(visit, &sheet, Cell(*cell), Method(*method));
+            Request::Call { arguments, .. } => {
                 // the last one there is
-                let call = visit.calls().count() - 1;
-                self.arguments(&sheet, &layers, Subject(*subject), call, arguments);
+                if let Some(call) = visit.calls().last() {
+                    let layers = Layers::of(visit, &sheet, &call);
+                    self.arguments(&sheet, &layers, &call, arguments);
+                }
             }
-            Request::Answer { subject, call, value } => {
-                let called = visit.calls().find(|info| info.number == Call(*call));
-                if let Some(info) = called {
-                    let layers = Layers::of(visit, &sheet, info.cell, info.method);
-                    let (from, to) = (Subject(*subject), info.caller);
-                    let hands = Hands::Answer { from, to, call: info.number };
-                    self.answer(&sheet, &layers, hands, *value);
+            Request::Answer {
+                subject,
+                call,
+                value,
+            } => {
+                let mut calls = visit.calls();
+                if let Some(call) = calls.find(|info| info.number == Call(*call)) {
+                    let layers = Layers::of(visit, &sheet, &call);
+                    let (from, to, call) = (Subject(*subject), call.caller, call.number);
+                    self.answer(&sheet, &layers, Hands::Answer { from, to, call }, *value);
                 }
             }
         }
@@ -139,12 +169,19 @@ impl Trails {
     }
 
     /// Each argument that is a reference passes the argument types of the layers, the called cell's type first (L11).
-    fn arguments(&mut self, sheet: &Sheet, layers: &Layers, from: Subject, call: usize, given: &[i64]) {
+    fn arguments(&mut self, sheet: &Sheet, layers: &Layers, call: &CallInfo, given: &[i64]) {
+        let (from, to, call) = (call.caller, layers.owner, call.number);
         for (position, argument) in given.iter().enumerate() {
-            let types = layers.signatures.iter().filter_map(|one| one.arguments.get(position));
+            let signatures = layers.signatures.iter();
+            let types = signatures.filter_map(|one| one.arguments.get(position));
             let types: Vec<Type> = types.copied().collect();
             if is_reference(sheet, &types) {
-                let hands = Hands::Argument { from, to: layers.owner, call, position };
+                let hands = Hands::Argument {
+                    from,
+                    to,
+                    call,
+                    position,
+                };
                 self.cross(sheet, Some(*argument), hands, &types);
             }
         }
@@ -175,14 +212,17 @@ struct Layers {
 }
 
 impl Layers {
-    fn of(visit: &Visit, sheet: &Sheet, cell: Cell, method: Method) -> Layers {
-        let info = visit.cells().find(|info| info.number == cell);
-        let info = info.expect("a call that was accepted is through a cell");
-        let (behind, owner) = behind(visit, &info);
-        let layers = std::iter::once(info.type_).chain(behind);
+    fn of(visit: &Visit, sheet: &Sheet, call: &CallInfo) -> Layers {
+        let cell = visit.cell_info(call.cell);
+        let cell = cell.expect("a call is through a cell (H11)");
+        let (behind, owner) = behind(visit, &cell);
+        let layers = std::iter::once(cell.type_).chain(behind);
         let signature = |layer: Type| {
             let methods = sheet.type_info(layer)?.methods;
-            methods.get(usize::try_from(method.0).ok()?).and_then(signature).cloned()
+            methods
+                .get(call.method.0 as usize)
+                .and_then(signature)
+                .cloned()
         };
         Layers {
             signatures: layers.filter_map(signature).collect(),

@@ -1,10 +1,10 @@
-//! A request served a second time, to see where it fails: by the rules in their order (N, M, C, A), on a copy of the state. Relations and derivations are the core's answers;
-//! the core has the last word, and a reason that comes to another number than its refusal is not told (tests hold that there is none).
+//! A request served a second time, to see where it fails: by the rules in their order (N, M, C, A), on a copy of the state. Relations and derivations are the
+//! core's answers; the core has the last word, and a reason that comes to another number than its refusal is not told (tests hold that there is none).
 
 use crate::described::{permitted, signature, Described};
 use crate::reasons::{Reason, Reasons, Relation, Says};
 use crate::scripts::requests::Request;
-use crate::scripts::why::{Layer, LeadsTo, NoClass, Value, Why};
+use crate::scripts::why::{Cross, Full, Given, Layer, LeadsTo, NoClass, Operand, Value, Why};
 use pilgonca::raw::{MAX_CALLS, MAX_CELLS, MAX_PLACES};
 use pilgonca::{
     CellInfo, Kind, Method, PlaceKind, Refusal, Representation, Sheet, Signature, Subject, Type,
@@ -22,13 +22,23 @@ pub fn served(visit: &Visit, request: &Request) -> Result<(), Why> {
     let mut trial = Trial::of(visit);
     match request {
         Request::New { subject, class, to } => trial.new_object(*subject, *class, *to),
-        Request::Move { subject, cell, receiver, to } => {
-            trial.moved(*subject, *cell, *receiver, *to)
-        }
-        Request::Call { subject, cell, method, arguments } => {
-            trial.call(*subject, *cell, *method, arguments)
-        }
-        Request::Answer { subject, call, value } => trial.answer(*subject, *call, *value),
+        Request::Move {
+            subject,
+            cell,
+            receiver,
+            to,
+        } => trial.moved(*subject, *cell, *receiver, *to),
+        Request::Call {
+            subject,
+            cell,
+            method,
+            arguments,
+        } => trial.call(*subject, *cell, *method, arguments),
+        Request::Answer {
+            subject,
+            call,
+            value,
+        } => trial.answer(*subject, *call, *value),
     }
 }
 
@@ -70,7 +80,14 @@ impl<'a> Trial<'a> {
         let to = self.reference_type(to)?;
         self.place(PlaceKind::Object { class, owner })?;
         let place = self.places.len() - 1;
-        self.cross(Reference { type_: class, place }, to, owner)?;
+        self.cross(
+            Reference {
+                type_: class,
+                place,
+            },
+            to,
+            owner,
+        )?;
         self.cell()
     }
 
@@ -89,19 +106,30 @@ impl<'a> Trial<'a> {
         let subject = self.subject(subject, false)?;
         let cell = self.held(subject, cell)?;
         let count = self.sheet.methods();
-        let unknown = Why::NoMethod { number: method, count };
+        let unknown = Why::Operand(Operand::NoMethod {
+            number: method,
+            count,
+        });
         let method = index(method, count).ok_or(unknown)?;
         let signature = self.avail(cell.type_, method)?;
         let due = signature.arguments.len();
         if given.len() != due {
             let given = given.len();
-            return Err(Why::Count { type_: cell.type_, method, due, given });
+            return Err(Why::Given(Given::Count {
+                type_: cell.type_,
+                method,
+                due,
+                given,
+            }));
         }
         for (index, (number, due)) in given.iter().zip(&signature.arguments).enumerate() {
             self.value(subject, Value::Argument(index), *number, *due)?;
         }
         if self.visit.calls().count() == MAX_CALLS {
-            return Err(Why::CallsFull);
+            return Err(Why::Full {
+                what: Full::Calls,
+                used: MAX_CALLS,
+            });
         }
         let owner = self.owner(cell.place.0 as usize);
         for (position, number) in given.iter().enumerate() {
@@ -118,23 +146,26 @@ impl<'a> Trial<'a> {
     fn answer(&mut self, subject: i64, call: i64, given: Option<i64>) -> Result<(), Why> {
         let subject = self.subject(subject, false)?;
         let calls: Vec<_> = self.visit.calls().collect();
-        let unknown = Why::NoCall { call, count: calls.len() };
+        let unknown = Why::Operand(Operand::NoCall {
+            call,
+            count: calls.len(),
+        });
         let called = &calls[index(call, calls.len()).ok_or(unknown)?];
         let cell = self.cells[called.cell.0 as usize];
         let owner = self.owner(cell.place.0 as usize);
         if owner != subject {
-            return Err(Why::CallFor { call, owner });
+            return Err(Why::Operand(Operand::CallFor { call, owner }));
         }
         if called.answered {
-            return Err(Why::Answered { call });
+            return Err(Why::Operand(Operand::Answered { call }));
         }
         let Method(method) = called.method;
         let (type_, method) = (cell.type_, method as usize);
         let due = self.signature(type_, method).and_then(|one| one.answer);
         match (due, given) {
             (None, None) => Ok(()),
-            (None, Some(_)) => Err(Why::NothingDue { type_, method }),
-            (Some(due), None) => Err(Why::AnswerDue { type_, method, due }),
+            (None, Some(_)) => Err(Why::Given(Given::NothingDue { type_, method })),
+            (Some(due), None) => Err(Why::Given(Given::AnswerDue { type_, method, due })),
             (Some(due), Some(number)) => {
                 self.value(subject, Value::Answer, number, due)?;
                 let mut layers = self.layers(&cell);
@@ -163,7 +194,12 @@ impl<'a> Trial<'a> {
                 continue;
             };
             let first = index == 0;
-            let at_layer = |why| Why::Passing { what, layer: *layer, first, why: Box::new(why) };
+            let at_layer = |why| Why::Passing {
+                what,
+                layer: *layer,
+                first,
+                why: Box::new(why),
+            };
             match self.info(named).representation {
                 Representation::Ref => {
                     let from = reference.unwrap_or_else(|| self.start(number));
@@ -200,14 +236,14 @@ impl<'a> Trial<'a> {
             let relation = if own { Relation::Free } else { Relation::Loose };
             let reason = self.reason(relation, to, from.type_)?;
             let (from, to) = (from.type_, Described::of(&self.sheet, to));
-            return Err(Why::Types { from, to, reason });
+            return Err(Why::Cross(Cross::Types { from, to, reason }));
         }
         let mut place = from.place;
         if own {
             let owner = self.owner(place);
             if owner != receiver {
                 let to = Described::of(&self.sheet, to);
-                return Err(Why::Owner { owner, to });
+                return Err(Why::Cross(Cross::Owner { owner, to }));
             }
             place = self.base(place);
         } else if answers.subtype {
@@ -225,14 +261,21 @@ impl<'a> Trial<'a> {
     fn adapted(&mut self, place: usize, narrowed: Type, to: Type) -> Result<usize, Why> {
         let v = self.type_of(place);
         let reasons = Reasons::of(&self.sheet);
-        if reasons.find(Relation::SubtypeOwnAside, narrowed, v).is_none() {
+        if reasons
+            .find(Relation::SubtypeOwnAside, narrowed, v)
+            .is_none()
+        {
             return Ok(place);
         }
         let answers = self.sheet.compare(narrowed, v);
         if !answers.is_ok_and(|answers| answers.strict) {
             let reason = self.reason(Relation::Strict, narrowed, v)?;
             let to = Described::of(&self.sheet, to);
-            return Err(Why::Lacks { leads_to: self.leads_to(place), to, reason });
+            return Err(Why::Cross(Cross::Lacks {
+                leads_to: self.leads_to(place),
+                to,
+                reason,
+            }));
         }
         let closed = self.derive(Kind::Closed, narrowed, v)?;
         let behind = pilgonca::Place(place as i64);
@@ -249,12 +292,18 @@ impl<'a> Trial<'a> {
     fn derive(&mut self, kind: Kind, t: Type, s: Type) -> Result<Type, Why> {
         let used = self.visit.types().count();
         let derived = self.sheet.derive(kind, t, s);
-        derived.map_err(|_| Why::TypesFull { used })
+        derived.map_err(|_| Why::Full {
+            what: Full::Types,
+            used,
+        })
     }
 
     fn place(&mut self, place: PlaceKind) -> Result<(), Why> {
         if self.places.len() == MAX_PLACES {
-            return Err(Why::PlacesFull { used: self.old });
+            return Err(Why::Full {
+                what: Full::Places,
+                used: self.old,
+            });
         }
         self.places.push(place);
         Ok(())
@@ -262,7 +311,10 @@ impl<'a> Trial<'a> {
 
     fn cell(&mut self) -> Result<(), Why> {
         if self.cells.len() + self.made == MAX_CELLS {
-            return Err(Why::CellsFull { used: self.cells.len() });
+            return Err(Why::Full {
+                what: Full::Cells,
+                used: self.cells.len(),
+            });
         }
         self.made += 1;
         Ok(())
@@ -270,18 +322,25 @@ impl<'a> Trial<'a> {
 
     fn subject(&self, number: i64, receiver: bool) -> Result<Subject, Why> {
         let count = self.sheet.subjects();
-        index(number, count).ok_or(Why::NoSubject { number, receiver, count })?;
+        index(number, count).ok_or(Why::Operand(Operand::NoSubject {
+            number,
+            receiver,
+            count,
+        }))?;
         Ok(Subject(number))
     }
 
     /// A cell that the subject holds.
     fn held(&self, subject: Subject, cell: i64) -> Result<CellInfo, Why> {
         let count = self.cells.len();
-        let found = index(cell, count).ok_or(Why::NoCell { cell, count })?;
+        let found = index(cell, count).ok_or(Why::Operand(Operand::NoCell { cell, count }))?;
         let info = self.cells[found];
         match info.holder == subject {
             true => Ok(info),
-            false => Err(Why::CellOf { cell, holder: info.holder }),
+            false => Err(Why::Operand(Operand::CellOf {
+                cell,
+                holder: info.holder,
+            })),
         }
     }
 
@@ -292,19 +351,24 @@ impl<'a> Trial<'a> {
         }
         let holder = match self.held(subject, number) {
             Ok(_) => return Ok(()),
-            Err(Why::CellOf { holder, .. }) => Some(holder),
+            Err(Why::Operand(Operand::CellOf { holder, .. })) => Some(holder),
             Err(_) => None,
         };
-        Err(Why::NoReference { what, number, due, holder })
+        Err(Why::Given(Given::NoReference {
+            what,
+            number,
+            due,
+            holder,
+        }))
     }
 
     /// A ref type of the sheet (N3, M3).
     fn reference_type(&self, number: i64) -> Result<Type, Why> {
         let count = self.sheet.sheet_types();
-        index(number, count).ok_or(Why::NoType { number, count })?;
+        index(number, count).ok_or(Why::Operand(Operand::NoType { number, count }))?;
         match self.info(Type(number)).representation {
             Representation::Ref => Ok(Type(number)),
-            _ => Err(Why::NumberType { number }),
+            _ => Err(Why::Operand(Operand::NumberType { number })),
         }
     }
 
@@ -321,7 +385,9 @@ impl<'a> Trial<'a> {
                 found.map(|(method, says)| NoClass::Says { method, says })
             }
         };
-        because.map_or(Ok(class), |because| Err(Why::NoClass { number, because }))
+        because.map_or(Ok(class), |because| {
+            Err(Why::Operand(Operand::NoClass { number, because }))
+        })
     }
 
     /// C3.
@@ -330,7 +396,11 @@ impl<'a> Trial<'a> {
         let says = info.methods.get(method).map_or(Says::Denied, Says::of);
         match (says, self.signature(type_, method)) {
             (Says::Avail, Some(signature)) => Ok(signature),
-            _ => Err(Why::NotAvail { type_, method, says }),
+            _ => Err(Why::Operand(Operand::NotAvail {
+                type_,
+                method,
+                says,
+            })),
         }
     }
 
@@ -392,7 +462,10 @@ impl<'a> Trial<'a> {
 }
 
 fn reference(cell: &CellInfo) -> Reference {
-    Reference { type_: cell.type_, place: cell.place.0 as usize }
+    Reference {
+        type_: cell.type_,
+        place: cell.place.0 as usize,
+    }
 }
 
 /// Q12.

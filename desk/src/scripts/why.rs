@@ -10,38 +10,130 @@ use pilgonca::{Refusal, Subject, Type};
 /// Where a request fails.
 #[derive(Clone, PartialEq, Eq, Debug)]
 pub enum Why {
-    NoSubject { number: i64, receiver: bool, count: usize },
-    NoCell { cell: i64, count: usize },
-    CellOf { cell: i64, holder: Subject },
-    NoCall { call: i64, count: usize },
-    CallFor { call: i64, owner: Subject },
-    Answered { call: i64 },
-    NoType { number: i64, count: usize },
-    NumberType { number: i64 },
-    NoClass { number: i64, because: NoClass },
-    NoMethod { number: i64, count: usize },
-    NotAvail { type_: Type, method: usize, says: Says },
-    Count { type_: Type, method: usize, due: usize, given: usize },
-    NothingDue { type_: Type, method: usize },
-    AnswerDue { type_: Type, method: usize, due: Type },
+    Operand(Operand),
+    Given(Given),
+    Cross(Cross),
+    Wide {
+        number: i64,
+    },
+    /// More than is left would be needed; so many are used up.
+    Full {
+        what: Full,
+        used: usize,
+    },
+    /// A value that fails on its way, and where.
+    Passing {
+        what: Value,
+        layer: Layer,
+        first: bool,
+        why: Box<Why>,
+    },
+    /// The core said no, and no reason was found.
+    Unexplained,
+}
+
+/// An operand that names nothing, or nothing that would do.
+#[derive(Clone, PartialEq, Eq, Debug)]
+pub enum Operand {
+    NoSubject {
+        number: i64,
+        receiver: bool,
+        count: usize,
+    },
+    NoCell {
+        cell: i64,
+        count: usize,
+    },
+    CellOf {
+        cell: i64,
+        holder: Subject,
+    },
+    NoCall {
+        call: i64,
+        count: usize,
+    },
+    CallFor {
+        call: i64,
+        owner: Subject,
+    },
+    Answered {
+        call: i64,
+    },
+    NoType {
+        number: i64,
+        count: usize,
+    },
+    NumberType {
+        number: i64,
+    },
+    NoClass {
+        number: i64,
+        because: NoClass,
+    },
+    NoMethod {
+        number: i64,
+        count: usize,
+    },
+    NotAvail {
+        type_: Type,
+        method: usize,
+        says: Says,
+    },
+}
+
+/// Arguments or an answer that are not what is due.
+#[derive(Clone, PartialEq, Eq, Debug)]
+pub enum Given {
+    Count {
+        type_: Type,
+        method: usize,
+        due: usize,
+        given: usize,
+    },
+    NothingDue {
+        type_: Type,
+        method: usize,
+    },
+    AnswerDue {
+        type_: Type,
+        method: usize,
+        due: Type,
+    },
     /// What is given for a reference is no cell of the giver's.
-    NoReference { what: Value, number: i64, due: Type, holder: Option<Subject> },
+    NoReference {
+        what: Value,
+        number: i64,
+        due: Type,
+        holder: Option<Subject>,
+    },
+}
+
+/// A crossing that fails.
+#[derive(Clone, PartialEq, Eq, Debug)]
+pub enum Cross {
     /// X1.
-    Types { from: Type, to: Described, reason: Reason },
+    Types {
+        from: Type,
+        to: Described,
+        reason: Reason,
+    },
     /// X2.
     Owner { owner: Subject, to: Described },
     /// X7.
-    Lacks { leads_to: LeadsTo, to: Described, reason: Reason },
-    Wide { number: i64 },
-    /// More than is left would be needed; so many are used up.
-    TypesFull { used: usize },
-    PlacesFull { used: usize },
-    CellsFull { used: usize },
-    CallsFull,
-    /// The core said no, and no reason was found.
-    Unexplained,
-    /// A value that fails on its way, and where.
-    Passing { what: Value, layer: Layer, first: bool, why: Box<Why> },
+    Lacks {
+        leads_to: LeadsTo,
+        to: Described,
+        reason: Reason,
+    },
+}
+
+/// What there are only so many of.
+#[derive(Clone, Copy, PartialEq, Eq, Debug)]
+pub enum Full {
+    Types,
+    Places,
+    Cells,
+    Calls,
 }
 
 /// Why a ref type is no class (T16).
@@ -70,136 +162,252 @@ pub enum Layer {
 /// A place, as a reason names it.
 #[derive(Clone, PartialEq, Eq, Debug)]
 pub enum LeadsTo {
-    Object { place: usize, class: Type },
+    Object {
+        place: usize,
+        class: Type,
+    },
     /// Without a number where the request itself would have made it.
-    Adapter { place: Option<usize>, permits: Vec<usize> },
+    Adapter {
+        place: Option<usize>,
+        permits: Vec<usize>,
+    },
 }
 
 impl Why {
     /// The refusal that it comes to.
     pub fn refusal(&self) -> Refusal {
         match self {
-            Why::NoSubject { .. } => Refusal::UnknownSubject,
-            Why::NoCell { .. } | Why::CellOf { .. } => Refusal::NotHeld,
-            Why::NoCall { .. } | Why::CallFor { .. } => Refusal::NotHeld,
-            Why::Answered { .. } => Refusal::AnsweredAlready,
-            Why::NoType { .. } | Why::NumberType { .. } | Why::NoClass { .. } => Refusal::UnknownType,
-            Why::NoMethod { .. } | Why::NotAvail { .. } => Refusal::NotCallable,
-            Why::Count { .. } | Why::NothingDue { .. } => Refusal::WrongValues,
-            Why::AnswerDue { .. } | Why::NoReference { .. } => Refusal::WrongValues,
-            Why::Types { .. } => Refusal::Unrelated,
-            Why::Owner { .. } => Refusal::NotOwner,
-            Why::Lacks { .. } => Refusal::NotStrict,
+            Why::Operand(operand) => operand.refusal(),
+            Why::Given(_) => Refusal::WrongValues,
+            Why::Cross(Cross::Types { .. }) => Refusal::Unrelated,
+            Why::Cross(Cross::Owner { .. }) => Refusal::NotOwner,
+            Why::Cross(Cross::Lacks { .. }) => Refusal::NotStrict,
             Why::Wide { .. } => Refusal::TooWide,
-            Why::TypesFull { .. } => Refusal::TypesFull,
-            Why::PlacesFull { .. } => Refusal::PlacesFull,
-            Why::CellsFull { .. } => Refusal::CellsFull,
-            Why::CallsFull => Refusal::CallsFull,
-            // which no request gets, so that it is never told
-            Why::Unexplained => Refusal::Form,
+            Why::Full { what, .. } => what.limit().0,
             Why::Passing { first, why, .. } => match why.refusal() {
                 // C13
                 Refusal::Unrelated | Refusal::NotStrict if !first => Refusal::LaterLayer,
                 own => own,
             },
+            // which no request gets, so that it is never told
+            Why::Unexplained => Refusal::Form,
+        }
+    }
+
+    /// In words: one sentence, of which every part is true.
+    pub fn words(&self, names: &Names) -> String {
+        match self {
+            Why::Operand(operand) => operand.words(names),
+            Why::Given(given) => given.words(names),
+            Why::Cross(cross) => cross.words(names),
+            Why::Wide { number } => format!("{number} does not fit 32 bits"),
+            Why::Full { what, used } => what.words(*used),
+            Why::Passing {
+                what, layer, why, ..
+            } => {
+                let (what, layer) = (what.words(), layer.words(names));
+                format!("{what}, at {layer}: {}", why.words(names))
+            }
+            Why::Unexplained => String::new(),
         }
     }
 }
 
-impl Why {
-    /// In words: one sentence, of which every part is true.
-    pub fn words(&self, names: &Names) -> String {
-        let subject = |number: &Subject| names.words(Kind::Subject, number.0);
-        let type_ = |number: &Type| names.words(Kind::Type, number.0);
-        let method = |number: &usize| names.words(Kind::Method, *number as i64);
+impl Operand {
+    fn refusal(&self) -> Refusal {
         match self {
-            Why::NoSubject { number, receiver, count } => {
+            Operand::NoSubject { .. } => Refusal::UnknownSubject,
+            Operand::NoCell { .. } | Operand::CellOf { .. } => Refusal::NotHeld,
+            Operand::NoCall { .. } | Operand::CallFor { .. } => Refusal::NotHeld,
+            Operand::Answered { .. } => Refusal::AnsweredAlready,
+            Operand::NoType { .. } | Operand::NumberType { .. } => Refusal::UnknownType,
+            Operand::NoClass { .. } => Refusal::UnknownType,
+            Operand::NoMethod { .. } | Operand::NotAvail { .. } => Refusal::NotCallable,
+        }
+    }
+
+    fn words(&self, names: &Names) -> String {
+        match self {
+            Operand::NoSubject {
+                number,
+                receiver,
+                count,
+            } => {
                 let what = if *receiver { "receiver" } else { "subject" };
-                format!("there is no {what} {number}: the sheet has {}", numbers("subject", *count))
+                format!(
+                    "there is no {what} {number}: {}",
+                    numbers("subject", *count)
+                )
             }
-            Why::NoCell { cell, count } => none_such("cell", *cell, *count),
-            Why::CellOf { cell, holder } => {
-                format!("cell {cell} is held by {}", subject(holder))
+            Operand::NoCell { cell, count } => none_such("cell", *cell, *count),
+            Operand::NoCall { call, count } => none_such("call", *call, *count),
+            Operand::NoType { number, count } => {
+                format!("there is no type {number}: {}", numbers("type", *count))
             }
-            Why::NoCall { call, count } => none_such("call", *call, *count),
-            Why::CallFor { call, owner } => {
-                format!("call {call} is for {} to answer", subject(owner))
+            Operand::NoMethod { number, count } => {
+                format!("there is no method {number}: {}", numbers("method", *count))
             }
-            Why::Answered { call } => format!("call {call} is answered already"),
-            Why::NoType { number, count } => {
-                format!("there is no type {number}: the sheet has {}", numbers("type", *count))
+            _ => self.unfit(names),
+        }
+    }
+
+    /// Of something that is there.
+    fn unfit(&self, names: &Names) -> String {
+        match self {
+            Operand::CellOf { cell, holder } => {
+                format!("cell {cell} is held by {}", subject(holder, names))
             }
-            Why::NumberType { number } => {
-                format!("{} is a number type, and a ref type is due", type_(&Type(*number)))
+            Operand::CallFor { call, owner } => {
+                format!("call {call} is for {} to answer", subject(owner, names))
             }
-            Why::NoClass { number, because } => {
-                let because = match because {
-                    NoClass::Own => "it has own".to_string(),
-                    NoClass::Says { method: number, says } => {
-                        format!("it says {} of {}", says.word(), method(number))
-                    }
-                };
-                format!("{} is no class: {because}", type_(&Type(*number)))
+            Operand::Answered { call } => format!("call {call} is answered already"),
+            Operand::NumberType { number } => {
+                let type_ = type_(&Type(*number), names);
+                format!("{type_} is a number type, and a ref type is due")
             }
-            Why::NoMethod { number, count } => {
-                format!("there is no method {number}: the sheet has {}", numbers("method", *count))
+            Operand::NoClass { number, because } => {
+                let type_ = type_(&Type(*number), names);
+                format!("{type_} is no class: {}", because.words(names))
             }
-            Why::NotAvail { type_: number, method: of, says } => {
-                let (number, says) = (type_(number), says.word());
-                format!("{number} says {says} of {}, and only avail can be called", method(of))
+            Operand::NotAvail {
+                type_: number,
+                method: of,
+                says,
+            } => {
+                let (type_, says, of) = (type_(number, names), says.word(), method(*of, names));
+                format!("{type_} says {says} of {of}, and only avail can be called")
             }
-            Why::Count { type_: number, method: of, due, given } => {
+            _ => String::new(),
+        }
+    }
+}
+
+impl NoClass {
+    fn words(self, names: &Names) -> String {
+        match self {
+            NoClass::Own => "it has own".to_string(),
+            NoClass::Says { method: of, says } => {
+                format!("it says {} of {}", says.word(), method(of, names))
+            }
+        }
+    }
+}
+
+impl Given {
+    fn words(&self, names: &Names) -> String {
+        match self {
+            Given::Count {
+                type_: number,
+                method: of,
+                due,
+                given,
+            } => {
+                let (type_, of) = (type_(number, names), method(*of, names));
                 let due = plural(*due, "argument");
-                let given = if *given == 0 { "none".to_string() } else { given.to_string() };
-                format!("{} takes {due} in {}, and {given} came", method(of), type_(number))
+                let given = if *given == 0 {
+                    "none".to_string()
+                } else {
+                    given.to_string()
+                };
+                format!("{of} takes {due} in {type_}, and {given} came")
             }
-            Why::NothingDue { type_: number, method: of } => {
-                format!("{} has no answer in {}, and one is given", method(of), type_(number))
+            Given::NothingDue {
+                type_: number,
+                method: of,
+            } => {
+                let (type_, of) = (type_(number, names), method(*of, names));
+                format!("{of} has no answer in {type_}, and one is given")
             }
-            Why::AnswerDue { type_: number, method: of, due } => {
-                let (of, number, due) = (method(of), type_(number), type_(due));
+            Given::AnswerDue {
+                type_: number,
+                method: of,
+                due,
+            } => {
+                let ([due, number], of) = (
+                    [due, number].map(|one| type_(one, names)),
+                    method(*of, names),
+                );
                 format!("{of} has an answer of {due} in {number}, and none is given")
             }
-            Why::NoReference { what, number, due, holder } => {
+            Given::NoReference {
+                what,
+                number,
+                due,
+                holder,
+            } => {
+                let (what, due) = (what.words(), type_(due, names));
                 let cell = match holder {
-                    Some(holder) => format!("cell {number} is held by {}", subject(holder)),
+                    Some(holder) => format!("cell {number} is held by {}", subject(holder, names)),
                     None => format!("there is no cell {number}"),
                 };
-                let (what, due) = (what.words(), type_(due));
                 format!("{what} is to be a reference ({due}), and {cell}")
             }
-            Why::Types { from, to, reason } => {
-                let (from, to) = (type_(from), to.words(names));
+        }
+    }
+}
+
+impl Cross {
+    fn words(&self, names: &Names) -> String {
+        match self {
+            Cross::Types { from, to, reason } => {
+                let (from, to) = (type_(from, names), to.words(names));
                 let reason = reason.words(names, [&to, &from]);
                 format!("a reference of {from} cannot become {to}: {reason}")
             }
-            Why::Owner { owner, to } => {
-                let to = to.words(names);
-                format!("{to} has own, and {} owns the object", subject(owner))
+            Cross::Owner { owner, to } => {
+                let (to, owner) = (to.words(names), subject(owner, names));
+                format!("{to} has own, and {owner} owns the object")
             }
-            Why::Lacks { leads_to, to, reason } => {
+            Cross::Lacks {
+                leads_to,
+                to,
+                reason,
+            } => {
                 let (to, leads_to) = (to.words(names), leads_to.words(names));
                 let reason = reason.words(names, [&to, &leads_to]);
                 format!("what the reference leads to does not do for {to}: {reason}")
             }
-            Why::Wide { number } => format!("{number} does not fit 32 bits"),
-            Why::TypesFull { used } => full("types", *used, MAX_TYPES),
-            Why::PlacesFull { used } => full("places", *used, MAX_PLACES),
-            Why::CellsFull { used } => full("cells", *used, MAX_CELLS),
-            Why::CallsFull => full("calls", MAX_CALLS, MAX_CALLS),
-            Why::Unexplained => String::new(),
-            Why::Passing { what, layer, why, .. } => {
-                format!("{}, at {}: {}", what.words(), layer.words(names), why.words(names))
-            }
         }
     }
+}
+
+impl Full {
+    /// The refusal, the word, and how many there are.
+    fn limit(self) -> (Refusal, &'static str, usize) {
+        match self {
+            Full::Types => (Refusal::TypesFull, "types", MAX_TYPES),
+            Full::Places => (Refusal::PlacesFull, "places", MAX_PLACES),
+            Full::Cells => (Refusal::CellsFull, "cells", MAX_CELLS),
+            Full::Calls => (Refusal::CallsFull, "calls", MAX_CALLS),
+        }
+    }
+
+    fn words(self, used: usize) -> String {
+        let (_, what, most) = self.limit();
+        match used == most {
+            true => format!("it needs another of the {most} {what}, and all are used up"),
+            false => format!("it needs more {what} than are left: {used} of {most} are used up"),
+        }
+    }
+}
+
+fn subject(number: &Subject, names: &Names) -> String {
+    names.words(Kind::Subject, number.0)
+}
+
+fn type_(number: &Type, names: &Names) -> String {
+    names.words(Kind::Type, number.0)
+}
+
+fn method(number: usize, names: &Names) -> String {
+    names.words(Kind::Method, number as i64)
 }
 
 /// The numbers that a sheet gives.
 fn numbers(what: &str, count: usize) -> String {
     match count {
-        1 => format!("{what} 0 alone"),
-        _ => format!("{what}s 0 to {}", count - 1),
+        1 => format!("the sheet has {what} 0 alone"),
+        _ => format!("the sheet has {what}s 0 to {}", count - 1),
     }
 }
 
@@ -207,14 +415,10 @@ fn none_such(what: &str, number: i64, count: usize) -> String {
     match count {
         0 => format!("there is no {what} {number}: none was made yet"),
         1 => format!("there is no {what} {number}: only {what} 0 was made yet"),
-        _ => format!("there is no {what} {number}: {what}s 0 to {} were made yet", count - 1),
-    }
-}
-
-fn full(what: &str, used: usize, most: usize) -> String {
-    match used == most {
-        true => format!("it needs another of the {most} {what}, and all are used up"),
-        false => format!("it needs more {what} than are left: {used} of {most} are used up"),
+        _ => format!(
+            "there is no {what} {number}: {what}s 0 to {} were made yet",
+            count - 1
+        ),
     }
 }
 

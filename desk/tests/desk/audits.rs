@@ -31,14 +31,26 @@ fn three_things_are_told_apart() {
     // type 1, the class, can be had from type 2 by both
     with_file("come", ONLY.as_bytes(), |path| {
         let out = accepted(&["audit", path]);
-        assert_eq!(out.matches("can come to call alone: to itself as type 1").count(), 2, "{out}");
+        assert_eq!(
+            out.matches("can come to call alone: to itself as type 1")
+                .count(),
+            2,
+            "{out}"
+        );
     });
     // with another method that type 2 hides and the class has, the class cannot be had
-    let only = ONLY.replace("methods=1", "methods=2").replace("m=avail(0)-\n", "m=avail(0)-\nm=avail()-\n");
+    let only = ONLY
+        .replace("methods=1", "methods=2")
+        .replace("m=avail(0)-\n", "m=avail(0)-\nm=avail()-\n");
     let only = only.replace("m=optional(0)-\n", "m=optional(0)-\nm=denied\n");
     with_file("only", only.as_bytes(), |path| {
         let out = accepted(&["audit", path]);
-        assert_eq!(out.matches("offers: no type of the sheet lets it be called").count(), 2, "{out}");
+        assert_eq!(
+            out.matches("offers: no type of the sheet lets it be called")
+                .count(),
+            2,
+            "{out}"
+        );
         assert!(out.contains("method 1: nobody"), "{out}");
         let (status, _, _) = run(&["audit", path, "--method", "0"]);
         assert_eq!(status, 1);
@@ -52,7 +64,9 @@ fn an_owner_comes_to_what_its_cell_hides() {
     with_file("owner", &script, |path| {
         let out = accepted(&["audit", path, "--names", NAMES, "--method", "mark"]);
         assert!(
-            out.contains("subject 0 (desk)     cell 0    can come to call alone: to itself as 4 whole log"),
+            out.contains(
+                "subject 0 (desk)     cell 0    can come to call alone: to itself as 4 whole log"
+            ),
             "{out}"
         );
         assert!(!out.contains("subject 1 (tour)     cell 1"), "{out}");
@@ -72,20 +86,50 @@ fn calls_are_listed() {
     }
     assert!(accepted(&["audit", SCRIPT]).contains("Calls: none"));
     let through = accepted(&["audit", "examples/two-adapters.script"]);
-    assert!(through.contains("types behind it: type 5 > [permits method 0 and method 1; from "), "{through}");
-    assert!(through.contains("which became the caller's cell 6"), "{through}");
+    assert!(
+        through.contains("types behind it: type 5 > [permits method 0 and method 1; from "),
+        "{through}"
+    );
+    assert!(
+        through.contains("which became the caller's cell 6"),
+        "{through}"
+    );
 }
 
 #[test]
 fn the_status_answers() {
     let asked = |words: &[&str]| run(&[&["audit", OPTIONAL, "--names", NAMES], words].concat());
     for (words, status, answer) in [
-        (&["--subject", "printer", "--method", "mark"][..], 0, "Could subject 2 (printer) have called method 1 (mark)? yes"),
-        (&["--subject", "printer", "--method", "erase"], 1, "Could subject 2 (printer) have called method 2 (erase)? no"),
-        (&["--subject", "tour"], 1, "Could subject 1 (tour) have called anything? no"),
-        (&["--method", "2"], 0, "Could anybody have called method 2 (erase)? yes"),
-        (&["--subject", "2", "--method", "1", "--calls"], 0, "Did subject 2 (printer) call method 1 (mark)? yes"),
-        (&["--subject", "0", "--method", "1", "--calls"], 1, "Did subject 0 (desk) call method 1 (mark)? no"),
+        (
+            &["--subject", "printer", "--method", "mark"][..],
+            0,
+            "Could subject 2 (printer) have called method 1 (mark)? yes",
+        ),
+        (
+            &["--subject", "printer", "--method", "erase"],
+            1,
+            "Could subject 2 (printer) have called method 2 (erase)? no",
+        ),
+        (
+            &["--subject", "tour"],
+            1,
+            "Could subject 1 (tour) have called anything? no",
+        ),
+        (
+            &["--method", "2"],
+            0,
+            "Could anybody have called method 2 (erase)? yes",
+        ),
+        (
+            &["--subject", "2", "--method", "1", "--calls"],
+            0,
+            "Did subject 2 (printer) call method 1 (mark)? yes",
+        ),
+        (
+            &["--subject", "0", "--method", "1", "--calls"],
+            1,
+            "Did subject 0 (desk) call method 1 (mark)? no",
+        ),
         (&["--calls"], 0, "Did anybody call anything? yes"),
     ] {
         let (found, out, error) = asked(words);
@@ -93,8 +137,15 @@ fn the_status_answers() {
         assert!(out.ends_with(&format!("{answer}\n")), "{words:?}: {out}");
     }
     let (_, narrow, _) = asked(&["--subject", "tour", "--method", "mark"]);
-    assert!(!narrow.contains("cell 1") && !narrow.contains("call 0"), "{narrow}");
-    for words in [&["--subject", "3"][..], &["--method", "-1"], &["--subject", "nobody"]] {
+    assert!(
+        !narrow.contains("cell 1") && !narrow.contains("call 0"),
+        "{narrow}"
+    );
+    for words in [
+        &["--subject", "3"][..],
+        &["--method", "-1"],
+        &["--subject", "nobody"],
+    ] {
         let (status, out, error) = asked(words);
         assert_eq!((status, out.as_str()), (2, ""), "{words:?}");
         assert!(error.starts_with("desk: "), "{error}");
@@ -109,7 +160,9 @@ fn no_answer_is_not_no() {
     assert_eq!(ask("no/such/file").0, 3);
     assert_eq!(ask("examples/refused-leading-zero.sheet").0, 3);
     let optional = read(OPTIONAL);
-    with_file("late", &[&optional[..], b"do=\n"].concat(), |path| assert_eq!(ask(path).0, 0));
+    with_file("late", &[&optional[..], b"do=\n"].concat(), |path| {
+        assert_eq!(ask(path).0, 0)
+    });
     let early = [split(&optional).0, b"do=\ndo=new 0 1 4\n"].concat();
     with_file("early", &early, |path| assert_eq!(ask(path).0, 3));
 }
@@ -122,7 +175,10 @@ fn a_script_that_is_cut_short_says_so_in_the_report() {
         for command in ["run", "audit"] {
             let (status, out, error) = run(&[command, path]);
             assert_eq!(status, 1);
-            assert!(out.contains(&line) && error.contains("refused with 1"), "{out}{error}");
+            assert!(
+                out.contains(&line) && error.contains("refused with 1"),
+                "{out}{error}"
+            );
         }
         let (_, out, _) = run(&["audit", path, "--calls"]);
         assert!(out.contains(&line), "{out}");
@@ -154,7 +210,10 @@ fn derived_types_are_told_in_words() {
                 let named: Vec<i64> = numbers.filter(|number| *number >= last).collect();
                 let requests = String::from_utf8_lossy(&input);
                 for number in named {
-                    assert!(requests.contains(&format!(" {number}")), "seed {seed}: type {number}");
+                    assert!(
+                        requests.contains(&format!(" {number}")),
+                        "seed {seed}: type {number}"
+                    );
                     assert_eq!(command, "run", "seed {seed}: type {number}");
                 }
             }

@@ -20,7 +20,9 @@ fn tried(visit: &Visit, cell: Cell, subject: Subject, steps: usize) -> Vec<bool>
     let info = visit.type_info(type_).expect("a type");
     let methods = 0..visit.sheet().methods();
     let offers = |method: usize| visit.offers(cell, &[Method(method as i64)]) == Ok(true);
-    let mut found: Vec<bool> = methods.map(|method| avail(&info, method) && offers(method)).collect();
+    let mut found: Vec<bool> = methods
+        .map(|method| avail(&info, method) && offers(method))
+        .collect();
     if steps == 0 {
         return found;
     }
@@ -28,7 +30,10 @@ fn tried(visit: &Visit, cell: Cell, subject: Subject, steps: usize) -> Vec<bool>
         let mut copy = visit.clone();
         if let Ok(held) = copy.move_reference(subject, cell, subject, Type(to as i64)) {
             let further = tried(&copy, held.cell, subject, steps - 1);
-            found.iter_mut().zip(further).for_each(|(one, other)| *one |= other);
+            found
+                .iter_mut()
+                .zip(further)
+                .for_each(|(one, other)| *one |= other);
         }
     }
     found
@@ -43,7 +48,12 @@ fn leads(visit: &Visit, cell: &CellInfo, method: usize, path: &[Type]) {
         at = held.expect("a way").cell;
     }
     let called = visit.call(cell.holder, at, Method(method as i64), &[]);
-    assert_ne!(called, Err(Refusal::NotCallable), "cell {}, {path:?}", cell.number);
+    assert_ne!(
+        called,
+        Err(Refusal::NotCallable),
+        "cell {}, {path:?}",
+        cell.number
+    );
 }
 
 /// All cells of a run: how many methods there are of each kind.
@@ -65,7 +75,10 @@ fn compared(visit: &Visit, steps: usize) -> [usize; 4] {
                     met[1] += 1;
                 }
                 Some(Power::Never) => {
-                    assert_eq!(visit.offers(cell.number, &[Method(method as i64)]), Ok(true));
+                    assert_eq!(
+                        visit.offers(cell.number, &[Method(method as i64)]),
+                        Ok(true)
+                    );
                     assert!(!tried, "cell {}, method {method}", cell.number);
                     met[2] += 1;
                 }
@@ -83,7 +96,11 @@ fn compared(visit: &Visit, steps: usize) -> [usize; 4] {
 #[test]
 fn what_can_be_come_to_is_what_the_core_lets_come() {
     let mut met = [0; 4];
-    for (profile, seeds, steps) in [(Profile::Small, 250, 3), (Profile::Medium, 40, 2), (Profile::Full, 6, 1)] {
+    for (profile, seeds, steps) in [
+        (Profile::Small, 250, 3),
+        (Profile::Medium, 40, 2),
+        (Profile::Full, 6, 1),
+    ] {
         for seed in 0..seeds {
             let input = generate(seed, profile);
             if let Some(run) = same(&input) {
@@ -119,7 +136,11 @@ fn before(run: &Run) -> [usize; 2] {
             if *power == Some(Power::Now) {
                 let earlier = &powers[from.0 as usize][method];
                 let could = earlier.as_ref().is_some_and(Power::is_yes);
-                assert!(could, "cell {} from {from}, method {method}: {earlier:?}", cell.number);
+                assert!(
+                    could,
+                    "cell {} from {from}, method {method}: {earlier:?}",
+                    cell.number
+                );
                 met[usize::from(by_call)] += 1;
             }
         }
@@ -144,7 +165,9 @@ fn nobody_before_was_told_never() {
 }
 
 fn class(visit: &Visit, cell: &CellInfo) -> (Type, Subject) {
-    let base = visit.base_of(cell.place).and_then(|base| visit.place_info(base));
+    let base = visit
+        .base_of(cell.place)
+        .and_then(|base| visit.place_info(base));
     match base.expect("a base").kind {
         PlaceKind::Object { class, owner } => (class, owner),
         PlaceKind::Adapter { .. } => panic!("a base is an object"),
@@ -157,9 +180,16 @@ fn within(run: &Run, powers: &[TypePowers]) -> usize {
     let reach = Reach::of(&visit.sheet());
     let mut met = 0;
     for cell in visit.cells() {
-        let of_type = powers.iter().find(|one| one.type_ == cell.type_).expect("a ref type");
+        let of_type = powers
+            .iter()
+            .find(|one| one.type_ == cell.type_)
+            .expect("a ref type");
         let (class, owner) = class(visit, &cell);
-        assert!(of_type.classes.contains(&class), "cell {}: {of_type:?}", cell.number);
+        assert!(
+            of_type.classes.contains(&class),
+            "cell {}: {of_type:?}",
+            cell.number
+        );
         let own = visit.type_info(cell.type_).expect("a type").own;
         if owner == cell.holder && !own && visit.sheet().subjects() > 1 {
             continue;
@@ -170,7 +200,11 @@ fn within(run: &Run, powers: &[TypePowers]) -> usize {
             match held {
                 Some(Power::Now) => assert_eq!(*said, Power::Now, "cell {}", cell.number),
                 Some(Power::Alone(_)) => {
-                    assert!(said.is_yes() && *said != Power::Now, "cell {}: {said:?}", cell.number);
+                    assert!(
+                        said.is_yes() && *said != Power::Now,
+                        "cell {}: {said:?}",
+                        cell.number
+                    );
                     met += 1;
                 }
                 _ => {}

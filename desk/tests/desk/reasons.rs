@@ -71,7 +71,11 @@ fn breaks(table: &Table, relation: Relation, reason: &Reason) -> &'static str {
             assert!(relation == Relation::Subtype && t.own && !s.own);
             "own"
         }
-        Broken::States { method, t: of_t, s: of_s } => {
+        Broken::States {
+            method,
+            t: of_t,
+            s: of_s,
+        } => {
             let (t, s) = (t.state(method), s.state(method));
             assert_eq!((of_t, of_s), (said(t), said(s)));
             assert!(match relation {
@@ -82,13 +86,18 @@ fn breaks(table: &Table, relation: Relation, reason: &Reason) -> &'static str {
             });
             "states"
         }
-        Broken::Arguments { method, t: of_t, s: of_s } => {
+        Broken::Arguments {
+            method,
+            t: of_t,
+            s: of_s,
+        } => {
             let counts = [t, s].map(|one| one.permits(method).expect("permitted").arguments.len());
             assert!(counts == [of_t, of_s] && of_t != of_s);
             "arguments"
         }
         Broken::Answers { method, in_t } => {
-            let answers = [t, s].map(|one| one.permits(method).expect("permitted").answer.is_some());
+            let answers =
+                [t, s].map(|one| one.permits(method).expect("permitted").answer.is_some());
             assert_eq!(answers, [in_t, !in_t]);
             "answers"
         }
@@ -107,7 +116,10 @@ fn all_pairs(text: &[u8], met: &mut BTreeMap<(&'static str, bool), usize>) {
         let answers = pairs.at(pair[0], pair[1]);
         let own_aside = model.holds(relations::Relation::SubtypeOwnAside, t, s);
         let asked = RELATIONS.map(|relation| (relation, answer(&answers, relation)));
-        for (relation, holds) in asked.into_iter().chain([(Relation::SubtypeOwnAside, own_aside)]) {
+        for (relation, holds) in asked
+            .into_iter()
+            .chain([(Relation::SubtypeOwnAside, own_aside)])
+        {
             let found = reasons.find(relation, pair[0], pair[1]);
             assert_eq!(found.is_none(), holds, "{relation:?} {t} {s}");
             if let Some(reason) = found {
@@ -129,11 +141,22 @@ fn a_reason_is_found_exactly_where_the_core_says_no() {
         }
     }
     println!("{met:?}");
-    let whats = ["kinds", "widths", "categories", "own", "states", "arguments", "answers"];
+    let whats = [
+        "kinds",
+        "widths",
+        "categories",
+        "own",
+        "states",
+        "arguments",
+        "answers",
+    ];
     for what in whats {
         assert!(met.contains_key(&(what, false)), "{what}: {met:?}");
     }
-    assert!(met.iter().filter(|((_, inside), _)| *inside).count() >= 4, "{met:?}");
+    assert!(
+        met.iter().filter(|((_, inside), _)| *inside).count() >= 4,
+        "{met:?}"
+    );
 }
 
 /// The sheet of the guide's example of categories: 2 is finer than 1.
@@ -143,13 +166,28 @@ const CATEGORIES: &str = "guide=1\nsubjects=1\nmethods=1\ncats=2\nunder=0\nunder
 #[test]
 fn a_comparison_says_what_is_so() {
     let mixed = accepted(&["compare", SHEET, "0", "2"]);
-    assert_eq!(mixed.matches("no   T is a number and S a reference").count(), 4, "{mixed}");
+    assert_eq!(
+        mixed
+            .matches("no   T is a number and S a reference")
+            .count(),
+        4,
+        "{mixed}"
+    );
     assert!(!mixed.contains(" or "), "{mixed}");
     let lacks = accepted(&["compare", SHEET, "5", "2"]);
-    assert_eq!(lacks.matches("no   of method 1 T says avail and S says denied").count(), 3, "{lacks}");
+    assert_eq!(
+        lacks
+            .matches("no   of method 1 T says avail and S says denied")
+            .count(),
+        3,
+        "{lacks}"
+    );
     with_file("categories", CATEGORIES.as_bytes(), |path| {
         let finer = accepted(&["compare", path, "1", "2"]);
-        assert!(finer.contains("strict   no   T is of category 1 and S of none"), "{finer}");
+        assert!(
+            finer.contains("strict   no   T is of category 1 and S of none"),
+            "{finer}"
+        );
         let inside = accepted(&["compare", path, "3", "1"]);
         assert!(
             inside.contains("free     no   in the answer of method 0: type 1 is a reference and type 0 a number"),

@@ -118,7 +118,10 @@ fn handed(run: &Run) {
             }
             None => assert_eq!(from, cell.holder),
         }
-        let ends = trail.crossings.windows(2).map(|two| [&two[0], &two[1]].map(|one| hands(&one.hands)));
+        let ends = trail
+            .crossings
+            .windows(2)
+            .map(|two| [&two[0], &two[1]].map(|one| hands(&one.hands)));
         for [[_, first], [second, _]] in ends.filter(|[first, second]| first != second) {
             assert_eq!(first, second, "cell {}", cell.number);
         }
@@ -128,7 +131,9 @@ fn handed(run: &Run) {
 fn hands(hands: &Hands) -> [Subject; 2] {
     match *hands {
         Hands::Made { by } => [by, by],
-        Hands::Moved { from, to } | Hands::Argument { from, to, .. } | Hands::Answer { from, to, .. } => [from, to],
+        Hands::Moved { from, to }
+        | Hands::Argument { from, to, .. }
+        | Hands::Answer { from, to, .. } => [from, to],
     }
 }
 

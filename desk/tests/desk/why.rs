@@ -1,13 +1,13 @@
 //! Every refused request is told by where it fails: to the core's own number, and with nothing said that is not so of the state.
 
-use crate::files::{accepted, read, with_file, NAMES, SCRIPT};
+use crate::files::{accepted, with_file, NAMES, SCRIPT};
 use crate::scripts::same;
 use desk::names::Names;
 use desk::scripts::follow::put;
 use desk::scripts::requests::{split, Request};
 use desk::scripts::trial::{served, why};
-use desk::scripts::why::{Layer, LeadsTo, NoClass, Why};
-use pilgonca::{raw, Cell, MethodInfo, PlaceKind, Representation, Subject, Type, Visit};
+use desk::scripts::why::{Cross, Full, Given, Layer, LeadsTo, NoClass, Operand, Why};
+use pilgonca::{Cell, MethodInfo, PlaceKind, Representation, Subject, Type, Visit};
 use reference::gen::{generate, Profile, PROFILES};
 use std::collections::BTreeMap;
 
@@ -28,118 +28,188 @@ fn method(visit: &Visit, type_: Type, method: usize) -> MethodInfo {
     visit.type_info(type_).expect("a type").methods[method].clone()
 }
 
-/// Whether what is said is so, as far as a state tells; what is said of relations is tried elsewhere. Gives a word for what it is.
-fn holds(visit: &Visit, request: &Request, why: &Why) -> &'static str {
+/// Whether what is said of an operand is so. Gives a word for what it is.
+fn operand_holds(visit: &Visit, operand: &Operand) -> &'static str {
     let sheet = visit.sheet();
-    let known = |number: i64, count: usize| (0..count as i64).contains(&number);
-    match why {
-        Why::NoSubject { number, receiver, count } => {
-            assert!(!known(*number, *count) && *count == sheet.subjects());
-            if *receiver { "receiver" } else { "subject" }
+    let unknown = |number: &i64, count: &usize, there: usize| {
+        assert!(!(0..*count as i64).contains(number) && *count == there);
+    };
+    match operand {
+        Operand::NoSubject {
+            number,
+            receiver,
+            count,
+        } => {
+            unknown(number, count, sheet.subjects());
+            if *receiver {
+                "receiver"
+            } else {
+                "subject"
+            }
         }
-        Why::NoCell { cell, count } => {
-            assert!(!known(*cell, *count) && *count == visit.cells().count());
+        Operand::NoCell { cell, count } => {
+            unknown(cell, count, visit.cells().count());
             "no cell"
         }
-        Why::CellOf { cell, holder } => {
-            assert_eq!(visit.cell_info(Cell(*cell)).expect("a cell").holder, *holder);
+        Operand::CellOf { cell, holder } => {
+            assert_eq!(
+                visit.cell_info(Cell(*cell)).expect("a cell").holder,
+                *holder
+            );
             "cell of another"
         }
-        Why::NoCall { call, count } => {
-            assert!(!known(*call, *count) && *count == visit.calls().count());
+        Operand::NoCall { call, count } => {
+            unknown(call, count, visit.calls().count());
             "no call"
         }
-        Why::CallFor { call, owner: named } => {
+        Operand::NoType { number, count } => {
+            unknown(number, count, sheet.sheet_types());
+            "no type"
+        }
+        Operand::NoMethod { number, count } => {
+            unknown(number, count, sheet.methods());
+            "no method"
+        }
+        _ => fitting(visit, operand),
+    }
+}
+
+/// The same of operands that name something.
+fn fitting(visit: &Visit, operand: &Operand) -> &'static str {
+    match operand {
+        Operand::CallFor { call, owner: named } => {
             let call = visit.calls().nth(*call as usize).expect("a call");
             assert_eq!(owner(visit, call.cell), *named);
             "call for another"
         }
-        Why::Answered { call } => {
+        Operand::Answered { call } => {
             assert!(visit.calls().nth(*call as usize).expect("a call").answered);
             "answered"
         }
-        Why::NoType { number, count } => {
-            assert!(!known(*number, *count) && *count == sheet.sheet_types());
-            "no type"
-        }
-        Why::NumberType { number } => {
+        Operand::NumberType { number } => {
             assert!(!is_ref(visit, Type(*number)));
             "number type"
         }
-        Why::NoClass { number, because } => {
+        Operand::NoClass { number, because } => {
             let info = visit.type_info(Type(*number)).expect("a type");
             assert!(!info.is_class());
             match because {
                 NoClass::Own => assert!(info.own),
                 NoClass::Says { method, .. } => {
-                    assert!(matches!(info.methods[*method], MethodInfo::Denied | MethodInfo::Optional(_)));
+                    let said = &info.methods[*method];
+                    assert!(matches!(said, MethodInfo::Denied | MethodInfo::Optional(_)));
                 }
             }
             "no class"
         }
-        Why::NoMethod { number, count } => {
-            assert!(!known(*number, *count) && *count == sheet.methods());
-            "no method"
-        }
-        Why::NotAvail { type_, method: number, .. } => {
-            assert!(!matches!(method(visit, *type_, *number), MethodInfo::Avail(_)));
+        Operand::NotAvail {
+            type_,
+            method: number,
+            ..
+        } => {
+            assert!(!matches!(
+                method(visit, *type_, *number),
+                MethodInfo::Avail(_)
+            ));
             "not avail"
         }
-        Why::Count { type_, method: number, due, given } => {
+        other => panic!("{other:?}"),
+    }
+}
+
+/// Whether what is said of values is so.
+fn given_holds(visit: &Visit, given: &Given) -> &'static str {
+    match given {
+        Given::Count {
+            type_,
+            method: number,
+            due,
+            given,
+        } => {
             let MethodInfo::Avail(signature) = method(visit, *type_, *number) else {
                 panic!("avail");
             };
             assert!(signature.arguments.len() == *due && due != given);
             "count"
         }
-        Why::NothingDue { .. } => "nothing due",
-        Why::AnswerDue { due, .. } => {
-            assert!((due.0 as usize) < sheet.sheet_types());
+        Given::NothingDue {
+            type_,
+            method: number,
+        } => {
+            let MethodInfo::Avail(signature) = method(visit, *type_, *number) else {
+                panic!("avail");
+            };
+            assert_eq!(signature.answer, None);
+            "nothing due"
+        }
+        Given::AnswerDue {
+            type_,
+            method: number,
+            due,
+        } => {
+            let MethodInfo::Avail(signature) = method(visit, *type_, *number) else {
+                panic!("avail");
+            };
+            assert_eq!(signature.answer, Some(*due));
             "answer due"
         }
-        Why::NoReference { number, due, holder, .. } => {
+        Given::NoReference {
+            number,
+            due,
+            holder,
+            ..
+        } => {
             assert!(is_ref(visit, *due));
             let cell = visit.cell_info(Cell(*number));
             assert_eq!(cell.map(|cell| cell.holder), *holder);
             "no reference"
         }
-        Why::Types { .. } => "types",
-        Why::Owner { owner: named, .. } => {
-            match request {
-                Request::Move { cell, receiver, .. } => {
-                    assert_eq!(owner(visit, Cell(*cell)), *named);
-                    assert_ne!(*named, Subject(*receiver));
-                }
-                _ => panic!("new objects are their makers', and signatures name no own type"),
-            }
+    }
+}
+
+/// Whether what is said of a crossing is so, as far as a state tells: what is said of relations is tried elsewhere.
+fn cross_holds(visit: &Visit, request: &Request, cross: &Cross) -> &'static str {
+    match cross {
+        Cross::Types { .. } => "types",
+        Cross::Owner { owner: named, .. } => {
+            let Request::Move { cell, receiver, .. } = request else {
+                panic!("new objects are their makers', and signatures name no own type");
+            };
+            assert_eq!(owner(visit, Cell(*cell)), *named);
+            assert_ne!(*named, Subject(*receiver));
             "owner"
         }
-        Why::Lacks { leads_to, .. } => {
-            if let LeadsTo::Adapter { place: Some(place), .. } = leads_to {
+        Cross::Lacks { leads_to, .. } => {
+            if let LeadsTo::Adapter {
+                place: Some(place), ..
+            } = leads_to
+            {
                 let kind = visit.places().nth(*place).expect("a place").kind;
                 assert!(matches!(kind, PlaceKind::Adapter { .. }));
             }
             "lacks"
         }
+    }
+}
+
+fn holds(visit: &Visit, request: &Request, why: &Why) -> &'static str {
+    match why {
+        Why::Operand(operand) => operand_holds(visit, operand),
+        Why::Given(given) => given_holds(visit, given),
+        Why::Cross(cross) => cross_holds(visit, request, cross),
         Why::Wide { number } => {
             assert!(i32::try_from(*number).is_err());
             "wide"
         }
-        Why::TypesFull { used } => {
-            assert_eq!(*used, visit.types().count());
-            "types full"
-        }
-        Why::PlacesFull { used } => {
-            assert_eq!(*used, visit.places().count());
-            "places full"
-        }
-        Why::CellsFull { used } => {
-            assert_eq!(*used, visit.cells().count());
-            "cells full"
-        }
-        Why::CallsFull => {
-            assert_eq!(visit.calls().count(), raw::MAX_CALLS);
-            "calls full"
+        Why::Full { what, used } => {
+            let (there, word) = match what {
+                Full::Types => (visit.types().count(), "types full"),
+                Full::Places => (visit.places().count(), "places full"),
+                Full::Cells => (visit.cells().count(), "cells full"),
+                Full::Calls => (visit.calls().count(), "calls full"),
+            };
+            assert_eq!(*used, there);
+            word
         }
         Why::Unexplained => panic!("{request:?}"),
         Why::Passing { layer, why, .. } => {
@@ -147,12 +217,39 @@ fn holds(visit: &Visit, request: &Request, why: &Why) -> &'static str {
                 assert!(*place < visit.places().count());
             }
             match holds(visit, request, why) {
-                "types" => "argument's or answer's types",
-                "lacks" => "what an argument or answer leads to",
+                "types" => "types of a value",
+                "lacks" => "what a value leads to",
                 other => other,
             }
         }
     }
+}
+
+/// Every request of a script, before it is served; how many were accepted, and what was met of the others.
+fn explained(input: &[u8], met: &mut BTreeMap<&'static str, usize>) -> usize {
+    let Some(run) = same(input) else {
+        return 0;
+    };
+    let mut visit = Visit::load(split(input).0).expect("it was followed");
+    let mut passed = 0;
+    for step in &run.steps {
+        match step.outcome {
+            Ok(_) => {
+                assert_eq!(served(&visit, &step.request), Ok(()), "{:?}", step.request);
+                passed += 1;
+            }
+            Err(refusal) => {
+                let found = why(&visit, &step.request, refusal);
+                assert_eq!(found, step.why);
+                let found = found.unwrap_or_else(|| panic!("{:?}: {refusal}", step.request));
+                let words = found.words(&Names::default());
+                assert!(!words.is_empty() && !words.contains(" or "), "{words}");
+                *met.entry(holds(&visit, &step.request, &found)).or_default() += 1;
+            }
+        }
+        assert_eq!(put(&mut visit, &step.request), step.outcome);
+    }
+    passed
 }
 
 #[test]
@@ -161,32 +258,11 @@ fn every_refusal_has_a_reason_that_is_so() {
     for profile in PROFILES {
         let seeds = if profile == Profile::Full { 15 } else { 150 };
         for seed in 0..seeds {
-            let input = generate(seed, profile);
-            let Some(run) = same(&input) else {
-                continue;
-            };
-            let mut visit = Visit::load(split(&input).0).expect("it was followed");
-            for step in &run.steps {
-                match step.outcome {
-                    Ok(_) => {
-                        assert_eq!(served(&visit, &step.request), Ok(()), "{:?}", step.request);
-                        passed += 1;
-                    }
-                    Err(refusal) => {
-                        let found = why(&visit, &step.request, refusal);
-                        assert_eq!(found, step.why);
-                        let found = found.unwrap_or_else(|| panic!("{:?}: {refusal}", step.request));
-                        let words = found.words(&Names::default());
-                        assert!(!words.is_empty() && !words.contains(" or "), "{words}");
-                        *met.entry(holds(&visit, &step.request, &found)).or_insert(0) += 1;
-                    }
-                }
-                assert_eq!(put(&mut visit, &step.request), step.outcome);
-            }
+            passed += explained(&generate(seed, profile), &mut met);
         }
     }
     println!("{passed} accepted; {met:?}");
-    assert!(passed > 10_000 && met.len() >= 22, "{passed} {met:?}");
+    assert!(passed > 10_000 && met.len() >= 25, "{passed} {met:?}");
 }
 
 /// Each number that a script can meet, with a part of what is said of its last line.
@@ -211,12 +287,20 @@ const SAID: [(&str, &str); 14] = [
 fn a_refused_line_says_why() {
     for (number, part) in SAID {
         let out = accepted(&["run", &format!("examples/refused-{number}.script")]);
-        let last = out.lines().rfind(|line| line.contains("refused with")).expect("a refusal");
+        let last = out
+            .lines()
+            .rfind(|line| line.contains("refused with"))
+            .expect("a refusal");
         let refused = format!("refused with {}: ", number.trim_start_matches('0'));
         assert!(last.contains(&refused) && last.contains(part), "{last}");
     }
     let named = accepted(&["run", SCRIPT, "--names", NAMES]);
-    assert!(named.contains("of method 1 (mark) type 5 (marker) says avail and type 2 (reader) says denied"), "{named}");
+    assert!(
+        named.contains(
+            "of method 1 (mark) type 5 (marker) says avail and type 2 (reader) says denied"
+        ),
+        "{named}"
+    );
 }
 
 /// A call whose second argument fails is told by that argument.
@@ -226,15 +310,18 @@ fn the_argument_at_fault_is_named() {
         m=avail()0\nm=avail(0,2)-\ntype=2\nrep=ref\ncat=0\nown=no\nm=avail()0\nm=denied\ntype=3\nrep=ref\ncat=0\nown=no\nm=denied\n\
         m=denied\nend=sheet\n";
     let requests = "do=new 0 1 1\ndo=new 0 1 3\ndo=call 0 0 1 5 1\ndo=call 0 0 1 5 9\ndo=call 0 0 1 2147483648 0\n";
-    with_file("argument", (sheet.to_string() + requests).as_bytes(), |path| {
-        let out = accepted(&["run", path]);
-        for part in [
+    with_file(
+        "argument",
+        (sheet.to_string() + requests).as_bytes(),
+        |path| {
+            let out = accepted(&["run", path]);
+            for part in [
             "refused with 8: argument 2, at the cell's type 1: a reference of type 3 cannot become type 2: of method 0 type 2 says avail and type 3 says denied",
             "refused with 15: argument 2 is to be a reference (type 2), and there is no cell 9",
             "refused with 16: argument 1, at the cell's type 1: 2147483648 does not fit 32 bits",
         ] {
             assert!(out.contains(part), "{part}: {out}");
         }
-    });
-    assert!(!read(SCRIPT).is_empty());
+        },
+    );
 }
