@@ -104,10 +104,14 @@ impl Desk {
     fn compare(&self, path: &Path, types: &[String; 2]) -> Result<String, Stop> {
         let sheet = self.sheet(path)?;
         let [t, s] = [self.type_(&types[0])?, self.type_(&types[1])?];
-        let last = sheet.sheet_types() - 1;
-        let answers = sheet
-            .compare(t, s)
-            .map_err(|refusal| format!("{}; the sheet has types 0 to {last}", refused(refusal)))?;
+        let answers = sheet.compare(t, s).map_err(|refusal| {
+            let unknown = [t, s]
+                .into_iter()
+                .find(|one| sheet.type_info(*one).is_none());
+            let unknown = unknown.map_or(String::new(), |one| format!("there is no type {one}: "));
+            let (number, last) = (refusal.number(), sheet.sheet_types() - 1);
+            format!("refused with {number}: {unknown}the sheet has types 0 to {last}")
+        })?;
         let (Some(t), Some(s)) = (sheet.type_info(t), sheet.type_info(s)) else {
             return Err(refused(Refusal::UnknownType).into());
         };

@@ -181,7 +181,11 @@ impl Auditor<'_> {
     fn method(&self, method: usize, cells: &[(CellInfo, &Power)]) -> String {
         let title = self.names.words(Kind::Method, method as i64);
         if cells.is_empty() {
-            let nobody = self.paint.of(Tone::Quiet, "nobody");
+            let nobody = match self.question.subject {
+                Some(number) => format!("not {}", self.names.words(Kind::Subject, number as i64)),
+                None => "nobody".to_string(),
+            };
+            let nobody = self.paint.of(Tone::Quiet, &nobody);
             return format!("  {title}: {nobody}\n");
         }
         let lines = cells.iter().map(|(cell, power)| {

@@ -60,6 +60,20 @@ struct Reference {
     place: usize,
 }
 
+/// A value on its way.
+#[derive(Clone, Copy)]
+enum Carried {
+    Number(i64),
+    Reference(Reference),
+}
+
+/// What the values of a call or an answer pass.
+struct Way {
+    layers: Vec<(Layer, Type)>,
+    method: usize,
+    receiver: Subject,
+}
+
 impl<'a> Trial<'a> {
     fn of(visit: &'a Visit) -> Trial<'a> {
         let places: Vec<PlaceKind> = visit.places().map(|info| info.kind).collect();
@@ -122,22 +136,25 @@ impl<'a> Trial<'a> {
                 given,
             }));
         }
-        for (index, (number, due)) in given.iter().zip(&signature.arguments).enumerate() {
-            self.value(subject, Value::Argument(index), *number, *due)?;
-        }
+        let values = given.iter().zip(&signature.arguments).enumerate();
+        let values: Vec<Carried> = values
+            .map(|(index, (number, due))| {
+                self.value(subject, Value::Argument(index), *number, *due)
+            })
+            .collect::<Result<_, _>>()?;
         if self.visit.calls().count() == MAX_CALLS {
             return Err(Why::Full {
                 what: Full::Calls,
                 used: MAX_CALLS,
             });
         }
-        let owner = self.owner(cell.place.0 as usize);
-        for (position, number) in given.iter().enumerate() {
-            let what = Value::Argument(position);
-            let layers = self.layers(&cell);
-            if self.pass(what, *number, &layers, method, owner)? {
-                self.cell()?;
-            }
+        let way = Way {
+            layers: self.layers(&cell),
+            method,
+            receiver: self.owner(cell.place.0 as usize),
+        };
+        for (position, value) in values.into_iter().enumerate() {
+            self.pass(Value::Argument(position), value, &way)?;
         }
         Ok(())
     }
@@ -167,51 +184,57 @@ impl<'a> Trial<'a> {
             (None, Some(_)) => Err(Why::Given(Given::NothingDue { type_, method })),
             (Some(due), None) => Err(Why::Given(Given::AnswerDue { type_, method, due })),
             (Some(due), Some(number)) => {
-                self.value(subject, Value::Answer, number, due)?;
+                let value = self.value(subject, Value::Answer, number, due)?;
                 let mut layers = self.layers(&cell);
                 layers.reverse();
-                if self.pass(Value::Answer, number, &layers, method, called.caller)? {
-                    self.cell()?;
-                }
-                Ok(())
+                let receiver = called.caller;
+                let way = Way {
+                    layers,
+                    method,
+                    receiver,
+                };
+                self.pass(Value::Answer, value, &way)
             }
         }
     }
 
-    /// A value through the layers; whether it is a reference (C8 to C15, A7 to A9).
-    fn pass(
-        &mut self,
-        what: Value,
-        number: i64,
-        layers: &[(Layer, Type)],
-        method: usize,
-        receiver: Subject,
-    ) -> Result<bool, Why> {
-        let mut reference = None;
-        for (index, (layer, type_)) in layers.iter().enumerate() {
-            // a layer of a state that began with a sheet always has one
-            let Some(named) = self.named(what, *type_, method) else {
-                continue;
-            };
-            let first = index == 0;
-            let at_layer = |why| Why::Passing {
+    /// A value through the layers; a reference then becomes a cell (C8 to C17, A7 to A10).
+    fn pass(&mut self, what: Value, carried: Carried, way: &Way) -> Result<(), Why> {
+        let mut carried = carried;
+        for (index, (layer, type_)) in way.layers.iter().enumerate() {
+            let named = self.named(what, *type_, way.method);
+            let passed = self.layer(carried, named, way.receiver);
+            carried = passed.map_err(|why| Why::Passing {
                 what,
                 layer: *layer,
-                first,
+                first: index == 0,
                 why: Box::new(why),
-            };
-            match self.info(named).representation {
-                Representation::Ref => {
-                    let from = reference.unwrap_or_else(|| self.start(number));
-                    reference = Some(self.cross(from, named, receiver).map_err(at_layer)?);
-                }
-                Representation::W32 if i32::try_from(number).is_err() => {
-                    return Err(at_layer(Why::Wide { number }));
-                }
-                _ => {}
-            }
+            })?;
         }
-        Ok(reference.is_some())
+        match carried {
+            Carried::Reference(_) => self.cell(),
+            Carried::Number(_) => Ok(()),
+        }
+    }
+
+    /// One layer, and the type that it has for the value, if any (C11, C14, C15).
+    fn layer(
+        &mut self,
+        carried: Carried,
+        named: Option<Type>,
+        receiver: Subject,
+    ) -> Result<Carried, Why> {
+        let named = named.ok_or(Why::Cross(Cross::Unfit))?;
+        match (carried, self.info(named).representation) {
+            (Carried::Reference(from), Representation::Ref) => {
+                self.cross(from, named, receiver).map(Carried::Reference)
+            }
+            (Carried::Number(number), Representation::W32) if i32::try_from(number).is_err() => {
+                Err(Why::Wide { number })
+            }
+            (Carried::Number(_), Representation::W32 | Representation::W64) => Ok(carried),
+            _ => Err(Why::Cross(Cross::Unfit)),
+        }
     }
 
     /// The type that a layer has for a value.
@@ -221,10 +244,6 @@ impl<'a> Trial<'a> {
             Value::Argument(position) => signature.arguments.get(position).copied(),
             Value::Answer => signature.answer,
         }
-    }
-
-    fn start(&self, cell: i64) -> Reference {
-        reference(&self.cells[cell as usize])
     }
 
     /// X.
@@ -344,13 +363,13 @@ impl<'a> Trial<'a> {
         }
     }
 
-    /// C5, A6.
-    fn value(&self, subject: Subject, what: Value, number: i64, due: Type) -> Result<(), Why> {
+    /// C5, C8, A6.
+    fn value(&self, subject: Subject, what: Value, number: i64, due: Type) -> Result<Carried, Why> {
         if self.info(due).representation != Representation::Ref {
-            return Ok(());
+            return Ok(Carried::Number(number));
         }
         let holder = match self.held(subject, number) {
-            Ok(_) => return Ok(()),
+            Ok(cell) => return Ok(Carried::Reference(reference(&cell))),
             Err(Why::Operand(Operand::CellOf { holder, .. })) => Some(holder),
             Err(_) => None,
         };

@@ -125,6 +125,8 @@ pub enum Cross {
         to: Described,
         reason: Reason,
     },
+    /// A layer that has no type for the value, or one of the other kind (C15): only a state handed in has such.
+    Unfit,
 }
 
 /// What there are only so many of.
@@ -179,7 +181,7 @@ impl Why {
         match self {
             Why::Operand(operand) => operand.refusal(),
             Why::Given(_) => Refusal::WrongValues,
-            Why::Cross(Cross::Types { .. }) => Refusal::Unrelated,
+            Why::Cross(Cross::Types { .. } | Cross::Unfit) => Refusal::Unrelated,
             Why::Cross(Cross::Owner { .. }) => Refusal::NotOwner,
             Why::Cross(Cross::Lacks { .. }) => Refusal::NotStrict,
             Why::Wide { .. } => Refusal::TooWide,
@@ -254,9 +256,7 @@ impl Operand {
     /// Of something that is there.
     fn unfit(&self, names: &Names) -> String {
         match self {
-            Operand::CellOf { cell, holder } => {
-                format!("cell {cell} is held by {}", subject(holder, names))
-            }
+            Operand::CellOf { cell, holder } => no_cell_of(*cell, Some(holder), names),
             Operand::CallFor { call, owner } => {
                 format!("call {call} is for {} to answer", subject(owner, names))
             }
@@ -335,14 +335,18 @@ impl Given {
                 due,
                 holder,
             } => {
+                let cell = no_cell_of(*number, holder.as_ref(), names);
                 let (what, due) = (what.words(), type_(due, names));
-                let cell = match holder {
-                    Some(holder) => format!("cell {number} is held by {}", subject(holder, names)),
-                    None => format!("there is no cell {number}"),
-                };
                 format!("{what} is to be a reference ({due}), and {cell}")
             }
         }
+    }
+}
+
+fn no_cell_of(number: i64, holder: Option<&Subject>, names: &Names) -> String {
+    match holder {
+        Some(holder) => format!("cell {number} is held by {}", subject(holder, names)),
+        None => format!("there is no cell {number}"),
     }
 }
 
@@ -367,6 +371,7 @@ impl Cross {
                 let reason = reason.words(names, [&to, &leads_to]);
                 format!("what the reference leads to does not do for {to}: {reason}")
             }
+            Cross::Unfit => "this layer has no such value".to_string(),
         }
     }
 }

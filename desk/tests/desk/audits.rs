@@ -96,47 +96,57 @@ fn calls_are_listed() {
     );
 }
 
+/// What is asked of OPTIONAL, the status, and the answer.
+const ASKED: [(&[&str], i32, &str); 7] = [
+    (
+        &["--subject", "printer", "--method", "mark"],
+        0,
+        "Could subject 2 (printer) have called method 1 (mark)? yes",
+    ),
+    (
+        &["--subject", "printer", "--method", "erase"],
+        1,
+        "Could subject 2 (printer) have called method 2 (erase)? no",
+    ),
+    (
+        &["--subject", "tour"],
+        1,
+        "Could subject 1 (tour) have called anything? no",
+    ),
+    (
+        &["--method", "2"],
+        0,
+        "Could anybody have called method 2 (erase)? yes",
+    ),
+    (
+        &["--subject", "2", "--method", "1", "--calls"],
+        0,
+        "Did subject 2 (printer) call method 1 (mark)? yes",
+    ),
+    (
+        &["--subject", "0", "--method", "1", "--calls"],
+        1,
+        "Did subject 0 (desk) call method 1 (mark)? no",
+    ),
+    (&["--calls"], 0, "Did anybody call anything? yes"),
+];
+
+fn ask(words: &[&str]) -> (i32, String, String) {
+    run(&[&["audit", OPTIONAL, "--names", NAMES], words].concat())
+}
+
 #[test]
 fn the_status_answers() {
-    let asked = |words: &[&str]| run(&[&["audit", OPTIONAL, "--names", NAMES], words].concat());
-    for (words, status, answer) in [
-        (
-            &["--subject", "printer", "--method", "mark"][..],
-            0,
-            "Could subject 2 (printer) have called method 1 (mark)? yes",
-        ),
-        (
-            &["--subject", "printer", "--method", "erase"],
-            1,
-            "Could subject 2 (printer) have called method 2 (erase)? no",
-        ),
-        (
-            &["--subject", "tour"],
-            1,
-            "Could subject 1 (tour) have called anything? no",
-        ),
-        (
-            &["--method", "2"],
-            0,
-            "Could anybody have called method 2 (erase)? yes",
-        ),
-        (
-            &["--subject", "2", "--method", "1", "--calls"],
-            0,
-            "Did subject 2 (printer) call method 1 (mark)? yes",
-        ),
-        (
-            &["--subject", "0", "--method", "1", "--calls"],
-            1,
-            "Did subject 0 (desk) call method 1 (mark)? no",
-        ),
-        (&["--calls"], 0, "Did anybody call anything? yes"),
-    ] {
-        let (found, out, error) = asked(words);
+    for (words, status, answer) in ASKED {
+        let (found, out, error) = ask(words);
         assert_eq!((found, error.as_str()), (status, ""), "{words:?}: {out}");
         assert!(out.ends_with(&format!("{answer}\n")), "{words:?}: {out}");
     }
-    let (_, narrow, _) = asked(&["--subject", "tour", "--method", "mark"]);
+    let (_, narrow, _) = ask(&["--subject", "tour", "--method", "mark"]);
+    assert!(
+        narrow.contains("method 1 (mark): not subject 1 (tour)"),
+        "{narrow}"
+    );
     assert!(
         !narrow.contains("cell 1") && !narrow.contains("call 0"),
         "{narrow}"
@@ -146,10 +156,61 @@ fn the_status_answers() {
         &["--method", "-1"],
         &["--subject", "nobody"],
     ] {
-        let (status, out, error) = asked(words);
+        let (status, out, error) = ask(words);
         assert_eq!((status, out.as_str()), (2, ""), "{words:?}");
         assert!(error.starts_with("desk: "), "{error}");
     }
+}
+
+/// What there was room for once is told as that, and is a yes: the question is about the whole visit.
+#[test]
+fn what_there_was_room_for_counts() {
+    let fill = b"do=move 0 0 0 4\n".repeat(254);
+    let script = [
+        split(&read(OPTIONAL)).0,
+        b"do=new 0 1 4\ndo=move 0 0 2 3\n",
+        &fill,
+    ]
+    .concat();
+    with_file("room", &script, |path| {
+        let mark = [
+            "audit",
+            path,
+            "--names",
+            NAMES,
+            "--subject",
+            "printer",
+            "--method",
+            "mark",
+        ];
+        let out = accepted(&mark);
+        let once = "could come to call alone, to itself as 5 marker, while there was room; now no cell is free";
+        let out = out.replace("\n                                   ", " ");
+        assert!(out.contains(once) && out.contains("(mark)? yes"), "{out}");
+    });
+}
+
+/// What the documents said of optional, and what holds.
+#[test]
+fn the_documents_say_what_holds_of_optional() {
+    let guide = String::from_utf8(read("docs/GUIDE.md")).expect("UTF-8");
+    let background = String::from_utf8(read("docs/BACKGROUND.md")).expect("UTF-8");
+    for text in [&guide, &background] {
+        for wrong in [
+            "the module cannot use it",
+            "is\nthe right to pass on without the right to use",
+            "hands a reference on without using the method",
+            "optional` is for handing on",
+            "`optional` at least, all the way",
+            "it cannot be called |",
+        ] {
+            assert!(!text.contains(wrong), "{wrong}");
+        }
+    }
+    assert!(guide.contains("Whoever holds a reference that offers a method may come to call it."));
+    assert!(background.contains("may come to call it"));
+    let eight = accepted(&["explain", "8"]);
+    assert!(eight.contains("come to call it"), "{eight}");
 }
 
 /// A question that cannot be answered is not answered with no.

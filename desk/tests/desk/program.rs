@@ -216,8 +216,11 @@ fn the_matrix_and_a_comparison() {
     assert!(own.contains("for the owner of its object alone"), "{own}");
     let mixed = accepted(&["compare", SHEET, "0", "2"]);
     assert!(mixed.contains("never becomes"), "{mixed}");
-    assert!(refused(&["compare", SHEET, "6", "0"]).contains("refused with 7"));
-    assert!(refused(&["compare", SHEET, "-1", "0"]).contains("refused with 7"));
+    for (unknown, words) in [("6", ["6", "0"]), ("-1", ["0", "-1"])] {
+        let error = refused(&["compare", SHEET, words[0], words[1]]);
+        let why = format!("refused with 7: there is no type {unknown}: the sheet has types 0 to 5");
+        assert!(error.contains(&why), "{error}");
+    }
     assert!(refused(&["compare", SHEET, "log", "0"]).contains("no type is named \"log\""));
 }
 

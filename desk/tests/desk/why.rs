@@ -7,8 +7,12 @@ use desk::scripts::follow::put;
 use desk::scripts::requests::{split, Request};
 use desk::scripts::trial::{served, why};
 use desk::scripts::why::{Cross, Full, Given, Layer, LeadsTo, NoClass, Operand, Why};
-use pilgonca::{Cell, MethodInfo, PlaceKind, Representation, Subject, Type, Visit};
+use pilgonca::raw::State;
+use pilgonca::{Cell, MethodInfo, PlaceKind, Refusal, Representation, Subject, Type, Visit};
 use reference::gen::{generate, Profile, PROFILES};
+use reference::hostile;
+use reference::raw::RawState;
+use reference::requests;
 use std::collections::BTreeMap;
 
 fn is_ref(visit: &Visit, type_: Type) -> bool {
@@ -171,6 +175,7 @@ fn given_holds(visit: &Visit, given: &Given) -> &'static str {
 fn cross_holds(visit: &Visit, request: &Request, cross: &Cross) -> &'static str {
     match cross {
         Cross::Types { .. } => "types",
+        Cross::Unfit => panic!("only a state handed in has an unfit layer"),
         Cross::Owner { owner: named, .. } => {
             let Request::Move { cell, receiver, .. } = request else {
                 panic!("new objects are their makers', and signatures name no own type");
@@ -263,6 +268,108 @@ fn every_refusal_has_a_reason_that_is_so() {
     }
     println!("{passed} accepted; {met:?}");
     assert!(passed > 10_000 && met.len() >= 25, "{passed} {met:?}");
+}
+
+/// A state handed in, of any counts and codes, if the core takes it.
+fn handed_in(raw: &RawState) -> Option<Visit> {
+    let table = &raw.table;
+    let counts = [
+        table.subjects,
+        table.methods,
+        table.categories,
+        table.sheet_types,
+        table.types,
+        raw.cells,
+        raw.places,
+        raw.calls,
+    ];
+    let state = State {
+        types: table.type_bytes,
+        links: table.broader,
+        cells: raw.cell_bytes,
+        places: raw.place_bytes,
+        calls: raw.call_bytes,
+        counts: counts.map(|count| count as usize),
+    };
+    Visit::from_state(state).ok()
+}
+
+fn ours(request: requests::Request) -> Request {
+    match request {
+        requests::Request::New {
+            subject,
+            class,
+            cell_type: to,
+        } => Request::New { subject, class, to },
+        requests::Request::Move {
+            subject,
+            cell,
+            receiver,
+            cell_type: to,
+        } => Request::Move {
+            subject,
+            cell,
+            receiver,
+            to,
+        },
+        requests::Request::Call {
+            subject,
+            cell,
+            method,
+            arguments,
+        } => Request::Call {
+            subject,
+            cell,
+            method,
+            arguments,
+        },
+        requests::Request::Answer {
+            subject,
+            call,
+            value,
+        } => Request::Answer {
+            subject,
+            call,
+            value,
+        },
+    }
+}
+
+/// On states that no requests led to, reasons come to the core's number too: at later layers (19) and at unfit ones as well.
+#[test]
+fn states_handed_in_have_reasons() {
+    let (mut explained, mut not, mut later) = (0, 0, 0);
+    for seed in 0..250 {
+        let hostile = hostile::generate(seed);
+        let Some(mut visit) = handed_in(&hostile.state) else {
+            continue;
+        };
+        for request in hostile.requests.into_iter().map(ours) {
+            let before = visit.clone();
+            match put(&mut visit, &request) {
+                Ok(_) => assert_eq!(
+                    served(&before, &request),
+                    Ok(()),
+                    "seed {seed}: {request:?}"
+                ),
+                // a state that is not sound any more (Q19)
+                Err(Refusal::OutOfRange) => break,
+                Err(refusal) => match why(&before, &request, refusal) {
+                    Some(found) => {
+                        later += usize::from(refusal == Refusal::LaterLayer);
+                        assert!(!found.words(&Names::default()).is_empty());
+                        explained += 1;
+                    }
+                    None => not += 1,
+                },
+            }
+        }
+    }
+    println!("{explained} explained, {later} of them at later layers; {not} not");
+    assert!(
+        explained > 200 && later > 0 && not * 100 < explained,
+        "{explained} {later} {not}"
+    );
 }
 
 /// Each number that a script can meet, with a part of what is said of its last line.
