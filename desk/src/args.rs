@@ -14,14 +14,14 @@ desk: sheets and scripts at the desk; every answer is the proved core's
                                    --subject S, --method M: only this; the status says whether S could have called M
                                    --calls: only the calls; the status says whether there are any (of S, of M)
   desk powers SHEET                for each type what its holder can call, can come to call alone, and never can
-  desk diff OLD NEW                what a new version of a sheet gives and takes; the status says whether it is another
+  desk diff OLD NEW                what a new version of a sheet gives and takes; the status says whether they are alike
   desk explain N                   what the refusal with this number means, when it comes, and what to do
   desk help                        this text
 
   --names FILE                     names to print: lines such as `subject 0 desk`, `method 1 mark`, `type 2 reader`, `category 1 visits`
 
 A file that is called - is standard input. The exit status is 0, or 1 for no and for bad input, or 2 for words that desk does not understand.
-Where --subject, --method or --calls ask, 0 is yes, 1 is no, and 3 says that the script cannot be read to its end.
+Where --subject, --method or --calls ask, 0 is yes and 1 is no; of desk diff 0 is alike and 1 is not. 3 is then for bad input.
 ";
 
 /// What is asked.
@@ -52,6 +52,17 @@ pub enum Command {
         new: PathBuf,
     },
     Explain(String),
+}
+
+impl Command {
+    /// Whether it asks a question that its exit status answers.
+    pub fn asks(&self) -> bool {
+        match self {
+            Command::Audit { asked, .. } => *asked != Asked::default(),
+            Command::Diff { .. } => true,
+            _ => false,
+        }
+    }
 }
 
 /// What an audit is asked about, in the words of the command line.

@@ -18,19 +18,38 @@ pub struct Paints {
     pub error: Paint,
 }
 
-/// Exit statuses besides 0: what is asked is not so; input that is refused or cannot be read; words that are not understood; a question that the input leaves
-/// without an answer.
-pub const NO: u8 = 1;
-pub const BAD_INPUT: u8 = 1;
-pub const BAD_USAGE: u8 = 2;
-pub const NO_ANSWER: u8 = 3;
+/// How a command ends that has more to say than what it prints.
+#[derive(Clone, Copy, PartialEq, Eq, Debug)]
+pub enum End {
+    /// What is asked is so, though there is something to complain of.
+    Yes,
+    /// It is not so.
+    No,
+    /// Input that is refused, or cannot be read; output that cannot be written.
+    BadInput,
+    /// Words that are not understood.
+    BadUsage,
+}
 
-/// A command that does not end with 0: what was to print before, the message if there is one, and the exit status.
+impl End {
+    /// The exit status. Where the command asks a question that it answers, no answer must not pass for no.
+    pub fn status(self, asks: bool) -> u8 {
+        match self {
+            End::Yes => 0,
+            End::No => 1,
+            End::BadInput if asks => 3,
+            End::BadInput => 1,
+            End::BadUsage => 2,
+        }
+    }
+}
+
+/// A command that does not simply succeed: what was to print before, the message if there is one, and how it ends.
 #[derive(Debug)]
 pub struct Stop {
     pub printed: String,
     pub problem: String,
-    pub status: u8,
+    pub end: End,
 }
 
 impl Stop {
@@ -39,7 +58,7 @@ impl Stop {
         Stop {
             printed: String::new(),
             problem,
-            status: BAD_INPUT,
+            end: End::BadInput,
         }
     }
 }

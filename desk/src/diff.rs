@@ -1,6 +1,6 @@
 //! `desk diff`: what a new version of a sheet gives and takes, type by type. Types and methods are taken by number.
 
-use crate::commands::{Desk, Stop, NO};
+use crate::commands::{Desk, End, Stop};
 use crate::described::signature;
 use crate::explain::refused;
 use crate::input;
@@ -40,7 +40,7 @@ impl Desk {
             Some(printed) => Err(Stop {
                 printed,
                 problem: String::new(),
-                status: NO,
+                end: End::No,
             }),
         }
     }

@@ -1,7 +1,7 @@
 //! In place of `scripts` where the feature `visits` is off: the commands say that they are not there.
 
 use crate::args::Asked;
-use crate::commands::{Desk, Stop, BAD_USAGE};
+use crate::commands::{Desk, End, Stop};
 use std::path::Path;
 
 impl Desk {
@@ -26,6 +26,6 @@ fn absent(command: &str) -> Stop {
     Stop {
         printed: String::new(),
         problem: format!("this desk was built without requests, and so without desk {command}; ./run desk {command} builds all of it\n"),
-        status: BAD_USAGE,
+        end: End::BadUsage,
     }
 }

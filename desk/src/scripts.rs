@@ -12,7 +12,7 @@ pub mod trial;
 pub mod why;
 
 use crate::args::Asked;
-use crate::commands::{short, Desk, Stop, BAD_INPUT, BAD_USAGE, NO, NO_ANSWER};
+use crate::commands::{short, Desk, End, Stop};
 use crate::diagnosis::block;
 use crate::explain::refused;
 use crate::input;
@@ -43,30 +43,23 @@ impl Desk {
     }
 
     pub fn audit(&self, path: &Path, asked: &Asked) -> Result<String, Stop> {
-        let narrowed = *asked != Asked::default();
-        // no answer is not the answer no
-        let unanswered = |stop: Stop| match narrowed {
-            true => Stop {
-                status: NO_ANSWER,
-                ..stop
-            },
-            false => stop,
-        };
-        let bytes = input::read(path).map_err(|why| unanswered(why.into()))?;
-        let run = self.followed(path, &bytes).map_err(unanswered)?;
+        let bytes = input::read(path)?;
+        let run = self.followed(path, &bytes)?;
         let question = self.question(asked, &run)?;
         let audited = audit(&run, question, &self.names, self.paints.out).map_err(refused)?;
         let ended = self.ended(path, &run, audited.text);
-        match (narrowed, audited.yes, ended) {
-            (false, _, ended) | (true, true, ended @ Ok(_)) => ended,
+        match (question.is_asked(), audited.yes, ended) {
             (true, false, Ok(printed)) => Err(Stop {
                 printed,
                 problem: String::new(),
-                status: NO,
+                end: End::No,
             }),
             // what was found before the line at fault is there
-            (true, true, Err(stop)) => Err(Stop { status: 0, ..stop }),
-            (true, false, Err(stop)) => Err(unanswered(stop)),
+            (true, true, Err(stop)) => Err(Stop {
+                end: End::Yes,
+                ..stop
+            }),
+            (_, _, ended) => ended,
         }
     }
 
@@ -87,7 +80,7 @@ impl Desk {
         let usage = |why: String| Stop {
             printed: String::new(),
             problem: why + "\n",
-            status: BAD_USAGE,
+            end: End::BadUsage,
         };
         Ok(Question {
             subject: find(Kind::Subject, &asked.subject, sheet.subjects()).map_err(usage)?,
@@ -130,7 +123,7 @@ impl Desk {
         );
         Err(Stop {
             printed: text,
-            status: BAD_INPUT,
+            end: End::BadInput,
             problem: format!(
                 "{}: a line is {how}, and the run ends there\n{block}",
                 input::name(path)

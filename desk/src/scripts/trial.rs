@@ -254,7 +254,7 @@ impl<'a> Trial<'a> {
         if !(if own { answers.free } else { answers.loose }) {
             let relation = if own { Relation::Free } else { Relation::Loose };
             let reason = self.reason(relation, to, from.type_)?;
-            let (from, to) = (from.type_, Described::of(&self.sheet, to));
+            let [from, to] = [from.type_, to].map(|one| Described::of(&self.sheet, one));
             return Err(Why::Cross(Cross::Types { from, to, reason }));
         }
         let mut place = from.place;
@@ -469,13 +469,16 @@ impl<'a> Trial<'a> {
     }
 
     fn leads_to(&self, place: usize) -> LeadsTo {
+        let known = (place < self.old).then_some(place);
         match self.places[place] {
-            PlaceKind::Object { class, .. } => LeadsTo::Object { place, class },
-            PlaceKind::Adapter { closed, .. } => {
-                let permits = permitted(&self.info(closed));
-                let place = (place < self.old).then_some(place);
-                LeadsTo::Adapter { place, permits }
-            }
+            PlaceKind::Object { class, .. } => LeadsTo::Object {
+                place: known,
+                class,
+            },
+            PlaceKind::Adapter { closed, .. } => LeadsTo::Adapter {
+                place: known,
+                permits: permitted(&self.info(closed)),
+            },
         }
     }
 }

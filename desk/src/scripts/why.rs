@@ -113,7 +113,7 @@ pub enum Given {
 pub enum Cross {
     /// X1.
     Types {
-        from: Type,
+        from: Described,
         to: Described,
         reason: Reason,
     },
@@ -161,14 +161,13 @@ pub enum Layer {
     Class { class: Type },
 }
 
-/// A place, as a reason names it.
+/// A place, as a reason names it: without a number where the request itself would have made it.
 #[derive(Clone, PartialEq, Eq, Debug)]
 pub enum LeadsTo {
     Object {
-        place: usize,
+        place: Option<usize>,
         class: Type,
     },
-    /// Without a number where the request itself would have made it.
     Adapter {
         place: Option<usize>,
         permits: Vec<usize>,
@@ -354,7 +353,7 @@ impl Cross {
     fn words(&self, names: &Names) -> String {
         match self {
             Cross::Types { from, to, reason } => {
-                let (from, to) = (type_(from, names), to.words(names));
+                let (from, to) = (from.words(names), to.words(names));
                 let reason = reason.words(names, [&to, &from]);
                 format!("a reference of {from} cannot become {to}: {reason}")
             }
@@ -451,13 +450,19 @@ impl LeadsTo {
         match self {
             LeadsTo::Object { place, class } => {
                 let class = names.words(Kind::Type, class.0);
-                format!("the object at place {place} ({class})")
+                format!("the object{} ({class})", at_place(*place))
             }
             LeadsTo::Adapter { place, permits } => {
                 let permits = methods(permits, names);
-                let place = place.map_or(String::new(), |place| format!(" at place {place}"));
-                format!("the adapter{place} (it lets through {permits})")
+                format!(
+                    "the adapter{} (it lets through {permits})",
+                    at_place(*place)
+                )
             }
         }
     }
+}
+
+fn at_place(place: Option<usize>) -> String {
+    place.map_or(String::new(), |place| format!(" at place {place}"))
 }

@@ -219,6 +219,8 @@ fn no_answer_is_not_no() {
     let mark = ["--subject", "2", "--method", "1"];
     let ask = |path: &str| run(&[&["audit", path], &mark[..]].concat());
     assert_eq!(ask("no/such/file").0, 3);
+    let names = ["audit", OPTIONAL, "--names", "no/such/file", "--calls"];
+    assert_eq!(run(&names).0, 3);
     assert_eq!(ask("examples/refused-leading-zero.sheet").0, 3);
     let optional = read(OPTIONAL);
     with_file("late", &[&optional[..], b"do=\n"].concat(), |path| {

@@ -121,5 +121,11 @@ fn any_sheets_can_be_compared() {
     ] {
         assert_eq!(run(words).0, 2, "{words:?}");
     }
-    assert_eq!(run(&["diff", SHEET, "no/such/file"]).0, 1);
+    // no answer is not the answer no
+    for words in [
+        ["no/such/file", SHEET],
+        [SHEET, "examples/refused-no-end.sheet"],
+    ] {
+        assert_eq!(run(&["diff", words[0], words[1]]).0, 3, "{words:?}");
+    }
 }

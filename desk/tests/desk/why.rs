@@ -185,12 +185,13 @@ fn cross_holds(visit: &Visit, request: &Request, cross: &Cross) -> &'static str 
             "owner"
         }
         Cross::Lacks { leads_to, .. } => {
-            if let LeadsTo::Adapter {
-                place: Some(place), ..
-            } = leads_to
-            {
+            let (place, adapter) = match leads_to {
+                LeadsTo::Object { place, .. } => (place, false),
+                LeadsTo::Adapter { place, .. } => (place, true),
+            };
+            if let Some(place) = place {
                 let kind = visit.places().nth(*place).expect("a place").kind;
-                assert!(matches!(kind, PlaceKind::Adapter { .. }));
+                assert_eq!(matches!(kind, PlaceKind::Adapter { .. }), adapter);
             }
             "lacks"
         }
