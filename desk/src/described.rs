@@ -48,6 +48,7 @@ impl Described {
     }
 
     /// In a list: `3 reader`.
+    #[cfg(feature = "visits")]
     pub fn short(&self, names: &Names) -> String {
         match self {
             Described::OfSheet(number) => names.numbered(Kind::Type, number.0),

@@ -224,7 +224,7 @@ impl<'a> Trial<'a> {
         named: Option<Type>,
         receiver: Subject,
     ) -> Result<Carried, Why> {
-        let named = named.ok_or(Why::Cross(Cross::Unfit))?;
+        let named = named.ok_or(Why::Cross(Box::new(Cross::Unfit)))?;
         match (carried, self.info(named).representation) {
             (Carried::Reference(from), Representation::Ref) => {
                 self.cross(from, named, receiver).map(Carried::Reference)
@@ -233,7 +233,7 @@ impl<'a> Trial<'a> {
                 Err(Why::Wide { number })
             }
             (Carried::Number(_), Representation::W32 | Representation::W64) => Ok(carried),
-            _ => Err(Why::Cross(Cross::Unfit)),
+            _ => Err(Why::Cross(Box::new(Cross::Unfit))),
         }
     }
 
@@ -255,14 +255,14 @@ impl<'a> Trial<'a> {
             let relation = if own { Relation::Free } else { Relation::Loose };
             let reason = self.reason(relation, to, from.type_)?;
             let [from, to] = [from.type_, to].map(|one| Described::of(&self.sheet, one));
-            return Err(Why::Cross(Cross::Types { from, to, reason }));
+            return Err(Why::Cross(Box::new(Cross::Types { from, to, reason })));
         }
         let mut place = from.place;
         if own {
             let owner = self.owner(place);
             if owner != receiver {
                 let to = Described::of(&self.sheet, to);
-                return Err(Why::Cross(Cross::Owner { owner, to }));
+                return Err(Why::Cross(Box::new(Cross::Owner { owner, to })));
             }
             place = self.base(place);
         } else if answers.subtype {
@@ -290,11 +290,11 @@ impl<'a> Trial<'a> {
         if !answers.is_ok_and(|answers| answers.strict) {
             let reason = self.reason(Relation::Strict, narrowed, v)?;
             let to = Described::of(&self.sheet, to);
-            return Err(Why::Cross(Cross::Lacks {
+            return Err(Why::Cross(Box::new(Cross::Lacks {
                 leads_to: self.leads_to(place),
                 to,
                 reason,
-            }));
+            })));
         }
         let closed = self.derive(Kind::Closed, narrowed, v)?;
         let behind = pilgonca::Place(place as i64);

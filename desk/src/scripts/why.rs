@@ -12,7 +12,7 @@ use pilgonca::{Refusal, Subject, Type};
 pub enum Why {
     Operand(Operand),
     Given(Given),
-    Cross(Cross),
+    Cross(Box<Cross>),
     Wide {
         number: i64,
     },
@@ -180,9 +180,7 @@ impl Why {
         match self {
             Why::Operand(operand) => operand.refusal(),
             Why::Given(_) => Refusal::WrongValues,
-            Why::Cross(Cross::Types { .. } | Cross::Unfit) => Refusal::Unrelated,
-            Why::Cross(Cross::Owner { .. }) => Refusal::NotOwner,
-            Why::Cross(Cross::Lacks { .. }) => Refusal::NotStrict,
+            Why::Cross(cross) => cross.refusal(),
             Why::Wide { .. } => Refusal::TooWide,
             Why::Full { what, .. } => what.limit().0,
             Why::Passing { first, why, .. } => match why.refusal() {
@@ -350,6 +348,14 @@ fn no_cell_of(number: i64, holder: Option<&Subject>, names: &Names) -> String {
 }
 
 impl Cross {
+    fn refusal(&self) -> Refusal {
+        match self {
+            Cross::Types { .. } | Cross::Unfit => Refusal::Unrelated,
+            Cross::Owner { .. } => Refusal::NotOwner,
+            Cross::Lacks { .. } => Refusal::NotStrict,
+        }
+    }
+
     fn words(&self, names: &Names) -> String {
         match self {
             Cross::Types { from, to, reason } => {
