@@ -10,13 +10,18 @@ desk: sheets and scripts at the desk; every answer is the proved core's
   desk pairs SHEET                 which type can become which; --svg FILE draws it, --plain prints it as the program pairs does
   desk compare SHEET T S           whether S can become T; both are numbers or names of types
   desk run SCRIPT                  each request and its answer in words; --svg FILE draws the references at the end
-  desk audit SCRIPT                for each object and method: who holds a reference that offers it, and how it came to them
+  desk audit SCRIPT                for each object and method: who can call it or come to, how it came to them, and the calls made
+                                   --subject S, --method M: only this; the status says whether S could have called M
+                                   --calls: only the calls; the status says whether there are any (of S, of M)
+  desk powers SHEET                for each type what its holder can call, can come to call alone, and never can
+  desk diff OLD NEW                what a new version of a sheet gives and takes; the status says whether they are alike
   desk explain N                   what the refusal with this number means, when it comes, and what to do
   desk help                        this text
 
   --names FILE                     names to print: lines such as `subject 0 desk`, `method 1 mark`, `type 2 reader`, `category 1 visits`
 
-A file that is called - is standard input. The exit status is 0, or 1 for bad input, or 2 for words that desk does not understand.
+A file that is called - is standard input. The exit status is 0, or 1 for no and for bad input, or 2 for words that desk does not understand.
+Where --subject, --method or --calls ask, 0 is yes and 1 is no; of desk diff 0 is alike and 1 is not. 3 is then for bad input.
 ";
 
 /// What is asked.
@@ -37,8 +42,50 @@ pub enum Command {
         script: PathBuf,
         svg: Option<PathBuf>,
     },
-    Audit(PathBuf),
+    Audit {
+        script: PathBuf,
+        asked: Asked,
+    },
+    Powers(PathBuf),
+    Diff {
+        old: PathBuf,
+        new: PathBuf,
+    },
     Explain(String),
+}
+
+impl Command {
+    /// Whether it asks a question that its exit status answers.
+    pub fn asks(&self) -> bool {
+        match self {
+            Command::Audit { asked, .. } => *asked != Asked::default(),
+            Command::Diff { .. } => true,
+            _ => false,
+        }
+    }
+}
+
+/// What an audit is asked about, in the words of the command line.
+#[derive(Clone, Default, PartialEq, Eq, Debug)]
+pub struct Asked {
+    pub subject: Option<String>,
+    pub method: Option<String>,
+    pub calls: bool,
+}
+
+impl Asked {
+    /// The word behind --subject or --method.
+    fn take(&mut self, option: &str, word: Option<OsString>) -> Result<(), String> {
+        let slot = match option {
+            "--subject" => &mut self.subject,
+            _ => &mut self.method,
+        };
+        let word = word.ok_or_else(|| format!("{option} takes a number or a name"))?;
+        match slot.replace(word.to_string_lossy().into_owned()) {
+            None => Ok(()),
+            Some(_) => Err(format!("{option} is given twice")),
+        }
+    }
 }
 
 /// A command, and the file of names if one is given.
@@ -55,6 +102,7 @@ struct Words {
     names: Option<PathBuf>,
     svg: Option<PathBuf>,
     as_pairs: bool,
+    asked: Asked,
 }
 
 /// What the words ask for, or why they ask for nothing.
@@ -64,6 +112,9 @@ pub fn parse(words: impl Iterator<Item = OsString>) -> Result<Args, String> {
     let command = command(&mut words)?;
     if words.svg.is_some() || words.as_pairs {
         return Err("--svg is for desk pairs and desk run, --plain for desk pairs".to_string());
+    }
+    if words.asked != Asked::default() {
+        return Err("--subject, --method and --calls are for desk audit".to_string());
     }
     Ok(Args { command, names })
 }
@@ -77,6 +128,14 @@ fn sorted(mut words: impl Iterator<Item = OsString>) -> Result<Words, String> {
             "--svg" => &mut found.svg,
             "--plain" => {
                 found.as_pairs = true;
+                continue;
+            }
+            "--calls" => {
+                found.asked.calls = true;
+                continue;
+            }
+            "--subject" | "--method" => {
+                found.asked.take(&text, words.next())?;
                 continue;
             }
             "--help" => {
@@ -121,7 +180,12 @@ fn command(words: &mut Words) -> Result<Command, String> {
             script: file("script")?,
             svg: words.svg.take(),
         },
-        "audit" => Command::Audit(file("script")?),
+        "audit" => Command::Audit {
+            script: file("script")?,
+            asked: std::mem::take(&mut words.asked),
+        },
+        "powers" => Command::Powers(file("sheet")?),
+        "diff" => diff(&rest)?,
         "explain" => Command::Explain(file("number")?.to_string_lossy().into_owned()),
         _ => return Err(format!("there is no command {name:?}")),
     })
@@ -134,5 +198,15 @@ fn compare(rest: &[OsString]) -> Result<Command, String> {
     Ok(Command::Compare {
         sheet: sheet.into(),
         types: [t, s].map(|word| word.to_string_lossy().into_owned()),
+    })
+}
+
+fn diff(rest: &[OsString]) -> Result<Command, String> {
+    let [old, new] = rest else {
+        return Err("desk diff takes two sheets, the old one first".to_string());
+    };
+    Ok(Command::Diff {
+        old: old.into(),
+        new: new.into(),
     })
 }

@@ -18,16 +18,38 @@ pub struct Paints {
     pub error: Paint,
 }
 
-/// Exit statuses.
-pub const BAD_INPUT: u8 = 1;
-pub const BAD_USAGE: u8 = 2;
+/// How a command ends that has more to say than what it prints.
+#[derive(Clone, Copy, PartialEq, Eq, Debug)]
+pub enum End {
+    /// What is asked is so, though there is something to complain of.
+    Yes,
+    /// It is not so.
+    No,
+    /// Input that is refused, or cannot be read; output that cannot be written.
+    BadInput,
+    /// Words that are not understood.
+    BadUsage,
+}
 
-/// A command that came to nothing: what was to print before, the message, and the exit status.
+impl End {
+    /// The exit status. Where the command asks a question that it answers, no answer must not pass for no.
+    pub fn status(self, asks: bool) -> u8 {
+        match self {
+            End::Yes => 0,
+            End::No => 1,
+            End::BadInput if asks => 3,
+            End::BadInput => 1,
+            End::BadUsage => 2,
+        }
+    }
+}
+
+/// A command that does not simply succeed: what was to print before, the message if there is one, and how it ends.
 #[derive(Debug)]
 pub struct Stop {
     pub printed: String,
     pub problem: String,
-    pub status: u8,
+    pub end: End,
 }
 
 impl Stop {
@@ -36,7 +58,7 @@ impl Stop {
         Stop {
             printed: String::new(),
             problem,
-            status: BAD_INPUT,
+            end: End::BadInput,
         }
     }
 }
@@ -60,12 +82,14 @@ pub fn perform(args: &Args, paints: Paints) -> Result<String, Stop> {
         Command::Pairs { sheet, plain, svg } => desk.pairs(sheet, *plain, svg.as_deref()),
         Command::Compare { sheet, types } => desk.compare(sheet, types),
         Command::Run { script, svg } => desk.run(script, svg.as_deref()),
-        Command::Audit(path) => desk.audit(path),
+        Command::Audit { script, asked } => desk.audit(script, asked),
+        Command::Powers(path) => desk.powers(path),
+        Command::Diff { old, new } => desk.diff(old, new),
         Command::Explain(number) => desk.explain(number),
     }
 }
 
-/// What the commands share; desk run and desk audit are in `scripts`.
+/// What the commands share; desk run and desk audit are in `scripts`, desk powers and desk diff in modules of those names.
 pub struct Desk {
     pub names: Names,
     pub paints: Paints,
@@ -99,14 +123,24 @@ impl Desk {
     fn compare(&self, path: &Path, types: &[String; 2]) -> Result<String, Stop> {
         let sheet = self.sheet(path)?;
         let [t, s] = [self.type_(&types[0])?, self.type_(&types[1])?];
-        let last = sheet.sheet_types() - 1;
-        let answers = sheet
-            .compare(t, s)
-            .map_err(|refusal| format!("{}; the sheet has types 0 to {last}", refused(refusal)))?;
+        let answers = sheet.compare(t, s).map_err(|refusal| {
+            let unknown = [t, s]
+                .into_iter()
+                .find(|one| sheet.type_info(*one).is_none());
+            let unknown = unknown.map_or(String::new(), |one| format!("there is no type {one}: "));
+            let (number, last) = (refusal.number(), sheet.sheet_types() - 1);
+            format!("refused with {number}: {unknown}the sheet has types 0 to {last}")
+        })?;
         let (Some(t), Some(s)) = (sheet.type_info(t), sheet.type_info(s)) else {
             return Err(refused(Refusal::UnknownType).into());
         };
-        Ok(compared(&t, &s, &answers, &self.names, self.paints.out))
+        Ok(compared(
+            &sheet,
+            [&t, &s],
+            &answers,
+            &self.names,
+            self.paints.out,
+        ))
     }
 
     fn explain(&self, number: &str) -> Result<String, Stop> {
@@ -126,10 +160,15 @@ impl Desk {
     }
 
     /// A sheet that is accepted, with names that fit it.
-    fn accepted(&self, path: &Path, bytes: &[u8]) -> Result<Sheet, Stop> {
-        let sheet = Sheet::read(bytes).map_err(|refused| self.refused(path, bytes, &refused))?;
+    pub fn accepted(&self, path: &Path, bytes: &[u8]) -> Result<Sheet, Stop> {
+        let sheet = self.accepted_unnamed(path, bytes)?;
         self.names.fit(&sheet)?;
         Ok(sheet)
+    }
+
+    /// A sheet that is accepted, whatever the names are for.
+    pub fn accepted_unnamed(&self, path: &Path, bytes: &[u8]) -> Result<Sheet, Stop> {
+        Sheet::read(bytes).map_err(|refused| self.refused(path, bytes, &refused))
     }
 
     /// The end of a command whose sheet, from the file, is refused.
@@ -140,14 +179,19 @@ impl Desk {
 
     /// A type by its number or its name.
     fn type_(&self, word: &str) -> Result<Type, String> {
+        self.number(Kind::Type, word).map(Type)
+    }
+
+    /// Something by its number or its name.
+    pub fn number(&self, kind: Kind, word: &str) -> Result<i64, String> {
         if let Ok(number) = word.parse() {
-            return Ok(Type(number));
+            return Ok(number);
         }
-        let number = self.names.number(Kind::Type, word);
+        let number = self.names.number(kind, word);
         let number = number.ok_or_else(|| {
-            format!("no type is named {word:?} (names come from a file: --names FILE)")
+            format!("no {kind} is named {word:?} (names come from a file: --names FILE)")
         })?;
-        Ok(Type(number as i64))
+        Ok(number as i64)
     }
 }
 

@@ -3,7 +3,10 @@
 
 pub mod args;
 pub mod commands;
+mod described;
 pub mod diagnosis;
+#[cfg(feature = "visits")]
+mod diff;
 mod due;
 mod explain;
 mod input;
@@ -14,7 +17,12 @@ pub mod names;
 mod no_scripts;
 pub mod paint;
 mod pairs_picture;
+#[cfg(feature = "visits")]
+mod powers;
+#[cfg(feature = "visits")]
+pub mod reach;
 mod reader;
+pub mod reasons;
 pub mod relation;
 #[cfg(feature = "visits")]
 pub mod scripts;

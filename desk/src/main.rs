@@ -1,7 +1,7 @@
 //! The program: words in, text out, and an exit status.
 
 use desk::args::{parse, USAGE};
-use desk::commands::{perform, Paints, Stop, BAD_INPUT, BAD_USAGE};
+use desk::commands::{perform, End, Paints, Stop};
 use desk::paint::Paint;
 use std::env;
 use std::io::{self, ErrorKind, IsTerminal, Write};
@@ -12,18 +12,21 @@ fn main() -> ExitCode {
         Ok(args) => args,
         Err(why) => {
             complain(&format!("{why}\n\n{USAGE}"));
-            return ExitCode::from(BAD_USAGE);
+            return ExitCode::from(End::BadUsage.status(false));
         }
     };
+    let asks = args.command.asks();
     match perform(&args, paints()) {
-        Ok(text) => print(&text, ExitCode::SUCCESS),
+        Ok(text) => print(&text, 0, asks),
         Err(Stop {
             printed,
             problem,
-            status,
+            end,
         }) => {
-            let status = print(&printed, ExitCode::from(status));
-            complain(&problem);
+            let status = print(&printed, end.status(asks), asks);
+            if !problem.is_empty() {
+                complain(&problem);
+            }
             status
         }
     }
@@ -39,14 +42,14 @@ fn paints() -> Paints {
 }
 
 /// Prints, and says how the program ends. A reader that went away has seen what it wanted.
-fn print(text: &str, status: ExitCode) -> ExitCode {
+fn print(text: &str, status: u8, asks: bool) -> ExitCode {
     let mut out = io::stdout().lock();
     match out.write_all(text.as_bytes()).and_then(|()| out.flush()) {
         Err(error) if error.kind() != ErrorKind::BrokenPipe => {
             complain(&format!("cannot print: {error}\n"));
-            ExitCode::from(BAD_INPUT)
+            ExitCode::from(End::BadInput.status(asks))
         }
-        _ => status,
+        _ => ExitCode::from(status),
     }
 }
 

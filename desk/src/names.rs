@@ -151,6 +151,23 @@ impl Names {
         }
     }
 
+    /// The name alone, or what it is with its number: `reader`, `type 3`.
+    pub fn short(&self, kind: Kind, number: i64) -> String {
+        let name = usize::try_from(number)
+            .ok()
+            .and_then(|number| self.name(kind, number));
+        name.map_or_else(|| format!("{kind} {number}"), str::to_string)
+    }
+
+    /// The number with the name, or what it is with its number: `3 reader`, `type 3`.
+    pub fn numbered(&self, kind: Kind, number: i64) -> String {
+        let label = self.label(kind, number);
+        if label == number.to_string() {
+            return format!("{kind} {number}");
+        }
+        label
+    }
+
     /// In a sentence: `type 3 (reader)`.
     pub fn words(&self, kind: Kind, number: i64) -> String {
         let name = usize::try_from(number)

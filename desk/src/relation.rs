@@ -2,7 +2,8 @@
 
 use crate::names::{Kind, Names};
 use crate::paint::{Paint, Tone};
-use pilgonca::{Answers, Representation, Type, TypeInfo};
+use crate::reasons::{Reasons, Relation};
+use pilgonca::{Answers, Representation, Sheet, Type, TypeInfo};
 
 /// The strongest relation between a type T and a type S that is to become T.
 #[derive(Clone, Copy, PartialEq, Eq, Debug)]
@@ -71,48 +72,53 @@ impl Strongest {
 
 pub const HEADING: &str = "The strongest relation of a type T (row) from a type S (column):";
 pub const OWN: &str =
-    "A T with own can be had from every S but one with none, by the owner of an object that has what T calls.";
+    "A T with own can be had from every S but one with none, by the owner of an object that has what T calls and whose category fits.";
 
-/// The four answers for T and S in words, and what they come to.
+/// The four answers for T and S in words, why those that are no are so, and what they come to.
 pub fn compared(
-    t: &TypeInfo,
-    s: &TypeInfo,
+    sheet: &Sheet,
+    [t, s]: [&TypeInfo; 2],
     answers: &Answers,
     names: &Names,
     paint: Paint,
 ) -> String {
     let words = |info: &TypeInfo| names.words(Kind::Type, info.number.0);
     let rows = [
-        ("subtype", answers.subtype, SUBTYPE),
-        ("strict", answers.strict, STRICT),
-        ("loose", answers.loose, LOOSE),
-        ("free", answers.free, FREE),
+        ("subtype", answers.subtype, Relation::Subtype),
+        ("strict", answers.strict, Relation::Strict),
+        ("loose", answers.loose, Relation::Loose),
+        ("free", answers.free, Relation::Free),
     ];
+    let reasons = Reasons::of(sheet);
     let mut text = format!("T is {}, S is {}\n\n", words(t), words(s));
-    for (name, answer, [yes, no]) in rows {
+    for (name, answer, relation) in rows {
         let (answer, meaning) = match answer {
-            true => (paint.of(Tone::Good, "yes"), yes),
-            false => (paint.of(Tone::Bad, "no "), no),
+            true => (paint.of(Tone::Good, "yes"), holds(relation, t).to_string()),
+            false => {
+                let reason = reasons.find(relation, t.number, s.number);
+                let reason = reason.map(|reason| reason.words(names, ["T", "S"]));
+                (paint.of(Tone::Bad, "no "), reason.unwrap_or_default())
+            }
         };
         text += &format!("  {name:7}  {answer}  {meaning}\n");
     }
     format!("{text}\n{}\n", conclusion(t, s, answers, names))
 }
 
-/// What the answers mean, yes and no (R8 to R11).
-const SUBTYPE: [&str; 2] = ["S passes as T as it is", "S does not pass as T as it is"];
-const STRICT: [&str; 2] = [
-    "S has every method that T calls, and T's category is S's or a broader one",
-    "T calls a method that S may not have, or T's category is neither S's nor broader, or signatures differ",
-];
-const LOOSE: [&str; 2] = [
-    "S shows every method that T calls, optional at least",
-    "T calls a method that S does not show, or signatures differ",
-];
-const FREE: [&str; 2] = [
-    "the methods that both show have signatures that agree",
-    "a method that both show has signatures that differ, or one of the two is a number",
-];
+/// What a relation means where it holds (R8 to R11).
+fn holds(relation: Relation, t: &TypeInfo) -> &'static str {
+    let number = t.representation != Representation::Ref;
+    match relation {
+        Relation::Subtype | Relation::SubtypeOwnAside => "S passes as T as it is",
+        Relation::Strict if number => "both are numbers, and T's category is S's or a broader one",
+        Relation::Loose | Relation::Free if number => "both are numbers",
+        Relation::Strict => {
+            "S has every method that T calls, and T's category is S's or a broader one"
+        }
+        Relation::Loose => "S shows every method that T calls, optional at least",
+        Relation::Free => "the methods that both show have signatures that agree",
+    }
+}
 
 /// What becomes of a value of type S where T is due.
 fn conclusion(t: &TypeInfo, s: &TypeInfo, answers: &Answers, names: &Names) -> String {
@@ -132,13 +138,13 @@ fn conclusion(t: &TypeInfo, s: &TypeInfo, answers: &Answers, names: &Names) -> S
             format!("A reference of {from} cannot become {to}: refused with 8.")
         }
         (true, _) => {
-            format!("{becomes} for the owner of its object alone, if that has what {to} calls.")
+            format!("{becomes} for the owner of its object alone, if that has what {to} calls and its category fits.")
         }
         (false, Strongest::Subtype) => format!("{becomes} without an adapter."),
         (false, Strongest::Strict) => format!("{becomes}; an adapter may come between."),
         (false, Strongest::Loose) => {
             format!(
-                "{becomes} if what it leads to has what {to} calls; an adapter may come between."
+                "{becomes} if what it leads to has what {to} calls and its category fits; an adapter may come between."
             )
         }
     }

@@ -1,18 +1,24 @@
 //! Scripts: the commands `desk run` and `desk audit`, and what they follow a script with. Without the feature `visits` there is `no_scripts` instead.
 
 mod audit;
+mod calls;
 pub mod follow;
 pub mod requests;
 mod run_picture;
 mod run_plan;
 mod told;
-mod trails;
+pub mod trails;
+pub mod trial;
+pub mod why;
 
-use crate::commands::{short, Desk, Stop, BAD_INPUT};
+use crate::args::Asked;
+use crate::commands::{short, Desk, End, Stop};
 use crate::diagnosis::block;
 use crate::explain::refused;
 use crate::input;
+use crate::names::Kind;
 use crate::paint::Tone;
+use audit::{audit, Question};
 use follow::{follow, output, Run};
 use pilgonca::raw;
 use requests::{right, split};
@@ -36,11 +42,51 @@ impl Desk {
         self.ended(path, &run, teller.told())
     }
 
-    pub fn audit(&self, path: &Path) -> Result<String, Stop> {
+    pub fn audit(&self, path: &Path, asked: &Asked) -> Result<String, Stop> {
         let bytes = input::read(path)?;
         let run = self.followed(path, &bytes)?;
-        let text = audit::audit(&run, &self.names, self.paints.out).map_err(refused)?;
-        self.ended(path, &run, text)
+        let question = self.question(asked, &run)?;
+        let audited = audit(&run, question, &self.names, self.paints.out).map_err(refused)?;
+        let ended = self.ended(path, &run, audited.text);
+        match (question.is_asked(), audited.yes, ended) {
+            (true, false, Ok(printed)) => Err(Stop {
+                printed,
+                problem: String::new(),
+                end: End::No,
+            }),
+            // what was found before the line at fault is there
+            (true, true, Err(stop)) => Err(Stop {
+                end: End::Yes,
+                ..stop
+            }),
+            (_, _, ended) => ended,
+        }
+    }
+
+    /// What the words ask about, by number.
+    fn question(&self, asked: &Asked, run: &Run) -> Result<Question, Stop> {
+        let sheet = run.visit.sheet();
+        let find = |kind: Kind, word: &Option<String>, count: usize| {
+            let Some(word) = word else {
+                return Ok(None);
+            };
+            let number = self.number(kind, word)?;
+            let found = usize::try_from(number).ok().filter(|one| *one < count);
+            let most = count - 1;
+            let found = found
+                .ok_or_else(|| format!("there is no {kind} {number}: the sheet has 0 to {most}"))?;
+            Ok(Some(found))
+        };
+        let usage = |why: String| Stop {
+            printed: String::new(),
+            problem: why + "\n",
+            end: End::BadUsage,
+        };
+        Ok(Question {
+            subject: find(Kind::Subject, &asked.subject, sheet.subjects()).map_err(usage)?,
+            method: find(Kind::Method, &asked.method, sheet.methods()).map_err(usage)?,
+            calls: asked.calls,
+        })
     }
 
     /// A script that was run here and by the core's own run, with one outcome.
@@ -77,7 +123,7 @@ impl Desk {
         );
         Err(Stop {
             printed: text,
-            status: BAD_INPUT,
+            end: End::BadInput,
             problem: format!(
                 "{}: a line is {how}, and the run ends there\n{block}",
                 input::name(path)

@@ -16,6 +16,16 @@ pub fn plural(count: usize, one: &str) -> String {
     }
 }
 
+/// Words in a row: `a, b and c`.
+pub fn listed(words: impl Iterator<Item = String>) -> String {
+    let words: Vec<String> = words.collect();
+    match words.split_last() {
+        None => String::new(),
+        Some((last, [])) => last.clone(),
+        Some((last, before)) => format!("{} and {last}", before.join(", ")),
+    }
+}
+
 /// A text behind a heading, broken between words; further lines stand under its first word.
 pub fn under(heading: &str, text: &str) -> String {
     let margin = heading.chars().count();
@@ -45,6 +55,15 @@ mod tests {
     fn counts_are_in_words() {
         let counts = [plural(1, "class"), plural(2, "class"), plural(0, "cell")];
         assert_eq!(counts, ["1 class", "2 classes", "0 cells"]);
+    }
+
+    #[test]
+    fn words_in_a_row() {
+        let row = |words: &[&str]| listed(words.iter().map(|word| word.to_string()));
+        assert_eq!(
+            [row(&[]), row(&["a"]), row(&["a", "b", "c"])],
+            ["", "a", "a, b and c"]
+        );
     }
 
     #[test]

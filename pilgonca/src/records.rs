@@ -12,7 +12,7 @@ pub enum Representation {
 }
 
 /// How a type was derived (T17).
-#[derive(Clone, Copy, PartialEq, Eq, Debug)]
+#[derive(Clone, Copy, PartialEq, Eq, Hash, Debug)]
 pub enum Kind {
     Sub,
     Sup,

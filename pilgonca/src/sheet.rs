@@ -2,6 +2,8 @@
 
 use crate::numbers::{Type, below};
 use crate::raw::{self, LINK_RECORD, MAX_SHEET_TYPES, MAX_TEXT, PairTable, Table};
+#[cfg(feature = "tools")]
+use crate::records::{Kind, numbered};
 use crate::records::{TypeInfo, type_info};
 use crate::refusal::{Refusal, SheetRefused};
 use std::fmt;
@@ -142,6 +144,22 @@ impl Sheet {
         assert_eq!(code, 0, "an accepted table");
         let types = self.sheet_types();
         Pairs { entries, types }
+    }
+
+    /// A type derived in this table (E10), with all that its signatures name. It is for tools on types: what a visit gives is a copy of its table.
+    ///
+    /// ```
+    /// use pilgonca::{Kind, Sheet, Type, EXAMPLE};
+    /// let mut sheet = Sheet::read(EXAMPLE).unwrap();
+    /// let narrowed = sheet.derive(Kind::Sub, Type(3), Type(2)).unwrap();
+    /// assert_eq!((narrowed, sheet.types().count()), (Type(6), 7));
+    /// ```
+    #[cfg(feature = "tools")]
+    pub fn derive(&mut self, kind: Kind, t: Type, s: Type) -> Result<Type, Refusal> {
+        let mut number = 0;
+        let code = raw::tools::derive(self.table.lend_mut(), kind as usize, t.0, s.0, &mut number);
+        Refusal::check(code)?;
+        Ok(numbered(number))
     }
 
     /// How many subjects there are.

@@ -295,6 +295,49 @@ impl Visit {
         (0..types).map(move |index| type_info(&self.state.types, methods, sheet_types, index))
     }
 
+    /// One type; none where the number names none.
+    ///
+    /// ```
+    /// use pilgonca::{Type, Visit, EXAMPLE};
+    /// let visit = Visit::load(EXAMPLE).unwrap();
+    /// assert!(visit.type_info(Type(1)).unwrap().is_class());
+    /// assert!(visit.type_info(Type(6)).is_none());
+    /// ```
+    pub fn type_info(&self, t: Type) -> Option<TypeInfo> {
+        let [_, methods, _, sheet_types, types, ..] = self.state.counts;
+        let index = below(t.0, types)?;
+        Some(type_info(&self.state.types, methods, sheet_types, index))
+    }
+
+    /// One cell; none where the number names none.
+    ///
+    /// ```
+    /// use pilgonca::{Cell, Subject, Type, Visit, EXAMPLE};
+    /// let mut visit = Visit::load(EXAMPLE).unwrap();
+    /// visit.new_object(Subject(1), Type(1), Type(2)).unwrap();
+    /// assert_eq!(visit.cell_info(Cell(0)).unwrap().holder, Subject(1));
+    /// assert!(visit.cell_info(Cell(1)).is_none());
+    /// ```
+    pub fn cell_info(&self, cell: Cell) -> Option<CellInfo> {
+        let index = below(cell.0, self.state.counts[5])?;
+        Some(cell_info(&self.state.cells, index))
+    }
+
+    /// One place; none where the number names none.
+    ///
+    /// ```
+    /// use pilgonca::{Place, PlaceKind, Subject, Type, Visit, EXAMPLE};
+    /// let mut visit = Visit::load(EXAMPLE).unwrap();
+    /// visit.new_object(Subject(1), Type(1), Type(2)).unwrap();
+    /// let kind = PlaceKind::Object { class: Type(1), owner: Subject(1) };
+    /// assert_eq!(visit.place_info(Place(0)).unwrap().kind, kind);
+    /// assert!(visit.place_info(Place(1)).is_none());
+    /// ```
+    pub fn place_info(&self, place: Place) -> Option<PlaceInfo> {
+        let index = below(place.0, self.state.counts[6])?;
+        Some(place_info(&self.state.places, index))
+    }
+
     /// The object behind every adapter of a place (Q2); none where the number names no place.
     ///
     /// ```

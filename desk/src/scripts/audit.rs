@@ -1,45 +1,161 @@
-//! The referee's question: for each object and method, who holds a reference that offers it, and by which types it came to them.
+//! The referee's questions: for each object and method, who can call it or come to, how the references came to them, and which calls were made.
 
 use crate::names::{Kind, Names};
 use crate::paint::{Paint, Tone};
+use crate::reach::{Power, MOST_STEPS};
+use crate::scripts::calls::Calls;
 use crate::scripts::follow::Run;
-use pilgonca::{CellInfo, Method, MethodInfo, Place, PlaceInfo, PlaceKind, Refusal, TypeInfo};
+use crate::words::under;
+use pilgonca::{CellInfo, Place, PlaceInfo, PlaceKind, Refusal, Sheet, Type};
 
 const HEAD: &str = "\
-For each method of an object: who holds a reference that offers it, whether they can call it or only hand it on, and
-the types that the reference crossed since the object was made or its owner last took it back.
+Who could call what. Nothing is ever taken away: who held a reference at any time holds it at the end,
+so this covers the whole visit.
+
+  can call          the type of the cell lets its holder call the method, given arguments that fit
+  can come to call  its holder can hand the reference to itself as the types named, and then call it
+  offers            the method is there, and no type that the reference can be handed on as lets it be called
 ";
 
-/// The answer for a whole run. Whether a cell offers a method is asked of the core.
-pub fn audit(run: &Run, names: &Names, paint: Paint) -> Result<String, Refusal> {
-    let auditor = Auditor {
+const WAYS: &str = "how they came, since the object was made or its owner last took it back";
+
+/// What of a run is asked about.
+#[derive(Clone, Copy, Default, PartialEq, Eq, Debug)]
+pub struct Question {
+    pub subject: Option<usize>,
+    pub method: Option<usize>,
+    /// Which calls were made, and not who could make them.
+    pub calls: bool,
+}
+
+impl Question {
+    /// Whether it has an answer that is yes or no.
+    pub fn is_asked(&self) -> bool {
+        *self != Question::default()
+    }
+
+    pub fn is_about(&self, subject: i64, method: usize) -> bool {
+        let of_subject = self.subject.is_none_or(|one| one as i64 == subject);
+        of_subject && self.method.is_none_or(|one| one == method)
+    }
+
+    /// As a question, with its answer.
+    fn answered(&self, names: &Names, yes: bool) -> String {
+        let subject = self.subject.map_or("anybody".to_string(), |number| {
+            names.words(Kind::Subject, number as i64)
+        });
+        let method = self.method.map_or("anything".to_string(), |number| {
+            names.words(Kind::Method, number as i64)
+        });
+        let answer = if yes { "yes" } else { "no" };
+        match self.calls {
+            true => format!("Did {subject} call {method}? {answer}\n"),
+            false => format!("Could {subject} have called {method}? {answer}\n"),
+        }
+    }
+}
+
+/// The report, and the answer to the question.
+pub struct Audited {
+    pub text: String,
+    pub yes: bool,
+}
+
+/// The answer for a whole run. What a cell offers, and what its holder can come to call, is asked of the core.
+pub fn audit(
+    run: &Run,
+    question: Question,
+    names: &Names,
+    paint: Paint,
+) -> Result<Audited, Refusal> {
+    let sheet = run.visit.sheet();
+    let sheet = &sheet;
+    let calls = Calls {
         run,
+        sheet,
+        question,
         names,
         paint,
-        types: run.visit.types().collect(),
     };
-    let mut text = HEAD.to_string();
-    for place in run.visit.places() {
-        text += &auditor.object(&place)?;
-    }
-    if run.visit.places().next().is_none() {
-        text += "\nNo object was made.\n";
-    }
-    Ok(text)
+    let cut = cut_short(run).map_or(String::new(), |cut| cut + "\n");
+    let (report, yes) = match question.calls {
+        true => (String::new(), calls.count() > 0),
+        false => {
+            let powers = run.powers()?;
+            let auditor = Auditor {
+                run,
+                sheet,
+                question,
+                names,
+                paint,
+                powers,
+            };
+            (auditor.told() + "\n", auditor.any())
+        }
+    };
+    let answer = match question.is_asked() {
+        true => format!("\n{}", question.answered(names, yes)),
+        false => String::new(),
+    };
+    let text = format!("{cut}{report}{}{answer}", calls.told());
+    Ok(Audited { text, yes })
+}
+
+/// In the report itself: it may go on without what went to standard error.
+pub fn cut_short(run: &Run) -> Option<String> {
+    let malformed = run.malformed.as_ref()?;
+    Some(format!(
+        "The script is cut short: line {} is no request, and nothing from there on was taken.\n",
+        malformed.line_number
+    ))
 }
 
 struct Auditor<'a> {
     run: &'a Run<'a>,
+    sheet: &'a Sheet,
+    question: Question,
     names: &'a Names,
     paint: Paint,
-    types: Vec<TypeInfo>,
+    /// By cell and method.
+    powers: Vec<Vec<Option<Power>>>,
 }
 
 impl Auditor<'_> {
+    /// All objects.
+    fn told(&self) -> String {
+        let visit = &self.run.visit;
+        let objects: String = visit.places().map(|place| self.object(&place)).collect();
+        match objects.is_empty() {
+            true => format!("{HEAD}\nNo object was made.\n"),
+            false => HEAD.to_string() + &objects,
+        }
+    }
+
+    /// What the question is about, by cell.
+    fn asked(&self, object: Option<Place>, method: usize) -> Vec<(CellInfo, &Power)> {
+        let visit = &self.run.visit;
+        let cells = visit.cells().zip(&self.powers);
+        let cells = cells.filter(|(cell, _)| {
+            let of_object = object.is_none() || visit.base_of(cell.place) == object;
+            of_object && self.question.is_about(cell.holder.0, method)
+        });
+        cells
+            .filter_map(|(cell, powers)| Some((cell, powers.get(method)?.as_ref()?)))
+            .collect()
+    }
+
+    fn any(&self) -> bool {
+        (0..self.sheet.methods()).any(|method| {
+            self.asked(None, method)
+                .iter()
+                .any(|(_, power)| power.is_yes())
+        })
+    }
+
     /// All about one object; nothing for an adapter.
-    fn object(&self, place: &PlaceInfo) -> Result<String, Refusal> {
+    fn object(&self, place: &PlaceInfo) -> String {
         let PlaceKind::Object { class, owner } = place.kind else {
-            return Ok(String::new());
+            return String::new();
         };
         let title = format!(
             "The object at place {}: {}, owned by {}",
@@ -48,60 +164,81 @@ impl Auditor<'_> {
             self.names.words(Kind::Subject, owner.0)
         );
         let mut text = format!("\n{}\n", self.paint.of(Tone::Strong, &title));
-        for number in 0..self.run.visit.sheet().methods() {
-            text += &self.method(place.number, number)?;
-        }
-        Ok(text)
-    }
-
-    /// The references to an object that offer a method.
-    fn method(&self, object: Place, number: usize) -> Result<String, Refusal> {
-        let visit = &self.run.visit;
-        let mut lines = Vec::new();
-        for cell in visit
-            .cells()
-            .filter(|cell| visit.base_of(cell.place) == Some(object))
-        {
-            if visit.offers(cell.number, &[Method(number as i64)])? {
-                lines.push(self.holder(&cell, number));
+        let mut shown: Vec<CellInfo> = Vec::new();
+        for method in 0..self.sheet.methods() {
+            if self.question.method.is_none_or(|one| one == method) {
+                let cells = self.asked(Some(place.number), method);
+                text += &self.method(method, &cells);
+                shown.extend(cells.into_iter().map(|(cell, _)| cell));
             }
         }
-        let title = self.names.words(Kind::Method, number as i64);
-        if lines.is_empty() {
-            return Ok(format!(
-                "  {title}: {}\n",
-                self.paint.of(Tone::Quiet, "nobody")
-            ));
-        }
-        Ok(format!("  {title}\n{}", lines.concat()))
+        shown.sort_by_key(|cell| cell.number);
+        shown.dedup();
+        text + &self.ways(&shown)
     }
 
-    /// Who holds a cell that offers a method, the cell, what can be done, and how it came.
-    fn holder(&self, cell: &CellInfo, method: usize) -> String {
+    /// Who can do what with a method.
+    fn method(&self, method: usize, cells: &[(CellInfo, &Power)]) -> String {
+        let title = self.names.words(Kind::Method, method as i64);
+        if cells.is_empty() {
+            let nobody = match self.question.subject {
+                Some(number) => format!("not {}", self.names.words(Kind::Subject, number as i64)),
+                None => "nobody".to_string(),
+            };
+            let nobody = self.paint.of(Tone::Quiet, &nobody);
+            return format!("  {title}: {nobody}\n");
+        }
+        let lines = cells.iter().map(|(cell, power)| {
+            let head = format!("    {}  ", self.holder(cell));
+            under(&head, &self.power(power))
+        });
+        format!("  {title}\n{}", lines.collect::<String>())
+    }
+
+    /// Who holds a cell, and its number.
+    fn holder(&self, cell: &CellInfo) -> String {
         let subject = |number: i64| self.names.words(Kind::Subject, number);
-        let subjects = 0..self.run.visit.sheet().subjects();
+        let subjects = 0..self.sheet.subjects();
         let widths = subjects.map(|number| subject(number as i64).chars().count());
         let width = widths.max().unwrap_or(0);
-        let trail = self.run.trails.of(cell.number).iter();
-        let trail: Vec<String> = trail
-            .map(|one| self.names.label(Kind::Type, one.0))
-            .collect();
-        format!(
-            "    {:width$}  cell {:<3}  {}  {}\n",
-            subject(cell.holder.0),
-            cell.number,
-            self.use_of(cell, method),
-            trail.join(" > ")
-        )
+        format!("{:width$}  cell {:<3}", subject(cell.holder.0), cell.number)
     }
 
-    /// What the cell's type lets its holder do with a method that it offers.
-    fn use_of(&self, cell: &CellInfo, method: usize) -> &'static str {
-        let mut types = self.types.iter();
-        let info = types.find(|info| info.number == cell.type_);
-        match info.and_then(|info| info.methods.get(method)) {
-            Some(MethodInfo::Avail(_)) => "can call   ",
-            _ => "can hand on",
+    fn power(&self, power: &Power) -> String {
+        let path = |types: &[Type]| {
+            let types = types.iter();
+            let types = types.map(|one| self.names.numbered(Kind::Type, one.0));
+            types.collect::<Vec<String>>().join(" and then as ")
+        };
+        match power {
+            Power::Now => "can call".to_string(),
+            Power::Alone(types) => format!("can come to call alone: to itself as {}", path(types)),
+            Power::Once(types, refusal) => {
+                let path = path(types);
+                format!("could come to call alone, to itself as {path}, while there was room; now {refusal}")
+            }
+            Power::NoRoom(refusal) => {
+                format!("offers: no way to call it was found, and {refusal} for further ones")
+            }
+            Power::Unsettled => {
+                format!("offers: whether its holder can come to call it is not settled in {MOST_STEPS} steps")
+            }
+            Power::Never => "offers: no type of the sheet lets it be called".to_string(),
+        }
+    }
+
+    /// How cells came to their holders.
+    fn ways(&self, cells: &[CellInfo]) -> String {
+        let mut text = String::new();
+        for cell in cells {
+            if let Some(trail) = self.run.trails.of(cell.number) {
+                let head = format!("    cell {:<3}  ", cell.number);
+                text += &under(&head, &trail.words(self.sheet, self.names));
+            }
+        }
+        match text.is_empty() {
+            true => text,
+            false => format!("  {WAYS}\n{text}"),
         }
     }
 }

@@ -1,10 +1,14 @@
 //! A script's requests put to the core one by one.
 
+use crate::reach::{Power, Reach};
 use crate::reader::{Flaw, NO_LF};
 use crate::scripts::requests::{read, split, Request};
 use crate::scripts::trails::Trails;
+use crate::scripts::trial::why;
+use crate::scripts::why::Why;
 use pilgonca::{
-    Answered, Call, Called, Cell, Held, Method, Refusal, SheetRefused, Subject, Type, Visit,
+    Answered, Call, Called, Cell, CellInfo, Held, Method, Refusal, SheetRefused, Subject, Type,
+    Visit,
 };
 use std::ops::Range;
 
@@ -24,6 +28,8 @@ pub struct Step<'a> {
     pub line: &'a [u8],
     pub request: Request,
     pub outcome: Result<Got, Refusal>,
+    /// Where it failed, if it is refused.
+    pub why: Option<Why>,
     /// The cells that it made.
     pub cells: Range<usize>,
 }
@@ -43,6 +49,8 @@ pub struct Run<'a> {
     pub steps: Vec<Step<'a>>,
     pub malformed: Option<Malformed<'a>>,
     pub trails: Trails,
+    /// The state behind each request that made cells, and how many cells there were then: earlier states have more room.
+    pub earlier: Vec<(usize, Visit)>,
 }
 
 /// Runs the requests of a script up to the first line that is none.
@@ -53,6 +61,7 @@ pub fn follow(input: &[u8]) -> Result<Run<'_>, SheetRefused> {
         steps: Vec::new(),
         malformed: None,
         trails: Trails::default(),
+        earlier: Vec::new(),
     };
     let first = sheet.iter().filter(|byte| **byte == b'\n').count() + 1;
     for (index, whole) in requests.split_inclusive(|byte| *byte == b'\n').enumerate() {
@@ -85,56 +94,97 @@ fn request(whole: &[u8]) -> Result<Request, Flaw> {
 }
 
 impl<'a> Run<'a> {
+    /// What the holder of each cell can do with each method, or could while there was room; none where it has nothing to do with it.
+    pub fn powers(&self) -> Result<Vec<Vec<Option<Power>>>, Refusal> {
+        let mut all = Reach::of_visit(&self.visit)?;
+        let reach = Reach::of(&self.visit.sheet());
+        for (cell, powers) in self.visit.cells().zip(&mut all) {
+            let full = |power: &Option<Power>| matches!(power, Some(Power::NoRoom(_)));
+            if powers.iter().any(full) {
+                self.once(&reach, &cell, powers)?;
+            }
+        }
+        Ok(all)
+    }
+
+    /// Looks where the cell was new, for ways that there is no room for in the end.
+    fn once(
+        &self,
+        reach: &Reach,
+        cell: &CellInfo,
+        powers: &mut [Option<Power>],
+    ) -> Result<(), Refusal> {
+        let number = usize::try_from(cell.number.0).unwrap_or(0);
+        let Some((_, then)) = self.earlier.iter().find(|(count, _)| *count > number) else {
+            return Ok(());
+        };
+        for (now, then) in powers.iter_mut().zip(reach.powers(then, cell)?) {
+            if let (Some(Power::NoRoom(refusal)), Some(Power::Alone(path))) = (&now, then) {
+                *now = Some(Power::Once(path, *refusal));
+            }
+        }
+        Ok(())
+    }
+
     fn step(&mut self, line_number: usize, line: &'a [u8], request: Request) {
         let before = self.trails.count();
-        let outcome = self.put(&request);
-        if outcome.is_ok() {
-            self.trails.note(&self.visit, &request);
+        let outcome = put(&mut self.visit, &request);
+        let why = match outcome {
+            Ok(_) => {
+                self.trails.note(&self.visit, &request);
+                None
+            }
+            // which left the state as it was (Q14)
+            Err(refusal) => why(&self.visit, &request, refusal),
+        };
+        if self.trails.count() > before {
+            self.earlier.push((self.trails.count(), self.visit.clone()));
         }
         self.steps.push(Step {
             line_number,
             line,
             request,
             outcome,
+            why,
             cells: before..self.trails.count(),
         });
     }
+}
 
-    fn put(&mut self, request: &Request) -> Result<Got, Refusal> {
-        let visit = &mut self.visit;
-        match request {
-            Request::New { subject, class, to } => visit
-                .new_object(Subject(*subject), Type(*class), Type(*to))
-                .map(Got::Held),
-            Request::Move {
-                subject,
-                cell,
-                receiver,
-                to,
-            } => visit
-                .move_reference(
-                    Subject(*subject),
-                    Cell(*cell),
-                    Subject(*receiver),
-                    Type(*to),
-                )
-                .map(Got::Held),
-            Request::Call {
-                subject,
-                cell,
-                method,
-                arguments,
-            } => visit
-                .call(Subject(*subject), Cell(*cell), Method(*method), arguments)
-                .map(Got::Called),
-            Request::Answer {
-                subject,
-                call,
-                value,
-            } => visit
-                .answer(Subject(*subject), Call(*call), *value)
-                .map(Got::Answered),
-        }
+/// Puts a request to the core.
+pub fn put(visit: &mut Visit, request: &Request) -> Result<Got, Refusal> {
+    match request {
+        Request::New { subject, class, to } => visit
+            .new_object(Subject(*subject), Type(*class), Type(*to))
+            .map(Got::Held),
+        Request::Move {
+            subject,
+            cell,
+            receiver,
+            to,
+        } => visit
+            .move_reference(
+                Subject(*subject),
+                Cell(*cell),
+                Subject(*receiver),
+                Type(*to),
+            )
+            .map(Got::Held),
+        Request::Call {
+            subject,
+            cell,
+            method,
+            arguments,
+        } => visit
+            .call(Subject(*subject), Cell(*cell), Method(*method), arguments)
+            .map(Got::Called),
+        Request::Answer {
+            subject,
+            call,
+            value,
+        } => visit
+            .answer(Subject(*subject), Call(*call), *value)
+            .map(Got::Answered),
     }
 }
 

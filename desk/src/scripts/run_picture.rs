@@ -11,7 +11,7 @@ const BOX: usize = 40;
 /// Between two columns.
 const GAP: usize = 48;
 const NOTE: &str =
-    "A row is a reference: who holds it, the methods that it offers, and what it leads to.";
+    "A row is a reference: who holds it, what its holder can call or come to call by it, and what it leads to.";
 
 /// The left edge and the width of each column.
 struct Columns {
@@ -24,10 +24,10 @@ struct Columns {
 impl Columns {
     fn of(plan: &Plan) -> Columns {
         let words = plan.leaves.iter().map(|leaf| leaf.words.width());
-        let offers = plan
-            .leaves
-            .iter()
-            .map(|leaf| text_width(&leaf.offers, 12, false));
+        let offers = plan.leaves.iter().map(|leaf| {
+            let [calls, comes] = [&leaf.calls, &leaf.comes].map(|text| text_width(text, 12, false));
+            calls.max(comes)
+        });
         let leaves = (MARGIN, words.max().unwrap_or(0));
         let mut left = leaves.0 + leaves.1 + offers.max().unwrap_or(0) + GAP;
         let deepest = plan.nodes.iter().map(|node| node.depth).max().unwrap_or(0);
@@ -85,7 +85,10 @@ fn class(node: &Node) -> &'static str {
 fn draw_leaf(canvas: &mut Canvas, leaf: &Leaf, columns: &Columns) {
     let (left, width) = columns.leaves;
     draw_box(canvas, "cell", (left, leaf.y), width, &leaf.words);
-    canvas.text("", (left + width + 10, leaf.y - 6), &leaf.offers);
+    canvas.text("", (left + width + 10, leaf.y - 6), &leaf.calls);
+    if !leaf.comes.is_empty() {
+        canvas.text("note", (left + width + 10, leaf.y + 16), &leaf.comes);
+    }
 }
 
 /// A box with two lines of words, its left edge and middle given.
@@ -117,7 +120,8 @@ fn way(canvas: &mut Canvas, (x, y): (usize, usize), to: &Node, columns: &Columns
 /// What the boxes are; how wide that is, and where it ends.
 fn legend(canvas: &mut Canvas, top: usize) -> (usize, usize) {
     let rows = [
-        ("cell", "a reference in a subject's hands: a cell, with the type that it is held as; above the arrow, what it offers"),
+        ("cell", "a reference in a subject's hands: a cell, with the type that it is held as; above the arrow, what its holder can call"),
+        ("blank", "below the arrow: what it comes to call by handing the reference to itself as another type; what it offers and no type lets it call"),
         ("adapter", "an adapter, which the core put in front of something: nothing passes but what it lets through"),
         ("object", "an object, with the class it was made of and its owner"),
     ];

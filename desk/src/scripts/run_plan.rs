@@ -2,9 +2,10 @@
 //! object on the right. A cell has a row of its own and what is behind it stands in the middle of its rows, so that no lines cross.
 
 use crate::names::{Kind, Names};
+use crate::reach::Power;
 use crate::scripts::follow::Run;
 use crate::svg::{text_width, BELOW_TITLE};
-use pilgonca::{CellInfo, Method, MethodInfo, PlaceInfo, PlaceKind, Refusal, TypeInfo};
+use pilgonca::{CellInfo, MethodInfo, PlaceInfo, PlaceKind, Refusal, TypeInfo};
 
 /// From one row to the next.
 const ROW: usize = 52;
@@ -28,8 +29,9 @@ impl Words {
 /// A cell in its row.
 pub struct Leaf {
     pub words: Words,
-    /// The methods that it offers.
-    pub offers: String,
+    /// The methods that its holder can call, and below those that it can come to call, and those that are only there.
+    pub calls: String,
+    pub comes: String,
     pub place: usize,
     /// The middle of its row.
     pub y: usize,
@@ -55,10 +57,10 @@ pub struct Plan {
 /// The plan of the references at the end of a run.
 pub fn plan(run: &Run, names: &Names) -> Result<Plan, Refusal> {
     let types: Vec<TypeInfo> = run.visit.types().collect();
-    let cells = run.visit.cells();
+    let cells = run.visit.cells().zip(run.powers()?);
     let leaves = cells
-        .map(|cell| leaf(run, names, &cell))
-        .collect::<Result<_, _>>()?;
+        .map(|(cell, powers)| leaf(names, &cell, &powers))
+        .collect();
     let mut plan = Plan {
         leaves,
         nodes: Vec::new(),
@@ -142,24 +144,32 @@ impl Plan {
     }
 }
 
-/// A cell, and the methods that the core says it offers.
-fn leaf(run: &Run, names: &Names, cell: &CellInfo) -> Result<Leaf, Refusal> {
-    let mut offered = Vec::new();
-    for number in 0..run.visit.sheet().methods() {
-        if run.visit.offers(cell.number, &[Method(number as i64)])? {
-            offered.push(number);
-        }
-    }
+/// A cell, and what its holder can do with each method.
+fn leaf(names: &Names, cell: &CellInfo, powers: &[Option<Power>]) -> Leaf {
+    let of = |test: fn(&Power) -> bool| {
+        let powers = powers.iter().enumerate();
+        let powers = powers.filter(move |(_, power)| power.as_ref().is_some_and(test));
+        powers.map(|(method, _)| method).collect::<Vec<usize>>()
+    };
+    let now = of(|power| *power == Power::Now);
+    let comes = of(|power| power.is_yes() && *power != Power::Now);
+    let only = of(Power::is_no);
+    let below = [("comes to call ", comes), ("offers ", only)];
+    let below = below.iter().filter(|(_, methods)| !methods.is_empty());
+    let below: Vec<String> = below
+        .map(|(word, methods)| word.to_string() + &listed(methods, names))
+        .collect();
     let type_ = names.label(Kind::Type, cell.type_.0);
-    Ok(Leaf {
+    Leaf {
         words: Words {
             first: names.words(Kind::Subject, cell.holder.0),
             second: format!("cell {} as type {type_}", cell.number),
         },
-        offers: listed(&offered, names),
+        calls: format!("calls {}", listed(&now, names)),
+        comes: below.join("; "),
         place: cell.place.0 as usize,
         y: 0,
-    })
+    }
 }
 
 /// The methods that an adapter's type lets through.

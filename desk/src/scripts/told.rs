@@ -1,8 +1,10 @@
 //! A run in words: each request, and what it came to.
 
+use crate::described::{methods, permitted};
 use crate::explain::refused;
 use crate::names::{Kind, Names};
 use crate::paint::{Paint, Tone};
+use crate::scripts::audit::cut_short;
 use crate::scripts::follow::{printed, Got, Run, Step};
 use crate::scripts::requests::Request;
 use crate::shown::shown;
@@ -20,7 +22,8 @@ impl Teller<'_> {
     /// Every request and its answer, and how it ended.
     pub fn told(&self) -> String {
         let steps = self.run.steps.iter().map(|step| self.step(step));
-        steps.collect::<String>() + &self.end()
+        let cut = cut_short(self.run).unwrap_or_default();
+        steps.collect::<String>() + &self.end() + &cut
     }
 
     fn step(&self, step: &Step) -> String {
@@ -91,7 +94,14 @@ impl Teller<'_> {
     /// What came of it.
     fn outcome(&self, step: &Step) -> String {
         match &step.outcome {
-            Err(refusal) => refused(*refusal),
+            Err(refusal) => match &step.why {
+                Some(why) => format!(
+                    "refused with {}: {}",
+                    refusal.number(),
+                    why.words(self.names)
+                ),
+                None => refused(*refusal),
+            },
             Ok(Got::Called(called)) => self.called(called, step),
             Ok(Got::Answered(Answered::Number(number))) => {
                 format!("the caller gets the number {number}")
@@ -155,10 +165,13 @@ impl Teller<'_> {
     }
 
     fn place(&self, place: Place) -> String {
-        let info = self.run.visit.places().find(|info| info.number == place);
+        let info = self.run.visit.place_info(place);
         match info.map(|info| info.kind) {
-            Some(PlaceKind::Adapter { behind, .. }) => {
-                format!("it leads to place {place}, an adapter in front of place {behind}")
+            Some(PlaceKind::Adapter { behind, closed }) => {
+                let info = self.run.visit.type_info(closed);
+                let through = info.map_or(Vec::new(), |info| permitted(&info));
+                let through = methods(&through, self.names);
+                format!("it leads to place {place}, an adapter in front of place {behind} that lets through {through}")
             }
             _ => format!("it leads to place {place}, the object itself"),
         }

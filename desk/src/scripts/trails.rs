@@ -1,80 +1,198 @@
-//! The types that each cell's reference came through, followed from the requests that were accepted (L9 to L13).
+//! The way that each cell's reference came, followed from the requests that were accepted (L9 to L13): the types that it crossed, and whose hands it went
+//! through.
 
+use crate::described::{signature, Described};
+use crate::names::{Kind, Names};
 use crate::scripts::requests::Request;
 use pilgonca::{
-    Call, Cell, CellInfo, Method, MethodInfo, PlaceKind, Representation, Sheet, Signature, Type,
+    Call, CallInfo, Cell, CellInfo, PlaceKind, Representation, Sheet, Signature, Subject, Type,
     Visit,
 };
 
-/// For each cell the types that its reference crossed since its object was made, or last unwrapped (L3).
+/// One crossing of a reference.
+#[derive(Clone, PartialEq, Eq, Debug)]
+pub struct Crossing {
+    pub to: Type,
+    pub hands: Hands,
+}
+
+/// From whom to whom, and by what.
+#[derive(Clone, Copy, PartialEq, Eq, Debug)]
+pub enum Hands {
+    Made {
+        by: Subject,
+    },
+    Moved {
+        from: Subject,
+        to: Subject,
+    },
+    Argument {
+        from: Subject,
+        to: Subject,
+        call: Call,
+        position: usize,
+    },
+    Answer {
+        from: Subject,
+        to: Subject,
+        call: Call,
+    },
+}
+
+/// The way of one cell's reference.
+#[derive(Clone, Default, PartialEq, Eq, Debug)]
+pub struct Trail {
+    /// The cell that it was handed on from; none for one that came with its object.
+    pub from: Option<Cell>,
+    /// What it crossed since its object was made, or last unwrapped (L3).
+    pub crossings: Vec<Crossing>,
+}
+
+impl Trail {
+    pub fn types(&self) -> impl Iterator<Item = Type> + '_ {
+        self.crossings.iter().map(|one| one.to)
+    }
+
+    /// In words: who gave it to whom, as what.
+    pub fn words(&self, sheet: &Sheet, names: &Names) -> String {
+        let mut steps: Vec<(Hands, Vec<String>)> = Vec::new();
+        for Crossing { to, hands } in &self.crossings {
+            let type_ = Described::of(sheet, *to).short(names);
+            match steps.last_mut() {
+                // one value through the layers of a call
+                Some((last, types)) if last == hands && hands.is_of_call() => types.push(type_),
+                _ => steps.push((*hands, vec![type_])),
+            }
+        }
+        let steps = steps.iter().map(|(hands, types)| {
+            let types = types.join(", then ");
+            format!("{} as {types}", hands.words(names))
+        });
+        steps.collect::<Vec<String>>().join(" > ")
+    }
+}
+
+impl Hands {
+    fn is_of_call(self) -> bool {
+        matches!(self, Hands::Argument { .. } | Hands::Answer { .. })
+    }
+
+    fn words(self, names: &Names) -> String {
+        let short = |subject: Subject| names.short(Kind::Subject, subject.0);
+        match self {
+            Hands::Made { by } => format!("{} made it", short(by)),
+            Hands::Moved { from, to } if from == to => format!("{} to itself", short(to)),
+            Hands::Moved { from, to } => format!("{} to {}", short(from), short(to)),
+            Hands::Argument {
+                from,
+                to,
+                call,
+                position,
+            } => {
+                let (from, to, position) = (short(from), short(to), position + 1);
+                format!("{from} to {to}, argument {position} of call {call},")
+            }
+            Hands::Answer { from, to, call } => {
+                format!("{} to {}, answer to call {call},", short(from), short(to))
+            }
+        }
+    }
+}
+
+/// The trails of all cells, by number.
 #[derive(Default)]
-pub struct Trails(Vec<Vec<Type>>);
+pub struct Trails(Vec<Trail>);
 
 impl Trails {
     pub fn count(&self) -> usize {
         self.0.len()
     }
 
-    /// The types of a cell's trail; none where there is no such cell.
-    pub fn of(&self, cell: Cell) -> &[Type] {
-        let index = usize::try_from(cell.0).ok();
-        index
-            .and_then(|index| self.0.get(index))
-            .map_or(&[], Vec::as_slice)
+    /// None where there is no such cell.
+    pub fn of(&self, cell: Cell) -> Option<&Trail> {
+        self.0.get(usize::try_from(cell.0).ok()?)
     }
 
     /// Adds trails for the cells that a request made, which was accepted and left the visit as it is.
     pub fn note(&mut self, visit: &Visit, request: &Request) {
         let sheet = visit.sheet();
         match request {
-            Request::New { to, .. } => self.cross(&sheet, None, &[Type(*to)]),
-            Request::Move { cell, to, .. } => self.cross(&sheet, Some(*cell), &[Type(*to)]),
-            Request::Call {
-                cell,
-                method,
-                arguments,
-                ..
-            } => {
-                let passed = signatures(visit, &sheet, Cell(*cell), Method(*method));
-                self.arguments(&sheet, &passed, arguments);
+            Request::New { subject, to, .. } => {
+                let by = Subject(*subject);
+                self.cross(&sheet, None, Hands::Made { by }, &[Type(*to)]);
             }
-            Request::Answer { call, value, .. } => {
-                let called = visit.calls().find(|info| info.number == Call(*call));
-                let passed = called.map(|info| signatures(visit, &sheet, info.cell, info.method));
-                self.answer(&sheet, &passed.unwrap_or_default(), *value);
+            Request::Move {
+                subject,
+                cell,
+                receiver,
+                to,
+            } => {
+                let [from, receiver] = [*subject, *receiver].map(Subject);
+                let hands = Hands::Moved { from, to: receiver };
+                self.cross(&sheet, Some(*cell), hands, &[Type(*to)]);
+            }
+            Request::Call { arguments, .. } => {
+                // the last one there is
+                if let Some(call) = visit.calls().last() {
+                    let layers = Layers::of(visit, &sheet, &call);
+                    self.arguments(&sheet, &layers, &call, arguments);
+                }
+            }
+            Request::Answer {
+                subject,
+                call,
+                value,
+            } => {
+                let mut calls = visit.calls();
+                if let Some(call) = calls.find(|info| info.number == Call(*call)) {
+                    let layers = Layers::of(visit, &sheet, &call);
+                    let (from, to, call) = (Subject(*subject), call.caller, call.number);
+                    self.answer(&sheet, &layers, Hands::Answer { from, to, call }, *value);
+                }
             }
         }
     }
 
     /// A reference, new or from a cell, crosses to types in order and becomes the next cell. A type with own begins a new
     /// trail: adapters are left behind there (X3).
-    fn cross(&mut self, sheet: &Sheet, cell: Option<i64>, to: &[Type]) {
-        let mut trail = cell.map_or(Vec::new(), |cell| self.of(Cell(cell)).to_vec());
-        for one in to {
-            if sheet.type_info(*one).is_some_and(|info| info.own) {
-                trail.clear();
+    fn cross(&mut self, sheet: &Sheet, cell: Option<i64>, hands: Hands, to: &[Type]) {
+        let from = cell.map(Cell);
+        let before = from.and_then(|cell| self.of(cell)).cloned();
+        let mut crossings = before.unwrap_or_default().crossings;
+        for to in to.iter().copied() {
+            if sheet.type_info(to).is_some_and(|info| info.own) {
+                crossings.clear();
             }
-            trail.push(*one);
+            crossings.push(Crossing { to, hands });
         }
-        self.0.push(trail);
+        self.0.push(Trail { from, crossings });
     }
 
     /// Each argument that is a reference passes the argument types of the layers, the called cell's type first (L11).
-    fn arguments(&mut self, sheet: &Sheet, passed: &[Signature], arguments: &[i64]) {
-        for (index, argument) in arguments.iter().enumerate() {
-            let types = passed.iter().filter_map(|one| one.arguments.get(index));
+    fn arguments(&mut self, sheet: &Sheet, layers: &Layers, call: &CallInfo, given: &[i64]) {
+        let (from, to, call) = (call.caller, layers.owner, call.number);
+        for (position, argument) in given.iter().enumerate() {
+            let signatures = layers.signatures.iter();
+            let types = signatures.filter_map(|one| one.arguments.get(position));
             let types: Vec<Type> = types.copied().collect();
             if is_reference(sheet, &types) {
-                self.cross(sheet, Some(*argument), &types);
+                let hands = Hands::Argument {
+                    from,
+                    to,
+                    call,
+                    position,
+                };
+                self.cross(sheet, Some(*argument), hands, &types);
             }
         }
     }
 
     /// An answer that is a reference passes the answer types of the layers, the class's first (L13).
-    fn answer(&mut self, sheet: &Sheet, passed: &[Signature], value: Option<i64>) {
-        let types: Vec<Type> = passed.iter().rev().filter_map(|one| one.answer).collect();
+    fn answer(&mut self, sheet: &Sheet, layers: &Layers, hands: Hands, value: Option<i64>) {
+        let signatures = layers.signatures.iter().rev();
+        let types: Vec<Type> = signatures.filter_map(|one| one.answer).collect();
         if value.is_some() && is_reference(sheet, &types) {
-            self.cross(sheet, value, &types);
+            self.cross(sheet, value, hands, &types);
         }
     }
 }
@@ -85,36 +203,49 @@ fn is_reference(sheet: &Sheet, types: &[Type]) -> bool {
     info.is_some_and(|info| info.representation == Representation::Ref)
 }
 
-/// What each layer of a call has as its signature: the cell's type, each adapter's from the outermost on, the class (C9).
-fn signatures(visit: &Visit, sheet: &Sheet, cell: Cell, method: Method) -> Vec<Signature> {
-    let Some(info) = visit.cells().find(|info| info.number == cell) else {
-        return Vec::new();
-    };
-    let layers = std::iter::once(info.type_).chain(behind(visit, &info));
-    layers
-        .filter_map(|layer| signature(sheet, layer, method))
-        .collect()
+/// What a call goes through.
+struct Layers {
+    /// What each layer has as its signature: the cell's type, each adapter's from the outermost on, the class (C9).
+    signatures: Vec<Signature>,
+    /// The owner of the object that is called.
+    owner: Subject,
 }
 
-/// The types behind a cell's own: that of the outermost adapter first, the class last.
-fn behind(visit: &Visit, cell: &CellInfo) -> Vec<Type> {
+impl Layers {
+    fn of(visit: &Visit, sheet: &Sheet, call: &CallInfo) -> Layers {
+        let cell = visit.cell_info(call.cell);
+        let cell = cell.expect("a call is through a cell (H11)");
+        let (behind, owner) = behind(visit, &cell);
+        let layers = std::iter::once(cell.type_).chain(behind);
+        let signature = |layer: Type| {
+            let methods = sheet.type_info(layer)?.methods;
+            methods
+                .get(call.method.0 as usize)
+                .and_then(signature)
+                .cloned()
+        };
+        Layers {
+            signatures: layers.filter_map(signature).collect(),
+            owner,
+        }
+    }
+}
+
+/// The types behind a cell's own, that of the outermost adapter first, the class last; and who owns the object.
+pub fn behind(visit: &Visit, cell: &CellInfo) -> (Vec<Type>, Subject) {
     let places: Vec<PlaceKind> = visit.places().map(|info| info.kind).collect();
     let mut found = Vec::new();
     let mut place = cell.place;
-    while let Some(PlaceKind::Adapter { behind, closed }) = places.get(place.0 as usize) {
-        found.push(*closed);
-        place = *behind;
-    }
-    if let Some(PlaceKind::Object { class, .. }) = places.get(place.0 as usize) {
-        found.push(*class);
-    }
-    found
-}
-
-fn signature(sheet: &Sheet, layer: Type, method: Method) -> Option<Signature> {
-    let mut methods = sheet.type_info(layer)?.methods.into_iter();
-    match methods.nth(usize::try_from(method.0).ok()?)? {
-        MethodInfo::Avail(signature) | MethodInfo::Optional(signature) => Some(signature),
-        MethodInfo::Denied | MethodInfo::Unavail => None,
+    loop {
+        match places[place.0 as usize] {
+            PlaceKind::Adapter { behind, closed } => {
+                found.push(closed);
+                place = behind;
+            }
+            PlaceKind::Object { class, owner } => {
+                found.push(class);
+                return (found, owner);
+            }
+        }
     }
 }

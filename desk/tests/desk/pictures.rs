@@ -131,6 +131,15 @@ fn pictures_are_sound() {
     }
 }
 
+/// What a holder can come to call is told apart from what it can call.
+#[test]
+fn a_picture_tells_what_is_come_to() {
+    let come = ">comes to call mark<";
+    let picture = drawn(&["run", "examples/optional.script", "--names", NAMES]);
+    assert!(picture.contains(">calls read<") && picture.contains(come));
+    assert!(!drawn(&["run", SCRIPT, "--names", NAMES]).contains(come));
+}
+
 /// Names may hold what means something in a picture.
 #[test]
 fn names_are_escaped() {

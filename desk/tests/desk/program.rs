@@ -8,7 +8,7 @@ use std::process::Stdio;
 
 #[test]
 fn wrong_words_are_told_apart_from_bad_input() {
-    let wrong: [&[&str]; 12] = [
+    let wrong: [&[&str]; 17] = [
         &["chek"],
         &["check"],
         &["check", "a", "b"],
@@ -21,6 +21,11 @@ fn wrong_words_are_told_apart_from_bad_input() {
         &["check", "--names", NAMES, "--names", NAMES, SHEET],
         &["explain"],
         &["audit"],
+        &["audit", SCRIPT, "--subject"],
+        &["audit", SCRIPT, "--method", "1", "--method", "2"],
+        &["run", SCRIPT, "--calls"],
+        &["powers", SHEET, SHEET],
+        &["diff", SHEET],
     ];
     for words in wrong {
         let (status, out, error) = run(words);
@@ -34,7 +39,7 @@ fn wrong_words_are_told_apart_from_bad_input() {
 
 #[test]
 fn files_that_cannot_be_read() {
-    for command in ["check", "pairs", "run", "audit"] {
+    for command in ["check", "pairs", "run", "audit", "powers"] {
         for path in ["no/such/file", "examples", "/"] {
             let error = refused(&[command, path]);
             assert!(error.contains(path), "{error}");
@@ -72,6 +77,7 @@ fn any_bytes_get_an_answer() {
                 &["compare", path, "0", "1"],
                 &["run", path],
                 &["audit", path],
+                &["powers", path],
                 &with_names,
             ] {
                 let (status, _, error) = run(words);
@@ -157,6 +163,8 @@ fn no_colours_in_a_pipe() {
         &["pairs", SHEET],
         &["run", SCRIPT],
         &["audit", SCRIPT],
+        &["powers", SHEET],
+        &["diff", SHEET, "examples/guide.sheet"],
         &["run", "examples/refused-01.script"],
     ] {
         let (_, out, error) = run(words);
@@ -208,8 +216,11 @@ fn the_matrix_and_a_comparison() {
     assert!(own.contains("for the owner of its object alone"), "{own}");
     let mixed = accepted(&["compare", SHEET, "0", "2"]);
     assert!(mixed.contains("never becomes"), "{mixed}");
-    assert!(refused(&["compare", SHEET, "6", "0"]).contains("refused with 7"));
-    assert!(refused(&["compare", SHEET, "-1", "0"]).contains("refused with 7"));
+    for (unknown, words) in [("6", ["6", "0"]), ("-1", ["0", "-1"])] {
+        let error = refused(&["compare", SHEET, words[0], words[1]]);
+        let why = format!("refused with 7: there is no type {unknown}: the sheet has types 0 to 5");
+        assert!(error.contains(&why), "{error}");
+    }
     assert!(refused(&["compare", SHEET, "log", "0"]).contains("no type is named \"log\""));
 }
 
@@ -243,15 +254,15 @@ fn a_run_and_its_audit() {
     let out = accepted(&["run", SCRIPT, "--names", NAMES]);
     for part in [
         "do=move 1 1 2 3  ->  got=2 1",
-        "subject 2 (printer) holds cell 2 as type 3 (forwarder): it leads to place 1, an adapter in front of place 0",
-        "refused with 8: the types do not go together",
+        "subject 2 (printer) holds cell 2 as type 3 (forwarder): it leads to place 1, an adapter in front of place 0 that lets through read",
+        "refused with 8: a reference of type 2 (reader) cannot become type 5 (marker): of method 1 (mark) type 5 (marker) says avail and type 2 (reader) says denied",
         "6 requests: 4 accepted, 2 refused. At the end: 4 cells, 1 object, 1 adapter, 0 calls.",
     ] {
         assert!(out.contains(part), "{part}: {out}");
     }
     let audit = accepted(&["audit", "examples/two-adapters.script"]);
     assert!(
-        audit.contains("subject 2  cell 4    can call     1 > 2 > 3 > 4 > 5"),
+        audit.contains("subject 1 to subject 2 as type 4 > subject 2 to itself as type 5"),
         "{audit}"
     );
     let ended = run(&["run", "examples/refused-01.script"]);

@@ -5,11 +5,12 @@ use crate::files::read;
 use desk::relation::Strongest;
 use desk::scripts::follow::{follow, output, Got, Run, Step};
 use desk::scripts::requests::{split, Request};
-use pilgonca::{raw, CellInfo, Method, MethodInfo, PlaceKind, Refusal, Type, TypeInfo};
+use desk::scripts::trails::Hands;
+use pilgonca::{raw, CellInfo, Method, MethodInfo, PlaceKind, Refusal, Subject, Type, TypeInfo};
 use reference::gen::{generate, Profile, PROFILES};
 
 /// Runs a script here and by the core. None where it is too long or its sheet is refused.
-fn same(input: &[u8]) -> Option<Run<'_>> {
+pub fn same(input: &[u8]) -> Option<Run<'_>> {
     if input.len() > raw::MAX_SCRIPT {
         return None;
     }
@@ -90,7 +91,8 @@ fn explained(run: &Run) -> usize {
         let PlaceKind::Object { class, .. } = places[base.0 as usize] else {
             panic!("a base is an object");
         };
-        let trail = run.trails.of(cell.number);
+        let trail = run.trails.of(cell.number).expect("a trail");
+        let trail: Vec<Type> = trail.types().collect();
         assert_eq!(trail.last(), Some(&cell.type_));
         for method in 0..visit.sheet().methods() {
             let came = permits(&types, class, method)
@@ -101,6 +103,38 @@ fn explained(run: &Run) -> usize {
         }
     }
     offered
+}
+
+/// Hands: a crossing goes from one who held the reference to one who then does.
+fn handed(run: &Run) {
+    for cell in run.visit.cells() {
+        let trail = run.trails.of(cell.number).expect("a trail");
+        let [from, to] = hands(&trail.crossings.last().expect("a crossing").hands);
+        assert_eq!(to, cell.holder, "cell {}", cell.number);
+        match trail.from {
+            Some(before) => {
+                let before = run.visit.cell_info(before).expect("a cell");
+                assert_eq!(from, before.holder, "cell {}", cell.number);
+            }
+            None => assert_eq!(from, cell.holder),
+        }
+        let ends = trail
+            .crossings
+            .windows(2)
+            .map(|two| [&two[0], &two[1]].map(|one| hands(&one.hands)));
+        for [[_, first], [second, _]] in ends.filter(|[first, second]| first != second) {
+            assert_eq!(first, second, "cell {}", cell.number);
+        }
+    }
+}
+
+fn hands(hands: &Hands) -> [Subject; 2] {
+    match *hands {
+        Hands::Made { by } => [by, by],
+        Hands::Moved { from, to }
+        | Hands::Argument { from, to, .. }
+        | Hands::Answer { from, to, .. } => [from, to],
+    }
 }
 
 #[test]
@@ -114,10 +148,11 @@ fn trails_explain_what_is_offered() {
                 continue;
             };
             offered += explained(&run);
-            let lengths = run
-                .visit
-                .cells()
-                .map(|cell| run.trails.of(cell.number).len());
+            handed(&run);
+            let lengths = run.visit.cells().map(|cell| {
+                let trail = run.trails.of(cell.number);
+                trail.map_or(0, |trail| trail.crossings.len())
+            });
             longest = longest.max(lengths.max().unwrap_or(0));
         }
     }

@@ -28,8 +28,14 @@ fn sheets_are_answered_alike_and_scripts_not_at_all() {
     ] {
         assert_eq!(alone(words), run(words), "{words:?}");
     }
-    for command in ["run", "audit"] {
-        let (status, out, error) = alone(&[command, SCRIPT]);
+    for words in [
+        &["run", SCRIPT][..],
+        &["audit", SCRIPT],
+        &["powers", SHEET],
+        &["diff", SHEET, SHEET],
+    ] {
+        let command = words[0];
+        let (status, out, error) = alone(words);
         assert_eq!((status, out.as_str()), (2, ""), "{error}");
         assert_eq!(error.lines().count(), 1, "{error}");
         assert!(

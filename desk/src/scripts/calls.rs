@@ -1,0 +1,126 @@
+//! The calls of a run: who called what through which cell, which types stand behind it, and whether it is answered.
+
+use crate::described::Described;
+use crate::names::{Kind, Names};
+use crate::paint::{Paint, Tone};
+use crate::scripts::audit::Question;
+use crate::scripts::follow::{Got, Run, Step};
+use crate::scripts::requests::Request;
+use crate::scripts::trails::behind;
+use crate::words::under;
+use pilgonca::{CallInfo, Sheet};
+
+pub struct Calls<'a> {
+    pub run: &'a Run<'a>,
+    pub sheet: &'a Sheet,
+    pub question: Question,
+    pub names: &'a Names,
+    pub paint: Paint,
+}
+
+impl Calls<'_> {
+    /// Those that are asked about.
+    fn asked(&self) -> impl Iterator<Item = CallInfo> + '_ {
+        let calls = self.run.visit.calls();
+        calls.filter(|call| {
+            self.question
+                .is_about(call.caller.0, call.method.0 as usize)
+        })
+    }
+
+    pub fn count(&self) -> usize {
+        self.asked().count()
+    }
+
+    pub fn told(&self) -> String {
+        let calls: String = self.asked().map(|call| self.call(&call)).collect();
+        match calls.is_empty() {
+            true => format!("Calls: {}\n", self.paint.of(Tone::Quiet, "none")),
+            false => format!("{}\n{calls}", self.paint.of(Tone::Strong, "Calls")),
+        }
+    }
+
+    fn call(&self, call: &CallInfo) -> String {
+        let CallInfo {
+            number,
+            caller,
+            cell,
+            method,
+            ..
+        } = call;
+        let subject = self.names.words(Kind::Subject, caller.0);
+        let method = self.names.words(Kind::Method, method.0);
+        let made = self.run.steps.iter().find(|step| made(step, call));
+        let (line, with) = made.map_or((String::new(), String::new()), |step| {
+            (format!(", line {}", step.line_number), given(&step.request))
+        });
+        let object = self.run.visit.cell_info(*cell);
+        let object = object.and_then(|info| self.run.visit.base_of(info.place));
+        let object = object.map_or(String::new(), |base| {
+            format!(" of the object at place {base}")
+        });
+        let head = format!("  call {number:<3}  ");
+        let margin = " ".repeat(head.len());
+        let first = format!("{subject} called {method}{object} through cell {cell}{with}{line}");
+        under(&head, &first)
+            + &under(&margin, &format!("types behind it: {}", self.layers(call)))
+            + &under(&margin, &self.answer(call))
+    }
+
+    /// The types that the call goes through: the cell's, those of adapters, the class (C9).
+    fn layers(&self, call: &CallInfo) -> String {
+        let Some(cell) = self.run.visit.cell_info(call.cell) else {
+            return String::new();
+        };
+        let (behind, _) = behind(&self.run.visit, &cell);
+        let layers = std::iter::once(cell.type_).chain(behind);
+        let layers = layers.map(|one| Described::of(self.sheet, one).short(self.names));
+        layers.collect::<Vec<String>>().join(" > ")
+    }
+
+    fn answer(&self, call: &CallInfo) -> String {
+        if !call.answered {
+            return "not answered".to_string();
+        }
+        let mut steps = self.run.steps.iter();
+        let told = steps.find_map(|step| match &step.request {
+            Request::Answer {
+                subject,
+                call: of,
+                value,
+            } if *of == call.number.0 && step.outcome.is_ok() => {
+                let subject = self.names.words(Kind::Subject, *subject);
+                let value = value.map_or("nothing".to_string(), |value| value.to_string());
+                let cells: Vec<String> = step.cells.clone().map(|cell| cell.to_string()).collect();
+                let became = match &cells[..] {
+                    [] => String::new(),
+                    _ => format!(
+                        ", its cell, which became the caller's cell {}",
+                        cells.join(" and ")
+                    ),
+                };
+                let line = step.line_number;
+                Some(format!(
+                    "answered by {subject} with {value}{became}, line {line}"
+                ))
+            }
+            _ => None,
+        });
+        told.unwrap_or_else(|| "answered".to_string())
+    }
+}
+
+fn made(step: &Step, call: &CallInfo) -> bool {
+    matches!(&step.outcome, Ok(Got::Called(called)) if called.call == call.number)
+}
+
+/// The arguments of a call.
+fn given(request: &Request) -> String {
+    match request {
+        Request::Call { arguments, .. } if !arguments.is_empty() => {
+            let words: Vec<String> = arguments.iter().map(i64::to_string).collect();
+            format!(" with {}", words.join(" and "))
+        }
+        _ => String::new(),
+    }
+}

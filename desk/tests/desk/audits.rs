@@ -1,0 +1,292 @@
+//! The audit as a referee reads it: who can call, who can come to, who was told of nothing more; the calls; and a status that answers.
+
+use crate::files::{accepted, read, run, with_file, NAMES, SCRIPT, SHEET};
+use desk::scripts::requests::split;
+use pilgonca::Visit;
+use reference::gen::{generate, Profile};
+
+/// Case P, where the printer was lent the log as a type in which mark is optional.
+const OPTIONAL: &str = "examples/optional.script";
+
+#[test]
+fn what_is_optional_can_be_come_to() {
+    let out = accepted(&["audit", OPTIONAL, "--names", NAMES]);
+    for part in [
+        "subject 2 (printer)  cell 1    can come to call alone: to itself as 5 marker",
+        "subject 2 (printer)  cell 2    can call",
+        "cell 2    desk made it as 4 whole log > desk to printer as 3 forwarder > printer to itself as 5 marker",
+        "Nothing is ever taken away",
+    ] {
+        assert!(out.contains(part), "{part}: {out}");
+    }
+    assert!(!out.contains("hand on"), "{out}");
+}
+
+/// Three methods: one that is called, one that may come to be, and one that no type but the class lets be called.
+const ONLY: &str = "guide=1\nsubjects=2\nmethods=1\ncats=0\ntypes=3\ntype=0\nrep=w32\ncat=0\ntype=1\nrep=ref\ncat=0\nown=no\nm=avail(0)-\n\
+    type=2\nrep=ref\ncat=0\nown=no\nm=optional(0)-\nend=sheet\ndo=new 0 1 2\ndo=move 0 0 1 2\n";
+
+#[test]
+fn three_things_are_told_apart() {
+    // type 1, the class, can be had from type 2 by both
+    with_file("come", ONLY.as_bytes(), |path| {
+        let out = accepted(&["audit", path]);
+        assert_eq!(
+            out.matches("can come to call alone: to itself as type 1")
+                .count(),
+            2,
+            "{out}"
+        );
+    });
+    // with another method that type 2 hides and the class has, the class cannot be had
+    let only = ONLY
+        .replace("methods=1", "methods=2")
+        .replace("m=avail(0)-\n", "m=avail(0)-\nm=avail()-\n");
+    let only = only.replace("m=optional(0)-\n", "m=optional(0)-\nm=denied\n");
+    with_file("only", only.as_bytes(), |path| {
+        let out = accepted(&["audit", path]);
+        assert_eq!(
+            out.matches("offers: no type of the sheet lets it be called")
+                .count(),
+            2,
+            "{out}"
+        );
+        assert!(out.contains("method 1: nobody"), "{out}");
+        let (status, _, _) = run(&["audit", path, "--method", "0"]);
+        assert_eq!(status, 1);
+    });
+}
+
+/// The owner can take back what its cell hides.
+#[test]
+fn an_owner_comes_to_what_its_cell_hides() {
+    let script = [split(&read(SCRIPT)).0, b"do=new 0 1 2\ndo=move 0 0 1 2\n"].concat();
+    with_file("owner", &script, |path| {
+        let out = accepted(&["audit", path, "--names", NAMES, "--method", "mark"]);
+        assert!(
+            out.contains(
+                "subject 0 (desk)     cell 0    can come to call alone: to itself as 4 whole log"
+            ),
+            "{out}"
+        );
+        assert!(!out.contains("subject 1 (tour)     cell 1"), "{out}");
+    });
+}
+
+#[test]
+fn calls_are_listed() {
+    let out = accepted(&["audit", OPTIONAL, "--names", NAMES]);
+    for part in [
+        "call 0    subject 2 (printer) called method 1 (mark) of the object at place 0 through cell 2 with 7, line 48",
+        "types behind it: 5 marker > 1 log",
+        "not answered",
+        "answered by subject 0 (desk) with 12, line 50",
+    ] {
+        assert!(out.contains(part), "{part}: {out}");
+    }
+    assert!(accepted(&["audit", SCRIPT]).contains("Calls: none"));
+    let through = accepted(&["audit", "examples/two-adapters.script"]);
+    assert!(
+        through.contains("types behind it: type 5 > [permits method 0 and method 1; from "),
+        "{through}"
+    );
+    assert!(
+        through.contains("which became the caller's cell 6"),
+        "{through}"
+    );
+}
+
+/// What is asked of OPTIONAL, the status, and the answer.
+const ASKED: [(&[&str], i32, &str); 7] = [
+    (
+        &["--subject", "printer", "--method", "mark"],
+        0,
+        "Could subject 2 (printer) have called method 1 (mark)? yes",
+    ),
+    (
+        &["--subject", "printer", "--method", "erase"],
+        1,
+        "Could subject 2 (printer) have called method 2 (erase)? no",
+    ),
+    (
+        &["--subject", "tour"],
+        1,
+        "Could subject 1 (tour) have called anything? no",
+    ),
+    (
+        &["--method", "2"],
+        0,
+        "Could anybody have called method 2 (erase)? yes",
+    ),
+    (
+        &["--subject", "2", "--method", "1", "--calls"],
+        0,
+        "Did subject 2 (printer) call method 1 (mark)? yes",
+    ),
+    (
+        &["--subject", "0", "--method", "1", "--calls"],
+        1,
+        "Did subject 0 (desk) call method 1 (mark)? no",
+    ),
+    (&["--calls"], 0, "Did anybody call anything? yes"),
+];
+
+fn ask(words: &[&str]) -> (i32, String, String) {
+    run(&[&["audit", OPTIONAL, "--names", NAMES], words].concat())
+}
+
+#[test]
+fn the_status_answers() {
+    for (words, status, answer) in ASKED {
+        let (found, out, error) = ask(words);
+        assert_eq!((found, error.as_str()), (status, ""), "{words:?}: {out}");
+        assert!(out.ends_with(&format!("{answer}\n")), "{words:?}: {out}");
+    }
+    let (_, narrow, _) = ask(&["--subject", "tour", "--method", "mark"]);
+    assert!(
+        narrow.contains("method 1 (mark): not subject 1 (tour)"),
+        "{narrow}"
+    );
+    assert!(
+        !narrow.contains("cell 1") && !narrow.contains("call 0"),
+        "{narrow}"
+    );
+    for words in [
+        &["--subject", "3"][..],
+        &["--method", "-1"],
+        &["--subject", "nobody"],
+    ] {
+        let (status, out, error) = ask(words);
+        assert_eq!((status, out.as_str()), (2, ""), "{words:?}");
+        assert!(error.starts_with("desk: "), "{error}");
+    }
+}
+
+/// What there was room for once is told as that, and is a yes: the question is about the whole visit.
+#[test]
+fn what_there_was_room_for_counts() {
+    let fill = b"do=move 0 0 0 4\n".repeat(254);
+    let script = [
+        split(&read(OPTIONAL)).0,
+        b"do=new 0 1 4\ndo=move 0 0 2 3\n",
+        &fill,
+    ]
+    .concat();
+    with_file("room", &script, |path| {
+        let mark = [
+            "audit",
+            path,
+            "--names",
+            NAMES,
+            "--subject",
+            "printer",
+            "--method",
+            "mark",
+        ];
+        let out = accepted(&mark);
+        let once = "could come to call alone, to itself as 5 marker, while there was room; now no cell is free";
+        let out = out.replace("\n                                   ", " ");
+        assert!(out.contains(once) && out.contains("(mark)? yes"), "{out}");
+    });
+}
+
+/// What the documents said of optional, and what holds.
+#[test]
+fn the_documents_say_what_holds_of_optional() {
+    let guide = String::from_utf8(read("docs/GUIDE.md")).expect("UTF-8");
+    let background = String::from_utf8(read("docs/BACKGROUND.md")).expect("UTF-8");
+    for text in [&guide, &background] {
+        for wrong in [
+            "the module cannot use it",
+            "is\nthe right to pass on without the right to use",
+            "hands a reference on without using the method",
+            "optional` is for handing on",
+            "`optional` at least, all the way",
+            "it cannot be called |",
+        ] {
+            assert!(!text.contains(wrong), "{wrong}");
+        }
+    }
+    assert!(guide.contains("Whoever holds a reference that offers a method may come to call it."));
+    assert!(background.contains("may come to call it"));
+    let eight = accepted(&["explain", "8"]);
+    assert!(eight.contains("come to call it"), "{eight}");
+}
+
+/// A question that cannot be answered is not answered with no.
+#[test]
+fn no_answer_is_not_no() {
+    let mark = ["--subject", "2", "--method", "1"];
+    let ask = |path: &str| run(&[&["audit", path], &mark[..]].concat());
+    assert_eq!(ask("no/such/file").0, 3);
+    let names = ["audit", OPTIONAL, "--names", "no/such/file", "--calls"];
+    assert_eq!(run(&names).0, 3);
+    assert_eq!(ask("examples/refused-leading-zero.sheet").0, 3);
+    let optional = read(OPTIONAL);
+    with_file("late", &[&optional[..], b"do=\n"].concat(), |path| {
+        assert_eq!(ask(path).0, 0)
+    });
+    let early = [split(&optional).0, b"do=\ndo=new 0 1 4\n"].concat();
+    with_file("early", &early, |path| assert_eq!(ask(path).0, 3));
+}
+
+#[test]
+fn a_script_that_is_cut_short_says_so_in_the_report() {
+    let cut = [read(OPTIONAL), b"do=move 2 2 1\ndo=new 0 1 4\n".to_vec()].concat();
+    let line = format!("The script is cut short: line {} is no request", 51);
+    with_file("cut", &cut, |path| {
+        for command in ["run", "audit"] {
+            let (status, out, error) = run(&[command, path]);
+            assert_eq!(status, 1);
+            assert!(
+                out.contains(&line) && error.contains("refused with 1"),
+                "{out}{error}"
+            );
+        }
+        let (_, out, _) = run(&["audit", path, "--calls"]);
+        assert!(out.contains(&line), "{out}");
+    });
+    for command in ["run", "audit"] {
+        assert!(!accepted(&[command, OPTIONAL]).contains("cut short"));
+    }
+}
+
+/// No derived type is told by its number alone.
+#[test]
+fn derived_types_are_told_in_words() {
+    let mut told = 0;
+    for seed in 0..40 {
+        let input = generate(seed, Profile::Medium);
+        let Ok(visit) = Visit::load(split(&input).0) else {
+            continue;
+        };
+        let last = visit.sheet().sheet_types() as i64;
+        with_file("derived", &input, |path| {
+            for command in ["audit", "run"] {
+                let (_, out, _) = run(&[command, path]);
+                told += out.matches("[permits ").count();
+                let numbers = out.split("type ").skip(1).filter_map(|rest| {
+                    let digits = rest.split(|letter: char| !letter.is_ascii_digit()).next()?;
+                    digits.parse::<i64>().ok()
+                });
+                // what a request names is told as it was written
+                let named: Vec<i64> = numbers.filter(|number| *number >= last).collect();
+                let requests = String::from_utf8_lossy(&input);
+                for number in named {
+                    assert!(
+                        requests.contains(&format!(" {number}")),
+                        "seed {seed}: type {number}"
+                    );
+                    assert_eq!(command, "run", "seed {seed}: type {number}");
+                }
+            }
+        });
+    }
+    println!("{told} derived types told");
+    assert!(told > 20, "{told}");
+}
+
+#[test]
+fn a_sheet_alone_is_a_script_without_requests() {
+    assert!(accepted(&["audit", SHEET]).contains("No object was made."));
+}
