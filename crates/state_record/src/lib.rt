@@ -338,7 +338,8 @@ pub fn base_owner(ps: Places, p: usize) -> usize
     requires { ⌜ Falling ps × (p < ps .count) ⌝ }
     ensures { λ r. ⌜ (r ≡ baseOwner (placesIn ps) p) × (r < 256) ⌝ }
 {
-    place_owner(place_at(ps, base_of(ps, p)))
+    let base = base_of(ps, p);
+    place_owner(place_at(ps, base))
 }
 
 // The layers of place p (C9).
