@@ -1,7 +1,8 @@
 /*
- * A visit log through its week, on the sheet of Case P. examples/visit.out is what it prints. From the root of the repository, after tools/libraries:
+ * A visit log through its week, on the sheet of Case P. examples/visit.out is what it prints. From the root of the repository:
  *
- *     cc -std=c99 -Iinclude examples/visit.c target/staticlib/libexport_*.a -o visit && ./visit examples/case-p.sheet
+ *     tools/install /tmp/pilgonca && export PKG_CONFIG_PATH=/tmp/pilgonca/lib/pkgconfig
+ *     cc -std=c99 examples/visit.c $(pkg-config --cflags --libs pilgonca) -o visit && ./visit examples/case-p.sheet
  */
 #include "pilgonca.h"
 
@@ -10,11 +11,11 @@
 #include <stdlib.h>
 
 /* What the numbers of the sheet stand for. */
-enum { DESK, TOUR, SHOP };                                /* subjects */
-enum { READ, MARK };                                      /* methods */
-enum { LOG = 1, READ_ONLY = 2, MAY_MARK = 3, WHOLE = 4 }; /* types: a class, two views of it, the owner's */
+enum { DESK, TOUR, SHOP }; /* subjects */
+enum { READ, MARK };       /* methods */
+enum { LOG = 1, READER = 2, FORWARDER = 3, WHOLE = 4, MARKER = 5 }; /* types: a class; read; read, and mark is optional; the owner's; mark */
 
-/* The program keeps the state, and lends it to every call. */
+/* The program is the firmware: it keeps the state and lends it to every call, and it says which subject asks. */
 static struct pilgonca_state visit;
 static int64_t values[PILGONCA_VALUES];
 
@@ -32,7 +33,7 @@ static void load(const char *name)
     fclose(file);
     refusal = pilgonca_load(text, length, PILGONCA_STATE_OF(&visit), &at);
     if (refusal != PILGONCA_OK) {
-        fprintf(stderr, "%s: refused with %zu at byte %zu\n", name, refusal, at);
+        fprintf(stderr, "%s: refused with %zu at byte %zu: %s\n", name, refusal, at, pilgonca_refusal_text(refusal));
         exit(1);
     }
     printf("the sheet is loaded: %zu subjects, %zu methods, %zu types\n", visit.counts[0], visit.counts[1], visit.counts[3]);
@@ -43,7 +44,7 @@ static int64_t came_to(const char *what, size_t refusal, const char *first, cons
 {
     printf("%s: ", what);
     if (refusal != PILGONCA_OK) {
-        printf("refused with %zu\n", refusal);
+        printf("refused with %zu: %s\n", refusal, pilgonca_refusal_text(refusal));
         return -1;
     }
     if (values[0] > 0) printf("%s %" PRId64, first, values[1]);
@@ -82,8 +83,8 @@ static void ask(const char *what, int64_t cell, int64_t method)
 
 int main(int argc, char **argv)
 {
-    const int64_t page = 5;
-    int64_t whole, lent, passed, back, called;
+    const int64_t page = 5, next = 6;
+    int64_t whole, lent, passed, direct, back, called;
 
     if (argc != 2) {
         fprintf(stderr, "usage: visit SHEET\n");
@@ -91,17 +92,21 @@ int main(int argc, char **argv)
     }
     load(argv[1]);
     whole = make("Monday, the desk makes a log and holds it whole", DESK, LOG, WHOLE);
-    lent = lend("Tuesday, it lends the log to the tour, to read", DESK, whole, TOUR, READ_ONLY);
+    lent = lend("Tuesday, it lends the log to the tour, to read", DESK, whole, TOUR, READER);
     called = call("Tuesday, the tour reads", TOUR, lent, READ, &page, 0);
     answer("Tuesday, the desk answers", DESK, called, 1, 12);
-    passed = lend("Wednesday, the tour passes it on as a view that may mark", TOUR, lent, SHOP, MAY_MARK);
+    passed = lend("Wednesday, the tour passes it on as a forwarder: an adapter without mark", TOUR, lent, SHOP, FORWARDER);
     ask("Wednesday, can a mark come of what the shop holds", passed, MARK);
-    call("Thursday, the shop marks page 5", SHOP, passed, MARK, &page, 1);
+    lend("Thursday, the shop hands it to itself as a marker, and meets the adapter", SHOP, passed, SHOP, MARKER);
     called = call("Thursday, the shop reads", SHOP, passed, READ, &page, 0);
     answer("Thursday, the desk answers", DESK, called, 1, 13);
-    lend("Friday, the shop tries to have it whole", SHOP, passed, SHOP, WHOLE);
+    direct = lend("Friday, the desk itself lends it to the shop as a forwarder", DESK, whole, SHOP, FORWARDER);
+    direct = lend("Friday, the shop hands that to itself as a marker", SHOP, direct, SHOP, MARKER);
+    called = call("Friday, the shop marks page 5", SHOP, direct, MARK, &page, 1);
+    answer("Friday, the desk answers", DESK, called, 0, 0);
+    lend("Saturday, the shop tries to have it whole", SHOP, passed, SHOP, WHOLE);
     back = lend("Saturday, the shop gives it back to the desk", SHOP, passed, DESK, WHOLE);
-    called = call("Sunday, the desk marks page 5", DESK, back, MARK, &page, 1);
+    called = call("Sunday, the desk marks page 6", DESK, back, MARK, &next, 1);
     answer("Sunday, the desk answers itself", DESK, called, 0, 0);
     return 0;
 }

@@ -1,19 +1,25 @@
 /*
- * pilgonca.h: the C functions of the proved permission core. docs/SPEC.md has the rules that comments name (as H or B26), docs/GUIDE.md a page for integrators.
+ * pilgonca.h: the C functions of the proved permission core. docs/SPEC.md has the rules that comments name (as H or B26), docs/GUIDE.md a page for
+ * integrators.
  *
- * Linking. Link every target/staticlib/libexport_*.a (tools/libraries writes them). They need memcpy, memmove and memset, and nothing else.
+ * Linking. Link libpilgonca.a, which tools/install makes of all target/staticlib/libexport_*.a. It is for x86-64 Linux, and needs memcpy, memmove and
+ * memset, and nothing else.
  *
- * Calling. A function returns 0, or the number of a refusal (enum pilgonca_refusal); pilgonca_compare alone differs. Any bytes, counts and numbers may be handed in: what is
- * wrong is refused. A refusal stores nothing, so that everything lent is as it was, every byte of it; pilgonca_read and pilgonca_load alone store always (S32).
+ * Calling. A function returns 0, or the number of a refusal (enum pilgonca_refusal); pilgonca_compare alone differs. Any bytes, counts and numbers may be
+ * handed in: what is wrong is refused. A refusal stores nothing, so that everything lent is as it was, every byte of it; pilgonca_read and pilgonca_load
+ * alone store always (S32).
  *
- * Memory. The caller owns every array and lends it for the time of the call; no pointer is kept, there is no heap and no variable behind a call's end. So calls from
- * several threads are fine on arrays of their own. What a function cannot see is the caller's part:
+ * Who asks. `subject` says on whose behalf a request is put. The firmware gives it, by what it knows itself of who is asking, and never takes it from the
+ * module: the core believes it, so a module that chose the number could use every cell of the subject that it names. The words of a run and the lines of a
+ * script name subjects too. All other operands of its requests a module may choose. docs/HOSTILE.md has what a hostile one can still do.
+ *
+ * Memory. The caller owns every array and lends it for the time of the call; no pointer is kept, there is no heap and no variable behind a call's end. So
+ * calls from several threads are fine on arrays of their own. What a function cannot see is the caller's part:
  *   - a pointer is valid, also where its length is 0, and an array has at least the length in its brackets;
  *   - a slice passes as pointer and length (text, text_len), the length in elements;
- *   - arrays of one call do not overlap, but for two of which both are only read;
- *   - a size_t has 64 bits.
+ *   - arrays of one call do not overlap, but for two of which both are only read.
  *
- * Stack. The deepest request takes less than 256 KB; load 20, offers 8 (docs/MEASURED.md).
+ * Stack. Measured, not proved (docs/MEASURED.md): the deepest request takes 160 KB, a run 164; load 20, offers 8. Give the thread 256 KB.
  */
 #ifndef PILGONCA_H
 #define PILGONCA_H
@@ -24,6 +30,12 @@
 #ifdef __cplusplus
 extern "C" {
 #endif
+
+/* The version of the whole: core, header, Rust package and desk. */
+#define PILGONCA_VERSION "0.1.0"
+
+/* Counts and lengths pass as size_t, and the library is made for one of 64 bits. Where it has fewer this does not compile, in C99 and C++ alike. */
+typedef char pilgonca_needs_a_size_t_of_64_bits[sizeof(size_t) == 8 ? 1 : -1];
 
 /* Limits (T1 to T5, Q7 to Q9). Categories are numbered from 1, since 0 is for none; everything else from 0. */
 #define PILGONCA_SUBJECTS 16
@@ -53,35 +65,63 @@ extern "C" {
 #define PILGONCA_INPUT_BYTES 32768
 #define PILGONCA_PRINTED_BYTES 32773
 
-/* What a function returns. The last section of docs/SPEC.md says where each is met, docs/GUIDE.md what to do. */
+/* What a function returns; pilgonca_refusal_text has the words. The last section of docs/SPEC.md says where each is met, docs/GUIDE.md what to do. */
 enum pilgonca_refusal {
     PILGONCA_OK = 0,
-    PILGONCA_FORM = 1,              /* a line is not of the form due; a request in a run is none */
-    PILGONCA_OUT_OF_RANGE = 2,      /* a number in a sheet is outside its range; a table or state handed in does not pass the check (H) */
-    PILGONCA_NOT_BELOW = 3,         /* a broader category is not below its own; an own type stands in a signature */
-    PILGONCA_SHORT_BUFFER = 4,      /* the buffer is too short */
-    PILGONCA_UNKNOWN_SUBJECT = 5,   /* no such subject */
-    PILGONCA_NOT_HELD = 6,          /* the subject does not hold the cell; there is no such call, or the subject does not own what was called */
-    PILGONCA_UNKNOWN_TYPE = 7,      /* no such type, or it is not of the kind needed */
-    PILGONCA_UNRELATED = 8,         /* the types do not go together */
-    PILGONCA_NOT_OWNER = 9,         /* the type is own and the receiver does not own the object */
-    PILGONCA_NOT_STRICT = 10,       /* what the reference leads to lacks a method or is of another category */
-    PILGONCA_TYPES_FULL = 11,       /* no type number is free */
-    PILGONCA_PLACES_FULL = 12,      /* no place is free */
-    PILGONCA_CELLS_FULL = 13,       /* no cell is free */
-    PILGONCA_NOT_CALLABLE = 14,     /* the method is none, or not avail in the type of the cell */
-    PILGONCA_WRONG_VALUES = 15,     /* arguments or answer are not what the signature asks for */
-    PILGONCA_TOO_WIDE = 16,         /* the number does not fit 32 bits */
-    PILGONCA_ANSWERED_ALREADY = 17, /* the call is answered already */
-    PILGONCA_CALLS_FULL = 18,       /* no call is free */
-    PILGONCA_LATER_LAYER = 19       /* a value fails behind the first layer of the call */
+    PILGONCA_FORM = 1,
+    PILGONCA_OUT_OF_RANGE = 2,
+    PILGONCA_NOT_BELOW = 3,
+    PILGONCA_SHORT_BUFFER = 4,
+    PILGONCA_UNKNOWN_SUBJECT = 5,
+    PILGONCA_NOT_HELD = 6,
+    PILGONCA_UNKNOWN_TYPE = 7,
+    PILGONCA_UNRELATED = 8,
+    PILGONCA_NOT_OWNER = 9,
+    PILGONCA_NOT_STRICT = 10,
+    PILGONCA_TYPES_FULL = 11,
+    PILGONCA_PLACES_FULL = 12,
+    PILGONCA_CELLS_FULL = 13,
+    PILGONCA_NOT_CALLABLE = 14,
+    PILGONCA_WRONG_VALUES = 15,
+    PILGONCA_TOO_WIDE = 16,
+    PILGONCA_ANSWERED_ALREADY = 17,
+    PILGONCA_CALLS_FULL = 18,
+    PILGONCA_LATER_LAYER = 19
 };
+
+/* One line for people, without a full stop. It is compiled into the caller: the libraries have no texts. */
+static inline const char *pilgonca_refusal_text(size_t number)
+{
+    switch (number) {
+    case PILGONCA_OK: return "accepted";
+    case PILGONCA_FORM: return "the line is not of the form that is due there";
+    case PILGONCA_OUT_OF_RANGE: return "a number is outside its range, the input is too long, or the table or state handed in is unsound";
+    case PILGONCA_NOT_BELOW: return "a broader category does not come before its own, or an own type stands in a signature";
+    case PILGONCA_SHORT_BUFFER: return "the buffer is too short";
+    case PILGONCA_UNKNOWN_SUBJECT: return "there is no such subject";
+    case PILGONCA_NOT_HELD: return "the subject does not hold the cell, or does not own what was called";
+    case PILGONCA_UNKNOWN_TYPE: return "there is no such type, or it is not of the kind needed";
+    case PILGONCA_UNRELATED: return "the types do not go together";
+    case PILGONCA_NOT_OWNER: return "the type is own and the receiver does not own the object";
+    case PILGONCA_NOT_STRICT: return "what the reference leads to lacks a method or is of another category";
+    case PILGONCA_TYPES_FULL: return "no type number is free";
+    case PILGONCA_PLACES_FULL: return "no place is free";
+    case PILGONCA_CELLS_FULL: return "no cell is free";
+    case PILGONCA_NOT_CALLABLE: return "the method cannot be called by the type of the cell";
+    case PILGONCA_WRONG_VALUES: return "the arguments or the answer are not what the signature asks for";
+    case PILGONCA_TOO_WIDE: return "the number does not fit 32 bits";
+    case PILGONCA_ANSWERED_ALREADY: return "the call is answered already";
+    case PILGONCA_CALLS_FULL: return "no call is free";
+    case PILGONCA_LATER_LAYER: return "a value fails at a layer behind the first of the call";
+    default: return "there is no refusal with this number";
+    }
+}
 
 /*
  * Layout (B1 to B29). A number in a record is one byte.
  *   type i    128 bytes from 128*i: representation (0 ref, 1 w32, 2 w64), category, own (0, 1), of a derived type kind (0 Sub, 1 Sup, 2 Closed), left, right; ten spare
- *             bytes; then from byte 16 on seven bytes for each method: state (0 denied, 1 optional, 2 avail, 3 unavail), how many arguments, four slots of which the
- *             first two are used, and 0 for no answer or the answer's type plus 1
+ *             bytes; then from byte 16 on seven bytes for each method: state (0 denied, 1 optional, 2 avail, 3 unavail), how many arguments (0 to 4), four
+ *             slots for their types, used from the first on, and 0 for no answer or the answer's type plus 1
  *   link k    3 bytes from 3*k, category k: how many broader ones (1 or 2), first, second
  *   cell k    3 bytes from 3*k: holder, type, place
  *   place p   3 bytes from 3*p: 0, class and owner of an object; or 1, place behind and closed type of an adapter
@@ -193,7 +233,11 @@ size_t pilgonca_move(
     int64_t to,
     int64_t values[PILGONCA_VALUES]);
 
-/* Call (C): an argument is a number, or the number of a cell where the signature has a reference. Values: call, how many adapters it goes through. */
+/*
+ * Call (C): an argument is a number, or the number of a cell where the signature has a reference. Values: call, how many adapters it goes through.
+ * References among the arguments become the next cells of the owner of what is called, in their order (C10, C12, C17): the first has the number that
+ * counts[5] was before. No value names them, so the firmware tells the owner.
+ */
 size_t pilgonca_call(
     uint8_t types[PILGONCA_TYPE_BYTES],
     const uint8_t links[PILGONCA_LINK_BYTES],
@@ -222,7 +266,10 @@ size_t pilgonca_answer(
     int64_t value,
     int64_t values[PILGONCA_VALUES]);
 
-/* Offers (E11): 1 or 0, whether the cell offers the chain of methods, each called on what the one before answered. 2: so it is also the check of a state handed in. */
+/*
+ * Offers (E11): 1 or 0, whether the cell offers the chain of methods, each called on what the one before answered. 2: so it is also the check of a state
+ * handed in. It has no subject: tell a module only of cells that it holds.
+ */
 size_t pilgonca_offers(
     const uint8_t types[PILGONCA_TYPE_BYTES],
     const uint8_t links[PILGONCA_LINK_BYTES],

@@ -16,12 +16,12 @@ fn left(state: RawState, requests: &[Request]) -> RawState {
     })
 }
 
-/// On a loaded sheet, through so many adapters: a move with an adapter, a call with two references, and its answer.
+/// On a loaded sheet, through so many adapters: a move with an adapter, a call with four references, and its answer.
 fn loaded(layers: usize) -> [Scene; 3] {
     let state = left(of_table(wrapping()), &climb(layers));
     assert_eq!(state.places as usize, 3 + layers);
     let last = 2 + layers as i64;
-    let request = call(last, 1, vec![0, 1]);
+    let request = call(last, 1, vec![0, 1, 0, 1]);
     let called = left(state.clone(), std::slice::from_ref(&request));
     let answer = Request::Answer {
         subject: 0,
@@ -36,7 +36,7 @@ fn loaded(layers: usize) -> [Scene; 3] {
     let onward = moved(last, side(layers + 1));
     [
         scene("move with an adapter", &state, onward),
-        scene("call with 2 references", &state, request),
+        scene("call with 4 references", &state, request),
         scene("answer with a reference", &called, answer),
     ]
 }
@@ -51,7 +51,7 @@ fn no_subtypes(count: usize) -> RawTable {
         for method in 0..MAX_METHODS {
             let bytes = table.method_mut(number, method);
             // an answer is stored as its number and 1
-            for (at, more) in [(2, 0), (3, 0), (6, 1)] {
+            for (at, more) in [(2, 0), (3, 0), (4, 0), (5, 0), (6, 1)] {
                 let named = usize::from(bytes[at]) - more;
                 bytes[at] -= if NUMBERS.contains(&named) { 2 } else { 0 };
             }

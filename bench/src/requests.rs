@@ -63,14 +63,14 @@ fn step(state: &mut RawState, request: &Request) -> Result<Got, Refusal> {
         Request::New {
             subject,
             class,
-            cell_type,
-        } => new(state, *subject, *class, *cell_type),
+            type_,
+        } => new(state, *subject, *class, *type_),
         Request::Move {
             subject,
             cell,
             receiver,
-            cell_type,
-        } => moved(state, *subject, *cell, *receiver, *cell_type),
+            type_,
+        } => moved(state, *subject, *cell, *receiver, *type_),
         Request::Call {
             subject,
             cell,
@@ -245,18 +245,18 @@ fn full(result: Result<usize, usize>) -> Result<usize, Refusal> {
     result.map_err(|_| 11)
 }
 
-fn new(state: &mut RawState, by: i64, class: i64, cell_type: i64) -> Result<Got, Refusal> {
+fn new(state: &mut RawState, by: i64, class: i64, type_: i64) -> Result<Got, Refusal> {
     let by = subject(state, by)?;
     let class = below(class, state.table.sheet_types)
         .filter(|class| fits::class(&state.table, *class))
         .ok_or(7u32)?;
-    let cell_type = sheet_ref(state, cell_type)?;
+    let type_ = sheet_ref(state, type_)?;
     let place = add_place(state, [0, class, by])?;
     let start = Reference {
         static_type: class,
         place,
     };
-    let given = cross(state, start, cell_type, by)?;
+    let given = cross(state, start, type_, by)?;
     add_cell(state, by, given)
 }
 
@@ -265,13 +265,13 @@ fn moved(
     by: i64,
     cell: i64,
     receiver: i64,
-    cell_type: i64,
+    type_: i64,
 ) -> Result<Got, Refusal> {
     let by = subject(state, by)?;
     let receiver = subject(state, receiver)?;
     let cell = held(state, by, cell).ok_or(6u32)?;
-    let cell_type = sheet_ref(state, cell_type)?;
-    let given = cross(state, reference(state, cell), cell_type, receiver)?;
+    let type_ = sheet_ref(state, type_)?;
+    let given = cross(state, reference(state, cell), type_, receiver)?;
     add_cell(state, receiver, given)
 }
 
@@ -419,7 +419,7 @@ mod tests {
     use super::*;
     use conformance::requests::{on_handed_in, on_loaded, on_offers, watch, Core};
     use reference::coverage::Seen;
-    use reference::gen::Profile;
+    use reference::generators::Profile;
 
     struct Rust;
 

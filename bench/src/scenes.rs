@@ -5,6 +5,7 @@ use crate::requests;
 use conformance::states::{call, moved, new, wrap};
 use reference::raw::{self, RawState};
 use reference::requests::{Got, Request};
+use reference::table::MAX_ARGUMENTS;
 
 /// How many adapters calls are measured through.
 pub const LAYERS: [usize; 3] = [0, 4, 40];
@@ -62,13 +63,16 @@ fn moving(state: &RawState, adapter: bool) -> Option<Request> {
 
 /// The types that a method of the cell's type names, where it is avail: arguments, and the answer.
 fn named(state: &RawState, cell: usize, method: usize) -> Option<(Vec<usize>, Option<usize>)> {
-    let cell_type = usize::from(state.cell(cell)[1]);
-    let bytes = state.table.method(cell_type, method);
+    let type_ = usize::from(state.cell(cell)[1]);
+    let bytes = state.table.method(type_, method);
     let signature = raw::signature(bytes);
     (bytes[0] == 2).then_some((signature.arguments, signature.answer))
 }
 
-/// Operands for types: 1 for a number, and each cell whose type is another for a reference.
+/// How many cells are tried for a reference.
+const TRIED: usize = 4;
+
+/// Operands for types: 1 for a number, and for a reference the first cells whose type is another and that can be moved to it.
 fn operands(state: &RawState, named: &[usize]) -> Vec<Vec<i64>> {
     let fitting = |one: usize| -> Vec<i64> {
         if state.table.entry(one)[0] != 0 {
@@ -76,7 +80,9 @@ fn operands(state: &RawState, named: &[usize]) -> Vec<Vec<i64>> {
         }
         let other = |cell: &usize| usize::from(state.cell(*cell)[1]) != one;
         let cells = (0..state.cells as usize).filter(other);
-        cells.map(|cell| cell as i64).collect()
+        let cells = cells.map(|cell| cell as i64);
+        let crosses = |cell: &i64| after(state, &moved(*cell, one as i64)).is_some();
+        cells.filter(crosses).take(TRIED).collect()
     };
     named.iter().fold(vec![vec![]], |lists, one| {
         let longer = |list: &Vec<i64>| {
@@ -89,12 +95,13 @@ fn operands(state: &RawState, named: &[usize]) -> Vec<Vec<i64>> {
     })
 }
 
-/// The first accepted call with so many arguments, references if they are two, and the answer to it that is accepted then.
+/// The first accepted call with so many arguments, references if they are as many as can be, and the answer to it that is accepted then.
 pub fn calling(state: &RawState, arguments: usize) -> Option<(Request, Request)> {
     let is_ref = |one: &usize| state.table.entry(*one)[0] == 0;
     pairs(state.cells, state.table.methods).find_map(|(cell, method)| {
         let (types, answer) = named(state, cell, method)?;
-        if types.len() != arguments || arguments == 2 && !types.iter().chain(&answer).all(is_ref) {
+        let whole = arguments == MAX_ARGUMENTS;
+        if types.len() != arguments || whole && !types.iter().chain(&answer).all(is_ref) {
             return None;
         }
         let mut lists = operands(state, &types).into_iter();

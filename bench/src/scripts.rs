@@ -9,7 +9,7 @@ use conformance::states::of_table;
 use conformance::worst_scripts::layered;
 use pilgonca::script as printed;
 use reference::damage::lines;
-use reference::gen::{self, Plan, BIG, MEDIUM};
+use reference::generators::{self, Plan, BIG, MEDIUM};
 use reference::model::Model;
 use reference::random::Random;
 use reference::raw::RawTable;
@@ -26,7 +26,7 @@ fn filled(table: &Table, plan: &Plan) -> Vec<u8> {
     let mut input = sheet::text(table);
     let mut model = Model::new(State::of_sheet(table.clone()));
     loop {
-        let request = gen::request(&mut random, plan, &model);
+        let request = generators::request(&mut random, plan, &model);
         let line = script::line(&request);
         if input.len() + line.len() > MAX_INPUT {
             return input;
@@ -105,7 +105,7 @@ pub fn all() {
 mod tests {
     use super::*;
     use conformance::scripts::{damaged, Met};
-    use reference::gen::{generate, PROFILES};
+    use reference::generators::{generate, PROFILES};
 
     /// What is measured against does the same work.
     #[test]

@@ -7,10 +7,11 @@ use conformance::inputs::table;
 use conformance::requests::Core;
 use conformance::served::{counts, set_counts, Proved};
 use conformance::states::{of_table, worst_state};
-use reference::gen::BIG;
+use reference::generators::BIG;
 use reference::raw::{RawState, RawTable};
 use reference::requests::Request;
 use reference::sheet;
+use reference::table::MAX_ARGUMENTS;
 use std::hint::black_box;
 
 /// A state that requests are put to again and again: what is past the counts may hold anything, so that counts and an answered
@@ -95,13 +96,13 @@ fn offers(name: &str, state: &RawState) {
     }
 }
 
-/// The first generated sheet of 48 types on which a call with two references is accepted, with objects.
+/// The first generated sheet of 48 types on which a call with four references is accepted, with objects.
 fn generated() -> RawState {
     let sheets = (0..).map(|seed| table(&BIG, seed));
     let states = sheets
         .filter(|table| table.sheet_types == 48)
         .map(|table| populated(of_table(RawTable::of(&table)), 40));
-    let mut fit = states.filter(|state| calling(state, 2).is_some());
+    let mut fit = states.filter(|state| calling(state, MAX_ARGUMENTS).is_some());
     fit.next().expect("one seed of a few")
 }
 
@@ -115,7 +116,7 @@ pub fn all() {
     let of_class = |class: usize, _: usize| class;
     let ordinary = [
         scenes("Case P", &case, 1, of_class),
-        scenes("48 generated types", &generated, 2, of_class),
+        scenes("48 generated types", &generated, MAX_ARGUMENTS, of_class),
     ];
     ordinary.iter().flatten().for_each(measure);
     offers("Case P", &case);
@@ -124,12 +125,15 @@ pub fn all() {
     let worst = scenes(
         "48 types, every pair reached",
         &worst_state(48, 0),
-        2,
+        MAX_ARGUMENTS,
         |_, one| 47 - one,
     );
-    let handed_in = scenes("128 types handed in", &worst_state(128, 0), 2, |_, one| {
-        127 - one
-    });
+    let handed_in = scenes(
+        "128 types handed in",
+        &worst_state(128, 0),
+        MAX_ARGUMENTS,
+        |_, one| 127 - one,
+    );
     let heavy = of_sheets.iter().chain(&worst).chain(&handed_in);
     heavy.chain([&full]).for_each(measure);
 }

@@ -43,7 +43,7 @@ pub fn chain(walk: usize, seed: u64) -> RawTable {
         table.method_mut(number, 0).copy_from_slice(&first);
         for method in 1..METHODS {
             let mut any = || random.below(TOP) as u8;
-            let bytes = [2, 2, any(), any(), 0, 0, any() + 1];
+            let bytes = [2, 4, any(), any(), any(), any(), any() + 1];
             table.method_mut(number, method).copy_from_slice(&bytes);
         }
     }

@@ -1,7 +1,7 @@
 //! Generated sheets, whole and damaged, and the worst tables known.
 
 use reference::damage::damage;
-use reference::gen::{self, Plan, BIG, FULL, MEDIUM, SMALL};
+use reference::generators::{self, Plan, BIG, FULL, MEDIUM, SMALL};
 use reference::random::Random;
 use reference::raw::{RawTable, BROADER_BYTES, METHOD_BYTES};
 use reference::sheet;
@@ -34,7 +34,7 @@ pub fn shares(small: u64, medium: u64, big: u64, full: u64) -> [Share; 4] {
 
 /// The sheet table of a plan and seed.
 pub fn table(plan: &Plan, seed: u64) -> Table {
-    let table = gen::table(&mut Random::new(seed), plan);
+    let table = generators::table(&mut Random::new(seed), plan);
     assert!(!table.own_in_signature(), "generated tables are right");
     table
 }
@@ -50,8 +50,8 @@ pub fn with_48_types() -> Table {
 /// A sheet with as many of everything as there can be, and long lines.
 pub fn largest() -> Table {
     let signature = Signature {
-        arguments: vec![46, 47],
-        answer: Some(45),
+        arguments: vec![44, 45, 46, 47],
+        answer: Some(43),
     };
     Table {
         subjects: MAX_SUBJECTS,
@@ -113,7 +113,7 @@ pub fn worst(count: usize, categories: usize) -> RawTable {
     raw
 }
 
-/// A method of the worst case: avail, two arguments and an answer. The factor of the second argument is another in each method,
+/// A method of the worst case: avail, four arguments and an answer. The factor of the second argument is another in each method,
 /// so that two types any distance apart are led to.
 fn worst_method(count: usize, number: usize, method: usize) -> [u8; METHOD_BYTES] {
     let within = if number < MAX_SHEET_TYPES {
@@ -122,5 +122,6 @@ fn worst_method(count: usize, number: usize, method: usize) -> [u8; METHOD_BYTES
         count
     };
     let named = |factor: usize| ((number * factor + 1 + 3 * method) % within) as u8;
-    [2, 2, named(1), named(method + 1), 0, 0, named(3) + 1]
+    let [second, third, fourth] = [method + 1, 5, 7].map(named);
+    [2, 4, named(1), second, third, fourth, named(3) + 1]
 }

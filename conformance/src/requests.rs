@@ -6,7 +6,7 @@ use reference::book::Book;
 use reference::chains::All;
 use reference::coverage::Seen;
 use reference::entry;
-use reference::gen::{generate, Profile};
+use reference::generators::{generate, Profile};
 use reference::hostile::{self, Hostile};
 use reference::random::Random;
 use reference::raw::{RawState, CALL_BYTES, CELL_BYTES, PLACE_BYTES, TYPE_BYTES};

@@ -4,7 +4,7 @@
 use crate::requests::{counted, loaded};
 use crate::runs::{coded, decoded, words, ANSWER};
 use crate::served::counts;
-use reference::gen::Profile;
+use reference::generators::Profile;
 use reference::hostile;
 use reference::random::Random;
 use reference::raw::RawState;

@@ -3,7 +3,7 @@
 
 use reference::check;
 use reference::raw::RawState;
-use reference::refusal::{Refusal, RANGE};
+use reference::refusal::{Refusal, OUT_OF_RANGE};
 use reference::requests::{Got, Request};
 use reference::serving;
 use reference::state::State;
@@ -25,14 +25,14 @@ pub fn words(request: &Request) -> Vec<i64> {
         Request::New {
             subject,
             class,
-            cell_type,
-        } => coded(0, &[*subject, *class, *cell_type]),
+            type_,
+        } => coded(0, &[*subject, *class, *type_]),
         Request::Move {
             subject,
             cell,
             receiver,
-            cell_type,
-        } => coded(1, &[*subject, *cell, *receiver, *cell_type]),
+            type_,
+        } => coded(1, &[*subject, *cell, *receiver, *type_]),
         Request::Call {
             subject,
             cell,
@@ -53,16 +53,16 @@ pub fn words(request: &Request) -> Vec<i64> {
 /// The request of a code and its operands; none where the code is another or has not so many (U3 to U6).
 fn request(code: i64, operands: &[i64]) -> Option<Request> {
     Some(match (code, operands) {
-        (0, &[subject, class, cell_type]) => Request::New {
+        (0, &[subject, class, type_]) => Request::New {
             subject,
             class,
-            cell_type,
+            type_,
         },
-        (1, &[subject, cell, receiver, cell_type]) => Request::Move {
+        (1, &[subject, cell, receiver, type_]) => Request::Move {
             subject,
             cell,
             receiver,
-            cell_type,
+            type_,
         },
         (2, [subject, cell, method, arguments @ ..]) => Request::Call {
             subject: *subject,
@@ -132,7 +132,7 @@ pub fn run_by(
     words: &[i64],
     answers: &mut [i64],
 ) -> Result<usize, Refusal> {
-    let before = check::state(state).map_err(|_| RANGE)?;
+    let before = check::state(state).map_err(|_| OUT_OF_RANGE)?;
     let rooms = answers.chunks_exact_mut(ANSWER);
     let asked: Vec<Option<Request>> = decoded(words).into_iter().take(rooms.len()).collect();
     let requests: Vec<Request> = asked.iter().flatten().cloned().collect();

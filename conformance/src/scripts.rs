@@ -5,7 +5,7 @@ use crate::worst_scripts::{largest_sheet, layered, nested};
 use reference::coverage::Seen;
 use reference::damage;
 use reference::external::difference;
-use reference::gen::{generate, Profile};
+use reference::generators::{generate, Profile};
 use reference::random::Random;
 use reference::refusal::Refusal;
 use reference::script::{self, Run, MAX_INPUT};
@@ -168,7 +168,7 @@ const OPERANDS: [&str; 32] = [
 ];
 
 /// Lines that are right somewhere, or nearly right.
-const LINES: [&str; 32] = [
+const LINES: [&str; 33] = [
     "do=new 0 0 0\n",
     "do=new 0 0\n",
     "do=new 0 0 0 0\n",
@@ -185,6 +185,7 @@ const LINES: [&str; 32] = [
     "do=move 0 0 0\n",
     "do=move 0 0 0 0 0\n",
     "do=call 0 0\n",
+    "do=call 0 0 0 1 2 3\n",
     "do=call 0 0 0 1 2 3 4\n",
     "do=call 0 0 0 1 2 3 4 5\n",
     "do=call 0 0 0 -\n",
@@ -206,7 +207,13 @@ const LINES: [&str; 32] = [
 /// A generated script with one to three damages.
 pub fn damaged(seed: u64) -> Vec<u8> {
     let mut random = Random::new(seed ^ 0x05c2_1b70_0000_0000);
-    let profile = *random.pick(&[Profile::Small, Profile::Small, Profile::Medium]);
+    let profiles = [
+        Profile::Small,
+        Profile::Small,
+        Profile::Medium,
+        Profile::Long,
+    ];
+    let profile = *random.pick(&profiles);
     let mut text = generate(seed, profile);
     for _ in 0..random.within((1, 3)) {
         damage(&mut random, &mut text);

@@ -2,7 +2,7 @@
 //! the C functions take them.
 
 use crate::requests::Core;
-use pilgonca::raw::{self, StateMut, StateRef};
+use pilgonca::raw::{self, State, StateMut, StateRef};
 pub use pilgonca::raw::{StateCounts, Values};
 use reference::raw::RawState;
 use reference::refusal::Refusal;
@@ -37,6 +37,18 @@ pub fn counts(state: &RawState) -> StateCounts {
     ]
 }
 
+/// A state as the package keeps one.
+pub fn given(state: &RawState) -> State {
+    State {
+        types: state.table.type_bytes,
+        links: state.table.broader,
+        cells: state.cell_bytes,
+        places: state.place_bytes,
+        calls: state.call_bytes,
+        counts: counts(state),
+    }
+}
+
 /// Gives a state these counts.
 pub fn set_counts(state: &mut RawState, counts: StateCounts) {
     let counts = counts.map(|count| u32::try_from(count).expect("counts in and out are small"));
@@ -68,14 +80,14 @@ pub fn request(
         Request::New {
             subject,
             class,
-            cell_type,
-        } => raw::new_object(lent, *subject, *class, *cell_type, values),
+            type_,
+        } => raw::new_object(lent, *subject, *class, *type_, values),
         Request::Move {
             subject,
             cell,
             receiver,
-            cell_type,
-        } => raw::move_reference(lent, *subject, *cell, *receiver, *cell_type, values),
+            type_,
+        } => raw::move_reference(lent, *subject, *cell, *receiver, *type_, values),
         Request::Call {
             subject,
             cell,

@@ -33,9 +33,9 @@ pub fn add_place(state: &mut RawState, bytes: [usize; PLACE_BYTES]) -> usize {
 }
 
 /// One more cell, of subject 0: its number.
-pub fn add_cell(state: &mut RawState, cell_type: usize, place: usize) -> usize {
+pub fn add_cell(state: &mut RawState, type_: usize, place: usize) -> usize {
     let number = state.cells as usize;
-    let bytes: [u8; CELL_BYTES] = [0, cell_type as u8, place as u8];
+    let bytes: [u8; CELL_BYTES] = [0, type_ as u8, place as u8];
     state.cell_mut(number).copy_from_slice(&bytes);
     state.cells += 1;
     number
@@ -64,8 +64,8 @@ pub fn wrap(state: &mut RawState, cell: usize, types: impl Iterator<Item = usize
 pub fn worst_state(count: usize, adapters: usize) -> RawState {
     let mut state = of_table(worst(count, MAX_CATEGORIES));
     let object = add_place(&mut state, [0, 0, 0]);
-    for cell_type in [1, 2, 3] {
-        add_cell(&mut state, cell_type, object);
+    for type_ in [1, 2, 3] {
+        add_cell(&mut state, type_, object);
     }
     wrap(&mut state, 0, (0..adapters).map(|one| count - 1 - one));
     add_call(&mut state, 0, 1);
@@ -81,7 +81,7 @@ pub const CLASS: usize = 9;
 pub const NESTED: usize = 118;
 
 /// A chain (crate::chains) that a crossing from type 0 to 8 goes through: method 0 is optional where it is permitted, so that
-/// loose holds. Method 1 of type 9 takes two of type 8 and answers one.
+/// loose holds. Method 1 of type 9 takes four of type 8 and answers one.
 pub fn crossed_chain(seed: u64) -> RawTable {
     let mut table = chain(END, seed);
     for number in 0..=TOP {
@@ -95,7 +95,7 @@ pub fn crossed_chain(seed: u64) -> RawTable {
     let named = TOP as u8;
     table
         .method_mut(CLASS, 1)
-        .copy_from_slice(&[2, 2, named, named, 0, 0, named + 1]);
+        .copy_from_slice(&[2, 4, named, named, named, named, named + 1]);
     table
 }
 
@@ -109,9 +109,9 @@ pub fn deep_state() -> RawState {
     };
     let table = (0..).map(crossed_chain).find(nests);
     let mut state = of_table(table.expect("one seed of twenty or so nests so deep"));
-    for (class, cell_type) in [(END, 0), (CLASS, CLASS)] {
+    for (class, type_) in [(END, 0), (CLASS, CLASS)] {
         let object = add_place(&mut state, [0, class, 0]);
-        add_cell(&mut state, cell_type, object);
+        add_cell(&mut state, type_, object);
     }
     wrap(&mut state, 1, [CLASS; 40].into_iter());
     add_call(&mut state, 1, 1);
@@ -124,7 +124,7 @@ pub fn deep_requests() -> [Request; 4] {
     [
         new(END as i64, to),
         moved(0, to),
-        call(1, 1, vec![0, 0]),
+        call(1, 1, vec![0; 4]),
         answer(0),
     ]
 }
@@ -135,27 +135,27 @@ pub fn worst_requests() -> [Request; 4] {
     [
         new(0, last),
         moved(1, last),
-        call(0, 1, vec![1, 2]),
+        call(0, 1, vec![1, 2, 1, 2]),
         answer(1),
     ]
 }
 
 /// A new object of subject 0.
-pub fn new(class: i64, cell_type: i64) -> Request {
+pub fn new(class: i64, type_: i64) -> Request {
     Request::New {
         subject: 0,
         class,
-        cell_type,
+        type_,
     }
 }
 
 /// A move from subject 0 to itself.
-pub fn moved(cell: i64, cell_type: i64) -> Request {
+pub fn moved(cell: i64, type_: i64) -> Request {
     Request::Move {
         subject: 0,
         cell,
         receiver: 0,
-        cell_type,
+        type_,
     }
 }
 

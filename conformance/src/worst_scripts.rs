@@ -26,7 +26,7 @@ pub fn script<'a>(table: &RawTable, requests: impl IntoIterator<Item = &'a Reque
     input
 }
 
-/// The methods of the class alone, of which one answers a reference and the other also takes two.
+/// The methods of the class alone, of which one answers a reference and the other also takes four.
 const ANSWERS: usize = MAX_METHODS - 2;
 const TAKES: usize = MAX_METHODS - 1;
 
@@ -44,7 +44,7 @@ fn loaded_chain(seed: u64) -> RawTable {
     let named = TOP as u8;
     for (method, bytes) in [
         (ANSWERS, [2, 0, 0, 0, 0, 0, named + 1]),
-        (TAKES, [2, 2, named, named, 0, 0, named + 1]),
+        (TAKES, [2, 4, named, named, named, named, named + 1]),
     ] {
         table.method_mut(CLASS, method).copy_from_slice(&bytes);
     }
@@ -69,18 +69,18 @@ pub fn nested() -> Vec<u8> {
         call(1, ANSWERS as i64, vec![]),
         new(class, top),
         moved(0, top),
-        call(1, TAKES as i64, vec![0, 0]),
+        call(1, TAKES as i64, vec![0; 4]),
         answer(0),
     ];
     script(&table, &requests)
 }
 
-/// Calls with two references and answers with one, through 40 adapters, where nearly every pair of types is reached.
+/// Calls with four references and answers with one, through 40 adapters, where nearly every pair of types is reached.
 pub fn layered(calls: usize) -> Vec<u8> {
     const LAYERS: usize = 40;
     let mut requests = climb(LAYERS);
     let last = 2 + LAYERS as i64;
-    requests.extend((0..calls).map(|_| call(last, 1, vec![0, 1])));
+    requests.extend((0..calls).map(|_| call(last, 1, vec![0, 1, 0, 1])));
     requests.push(answer(0));
     requests.push(moved(last, side(LAYERS + 1)));
     script(&wrapping(), &requests)

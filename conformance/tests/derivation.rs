@@ -6,7 +6,7 @@ use conformance::inputs::{shares, table};
 use conformance::{counts, derive, layout, Asked, Counts};
 use reference::check;
 use reference::entry;
-use reference::gen::{MEDIUM, SMALL};
+use reference::generators::{MEDIUM, SMALL};
 use reference::hostile;
 use reference::random::Random;
 use reference::raw::{self, RawTable, TYPE_BYTES};
@@ -423,6 +423,53 @@ fn nested_by_hand() {
     ];
     for (index, (head, method)) in expected.iter().enumerate() {
         assert_eq!(entry(&table, 4 + index), (&head[..], vec![&method[..]]));
+    }
+}
+
+/// A derivation by kind, T and S.
+type Derive = fn(&mut RawTable, usize, i64, i64) -> (usize, usize);
+
+/// Derives in the reference, answered as the core is.
+fn ours(table: &mut RawTable, kind: usize, t: i64, s: i64) -> (usize, usize) {
+    match entry::derive(table, kind, t, s) {
+        Ok(number) => (0, number),
+        Err(number) => (number as usize, MARK),
+    }
+}
+
+/// Worked out by hand: each of four arguments leads to another type, in its own slot.
+#[test]
+fn four_arguments_by_hand() {
+    let text = b"guide=1\nsubjects=1\nmethods=1\ncats=1\nunder=0\ntypes=5\n\
+        type=0\nrep=ref\ncat=0\nown=no\nm=avail(2,3,2,4)3\n\
+        type=1\nrep=ref\ncat=0\nown=no\nm=avail(3,2,4,2)2\n\
+        type=2\nrep=ref\ncat=1\nown=no\nm=optional()-\n\
+        type=3\nrep=ref\ncat=0\nown=no\nm=avail()-\n\
+        type=4\nrep=ref\ncat=0\nown=no\nm=unavail\n\
+        end=sheet\n";
+    let expected: [([u8; 6], [u8; 7]); 10] = [
+        // Sub(0,1): Sup(3,2), Sup(2,3), Sup(4,2), Sup(2,4), and the answer Sub(3,2)
+        ([0, 0, 0, 0, 0, 1], [2, 4, 6, 7, 8, 9, 11]),
+        ([0, 1, 0, 1, 3, 2], [1, 0, 0, 0, 0, 0, 0]),
+        ([0, 0, 0, 1, 2, 3], [2, 0, 0, 0, 0, 0, 0]),
+        ([0, 1, 0, 1, 4, 2], [0, 0, 0, 0, 0, 0, 0]),
+        ([0, 0, 0, 1, 2, 4], [3, 0, 0, 0, 0, 0, 0]),
+        ([0, 0, 0, 0, 3, 2], [2, 0, 0, 0, 0, 0, 0]),
+        // Sup(0,1): Sub(3,2) again, Sub(2,3), Sub(4,2), Sub(2,4), and the answer Sup(3,2) again
+        ([0, 0, 0, 1, 0, 1], [2, 4, 10, 12, 13, 14, 7]),
+        ([0, 1, 0, 0, 2, 3], [1, 0, 0, 0, 0, 0, 0]),
+        ([0, 0, 0, 0, 4, 2], [3, 0, 0, 0, 0, 0, 0]),
+        ([0, 1, 0, 0, 2, 4], [3, 0, 0, 0, 0, 0, 0]),
+    ];
+    let both: [(&str, Derive); 2] = [("reference", ours), ("core", proved)];
+    for (name, by) in both {
+        let mut table = RawTable::of(&sheet::read(text).unwrap());
+        assert_eq!(by(&mut table, 0, 0, 1), (0, 5), "{name}");
+        assert_eq!(by(&mut table, 1, 0, 1), (0, 11), "{name}");
+        assert_eq!(table.types, 15, "{name}");
+        for (index, (head, method)) in expected.iter().enumerate() {
+            assert_eq!(entry(&table, 5 + index), (&head[..], vec![&method[..]]));
+        }
     }
 }
 

@@ -3,7 +3,7 @@
 use conformance::inputs::{shares, table};
 use conformance::{counts, pairs, Counts, PAIRS_LENGTH};
 use reference::check::{self, Reason};
-use reference::gen::SMALL;
+use reference::generators::SMALL;
 use reference::hostile;
 use reference::raw::RawTable;
 use reference::relations::{Relations, RELATIONS};

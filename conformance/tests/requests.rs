@@ -3,12 +3,15 @@
 
 use conformance::requests::{on_handed_in, on_loaded, on_offers, watch};
 use conformance::served::{counts, offers, request, Proved, StateCounts};
-use reference::coverage::{Seen, OF_REQUESTS};
+use reference::coverage::{serve, Seen, OF_ARGUMENTS, OF_REQUESTS};
 use reference::entry;
-use reference::gen::Profile;
+use reference::generators::Profile;
 use reference::hostile;
 use reference::refusal::Refusal;
 use reference::requests::Request;
+use reference::situations::Situation::{FourReferencesThroughSeveral, TypesFullAtLastArgument};
+use reference::state::State;
+use reference::table::MAX_ARGUMENTS;
 use std::ops::Range;
 
 /// Every number that a request can meet on a state handed in: 2 and 19 beside those of a loaded sheet.
@@ -51,15 +54,19 @@ fn chains(seeds: Range<u64>, least: u32) {
     assert!(offered.iter().all(|count| *count > least), "{offered:?}");
 }
 
-/// How many seeds of a kind of script.
-type Scripts = [(Profile, u64); 4];
+/// Seeds of long scripts.
+const LONG: u64 = 150;
 
-fn scripts(small: u64, medium: u64, big: u64, full: u64) -> Scripts {
+/// How many seeds of a kind of script.
+type Scripts = [(Profile, u64); 5];
+
+fn scripts(small: u64, medium: u64, big: u64, full: u64, long: u64) -> Scripts {
     [
         (Profile::Small, small),
         (Profile::Medium, medium),
         (Profile::Big, big),
         (Profile::Full, full),
+        (Profile::Long, long),
     ]
 }
 
@@ -100,12 +107,30 @@ fn offers_on_states_handed_in() {
 
 #[test]
 fn requests_on_loaded_sheets() {
-    loaded(scripts(1500, 500, 20, 40));
+    loaded(scripts(1500, 500, 20, 40, LONG));
+}
+
+/// The long scripts among them meet what they are for: four references through adapters, a table full at the fourth argument, and
+/// by each argument every number that one can be refused with.
+#[test]
+fn long_scripts_meet_every_position() {
+    let mut seen = Seen::default();
+    for seed in 0..LONG {
+        let (table, list) = conformance::requests::loaded(seed, Profile::Long).expect("a script");
+        seen.add(&serve(State::of_sheet(table), &list.requests));
+    }
+    for situation in [FourReferencesThroughSeveral, TypesFullAtLastArgument] {
+        assert!(seen.met(situation) > 0, "{situation:?}\n{}", seen.text());
+    }
+    for number in OF_ARGUMENTS {
+        let at = |position| seen.positions.contains_key(&(number, position));
+        assert!((0..MAX_ARGUMENTS).all(at), "{number}\n{}", seen.text());
+    }
 }
 
 #[test]
 fn demand_3_on_loaded_sheets() {
-    watched(scripts(1500, 400, 10, 10));
+    watched(scripts(1500, 400, 10, 10, 20));
 }
 
 /// A count that is right but for its high half is refused with 2, by every request and by offers, and every byte stays.
@@ -150,11 +175,11 @@ fn offers_of_millions_of_chains() {
 #[test]
 #[ignore = "long"]
 fn millions_of_requests_on_loaded_sheets() {
-    loaded(scripts(100_000, 40_000, 2000, 3000));
+    loaded(scripts(100_000, 40_000, 2000, 3000, 3000));
 }
 
 #[test]
 #[ignore = "long"]
 fn demand_3_on_many_loaded_sheets() {
-    watched(scripts(60_000, 20_000, 500, 200));
+    watched(scripts(60_000, 20_000, 500, 200, 200));
 }

@@ -5,7 +5,7 @@ use conformance::run_lists::{difference, on_handed_in, on_loaded, List, Met, Run
 use conformance::runs::{self, decoded, words};
 use conformance::served::{counts, run, Proved};
 use faults::named;
-use reference::gen::Profile;
+use reference::generators::Profile;
 use reference::hostile;
 use reference::raw::RawState;
 use reference::refusal::Refusal;
@@ -14,19 +14,21 @@ use reference::state::State;
 use reference::table::{Key, Kind};
 
 /// Lists of both kinds.
-fn lists(handed_in: u64, sheets: [(Profile, u64); 4]) -> impl Iterator<Item = List> {
+fn lists(handed_in: u64, sheets: [(Profile, u64); 5]) -> impl Iterator<Item = List> {
     let of_sheets = |(profile, seeds)| (0..seeds).filter_map(move |seed| on_loaded(seed, profile));
     (0..handed_in)
         .map(on_handed_in)
         .chain(sheets.into_iter().flat_map(of_sheets))
 }
 
-fn sheets(small: u64, medium: u64, big: u64, full: u64) -> [(Profile, u64); 4] {
+/// As many long ones as full ones.
+fn sheets(small: u64, medium: u64, big: u64, full: u64) -> [(Profile, u64); 5] {
     [
         (Profile::Small, small),
         (Profile::Medium, medium),
         (Profile::Big, big),
         (Profile::Full, full),
+        (Profile::Long, full),
     ]
 }
 

@@ -6,7 +6,7 @@ use conformance::process::{built, feed, limited_to, plain, printed};
 use conformance::scripts::{damaged, deepest, in_stack, need, proved, stack, Met, MOST};
 use conformance::worst_scripts::layered;
 use reference::coverage::OF_REQUESTS;
-use reference::gen::{generate, Profile};
+use reference::generators::{generate, Profile};
 use reference::script::{self, MAX_INPUT};
 use reference::sheet;
 use std::time::Duration;
@@ -156,6 +156,7 @@ fn generated_scripts() {
         (Profile::Medium, 800),
         (Profile::Big, 100),
         (Profile::Full, 80),
+        (Profile::Long, 80),
     ];
     generated(&profiles, &mut met);
     println!("{}", met.text());
@@ -189,6 +190,7 @@ fn scripts_with_millions_of_requests() {
         (Profile::Medium, 30_000),
         (Profile::Big, 2_000),
         (Profile::Full, 3_000),
+        (Profile::Long, 3_000),
         (Profile::Damaged, 40_000),
     ];
     generated(&profiles, &mut met);
@@ -270,10 +272,10 @@ fn calls_through_40_adapters() {
     let input = layered(MAX_INPUT);
     let output = Met::default().same(&proved, &input, "40 adapters").output;
     let output = String::from_utf8(output).expect("ASCII");
-    // three new objects, 40 moves, and two cells for each call
+    // three new objects, 40 moves, and four cells for each call
     let calls = output.lines().skip(43);
     let accepted = calls.filter(|line| line.ends_with(" 40")).count();
-    assert_eq!(accepted, (256 - 43) / 2);
+    assert_eq!(accepted, (256 - 43) / 4);
     assert_eq!(last(&output), "no=13");
 }
 

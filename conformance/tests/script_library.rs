@@ -4,11 +4,11 @@ use conformance::scripts::{damaged, deepest, proved, Met, LONGER};
 use conformance::worst_scripts::layered;
 use pilgonca::raw::script;
 use pilgonca::script as printed;
-use reference::gen::{generate, Profile, PROFILES};
+use reference::generators::{generate, Profile, PROFILES};
 use reference::script::{self as ours, MAX_INPUT};
 
 /// Scripts of the profiles and damaged ones, from seed 0 on.
-fn compare(profiles: [(Profile, u64); 5], damages: u64) -> Met {
+fn compare(profiles: [(Profile, u64); 6], damages: u64) -> Met {
     let mut met = Met::default();
     for (profile, seeds) in profiles {
         for seed in 0..seeds {
@@ -31,6 +31,7 @@ fn the_reference_prints_the_same() {
         (Profile::Medium, 1000),
         (Profile::Big, 100),
         (Profile::Full, 80),
+        (Profile::Long, 80),
         (Profile::Damaged, 3000),
     ];
     compare(profiles, 4000);
@@ -44,6 +45,7 @@ fn the_reference_prints_the_same_for_millions_of_requests() {
         (Profile::Medium, 60_000),
         (Profile::Big, 3000),
         (Profile::Full, 6000),
+        (Profile::Long, 6000),
         (Profile::Damaged, 200_000),
     ];
     let met = compare(profiles, 300_000);

@@ -5,7 +5,7 @@ use conformance::inputs::{damaged, largest, shares, table};
 use conformance::{counts, derive, layout, read, write, Asked, Counts, Loaded};
 use reference::damage::{lines, BYTES, NUMBERS};
 use reference::entry;
-use reference::gen::{BIG, SMALL};
+use reference::generators::{BIG, SMALL};
 use reference::hostile;
 use reference::random::Random;
 use reference::raw::{RawTable, BROADER_LENGTH, TYPES_LENGTH};
@@ -281,7 +281,22 @@ fn refusals_by_hand() {
         ("under=1,0", "under=9,2", 2, "under=9,2"),
         ("under=1,0", "under=2,9", 2, "under=2,9"),
         ("under=1,0", "under=9,0,0", 1, "under=9,0,0"),
-        ("m=avail(0)-", "m=avail(0,0,99)0", 1, "m=avail(0,0,99)0"),
+        ("m=avail(0)-", "m=avail(0,0,99)0", 2, "m=avail(0,0,99)0"),
+        ("m=avail(0)-", "m=avail(0,0,0,6)-", 2, "m=avail(0,0,0,6)-"),
+        ("m=avail(0)-", "m=avail(0,0,0,)-", 1, "m=avail(0,0,0,)-"),
+        // one argument too many (S11)
+        (
+            "m=avail(0)-",
+            "m=avail(0,0,0,0,0)-",
+            1,
+            "m=avail(0,0,0,0,0)-",
+        ),
+        (
+            "m=avail(0)-",
+            "m=avail(0,0,0,0,99)0",
+            1,
+            "m=avail(0,0,0,0,99)0",
+        ),
         ("m=avail(0)-", "m=avail(99,0)x", 1, "m=avail(99,0)x"),
         ("m=avail(0)-", "m=avail(6)-", 2, "m=avail(6)-"),
         ("m=avail(0)-", "m=avail(0)6", 2, "m=avail(0)6"),
@@ -306,6 +321,8 @@ fn refusals_by_hand() {
         // own in a signature, where every line is right (S6, S13)
         ("m=avail()0", "m=avail()4", 3, "end=sheet\n"),
         ("m=optional(0)-", "m=optional(0,4)-", 3, "end=sheet\n"),
+        ("m=optional(0)-", "m=optional(0,0,4)-", 3, "end=sheet\n"),
+        ("m=optional(0)-", "m=optional(0,0,0,4)-", 3, "end=sheet\n"),
     ];
     for (old, new, number, line) in cases {
         let text = replaced(&text, old, new);
@@ -348,16 +365,17 @@ fn largest_and_smallest() {
     let text = String::from_utf8(text).unwrap();
     for named in 0..MAX_SHEET_TYPES + 2 {
         for line in [
-            format!("m=optional({named},47)45\n"),
-            format!("m=optional(46,47){named}\n"),
+            format!("m=optional({named},45,46,47)43\n"),
+            format!("m=optional(44,45,46,{named})43\n"),
+            format!("m=optional(44,45,46,47){named}\n"),
         ] {
-            let other = replaced(&text, "m=optional(46,47)45\n", &line);
+            let other = replaced(&text, "m=optional(44,45,46,47)43\n", &line);
             same(other.as_bytes(), &mut seen, &line);
         }
     }
     // 0 and 1 have own; 48 and 49 are no types
     let met = (seen.accepted, seen.count(2), seen.count(3));
-    assert_eq!(met, (2 + 2 * 46, 4, 4));
+    assert_eq!(met, (2 + 3 * 46, 6, 6));
 }
 
 // ---- writing

@@ -9,9 +9,9 @@ use reference::chains::{offered, permits};
 use reference::check;
 use reference::coverage::Seen;
 use reference::entry;
-use reference::gen::{generate, Profile};
+use reference::generators::{generate, Profile};
 use reference::raw::RawState;
-use reference::refusal::{Refusal, RANGE};
+use reference::refusal::{Refusal, OUT_OF_RANGE};
 use reference::requests::{index, Got, Request};
 use reference::script::{self, MAX_INPUT};
 
@@ -20,7 +20,7 @@ struct StandIn(Fault);
 
 impl Core for StandIn {
     fn request(&self, state: &mut RawState, request: &Request) -> Result<Got, Refusal> {
-        let before = check::state(state).map_err(|_| RANGE)?;
+        let before = check::state(state).map_err(|_| OUT_OF_RANGE)?;
         let (results, after) = (self.0.run)(before.clone(), std::slice::from_ref(request));
         state.update(&before, &after);
         results[0]
@@ -38,7 +38,9 @@ fn every_fault_is_found() {
         let core = StandIn(*fault);
         let mut seen = Seen::default();
         let found = (0..2000).any(|seed| on_handed_in(&core, seed, &mut seen).is_some())
-            || (0..200).any(|seed| on_loaded(&core, seed, Profile::Full, &mut seen).is_some());
+            || [Profile::Full, Profile::Long].into_iter().any(|profile| {
+                (0..200).any(|seed| on_loaded(&core, seed, profile, &mut seen).is_some())
+            });
         assert!(found, "{}", fault.name);
     }
 }
@@ -111,7 +113,7 @@ impl Core for OneSided {
     }
 
     fn offers(&self, state: &RawState, cell: i64, chain: &[i64]) -> Result<bool, Refusal> {
-        let state = check::state(state).map_err(|_| RANGE)?;
+        let state = check::state(state).map_err(|_| OUT_OF_RANGE)?;
         let Some(cell) = index(cell, state.cells.len()) else {
             return Ok(false);
         };

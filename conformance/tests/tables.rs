@@ -3,7 +3,7 @@
 use conformance::compare;
 use conformance::inputs::worst;
 use reference::entry;
-use reference::gen::{generate, Profile};
+use reference::generators::{generate, Profile};
 use reference::hostile::{self, Hostile};
 use reference::raw::RawTable;
 use reference::sheet;

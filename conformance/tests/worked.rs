@@ -60,6 +60,16 @@ fn examples_print_what_is_said() {
     println!("{} scripts", names.len());
 }
 
+/// The sheet of the example with four arguments is that of its script, and is shown in the guide.
+#[test]
+fn four_arguments_are_shown() {
+    let sheet = read(&root().join("examples/route.sheet"));
+    let script = read(&root().join("examples/route.script"));
+    assert_eq!(split(script.as_bytes()).0, sheet.as_bytes());
+    let guide = read(&root().join("docs/GUIDE.md"));
+    assert!(blocks(&guide).contains(&("sheet", sheet)));
+}
+
 /// Each number that a script can meet has an example that prints it last.
 #[test]
 fn every_number_has_an_example() {

@@ -1,34 +1,74 @@
 //! The words of the command line.
 
-use std::ffi::OsString;
-use std::path::PathBuf;
+use crate::words::called;
+use std::ffi::{OsStr, OsString};
+use std::path::{Path, PathBuf};
 
-pub const USAGE: &str = "\
+const USAGE: &str = "\
 desk: sheets and scripts at the desk; every answer is the proved core's
 
-  desk check SHEET                 whether the sheet is accepted, and what it has; else the line at fault, and what would be right
-  desk pairs SHEET                 which type can become which; --svg FILE draws it, --plain prints it as the program pairs does
-  desk compare SHEET T S           whether S can become T; both are numbers or names of types
-  desk run SCRIPT                  each request and its answer in words; --svg FILE draws the references at the end
-  desk audit SCRIPT                for each object and method: who can call it or come to, how it came to them, and the calls made
-                                   --subject S, --method M: only this; the status says whether S could have called M
-                                   --calls: only the calls; the status says whether there are any (of S, of M)
-  desk powers SHEET                for each type what its holder can call, can come to call alone, and never can
-  desk diff OLD NEW                what a new version of a sheet gives and takes; the status says whether they are alike
-  desk explain N                   what the refusal with this number means, when it comes, and what to do
-  desk help                        this text
+  desk check SHEET            whether the sheet is accepted, and what it has;
+                              else the line at fault, and what would be right
+  desk fix SHEET              the sheet that was meant, where mail or an editor
+                              spoilt it; --out FILE writes it there
+  desk pairs SHEET            which type can become which; --plain prints it
+                              as the program pairs does
+  desk compare SHEET FROM TO  whether type FROM can become type TO, and why not;
+                              both are numbers or names
+  desk run SCRIPT             each request and its answer in words; --save STATE
+                              writes the state at the end to this file
+  desk audit SCRIPT           for each object and method who can call it or come
+                              to, how it came to them, and the calls made
+  desk audit STATE            the same of a saved state, as a device can write
+                              it: it does not have how things came about
+      --subject S --method M  only these: could S have called M?
+      --calls                 only the calls: did S call M?
+  desk powers SHEET           for each type what its holder can call, can come
+                              to call alone, and never can
+  desk diff OLD NEW           what a new version of a sheet gives and takes
+  desk explain N              what the refusal with this number means
+  desk help, -h, --help       this text
+  desk --version, -V          the version
 
-  --names FILE                     names to print: lines such as `subject 0 desk`, `method 1 mark`, `type 2 reader`, `category 1 visits`
+  --names FILE                names to print: lines such as `type 2 reader`,
+                              `subject 0 desk`, `method 1 mark`,
+                              `category 1 visits`. X.names beside X.sheet or
+                              X.script is found; --no-names leaves it out
+  --json                      one JSON document, as desk/schema/desk.json says:
+                              of check, pairs, compare, run, audit, powers, diff
+  --svg FILE                  draws pairs, or the references at the end of run
 
-A file that is called - is standard input. The exit status is 0, or 1 for no and for bad input, or 2 for words that desk does not understand.
-Where --subject, --method or --calls ask, 0 is yes and 1 is no; of desk diff 0 is alike and 1 is not. 3 is then for bad input.
+--names=FILE is --names FILE. Behind -- no word is an option. A file that is
+called - is standard input, or standard output for --svg and --out. Where
+NO_COLOR is set, or TERM is dumb, nothing is coloured.
+
+Exit status: 0 yes or accepted, 1 no or refused, 2 words that desk does not
+understand, 3 what cannot be read or written. A run whose requests are refused
+ends with 0: these are its answers. Some commands answer by the status: compare
+(0 FROM can become TO), diff (0 the sheets say the same), audit with --subject,
+--method or --calls. There refused input is 3 too, so that no answer is taken
+for no.
 ";
+
+/// The help; where the program is called otherwise, it says so.
+pub fn help() -> String {
+    let called = called();
+    if called == "desk" {
+        return USAGE.to_string();
+    }
+    format!("{USAGE}\nHere desk stands for {called}.\n")
+}
 
 /// What is asked.
 #[derive(Clone, PartialEq, Eq, Debug)]
 pub enum Command {
     Help,
+    Version,
     Check(PathBuf),
+    Fix {
+        sheet: PathBuf,
+        out: Option<PathBuf>,
+    },
     Pairs {
         sheet: PathBuf,
         plain: bool,
@@ -36,12 +76,15 @@ pub enum Command {
     },
     Compare {
         sheet: PathBuf,
-        types: [String; 2],
+        from: String,
+        to: String,
     },
     Run {
         script: PathBuf,
         svg: Option<PathBuf>,
+        save: Option<PathBuf>,
     },
+    /// Of a script, or of a saved state.
     Audit {
         script: PathBuf,
         asked: Asked,
@@ -59,8 +102,21 @@ impl Command {
     pub fn asks(&self) -> bool {
         match self {
             Command::Audit { asked, .. } => *asked != Asked::default(),
-            Command::Diff { .. } => true,
+            Command::Diff { .. } | Command::Compare { .. } => true,
             _ => false,
+        }
+    }
+
+    /// The files that names may stand beside, the nearest first.
+    pub fn files(&self) -> Vec<&Path> {
+        match self {
+            Command::Help | Command::Version | Command::Explain(_) => Vec::new(),
+            Command::Check(file) | Command::Powers(file) => vec![file],
+            Command::Fix { sheet, .. }
+            | Command::Pairs { sheet, .. }
+            | Command::Compare { sheet, .. } => vec![sheet],
+            Command::Run { script, .. } | Command::Audit { script, .. } => vec![script],
+            Command::Diff { old, new } => vec![new, old],
         }
     }
 }
@@ -73,137 +129,258 @@ pub struct Asked {
     pub calls: bool,
 }
 
-impl Asked {
-    /// The word behind --subject or --method.
-    fn take(&mut self, option: &str, word: Option<OsString>) -> Result<(), String> {
-        let slot = match option {
-            "--subject" => &mut self.subject,
-            _ => &mut self.method,
-        };
-        let word = word.ok_or_else(|| format!("{option} takes a number or a name"))?;
-        match slot.replace(word.to_string_lossy().into_owned()) {
-            None => Ok(()),
-            Some(_) => Err(format!("{option} is given twice")),
-        }
-    }
+/// Where names come from.
+#[derive(Clone, Default, PartialEq, Eq, Debug)]
+pub enum NamesFrom {
+    #[default]
+    Beside,
+    File(PathBuf),
+    Nowhere,
 }
 
-/// A command, and the file of names if one is given.
+/// A command, and what goes for all of them.
 #[derive(Clone, PartialEq, Eq, Debug)]
 pub struct Args {
     pub command: Command,
-    pub names: Option<PathBuf>,
+    /// Its word.
+    pub name: String,
+    pub names: NamesFrom,
+    pub json: bool,
+}
+
+/// An option: what its word is, if it takes one, and the commands that it is for.
+struct Choice {
+    name: &'static str,
+    takes: Option<&'static str>,
+    of: &'static [&'static str],
+}
+
+const SHOWN: &[&str] = &[
+    "check", "pairs", "compare", "run", "audit", "powers", "diff",
+];
+const NAMED: &[&str] = &[
+    "check", "fix", "pairs", "compare", "run", "audit", "powers", "diff",
+];
+
+const CHOICES: [Choice; 10] = [
+    Choice::new("--names", Some("a file"), NAMED),
+    Choice::new("--no-names", None, NAMED),
+    Choice::new("--json", None, SHOWN),
+    Choice::new("--svg", Some("a file"), &["pairs", "run"]),
+    Choice::new("--plain", None, &["pairs"]),
+    Choice::new("--save", Some("a file"), &["run"]),
+    Choice::new("--out", Some("a file"), &["fix"]),
+    Choice::new("--subject", Some("a number or a name"), &["audit"]),
+    Choice::new("--method", Some("a number or a name"), &["audit"]),
+    Choice::new("--calls", None, &["audit"]),
+];
+
+impl Choice {
+    const fn new(
+        name: &'static str,
+        takes: Option<&'static str>,
+        of: &'static [&'static str],
+    ) -> Choice {
+        Choice { name, takes, of }
+    }
+
+    fn find(word: &str) -> Result<&'static Choice, String> {
+        let mut choices = CHOICES.iter();
+        let found = choices.find(|choice| choice.name == word);
+        found.ok_or_else(|| format!("there is no option {word:?}"))
+    }
 }
 
 /// The words with the options taken out.
 #[derive(Default)]
 struct Words {
     plain: Vec<OsString>,
-    names: Option<PathBuf>,
-    svg: Option<PathBuf>,
-    as_pairs: bool,
-    asked: Asked,
+    /// Options, with their words where they take one.
+    options: Vec<(&'static Choice, OsString)>,
+}
+
+impl Words {
+    fn has(&self, name: &str) -> bool {
+        self.options.iter().any(|(choice, _)| choice.name == name)
+    }
+
+    fn file(&self, name: &str) -> Option<PathBuf> {
+        let mut options = self.options.iter();
+        let (_, word) = options.find(|(choice, _)| choice.name == name)?;
+        Some(word.into())
+    }
+
+    fn text(&self, name: &str) -> Option<String> {
+        self.file(name).map(|word| word.to_string_lossy().into())
+    }
+
+    fn add(&mut self, choice: &'static Choice, word: OsString) -> Result<(), String> {
+        if self.has(choice.name) {
+            return Err(format!("{} is given twice", choice.name));
+        }
+        self.options.push((choice, word));
+        Ok(())
+    }
+
+    /// Whether the options are for this command, and go together.
+    fn fit(&self, command: &str) -> Result<(), String> {
+        for (Choice { name, of, .. }, _) in &self.options {
+            if !of.contains(&command) {
+                return Err(format!("{name} is for {} {}", called(), of.join(", ")));
+            }
+        }
+        let printed = |name: &str| self.file(name).is_some_and(|file| file == *"-");
+        if printed("--save") {
+            return Err("--save takes a file: a state is not printed".to_string());
+        }
+        let drawn = printed("--svg");
+        let both = [
+            ("--names", self.has("--no-names"), "--no-names"),
+            ("--plain", self.has("--json"), "--json"),
+            ("--svg", drawn && self.has("--json"), "--json"),
+            ("--svg", drawn && self.has("--plain"), "--plain"),
+        ];
+        match both.iter().find(|(one, other, _)| self.has(one) && *other) {
+            Some((one, _, other)) => Err(format!("{one} and {other} do not go together")),
+            None => Ok(()),
+        }
+    }
 }
 
 /// What the words ask for, or why they ask for nothing.
 pub fn parse(words: impl Iterator<Item = OsString>) -> Result<Args, String> {
-    let mut words = sorted(words)?;
-    let names = words.names.take();
-    let command = command(&mut words)?;
-    if words.svg.is_some() || words.as_pairs {
-        return Err("--svg is for desk pairs and desk run, --plain for desk pairs".to_string());
+    let words: Vec<OsString> = words.collect();
+    if let Some(command) = asked_anywhere(&words) {
+        return Ok(Args {
+            command,
+            name: String::new(),
+            names: NamesFrom::Nowhere,
+            json: false,
+        });
     }
-    if words.asked != Asked::default() {
-        return Err("--subject, --method and --calls are for desk audit".to_string());
-    }
-    Ok(Args { command, names })
+    let words = sorted(words.into_iter())?;
+    let mut plain = words.plain.iter();
+    let name = plain.next().map_or("help".into(), |name| name.clone());
+    let name = name.to_string_lossy().into_owned();
+    let command = command(&name, &words, plain.as_slice())?;
+    words.fit(&name)?;
+    let names = match words.file("--names") {
+        Some(file) => NamesFrom::File(file),
+        None if words.has("--no-names") => NamesFrom::Nowhere,
+        None => NamesFrom::Beside,
+    };
+    Ok(Args {
+        command,
+        name,
+        names,
+        json: words.has("--json"),
+    })
+}
+
+/// Help or the version, wherever they are asked for in front of `--`, whatever else is there.
+fn asked_anywhere(words: &[OsString]) -> Option<Command> {
+    let mut words = words.iter().take_while(|word| *word != "--");
+    words.find_map(|word| match word.to_str() {
+        Some("-h" | "--help") => Some(Command::Help),
+        Some("-V" | "--version") => Some(Command::Version),
+        _ => None,
+    })
 }
 
 fn sorted(mut words: impl Iterator<Item = OsString>) -> Result<Words, String> {
     let mut found = Words::default();
     while let Some(word) = words.next() {
-        let text = word.to_string_lossy().into_owned();
-        let slot = match text.as_str() {
-            "--names" => &mut found.names,
-            "--svg" => &mut found.svg,
-            "--plain" => {
-                found.as_pairs = true;
-                continue;
-            }
-            "--calls" => {
-                found.asked.calls = true;
-                continue;
-            }
-            "--subject" | "--method" => {
-                found.asked.take(&text, words.next())?;
-                continue;
-            }
-            "--help" => {
-                found.plain.insert(0, "help".into());
-                continue;
-            }
-            _ if text.starts_with("--") => return Err(format!("there is no option {text:?}")),
-            _ => {
-                found.plain.push(word);
-                continue;
-            }
-        };
-        let file = words.next().ok_or_else(|| format!("{text} takes a file"))?;
-        if slot.replace(file.into()).is_some() {
-            return Err(format!("{text} is given twice"));
+        if word == "--" {
+            found.plain.extend(words);
+            break;
         }
+        let Some(text) = option(&word) else {
+            found.plain.push(word);
+            continue;
+        };
+        let (name, value) = match text.split_once('=') {
+            Some((name, _)) => (name, Some(behind(&word, name.len() + 1))),
+            None => (text.as_str(), None),
+        };
+        let choice = Choice::find(name)?;
+        let value = match (choice.takes, value) {
+            (None, Some(_)) => return Err(format!("{name} takes nothing")),
+            (None, None) => OsString::new(),
+            (Some(_), Some(value)) => value,
+            (Some(what), None) => words.next().ok_or(format!("{name} takes {what}"))?,
+        };
+        found.add(choice, value)?;
     }
     Ok(found)
 }
 
-fn command(words: &mut Words) -> Result<Command, String> {
-    let mut plain = words.plain.drain(..);
-    let Some(name) = plain.next() else {
-        return Ok(Command::Help);
-    };
-    let name = name.to_string_lossy().into_owned();
-    let rest: Vec<OsString> = plain.collect();
-    let file = |what: &str| match &rest[..] {
+/// A word that is an option; a number below 0 is none, and neither is `-` alone.
+fn option(word: &OsStr) -> Option<String> {
+    let text = word.to_string_lossy();
+    let is_option = text.starts_with('-') && text != "-" && text.parse::<i64>().is_err();
+    is_option.then(|| text.into_owned())
+}
+
+/// The rest of a word, whatever bytes it has.
+fn behind(word: &OsStr, length: usize) -> OsString {
+    use std::os::unix::ffi::OsStrExt;
+    OsStr::from_bytes(&word.as_bytes()[length..]).to_owned()
+}
+
+fn command(name: &str, words: &Words, rest: &[OsString]) -> Result<Command, String> {
+    let file = |what: &str| match rest {
         [file] => Ok(PathBuf::from(file)),
-        _ => Err(format!("desk {name} takes one {what}")),
+        _ => Err(format!("{} {name} takes one {what}", called())),
     };
-    Ok(match name.as_str() {
+    Ok(match name {
         "help" => Command::Help,
         "check" => Command::Check(file("sheet")?),
+        "fix" => Command::Fix {
+            sheet: file("sheet")?,
+            out: words.file("--out"),
+        },
         "pairs" => Command::Pairs {
             sheet: file("sheet")?,
-            plain: std::mem::take(&mut words.as_pairs),
-            svg: words.svg.take(),
+            plain: words.has("--plain"),
+            svg: words.file("--svg"),
         },
-        "compare" => compare(&rest)?,
+        "compare" => compare(rest)?,
         "run" => Command::Run {
             script: file("script")?,
-            svg: words.svg.take(),
+            svg: words.file("--svg"),
+            save: words.file("--save"),
         },
         "audit" => Command::Audit {
             script: file("script")?,
-            asked: std::mem::take(&mut words.asked),
+            asked: Asked {
+                subject: words.text("--subject"),
+                method: words.text("--method"),
+                calls: words.has("--calls"),
+            },
         },
         "powers" => Command::Powers(file("sheet")?),
-        "diff" => diff(&rest)?,
+        "diff" => diff(rest)?,
         "explain" => Command::Explain(file("number")?.to_string_lossy().into_owned()),
         _ => return Err(format!("there is no command {name:?}")),
     })
 }
 
 fn compare(rest: &[OsString]) -> Result<Command, String> {
-    let [sheet, t, s] = rest else {
-        return Err("desk compare takes a sheet and two types".to_string());
+    let [sheet, from, to] = rest else {
+        let called = called();
+        return Err(format!(
+            "{called} compare takes a sheet and two types, FROM and TO"
+        ));
     };
-    Ok(Command::Compare {
-        sheet: sheet.into(),
-        types: [t, s].map(|word| word.to_string_lossy().into_owned()),
-    })
+    let [from, to] = [from, to].map(|word| word.to_string_lossy().into_owned());
+    let sheet = sheet.into();
+    Ok(Command::Compare { sheet, from, to })
 }
 
 fn diff(rest: &[OsString]) -> Result<Command, String> {
     let [old, new] = rest else {
-        return Err("desk diff takes two sheets, the old one first".to_string());
+        let called = called();
+        return Err(format!("{called} diff takes two sheets, the old one first"));
     };
     Ok(Command::Diff {
         old: old.into(),

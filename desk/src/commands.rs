@@ -1,15 +1,20 @@
 //! What each command does: from files to text.
 
-use crate::args::{Args, Command, USAGE};
+use crate::args::{help, Args, Command, NamesFrom};
 use crate::diagnosis::told;
 use crate::explain::{explain, refused};
-use crate::input;
+use crate::fix::mended;
+use crate::input::{self, is_saved, Unusable};
+use crate::json::Json;
 use crate::names::{Kind, Names};
 use crate::paint::Paint;
-use crate::relation::compared;
-use crate::{matrix, pairs_picture, summary};
+use crate::problem::Problem;
+use crate::relation::Compared;
+use crate::scripts::is_right;
+use crate::words::called;
+use crate::{documents, matrix, pairs_picture, summary};
 use pilgonca::{Refusal, Sheet, SheetRefused, Type};
-use std::path::Path;
+use std::path::{Path, PathBuf};
 
 /// Whether what goes to standard output and to standard error is coloured.
 #[derive(Clone, Copy)]
@@ -18,15 +23,17 @@ pub struct Paints {
     pub error: Paint,
 }
 
-/// How a command ends that has more to say than what it prints.
+/// How a command ends.
 #[derive(Clone, Copy, PartialEq, Eq, Debug)]
 pub enum End {
-    /// What is asked is so, though there is something to complain of.
+    /// What is asked is so, or the input is accepted.
     Yes,
     /// It is not so.
     No,
-    /// Input that is refused, or cannot be read; output that cannot be written.
-    BadInput,
+    /// Input that is refused.
+    Refused,
+    /// A file that cannot be read or written.
+    NoFile,
     /// Words that are not understood.
     BadUsage,
 }
@@ -37,9 +44,10 @@ impl End {
         match self {
             End::Yes => 0,
             End::No => 1,
-            End::BadInput if asks => 3,
-            End::BadInput => 1,
+            End::Refused if asks => 3,
+            End::Refused => 1,
             End::BadUsage => 2,
+            End::NoFile => 3,
         }
     }
 }
@@ -48,40 +56,108 @@ impl End {
 #[derive(Debug)]
 pub struct Stop {
     pub printed: String,
-    pub problem: String,
+    pub problem: Option<Problem>,
     pub end: End,
 }
 
 impl Stop {
-    /// Bad input, met before anything was printed.
-    pub fn at_input(problem: String) -> Stop {
+    fn at_once(problem: Problem, end: End) -> Stop {
         Stop {
             printed: String::new(),
-            problem,
-            end: End::BadInput,
+            problem: Some(problem),
+            end,
+        }
+    }
+
+    /// Input that is refused, before anything was printed.
+    pub fn refused(problem: Problem) -> Stop {
+        Stop::at_once(problem, End::Refused)
+    }
+
+    /// Words that are not understood.
+    pub fn usage(why: String) -> Stop {
+        Stop::at_once(Problem::of(why), End::BadUsage)
+    }
+
+    /// The same with something more to say behind it.
+    #[cfg(feature = "visits")]
+    pub fn noted(mut self, note: &str) -> Stop {
+        if let Some(problem) = &mut self.problem {
+            problem.note = Some(note.to_string());
+        }
+        self
+    }
+
+    /// The answer no.
+    pub fn no(printed: String) -> Stop {
+        Stop {
+            printed,
+            problem: None,
+            end: End::No,
         }
     }
 }
 
 impl From<String> for Stop {
     fn from(problem: String) -> Stop {
-        Stop::at_input(problem + "\n")
+        Stop::refused(Problem::of(problem))
     }
 }
 
-/// What a command prints.
-pub fn perform(args: &Args, paints: Paints) -> Result<String, Stop> {
-    let names = match &args.names {
-        Some(path) => Names::read(&input::name(path), &input::read(path)?)?,
-        None => Names::default(),
+impl From<Unusable> for Stop {
+    fn from(Unusable(problem): Unusable) -> Stop {
+        Stop::at_once(Problem::of(problem), End::NoFile)
+    }
+}
+
+/// A command that is over: what goes to standard output and to standard error, and the exit status.
+#[derive(Debug)]
+pub struct Over {
+    pub out: String,
+    pub error: String,
+    pub status: u8,
+}
+
+/// Does what is asked.
+pub fn perform(args: &Args, paints: Paints) -> Over {
+    let stop = answered(args, paints).map_or_else(
+        |stop| stop,
+        |printed| Stop {
+            printed,
+            problem: None,
+            end: End::Yes,
+        },
+    );
+    let status = stop.end.status(args.command.asks());
+    let problem = stop.problem.as_ref();
+    Over {
+        error: problem.map_or(String::new(), Problem::message),
+        out: match args.json {
+            true => format!("{}\n", documents::document(args, &stop, status)),
+            false => stop.printed,
+        },
+        status,
+    }
+}
+
+fn answered(args: &Args, paints: Paints) -> Result<String, Stop> {
+    let plain = Paints {
+        out: Paint::PLAIN,
+        error: Paint::PLAIN,
     };
-    let desk = Desk { names, paints };
+    let desk = Desk {
+        names: names(args)?,
+        paints: if args.json { plain } else { paints },
+        json: args.json,
+    };
     match &args.command {
-        Command::Help => Ok(USAGE.to_string()),
+        Command::Help => Ok(help()),
+        Command::Version => Ok(format!("desk {}\n", env!("CARGO_PKG_VERSION"))),
         Command::Check(path) => desk.check(path),
+        Command::Fix { sheet, out } => desk.fix(sheet, out.as_deref()),
         Command::Pairs { sheet, plain, svg } => desk.pairs(sheet, *plain, svg.as_deref()),
-        Command::Compare { sheet, types } => desk.compare(sheet, types),
-        Command::Run { script, svg } => desk.run(script, svg.as_deref()),
+        Command::Compare { sheet, from, to } => desk.compare(sheet, from, to),
+        Command::Run { script, svg, save } => desk.run(script, svg.as_deref(), save.as_deref()),
         Command::Audit { script, asked } => desk.audit(script, asked),
         Command::Powers(path) => desk.powers(path),
         Command::Diff { old, new } => desk.diff(old, new),
@@ -89,20 +165,51 @@ pub fn perform(args: &Args, paints: Paints) -> Result<String, Stop> {
     }
 }
 
+/// The names that are asked for, or that stand beside a file that is.
+fn names(args: &Args) -> Result<Names, Stop> {
+    let (path, how) = match &args.names {
+        NamesFrom::File(path) => (path.clone(), ""),
+        NamesFrom::Nowhere => return Ok(Names::default()),
+        NamesFrom::Beside => match beside(&args.command) {
+            Some(path) => (path, " (found beside the file; --no-names leaves it out)"),
+            None => return Ok(Names::default()),
+        },
+    };
+    let file = input::name(&path) + how;
+    Ok(Names::read(&file, &input::read(&path)?)?)
+}
+
+/// X.names beside X.sheet or X.script.
+fn beside(command: &Command) -> Option<PathBuf> {
+    let files = command.files().into_iter();
+    let files = files.filter(|file| *file != Path::new("-"));
+    let mut beside = files.map(|file| (file, file.with_extension("names")));
+    let found = beside.find(|(file, names)| file != names && names.is_file());
+    found.map(|(_, names)| names)
+}
+
 /// What the commands share; desk run and desk audit are in `scripts`, desk powers and desk diff in modules of those names.
 pub struct Desk {
     pub names: Names,
     pub paints: Paints,
+    pub json: bool,
 }
 
 impl Desk {
+    /// What was found, as JSON where that is asked for.
+    pub fn shown(&self, json: impl FnOnce() -> Json, words: impl FnOnce() -> String) -> String {
+        match self.json {
+            true => json().to_string(),
+            false => words(),
+        }
+    }
+
     fn check(&self, path: &Path) -> Result<String, Stop> {
         let sheet = self.sheet(path)?;
-        Ok(summary::summary(
-            &input::name(path),
-            &sheet,
-            &self.names,
-            self.paints.out,
+        let (file, names) = (input::name(path), &self.names);
+        Ok(self.shown(
+            || documents::check(&sheet, names),
+            || summary::summary(&file, &sheet, names, self.paints.out),
         ))
     }
 
@@ -115,41 +222,53 @@ impl Desk {
         })?;
         if let Some(file) = svg {
             let title = format!("What can become what: {}", short(path));
-            input::write(file, &pairs_picture::picture(&title, &sheet, &self.names))?;
+            let picture = pairs_picture::picture(&title, &sheet, &self.names);
+            if let Some(picture) = input::put(file, picture)? {
+                return Ok(picture);
+            }
         }
-        Ok(plain.unwrap_or_else(|| matrix::matrix(&sheet, &self.names, self.paints.out)))
+        Ok(plain.unwrap_or_else(|| {
+            self.shown(
+                || documents::pairs(&sheet, &self.names),
+                || matrix::matrix(&sheet, &self.names, self.paints.out),
+            )
+        }))
     }
 
-    fn compare(&self, path: &Path, types: &[String; 2]) -> Result<String, Stop> {
+    fn compare(&self, path: &Path, from: &str, to: &str) -> Result<String, Stop> {
         let sheet = self.sheet(path)?;
-        let [t, s] = [self.type_(&types[0])?, self.type_(&types[1])?];
+        let [s, t] = [self.type_(from)?, self.type_(to)?];
         let answers = sheet.compare(t, s).map_err(|refusal| {
-            let unknown = [t, s]
+            let unknown = [s, t]
                 .into_iter()
                 .find(|one| sheet.type_info(*one).is_none());
             let unknown = unknown.map_or(String::new(), |one| format!("there is no type {one}: "));
             let (number, last) = (refusal.number(), sheet.sheet_types() - 1);
-            format!("refused with {number}: {unknown}the sheet has types 0 to {last}")
+            Stop::usage(format!(
+                "refused with {number}: {unknown}the sheet has types 0 to {last}"
+            ))
         })?;
         let (Some(t), Some(s)) = (sheet.type_info(t), sheet.type_info(s)) else {
             return Err(refused(Refusal::UnknownType).into());
         };
-        Ok(compared(
-            &sheet,
-            [&t, &s],
-            &answers,
-            &self.names,
-            self.paints.out,
-        ))
+        let compared = Compared::of(&sheet, [&t, &s], &answers, &self.names);
+        let printed = self.shown(
+            || documents::compare(&compared, &self.names),
+            || compared.words(&self.names, self.paints.out),
+        );
+        match compared.becomes {
+            true => Ok(printed),
+            false => Err(Stop::no(printed)),
+        }
     }
 
     fn explain(&self, number: &str) -> Result<String, Stop> {
         let found = number.parse().ok().and_then(Refusal::from_number);
         let refusal = found.ok_or_else(|| {
-            format!(
+            Stop::usage(format!(
                 "{number:?} is no refusal: they have the numbers 1 to {}",
                 Refusal::ALL.len()
-            )
+            ))
         })?;
         Ok(explain(refusal, self.paints.out))
     }
@@ -171,15 +290,27 @@ impl Desk {
         Sheet::read(bytes).map_err(|refused| self.refused(path, bytes, &refused))
     }
 
-    /// The end of a command whose sheet, from the file, is refused.
-    pub fn refused(&self, path: &Path, sheet: &[u8], refused: &SheetRefused) -> Stop {
+    /// The end of a command whose sheet is refused; what stands behind the sheet in the file does not matter.
+    pub fn refused(&self, path: &Path, bytes: &[u8], refused: &SheetRefused) -> Stop {
+        if is_saved(bytes) {
+            return saved_state(path, "sheet");
+        }
         let file = input::name(path);
-        Stop::at_input(told(&file, sheet, refused, &self.names, self.paints.error))
+        let mut problem = told(&file, bytes, refused, &self.names, self.paints.error);
+        let mended = mended(bytes);
+        if !mended.changes.is_empty() && is_right(&mended.text) {
+            let (called, file) = (called(), path.display());
+            problem.note = Some(format!(
+                "{called} fix {file} prints what was meant; --out FILE writes it there."
+            ));
+        }
+        Stop::refused(problem)
     }
 
     /// A type by its number or its name.
-    fn type_(&self, word: &str) -> Result<Type, String> {
-        self.number(Kind::Type, word).map(Type)
+    fn type_(&self, word: &str) -> Result<Type, Stop> {
+        let number = self.number(Kind::Type, word);
+        number.map(Type).map_err(Stop::usage)
     }
 
     /// Something by its number or its name.
@@ -189,10 +320,16 @@ impl Desk {
         }
         let number = self.names.number(kind, word);
         let number = number.ok_or_else(|| {
-            format!("no {kind} is named {word:?} (names come from a file: --names FILE)")
+            format!("no {kind} is named {word:?} (names come from a file: --names FILE, or X.names beside X.sheet)")
         })?;
         Ok(number as i64)
     }
+}
+
+/// A saved state, where something else is due.
+pub fn saved_state(path: &Path, due: &str) -> Stop {
+    let (file, called) = (input::name(path), called());
+    format!("{file}: this is a saved state, which {called} audit takes, and no {due}").into()
 }
 
 /// The last part of a path, for a title.

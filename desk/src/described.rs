@@ -117,19 +117,16 @@ pub fn signature(method: &MethodInfo) -> Option<&pilgonca::Signature> {
     }
 }
 
-/// The types of the sheet that a derived type comes from, over any number of steps. The two of a key were there before it.
+/// The types of the sheet that a derived type comes from, over any number of steps. In a state handed in a key may name its own type (H8).
 fn roots(sheet: &Sheet, number: Type) -> Vec<Type> {
-    let mut found = BTreeSet::new();
-    let mut left = BTreeSet::from([number]);
-    while let Some(last) = left.pop_last() {
-        match sheet.type_info(last).and_then(|info| info.key) {
-            Some(key) => left.extend([key.left, key.right]),
-            None => {
-                found.insert(last);
-            }
-        }
+    let key = |one: Type| sheet.type_info(one).and_then(|info| info.key);
+    let mut met = BTreeSet::from([number]);
+    let mut left = vec![number];
+    while let Some(key) = left.pop().map(key) {
+        let two = key.map(|key| [key.left, key.right]);
+        left.extend(two.into_iter().flatten().filter(|one| met.insert(*one)));
     }
-    found.into_iter().collect()
+    met.into_iter().filter(|one| key(*one).is_none()).collect()
 }
 
 /// Methods by name or number.

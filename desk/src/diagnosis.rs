@@ -4,9 +4,11 @@ use crate::due::{Due, Walk};
 use crate::line::{fault, Fault};
 use crate::names::{Kind, Names};
 use crate::paint::{Paint, Tone};
+use crate::problem::{At, Problem};
 use crate::reader::{Flaw, NO_LF};
 use crate::shown::marked;
-use crate::words::under;
+use crate::spoilt::spoilt;
+use crate::words::{called, under};
 use pilgonca::SheetRefused;
 use std::ops::Range;
 
@@ -36,16 +38,21 @@ pub fn diagnose<'a>(
     if number == 3 && walk.due == Due::End && line == b"end=sheet" {
         return own_in_signature(text, names);
     }
-    let fault = match (walk.due, end) {
-        (Due::Nothing, _) => form(0..line.len(), behind(line)),
-        (_, None) => form(line.len()..line.len(), cut_off(walk.due, line, names)),
-        (_, Some(_)) => fault(&walk, line, names)?,
+    let fault = match (spoilt(text, offset, line), walk.due, end) {
+        (Some(flaw), ..) if number == 1 => Fault { number, flaw },
+        (_, Due::Nothing, _) => form(0..line.len(), behind(line)),
+        (_, _, None) => form(line.len()..line.len(), cut_off(walk.due, line, names)),
+        (_, _, Some(_)) => fault(&walk, line, names)?,
+    };
+    let behind = match fault.flaw.wrong == NO_LF {
+        true => ", and LF behind it",
+        false => "",
     };
     let diagnosis = Diagnosis {
         line_number: lines + 1,
         line,
         flaw: fault.flaw,
-        right: walk.due.right(&walk),
+        right: walk.due.right(&walk) + behind,
     };
     (fault.number == number).then_some(diagnosis)
 }
@@ -79,8 +86,10 @@ fn walked(before: &[u8]) -> (Walk, usize) {
 /// Something stands behind the last line.
 fn behind(line: &[u8]) -> String {
     match line.starts_with(b"do=") {
-        true => "requests stand behind the sheet: this is a script, for desk run and desk audit"
-            .to_string(),
+        true => {
+            let called = called();
+            format!("requests stand behind the sheet: this is a script, for {called} run and {called} audit")
+        }
         false => "something stands behind the end=sheet line".to_string(),
     }
 }
@@ -92,7 +101,7 @@ fn own_in_signature<'a>(text: &'a [u8], names: &Names) -> Option<Diagnosis<'a>> 
     for (index, line) in text.split(|byte| *byte == b'\n').enumerate() {
         if let (Due::Method(..), Some((mark, number))) = (walk.due, named(line, &own)) {
             let words = names.words(Kind::Type, number as i64);
-            let wrong = format!("{words} has own=yes, and no signature may name such a type");
+            let wrong = format!("the signature names {words}, which has own=yes");
             return Some(Diagnosis {
                 line_number: index + 1,
                 line,
@@ -147,35 +156,39 @@ pub fn told(
     refused: &SheetRefused,
     names: &Names,
     paint: Paint,
-) -> String {
+) -> Problem {
     let number = refused.refusal.number();
-    let head = format!(
-        "{file}: the sheet is {} at byte {}\n",
-        paint.of(Tone::Bad, &format!("refused with {number}")),
-        refused.offset
-    );
+    let how = paint.of(Tone::Bad, &format!("refused with {number}"));
+    let words = format!("the sheet is {how} at byte {}", refused.offset);
     match diagnose(text, number, refused.offset, names) {
-        Some(Diagnosis {
-            line_number,
-            line,
-            flaw,
-            right,
-        }) => head + &block(line_number, line, &flaw, &right, paint),
-        None => format!("{head}  {}\n", refused.refusal),
+        Some(found) => Problem::at(words, found.at(file, number, paint)),
+        None => Problem::of(format!("{file}: {words}: {}", refused.refusal)),
     }
 }
 
-/// A line with a mark under what is wrong, and the words for it.
-pub fn block(line_number: usize, line: &[u8], flaw: &Flaw, right: &str, paint: Paint) -> String {
-    let (text, mark) = marked(line, &flaw.mark);
-    let place = format!("line {line_number}");
-    let margin = " ".repeat(place.len());
-    let text = format!("  {place} | {text}");
-    format!(
-        "\n{}\n  {margin} | {}\n\n{}{}",
-        text.trim_end(),
-        paint.of(Tone::Bad, &mark),
-        under("  wrong: ", &flaw.wrong),
-        under("  right: ", right)
-    )
+impl Diagnosis<'_> {
+    /// The place in a file, with the line, a mark under what is wrong, and the words for it.
+    pub fn at(self, file: &str, refused: u8, paint: Paint) -> At {
+        let Flaw { mark, wrong } = self.flaw;
+        let (text, below) = marked(self.line, &mark);
+        let place = format!("line {}", self.line_number);
+        let margin = " ".repeat(place.len());
+        let text = format!("  {place} | {text}");
+        let block = format!(
+            "\n{}\n  {margin} | {}\n\n{}{}",
+            text.trim_end(),
+            paint.of(Tone::Bad, &below),
+            under("  wrong: ", &wrong),
+            under("  right: ", &self.right)
+        );
+        At {
+            file: file.to_string(),
+            line: self.line_number,
+            column: mark.start + 1,
+            refused,
+            wrong,
+            right: self.right,
+            block,
+        }
+    }
 }

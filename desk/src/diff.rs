@@ -1,9 +1,11 @@
 //! `desk diff`: what a new version of a sheet gives and takes, type by type. Types and methods are taken by number.
 
-use crate::commands::{Desk, End, Stop};
+use crate::commands::{Desk, Stop};
 use crate::described::signature;
+use crate::documents::named;
 use crate::explain::refused;
 use crate::input;
+use crate::json::Json;
 use crate::names::{Kind, Names};
 use crate::paint::{Paint, Tone};
 use crate::powers::{can, path, powers};
@@ -35,13 +37,11 @@ impl Desk {
             names: &self.names,
             paint: self.paints.out,
         };
-        match differ.told() {
-            None => Ok("The two sheets say the same.\n".to_string()),
-            Some(printed) => Err(Stop {
-                printed,
-                problem: String::new(),
-                end: End::No,
-            }),
+        let sections = differ.sections();
+        let printed = self.shown(|| differ.document(&sections), || differ.told(&sections));
+        match sections.is_empty() {
+            true => Ok(printed),
+            false => Err(Stop::no(printed)),
         }
     }
 }
@@ -100,6 +100,30 @@ enum Change {
     Other,
 }
 
+impl Change {
+    fn word(self) -> &'static str {
+        match self {
+            Change::Gives => "gives",
+            Change::Takes => "takes",
+            Change::Other => "other",
+        }
+    }
+}
+
+/// The changes of one type, or of the whole sheet.
+struct Section {
+    type_: Option<Type>,
+    changes: Vec<(Change, String)>,
+}
+
+/// How many changes give, take, and do neither.
+fn counted(sections: &[Section]) -> [usize; 3] {
+    [Change::Gives, Change::Takes, Change::Other].map(|what| {
+        let changes = sections.iter().flat_map(|section| &section.changes);
+        changes.filter(|(change, _)| *change == what).count()
+    })
+}
+
 struct Differ<'a> {
     old: Side,
     new: Side,
@@ -108,34 +132,55 @@ struct Differ<'a> {
 }
 
 impl Differ<'_> {
-    /// All that is changed; none where nothing is.
-    fn told(&self) -> Option<String> {
-        let mut sections = vec![(String::new(), self.counts())];
+    /// All that is changed.
+    fn sections(&self) -> Vec<Section> {
+        let mut sections = vec![Section {
+            type_: None,
+            changes: self.counts(),
+        }];
         for number in 0..self.old.types.len().max(self.new.types.len()) {
-            let title = self.names.words(Kind::Type, number as i64);
-            sections.push((title, self.type_(number)));
+            sections.push(Section {
+                type_: Some(Type(number as i64)),
+                changes: self.type_(number),
+            });
         }
-        sections.retain(|(_, changes)| !changes.is_empty());
-        if sections.is_empty() {
-            return None;
-        }
-        let count = |what: Change| {
-            let changes = sections.iter().flat_map(|(_, changes)| changes);
-            changes.filter(|(change, _)| *change == what).count()
-        };
-        let end = format!(
-            "\nIn all: gives {}, takes {}, changes {} besides.\n",
-            count(Change::Gives),
-            count(Change::Takes),
-            count(Change::Other)
-        );
-        let sections = sections
-            .iter()
-            .map(|(title, changes)| self.section(title, changes));
-        Some(HEAD.to_string() + &sections.collect::<String>() + &end)
+        sections.retain(|section| !section.changes.is_empty());
+        sections
     }
 
-    fn section(&self, title: &str, changes: &[(Change, String)]) -> String {
+    fn told(&self, sections: &[Section]) -> String {
+        if sections.is_empty() {
+            return "The two sheets say the same.\n".to_string();
+        }
+        let [gives, takes, others] = counted(sections);
+        let end = format!("\nIn all: gives {gives}, takes {takes}, changes {others} besides.\n");
+        let sections = sections.iter().map(|section| self.section(section));
+        HEAD.to_string() + &sections.collect::<String>() + &end
+    }
+
+    fn document(&self, sections: &[Section]) -> Json {
+        let changes = sections.iter().flat_map(|Section { type_, changes }| {
+            let of = type_.map(|one| named(one, self.names));
+            let of = Json::from(of).to_string();
+            changes.iter().map(move |(change, words)| {
+                Json::Object(vec![
+                    ("type", Json::Written(of.clone())),
+                    ("change", change.word().into()),
+                    ("words", words.as_str().into()),
+                ])
+            })
+        });
+        let [gives, takes, others] = counted(sections);
+        Json::Object(vec![
+            ("alike", sections.is_empty().into()),
+            ("gives", gives.into()),
+            ("takes", takes.into()),
+            ("others", others.into()),
+            ("changes", Json::list(changes)),
+        ])
+    }
+
+    fn section(&self, Section { type_, changes }: &Section) -> String {
         let lines = changes.iter().map(|(change, words)| {
             let mark = match change {
                 Change::Gives => self.paint.of(Tone::Good, "+"),
@@ -144,10 +189,10 @@ impl Differ<'_> {
             };
             format!("  {mark} {words}\n")
         });
-        let title = match title.is_empty() {
-            true => String::new(),
-            false => format!("{}\n", self.paint.of(Tone::Strong, title)),
-        };
+        let title = type_.map_or(String::new(), |one| {
+            let title = self.names.words(Kind::Type, one.0);
+            format!("{}\n", self.paint.of(Tone::Strong, &title))
+        });
         format!("\n{title}{}", lines.collect::<String>())
     }
 

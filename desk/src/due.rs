@@ -1,6 +1,7 @@
 //! Which line is due at a place of a sheet (S22 to S26), told from the lines in front of it, which are right.
 
 use crate::names::{Kind, Names};
+use pilgonca::raw::MAX_ARGUMENTS;
 
 /// A line that is due.
 #[derive(Clone, Copy, PartialEq, Eq, Debug)]
@@ -206,7 +207,8 @@ fn under(category: usize) -> String {
 
 fn method(types: usize) -> String {
     format!(
-        "m=denied, m=unavail, or m=avail or m=optional with argument types and an answer type from 0 to {}, as in m=avail(0)- or m=optional()0",
+        "m=denied, m=unavail, or m=avail or m=optional with up to {MAX_ARGUMENTS} argument types and an answer type from 0 to {}, \
+         as in m=avail(0)- or m=optional()0",
         types.saturating_sub(1)
     )
 }

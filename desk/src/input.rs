@@ -7,6 +7,18 @@ use std::path::Path;
 /// No sheet, script or list of names is longer by far; a device that never ends is not read on.
 const LONGEST: u64 = 1 << 20;
 
+/// The first bytes of a saved state. The crate `pilgonca` has them only with its feature `visits`.
+const SAVED: &[u8] = b"PILGONCA";
+
+/// A file that cannot be read or written, in words.
+#[derive(Debug)]
+pub struct Unusable(pub String);
+
+/// Whether these are the bytes of a saved state, damaged or not.
+pub fn is_saved(bytes: &[u8]) -> bool {
+    bytes.starts_with(SAVED)
+}
+
 /// A path as it can be printed.
 pub fn name(path: &Path) -> String {
     match path.to_str() {
@@ -17,17 +29,17 @@ pub fn name(path: &Path) -> String {
 }
 
 /// All of a file; `-` is standard input.
-pub fn read(path: &Path) -> Result<Vec<u8>, String> {
+pub fn read(path: &Path) -> Result<Vec<u8>, Unusable> {
     let all = match path.to_str() {
         Some("-") => limited(io::stdin().lock()),
         _ => File::open(path).and_then(limited),
     };
     match all {
-        Err(error) => Err(format!("cannot read {}: {error}", name(path))),
-        Ok(bytes) if bytes.len() as u64 > LONGEST => Err(format!(
-            "{} is longer than a megabyte: no sheet or script is",
+        Err(error) => Err(Unusable(format!("cannot read {}: {error}", name(path)))),
+        Ok(bytes) if bytes.len() as u64 > LONGEST => Err(Unusable(format!(
+            "cannot read all of {}: it is longer than a megabyte, and no sheet or script is",
             name(path)
-        )),
+        ))),
         Ok(bytes) => Ok(bytes),
     }
 }
@@ -38,6 +50,24 @@ fn limited(from: impl Read) -> io::Result<Vec<u8>> {
     Ok(bytes)
 }
 
-pub fn write(path: &Path, text: &str) -> Result<(), String> {
-    fs::write(path, text).map_err(|error| format!("cannot write {}: {error}", name(path)))
+pub fn write(path: &Path, bytes: impl AsRef<[u8]>) -> Result<(), Unusable> {
+    let written = fs::write(path, bytes);
+    written.map_err(|error| Unusable(format!("cannot write {}: {error}", name(path))))
+}
+
+/// Writes a text. What is for standard output is given back: it is printed in the place of words.
+pub fn put(path: &Path, text: String) -> Result<Option<String>, Unusable> {
+    if path == Path::new("-") {
+        return Ok(Some(text));
+    }
+    write(path, text)?;
+    Ok(None)
+}
+
+#[cfg(all(test, feature = "visits"))]
+mod tests {
+    #[test]
+    fn a_saved_state_begins_as_the_package_says() {
+        assert_eq!(super::SAVED, pilgonca::saved::MARK);
+    }
 }

@@ -7,26 +7,34 @@ mod described;
 pub mod diagnosis;
 #[cfg(feature = "visits")]
 mod diff;
+mod documents;
 mod due;
 mod explain;
+mod fix;
 mod input;
+mod json;
 mod line;
 mod matrix;
 pub mod names;
-#[cfg(not(feature = "visits"))]
-mod no_scripts;
 pub mod paint;
 mod pairs_picture;
 #[cfg(feature = "visits")]
 mod powers;
+mod problem;
 #[cfg(feature = "visits")]
 pub mod reach;
 mod reader;
 pub mod reasons;
 pub mod relation;
+#[cfg(not(feature = "visits"))]
+#[path = "no_scripts.rs"]
+mod scripts;
 #[cfg(feature = "visits")]
 pub mod scripts;
 mod shown;
+mod spoilt;
 mod summary;
 mod svg;
 mod words;
+
+pub use words::called;

@@ -3,6 +3,7 @@
 use crate::due::{Due, Walk, KEYS};
 use crate::names::Names;
 use crate::reader::{Flaw, Number, Reader};
+use pilgonca::raw::MAX_ARGUMENTS;
 
 /// A flaw with the number that it is refused with.
 #[derive(Clone, PartialEq, Eq, Debug)]
@@ -77,11 +78,8 @@ fn one_of(reader: &mut Reader, words: &[&str]) -> Result<Vec<Number>, Flaw> {
     let length = reader.count(|byte| byte.is_ascii_alphanumeric());
     let Some(word) = words.iter().find(|word| rest[..length] == *word.as_bytes()) else {
         let wrong = match length {
-            0 => format!("{} is due here", words.join(" or ")),
-            _ => format!(
-                "this word is none of those allowed here: {}",
-                words.join(", ")
-            ),
+            0 => format!("no word stands here, where {} is due", words.join(" or ")),
+            _ => format!("this word is not {}", words.join(" or ")),
         };
         return Err(reader.flaw(length.max(1), wrong));
     };
@@ -98,7 +96,7 @@ fn two_at_most(reader: &mut Reader) -> Result<Vec<Number>, Flaw> {
     }
     if reader.rest().starts_with(b",") {
         let length = reader.rest().len();
-        return Err(reader.flaw(length, "a category has two broader ones at most"));
+        return Err(reader.flaw(length, "a third broader category stands here"));
     }
     reader.end("the last number")?;
     Ok(numbers)
@@ -113,7 +111,9 @@ fn method(reader: &mut Reader) -> Result<Vec<Number>, Flaw> {
             reader.skip(length);
             if reader.rest().starts_with(b"(") {
                 let length = reader.rest().len();
-                return Err(reader.flaw(length, "denied and unavail have no signature"));
+                let word = String::from_utf8_lossy(word);
+                let wrong = format!("a signature stands behind {word}");
+                return Err(reader.flaw(length, wrong));
             }
             reader.end("the word")?;
             Ok(Vec::new())
@@ -122,22 +122,25 @@ fn method(reader: &mut Reader) -> Result<Vec<Number>, Flaw> {
             reader.skip(length);
             signature(reader)
         }
-        b"" => Err(reader.flaw(1, "denied, unavail, avail or optional is due here")),
+        b"" => Err(reader.flaw(
+            1,
+            "no word stands here, where denied, unavail, avail or optional is due",
+        )),
         _ => Err(reader.flaw(
             length,
-            "this is none of denied, unavail, avail and optional",
+            "this word is not denied, unavail, avail or optional",
         )),
     }
 }
 
 fn signature(reader: &mut Reader) -> Result<Vec<Number>, Flaw> {
     if !reader.take("(") {
-        return Err(reader.flaw(1, "the signature is missing: it begins with ( here"));
+        return Err(reader.flaw(1, "the signature is missing: no ( stands here"));
     }
     let mut numbers = Vec::new();
     if !reader.take(")") {
         numbers.push(reader.number()?);
-        if reader.take(",") {
+        while numbers.len() < MAX_ARGUMENTS && reader.take(",") {
             numbers.push(reader.number()?);
         }
         closing(reader)?;
@@ -155,8 +158,8 @@ fn closing(reader: &mut Reader) -> Result<(), Flaw> {
     }
     let length = reader.count(|byte| byte != b')');
     let wrong = match reader.rest().first() {
-        Some(b',') => "a signature has two arguments at most",
-        _ => "a ) is due here, behind the arguments",
+        Some(b',') => "one argument too many stands here",
+        _ => "no ) stands here, behind the arguments",
     };
     Err(reader.flaw(length, wrong))
 }
@@ -164,8 +167,37 @@ fn closing(reader: &mut Reader) -> Result<(), Flaw> {
 /// Where the answer is missing altogether, `-` may be what was meant.
 fn answer(reader: &Reader, flaw: Flaw) -> Flaw {
     match reader.rest() {
-        [] => reader.flaw(0, "the answer is missing: its type, or - for none"),
+        [] => reader.flaw(0, "the answer is missing behind the arguments"),
         _ => flaw,
+    }
+}
+
+/// What a number that has a range is of.
+enum Ranged {
+    Form,
+    Count(&'static str),
+    Number(&'static str),
+    /// The number that is next in turn.
+    Turn(usize),
+}
+
+impl Ranged {
+    /// Said of a value outside the range, which ends with `last`.
+    fn wrong(&self, value: u64, last: u64) -> String {
+        let value = match value {
+            u64::MAX => "a number past 64 bits".to_string(),
+            _ => value.to_string(),
+        };
+        let many = match value.parse::<u64>() {
+            Ok(value) if value <= last => "few",
+            _ => "many",
+        };
+        match self {
+            Ranged::Form => format!("there is no form {value} of a sheet"),
+            Ranged::Count(what) => format!("{value} is too {many} {what}"),
+            Ranged::Number(what) => format!("{value} names no {what} of this sheet"),
+            Ranged::Turn(due) => format!("type {value} begins here, and type {due} is next"),
+        }
     }
 }
 
@@ -173,25 +205,21 @@ fn answer(reader: &Reader, flaw: Flaw) -> Flaw {
 fn range(walk: &Walk, number: &Number) -> Option<Flaw> {
     let last_type = walk.types.saturating_sub(1);
     let (first, last, what) = match walk.due {
-        Due::Guide => (1, 1, "form of a sheet"),
-        Due::Subjects => (1, 16, "number of subjects"),
-        Due::Methods => (1, 16, "number of methods"),
-        Due::Categories => (0, 31, "number of categories"),
-        Due::Types => (1, 48, "number of types"),
-        Due::Under(_) | Due::Category(_) => (0, walk.categories, "category of this sheet"),
-        Due::Type(own) => (own, own, "number that is next in turn"),
-        _ => (0, last_type, "type of this sheet"),
+        Due::Guide => (1, 1, Ranged::Form),
+        Due::Subjects => (1, 16, Ranged::Count("subjects")),
+        Due::Methods => (1, 16, Ranged::Count("methods")),
+        Due::Categories => (0, 31, Ranged::Count("categories")),
+        Due::Types => (1, 48, Ranged::Count("types")),
+        Due::Under(_) | Due::Category(_) => (0, walk.categories, Ranged::Number("category")),
+        Due::Type(own) => (own, own, Ranged::Turn(own)),
+        _ => (0, last_type, Ranged::Number("type")),
     };
     if (first as u64..=last as u64).contains(&number.value) {
         return None;
     }
-    let allowed = match first == last {
-        true => format!("only {first} is"),
-        false => format!("{first} to {last} are"),
-    };
     Some(Flaw {
         mark: number.mark.clone(),
-        wrong: format!("this is no {what}: {allowed}"),
+        wrong: what.wrong(number.value, last as u64),
     })
 }
 
@@ -205,6 +233,12 @@ fn order(due: Due, number: &Number) -> Option<Flaw> {
     }
     Some(Flaw {
         mark: number.mark.clone(),
-        wrong: format!("a broader category has a lower number than its own, and this line is about category {category}"),
+        wrong: match number.value == category as u64 {
+            true => format!("category {category} is given here as broader than itself"),
+            false => format!(
+                "category {} comes behind category {category}, and is given here as broader",
+                number.value
+            ),
+        },
     })
 }

@@ -2,9 +2,9 @@
 
 use crate::names::Names;
 use crate::paint::{Paint, Tone};
-use crate::relation::{Strongest, ALL, HEADING, OWN};
+use crate::relation::{Strongest, ALL, HEADING, OWN, OWN_MARK};
 use crate::summary::{kind, label};
-use pilgonca::{raw, Answers, Pairs, Sheet, Type, TypeInfo};
+use pilgonca::{raw, Comparison, Pairs, Sheet, Type, TypeInfo};
 
 /// The strongest relation of every pair: T down, S across.
 pub fn matrix(sheet: &Sheet, names: &Names, paint: Paint) -> String {
@@ -16,7 +16,7 @@ pub fn matrix(sheet: &Sheet, names: &Names, paint: Paint) -> String {
     let mut text = headings(pairs.types(), width + 5);
     for (info, label) in sheet.types().zip(&labels) {
         let corner = if info.number == Type(0) { "T" } else { " " };
-        let row = row(&pairs, info.number, paint);
+        let row = row(&pairs, &info, paint);
         text += &format!("  {corner} {label:width$} {row}\n");
     }
     text + "\n" + &legend(paint)
@@ -44,26 +44,27 @@ fn headings(count: usize, width: usize) -> String {
     text + &format!("{margin}{}\n", line(&|number| (number % 10).to_string()))
 }
 
-fn row(pairs: &Pairs, t: Type, paint: Paint) -> String {
+/// In the row of a type with own, only the owner of the object counts (X1, X2).
+fn row(pairs: &Pairs, t: &TypeInfo, paint: Paint) -> String {
     let marks = (0..pairs.types()).map(|s| {
-        let strongest = Strongest::of(&pairs.at(t, Type(s as i64)));
-        let mark = strongest.mark().to_string();
-        let tone = match strongest {
-            Strongest::Subtype => Tone::Good,
-            Strongest::Free | Strongest::None => Tone::Quiet,
-            _ => Tone::Strong,
+        let strongest = Strongest::of(&pairs.at(t.number, Type(s as i64)));
+        let (mark, tone) = match strongest {
+            Strongest::None => (strongest.mark(), Tone::Quiet),
+            _ if t.own => (OWN_MARK, Tone::Strong),
+            Strongest::Subtype => (strongest.mark(), Tone::Good),
+            Strongest::Free => (strongest.mark(), Tone::Quiet),
+            _ => (strongest.mark(), Tone::Strong),
         };
-        format!(" {}", paint.of(tone, &mark))
+        format!(" {}", paint.of(tone, &mark.to_string()))
     });
     marks.collect()
 }
 
 fn legend(paint: Paint) -> String {
-    let lines = ALL.map(|one| format!("  {} {:7}  {}\n", one.mark(), one.name(), one.words()));
-    format!(
-        "{HEADING}\n{}  {OWN}\n",
-        paint.of(Tone::Quiet, &lines.concat())
-    )
+    let line = |mark: char, name: &str, words: &str| format!("  {mark} {name:7}  {words}\n");
+    let lines = ALL.map(|one| line(one.mark(), one.name(), one.words()));
+    let lines = lines.concat() + &line(OWN_MARK, "own", OWN);
+    format!("{HEADING}\n{}", paint.of(Tone::Quiet, &lines))
 }
 
 /// What the program `pairs` prints for an input (P1, P16, P17).
@@ -80,7 +81,7 @@ pub fn plain(input: &[u8]) -> String {
 fn lines(pairs: &Pairs) -> String {
     let line = |t: usize, s: usize| {
         let answers = pairs.at(Type(t as i64), Type(s as i64));
-        let Answers {
+        let Comparison {
             subtype,
             strict,
             loose,

@@ -1,4 +1,4 @@
-//! Colours, only where a person looks: on a terminal, and not where NO_COLOR says so.
+//! Colours, only where a person looks: on a terminal that has them, and not where NO_COLOR says so.
 
 use std::ffi::OsStr;
 
@@ -20,11 +20,12 @@ pub struct Paint {
 impl Paint {
     pub const PLAIN: Paint = Paint { on: false };
 
-    /// NO_COLOR counts where it is set to anything but an empty word.
-    pub fn choose(terminal: bool, no_color: Option<&OsStr>) -> Paint {
+    /// NO_COLOR counts where it is set to anything but an empty word. A dumb terminal, or one of which nothing is known, shows no colours.
+    pub fn choose(terminal: bool, no_color: Option<&OsStr>, term: Option<&OsStr>) -> Paint {
         let asked = no_color.is_none_or(OsStr::is_empty);
+        let able = term.is_some_and(|term| !term.is_empty() && term != "dumb");
         Paint {
-            on: terminal && asked,
+            on: terminal && asked && able,
         }
     }
 
@@ -48,13 +49,17 @@ mod tests {
 
     #[test]
     fn colours_are_for_terminals() {
-        let shown = |terminal, no_color: Option<&str>| {
-            let paint = Paint::choose(terminal, no_color.map(OsStr::new));
+        let shown = |terminal, no_color: Option<&str>, term: Option<&str>| {
+            let paint = Paint::choose(terminal, no_color.map(OsStr::new), term.map(OsStr::new));
             paint.of(Tone::Bad, "x")
         };
-        assert_eq!(shown(true, None), "\x1b[31mx\x1b[0m");
-        assert_eq!(shown(true, Some("")), "\x1b[31mx\x1b[0m");
-        assert_eq!(shown(true, Some("1")), "x");
-        assert_eq!(shown(false, None), "x");
+        let xterm = Some("xterm-256color");
+        assert_eq!(shown(true, None, xterm), "\x1b[31mx\x1b[0m");
+        assert_eq!(shown(true, Some(""), xterm), "\x1b[31mx\x1b[0m");
+        assert_eq!(shown(true, Some("1"), xterm), "x");
+        assert_eq!(shown(false, None, xterm), "x");
+        for dumb in [Some("dumb"), Some(""), None] {
+            assert_eq!(shown(true, None, dumb), "x");
+        }
     }
 }

@@ -1,6 +1,7 @@
 //! `desk powers`: what a sheet lets the holder of a reference do, by the type that it holds it as.
 
 use crate::commands::{Desk, Stop};
+use crate::documents::visits;
 use crate::explain::refused;
 use crate::input;
 use crate::names::{Kind, Names};
@@ -29,18 +30,22 @@ impl Desk {
         let bytes = input::read(path)?;
         let sheet = self.accepted(path, &bytes)?;
         let powers = powers(&bytes).map_err(refused)?;
-        let lone = if sheet.subjects() == 1 { LONE } else { "" };
-        let types = powers
-            .iter()
-            .map(|one| told(&sheet, one, &self.names, self.paints.out));
-        let types: String = types.collect();
-        let none = if types.is_empty() {
-            "\nThe sheet has no ref types.\n"
-        } else {
-            ""
-        };
-        Ok(format!("{HEAD}{lone}{types}{none}"))
+        Ok(self.shown(
+            || visits::powers(&sheet, &powers, &self.names),
+            || all_told(&sheet, &powers, &self.names, self.paints.out),
+        ))
     }
+}
+
+fn all_told(sheet: &Sheet, powers: &[TypePowers], names: &Names, paint: Paint) -> String {
+    let lone = if sheet.subjects() == 1 { LONE } else { "" };
+    let types = powers.iter().map(|one| told(sheet, one, names, paint));
+    let types: String = types.collect();
+    let none = match types.is_empty() {
+        true => "\nThe sheet has no ref types.\n",
+        false => "",
+    };
+    format!("{HEAD}{lone}{types}{none}")
 }
 
 /// The powers of a text that is accepted.

@@ -7,6 +7,7 @@ mod graph;
 pub use graph::{of_sheet, TypePowers};
 
 use crate::described::signature;
+use crate::names::{Kind as NameKind, Names};
 use pilgonca::{
     Cell, CellInfo, Kind, Method, MethodInfo, Pairs, PlaceKind, Refusal, Representation, Sheet,
     Subject, Type, TypeInfo, Visit,
@@ -43,6 +44,30 @@ impl Power {
     pub fn is_no(&self) -> bool {
         matches!(self, Power::Never | Power::NoRoom(_))
     }
+
+    /// With the types that its holder hands the reference to itself as.
+    pub fn words(&self, names: &Names) -> String {
+        let path = |types: &[Type]| {
+            let types = types.iter();
+            let types = types.map(|one| names.numbered(NameKind::Type, one.0));
+            types.collect::<Vec<String>>().join(" and then as ")
+        };
+        match self {
+            Power::Now => "can call".to_string(),
+            Power::Alone(types) => format!("can come to call alone: to itself as {}", path(types)),
+            Power::Once(types, refusal) => {
+                let path = path(types);
+                format!("could come to call alone, to itself as {path}, while there was room; now {refusal}")
+            }
+            Power::NoRoom(refusal) => {
+                format!("offers: no way to call it was found, and {refusal} for further ones")
+            }
+            Power::Unsettled => {
+                format!("offers: whether its holder can come to call it is not settled in {MOST_STEPS} steps")
+            }
+            Power::Never => "offers: no type of the sheet lets it be called".to_string(),
+        }
+    }
 }
 
 /// What the types of a sheet allow, asked of the core once.
@@ -75,7 +100,7 @@ impl Reach {
     /// What the holder of a cell can do with each method; none where the cell does not offer it and its holder cannot get it by taking the object back.
     pub fn powers(&self, visit: &Visit, cell: &CellInfo) -> Result<Vec<Option<Power>>, Refusal> {
         let mut search = Search::of(self, visit, cell)?;
-        search.go()?;
+        search.go();
         Ok((0..self.methods)
             .map(|method| search.power(method))
             .collect())
@@ -202,20 +227,19 @@ impl<'a> Search<'a> {
         })
     }
 
-    fn go(&mut self) -> Result<(), Refusal> {
+    fn go(&mut self) {
         while let Some(node) = self.left.pop_front() {
             if !self.is_worth(node.type_, &node.offered) {
                 continue;
             }
             for to in self.reach.next(node.type_, self.owner) {
                 if self.steps == MOST_STEPS {
-                    return Ok(());
+                    return;
                 }
                 self.steps += 1;
-                self.step(&node, to)?;
+                self.step(&node, to);
             }
         }
-        Ok(())
     }
 
     /// Whether a method that is still looked for may be found from here. What is not offered can come back for the owner alone.
@@ -227,24 +251,27 @@ impl<'a> Search<'a> {
         })
     }
 
-    fn step(&mut self, node: &Node, to: &TypeInfo) -> Result<(), Refusal> {
+    fn step(&mut self, node: &Node, to: &TypeInfo) {
         let mut visit = node.visit.clone();
         let moved = visit.move_reference(self.holder, node.cell, self.holder, to.number);
         let held = match moved {
             Ok(held) => held,
             Err(refusal) => {
                 self.no_room = self.no_room.or(lack_of_room(refusal));
-                return Ok(());
+                return;
             }
         };
         if !self
             .seen
             .insert((to.number, self.keys.place(&visit, held.place)))
         {
-            return Ok(());
+            return;
         }
         let path = [&node.path[..], &[to.number]].concat();
-        let offered = offered(&visit, held.cell, self.reach.methods)?;
+        // one that was handed in may be unsound behind a request, and then serves no other (Q19)
+        let Ok(offered) = offered(&visit, held.cell, self.reach.methods) else {
+            return;
+        };
         for (method, offered) in offered.iter().enumerate() {
             if *offered && calls(to, method) && self.found[method].is_none() {
                 self.found[method] = Some(path.clone());
@@ -258,7 +285,6 @@ impl<'a> Search<'a> {
             offered,
             path,
         });
-        Ok(())
     }
 
     fn power(&self, method: usize) -> Option<Power> {

@@ -10,7 +10,10 @@ pub struct Flaw {
 }
 
 /// Said of the last line of a sheet or of a script.
-pub const NO_LF: &str = "the file ends in this line: every line, the last too, ends with LF";
+pub const NO_LF: &str = "the file ends in this line, without LF behind it";
+
+/// Said of a number in either.
+pub const LEADING_ZERO: &str = "a zero stands in front of the number";
 
 /// A number in a line. One past 64 bits counts as the largest, which is outside every range (S2).
 pub struct Number {
@@ -66,11 +69,11 @@ impl<'a> Reader<'a> {
         let rest = self.rest();
         let wrong = match rest {
             [] => return Ok(()),
-            b"\r" => {
-                "a carriage return (CR) stands at the end: lines end with LF alone".to_string()
-            }
+            b"\r" => "the line ends with CR LF: a carriage return (CR) stands in front of its LF"
+                .to_string(),
+            b" " => format!("a space stands at the end, behind {behind}"),
             _ if rest.iter().all(|byte| *byte == b' ') => {
-                format!("no space stands at the end, behind {behind}")
+                format!("{} spaces stand at the end, behind {behind}", rest.len())
             }
             _ => format!("this stands behind {behind}, where the line is over"),
         };
@@ -84,7 +87,7 @@ impl<'a> Reader<'a> {
             return Err(self.no_number());
         }
         if digits > 1 && self.rest()[0] == b'0' {
-            return Err(self.flaw(digits, "a number has no leading zeros"));
+            return Err(self.flaw(digits, LEADING_ZERO));
         }
         let mark = self.at..self.at + digits;
         self.at = mark.end;
@@ -97,9 +100,9 @@ impl<'a> Reader<'a> {
 
     fn no_number(&self) -> Flaw {
         match self.rest().first() {
-            Some(b'-' | b'+') => self.flaw(1, "a number has no sign here"),
+            Some(b'-' | b'+') => self.flaw(1, "a sign stands in front of the number"),
             Some(b' ') => self.flaw(1, "a space stands where a number is due"),
-            Some(_) => self.flaw(1, "a number is due here"),
+            Some(_) => self.flaw(1, "this is no number, and one is due here"),
             None => self.flaw(0, "the line ends where a number is due"),
         }
     }

@@ -3,7 +3,7 @@
 use crate::names::{Kind, Names};
 use crate::paint::{Paint, Tone};
 use crate::reasons::{Reasons, Relation};
-use pilgonca::{Answers, Representation, Sheet, Type, TypeInfo};
+use pilgonca::{Comparison, Representation, Sheet, Type, TypeInfo};
 
 /// The strongest relation between a type T and a type S that is to become T.
 #[derive(Clone, Copy, PartialEq, Eq, Debug)]
@@ -24,12 +24,12 @@ pub const ALL: [Strongest; 5] = [
 ];
 
 impl Strongest {
-    pub fn of(answers: &Answers) -> Strongest {
+    pub fn of(answers: &Comparison) -> Strongest {
         match answers {
-            Answers { subtype: true, .. } => Strongest::Subtype,
-            Answers { strict: true, .. } => Strongest::Strict,
-            Answers { loose: true, .. } => Strongest::Loose,
-            Answers { free: true, .. } => Strongest::Free,
+            Comparison { subtype: true, .. } => Strongest::Subtype,
+            Comparison { strict: true, .. } => Strongest::Strict,
+            Comparison { loose: true, .. } => Strongest::Loose,
+            Comparison { free: true, .. } => Strongest::Free,
             _ => Strongest::None,
         }
     }
@@ -70,43 +70,79 @@ impl Strongest {
     }
 }
 
+/// The mark of a pair whose T has own, where the relation is not none.
+pub const OWN_MARK: char = '*';
 pub const HEADING: &str = "The strongest relation of a type T (row) from a type S (column):";
 pub const OWN: &str =
     "A T with own can be had from every S but one with none, by the owner of an object that has what T calls and whose category fits.";
 
-/// The four answers for T and S in words, why those that are no are so, and what they come to.
-pub fn compared(
-    sheet: &Sheet,
-    [t, s]: [&TypeInfo; 2],
-    answers: &Answers,
-    names: &Names,
-    paint: Paint,
-) -> String {
-    let words = |info: &TypeInfo| names.words(Kind::Type, info.number.0);
-    let rows = [
-        ("subtype", answers.subtype, Relation::Subtype),
-        ("strict", answers.strict, Relation::Strict),
-        ("loose", answers.loose, Relation::Loose),
-        ("free", answers.free, Relation::Free),
-    ];
-    let reasons = Reasons::of(sheet);
-    let mut text = format!("T is {}, S is {}\n\n", words(t), words(s));
-    for (name, answer, relation) in rows {
-        let (answer, meaning) = match answer {
-            true => (paint.of(Tone::Good, "yes"), holds(relation, t).to_string()),
-            false => {
-                let reason = reasons.find(relation, t.number, s.number);
-                let reason = reason.map(|reason| reason.words(names, ["T", "S"]));
-                (paint.of(Tone::Bad, "no "), reason.unwrap_or_default())
-            }
-        };
-        text += &format!("  {name:7}  {answer}  {meaning}\n");
+/// A comparison: the four answers, why those that are no are so, and what they come to.
+pub struct Compared {
+    pub from: Type,
+    pub to: Type,
+    pub becomes: bool,
+    pub rows: Vec<Row>,
+    pub conclusion: String,
+}
+
+/// One of the four answers.
+pub struct Row {
+    pub name: &'static str,
+    pub holds: bool,
+    /// What it means, or why it does not hold.
+    pub words: String,
+}
+
+impl Compared {
+    pub fn of(
+        sheet: &Sheet,
+        [t, s]: [&TypeInfo; 2],
+        answers: &Comparison,
+        names: &Names,
+    ) -> Compared {
+        let reasons = Reasons::of(sheet);
+        let rows = [
+            ("subtype", answers.subtype, Relation::Subtype),
+            ("strict", answers.strict, Relation::Strict),
+            ("loose", answers.loose, Relation::Loose),
+            ("free", answers.free, Relation::Free),
+        ];
+        let rows = rows.map(|(name, holds, relation)| {
+            let words = match holds {
+                true => means(relation, t).to_string(),
+                false => {
+                    let reason = reasons.find(relation, t.number, s.number);
+                    reason.map_or(String::new(), |reason| reason.words(names, ["T", "S"]))
+                }
+            };
+            Row { name, holds, words }
+        });
+        Compared {
+            from: s.number,
+            to: t.number,
+            becomes: becomes(t, s, answers),
+            rows: rows.into(),
+            conclusion: conclusion(t, s, answers, names),
+        }
     }
-    format!("{text}\n{}\n", conclusion(t, s, answers, names))
+
+    pub fn words(&self, names: &Names, paint: Paint) -> String {
+        let words = |number: Type| names.words(Kind::Type, number.0);
+        let (from, to) = (words(self.from), words(self.to));
+        let mut text = format!("from  S is {from}\nto    T is {to}\n\n");
+        for Row { name, holds, words } in &self.rows {
+            let answer = match holds {
+                true => paint.of(Tone::Good, "yes"),
+                false => paint.of(Tone::Bad, "no "),
+            };
+            text += &format!("  {name:7}  {answer}  {words}\n");
+        }
+        format!("{text}\n{}\n", self.conclusion)
+    }
 }
 
 /// What a relation means where it holds (R8 to R11).
-fn holds(relation: Relation, t: &TypeInfo) -> &'static str {
+fn means(relation: Relation, t: &TypeInfo) -> &'static str {
     let number = t.representation != Representation::Ref;
     match relation {
         Relation::Subtype | Relation::SubtypeOwnAside => "S passes as T as it is",
@@ -120,8 +156,17 @@ fn holds(relation: Relation, t: &TypeInfo) -> &'static str {
     }
 }
 
+/// Whether a value of type S can become one of type T, by the types (X1, C15).
+pub fn becomes(t: &TypeInfo, s: &TypeInfo, answers: &Comparison) -> bool {
+    let is_ref = |info: &TypeInfo| info.representation == Representation::Ref;
+    match is_ref(t) && is_ref(s) && !t.own {
+        true => answers.loose,
+        false => answers.free,
+    }
+}
+
 /// What becomes of a value of type S where T is due.
-fn conclusion(t: &TypeInfo, s: &TypeInfo, answers: &Answers, names: &Names) -> String {
+pub fn conclusion(t: &TypeInfo, s: &TypeInfo, answers: &Comparison, names: &Names) -> String {
     let words = |number: Type| names.words(Kind::Type, number.0);
     let (to, from) = (words(t.number), words(s.number));
     if t.representation != Representation::Ref || s.representation != Representation::Ref {

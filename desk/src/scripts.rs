@@ -1,4 +1,5 @@
-//! Scripts: the commands `desk run` and `desk audit`, and what they follow a script with. Without the feature `visits` there is `no_scripts` instead.
+//! Scripts and saved states: the commands `desk run` and `desk audit`, and what they follow a script with. Without the feature `visits` there is `no_scripts`
+//! instead.
 
 mod audit;
 mod calls;
@@ -6,56 +7,117 @@ pub mod follow;
 pub mod requests;
 mod run_picture;
 mod run_plan;
+mod run_tree;
+mod run_words;
 mod told;
 pub mod trails;
 pub mod trial;
 pub mod why;
 
 use crate::args::Asked;
-use crate::commands::{short, Desk, End, Stop};
-use crate::diagnosis::block;
+use crate::commands::{saved_state, short, Desk, End, Stop};
+use crate::diagnosis::Diagnosis;
 use crate::explain::refused;
-use crate::input;
+use crate::input::{self, is_saved};
 use crate::names::Kind;
 use crate::paint::Tone;
-use audit::{audit, Question};
-use follow::{follow, output, Run};
-use pilgonca::raw;
+use crate::problem::Problem;
+use audit::{audit, Answer, Question};
+use follow::{follow, malformed, output, Malformed, Run};
+use pilgonca::{raw, Sheet, Visit};
 use requests::{right, split};
 use std::path::Path;
 use told::Teller;
 
+/// Told of a file that begins neither as a sheet nor as a saved state.
+const NO_MARK: &str = "It is no saved state either: one begins with the bytes PILGONCA.";
+
+/// A state cannot say that the script was cut short before it.
+fn not_saved(file: &Path) -> String {
+    let file = input::name(file);
+    format!("The script is cut short, so the state is not saved: {file} is not written.")
+}
+
+/// The sheet of a script, or all of a text with no requests in it.
+fn sheet_of(bytes: &[u8]) -> &[u8] {
+    match split(bytes) {
+        (sheet, requests) if requests.starts_with(b"do=") => sheet,
+        _ => bytes,
+    }
+}
+
+/// Whether a text is a sheet that is accepted, or a script with such a sheet and nothing but requests behind it, and not too long. No request is put to the
+/// core: their form is read here, as `follow` reads it.
+pub fn is_right(bytes: &[u8]) -> bool {
+    let sheet = sheet_of(bytes);
+    let is_script = || bytes.len() <= raw::MAX_SCRIPT && malformed(bytes).is_none();
+    Sheet::read(sheet).is_ok() && (sheet == bytes || is_script())
+}
+
+/// P1.
+fn short_enough(path: &Path, bytes: &[u8]) -> Result<(), String> {
+    let (most, length) = (raw::MAX_SCRIPT, bytes.len());
+    if length <= most {
+        return Ok(());
+    }
+    let file = input::name(path);
+    Err(format!(
+        "{file}: refused with 2: a script has at most {most} bytes, and this has {length}"
+    ))
+}
+
 impl Desk {
-    pub fn run(&self, path: &Path, svg: Option<&Path>) -> Result<String, Stop> {
+    pub fn run(
+        &self,
+        path: &Path,
+        svg: Option<&Path>,
+        save: Option<&Path>,
+    ) -> Result<String, Stop> {
         let bytes = input::read(path)?;
         let run = self.followed(path, &bytes)?;
-        if let Some(file) = svg {
-            let title = format!("References at the end of {}", short(path));
-            let picture = run_picture::picture(&title, &run, &self.names).map_err(refused)?;
-            input::write(file, &picture)?;
-        }
+        let drawn = self.drawn(path, &run, svg)?;
         let teller = Teller {
             run: &run,
             names: &self.names,
             paint: self.paints.out,
         };
-        self.ended(path, &run, teller.told())
+        let printed = drawn.unwrap_or_else(|| self.shown(|| teller.document(), || teller.told()));
+        let ended = self.ended(path, &run, printed);
+        match (save, ended) {
+            (Some(file), Ok(printed)) => {
+                input::write(file, run.visit.save())?;
+                Ok(printed)
+            }
+            (Some(file), Err(stop)) => Err(stop.noted(&not_saved(file))),
+            (None, ended) => ended,
+        }
+    }
+
+    /// The picture, where it is for standard output.
+    fn drawn(&self, path: &Path, run: &Run, svg: Option<&Path>) -> Result<Option<String>, Stop> {
+        let Some(file) = svg else {
+            return Ok(None);
+        };
+        let title = format!("References at the end of {}", short(path));
+        let picture = run_picture::picture(&title, run, &self.names).map_err(refused)?;
+        Ok(input::put(file, picture)?)
     }
 
     pub fn audit(&self, path: &Path, asked: &Asked) -> Result<String, Stop> {
         let bytes = input::read(path)?;
-        let run = self.followed(path, &bytes)?;
+        let run = self.audited(path, &bytes)?;
         let question = self.question(asked, &run)?;
-        let audited = audit(&run, question, &self.names, self.paints.out).map_err(refused)?;
+        let audited = audit(&run, question, &self.names, self.paints.out, self.json);
+        let audited = audited.map_err(refused)?;
         let ended = self.ended(path, &run, audited.text);
-        match (question.is_asked(), audited.yes, ended) {
-            (true, false, Ok(printed)) => Err(Stop {
+        match (question.is_asked(), audited.answer, ended) {
+            (true, Answer::No, Ok(printed)) => Err(Stop::no(printed)),
+            (true, Answer::Untold, Ok(printed)) => Err(Stop {
                 printed,
-                problem: String::new(),
-                end: End::No,
+                ..Stop::from(format!("{}: the state does not tell", input::name(path)))
             }),
             // what was found before the line at fault is there
-            (true, true, Err(stop)) => Err(Stop {
+            (true, Answer::Yes, Err(stop)) => Err(Stop {
                 end: End::Yes,
                 ..stop
             }),
@@ -77,29 +139,45 @@ impl Desk {
                 .ok_or_else(|| format!("there is no {kind} {number}: the sheet has 0 to {most}"))?;
             Ok(Some(found))
         };
-        let usage = |why: String| Stop {
-            printed: String::new(),
-            problem: why + "\n",
-            end: End::BadUsage,
-        };
         Ok(Question {
-            subject: find(Kind::Subject, &asked.subject, sheet.subjects()).map_err(usage)?,
-            method: find(Kind::Method, &asked.method, sheet.methods()).map_err(usage)?,
+            subject: find(Kind::Subject, &asked.subject, sheet.subjects()).map_err(Stop::usage)?,
+            method: find(Kind::Method, &asked.method, sheet.methods()).map_err(Stop::usage)?,
             calls: asked.calls,
         })
+    }
+
+    /// What an audit is of: a saved state, known by its mark, or a script.
+    fn audited<'a>(&self, path: &Path, bytes: &'a [u8]) -> Result<Run<'a>, Stop> {
+        if !is_saved(bytes) {
+            let neither = !bytes.starts_with(b"guide=");
+            let run = self.followed(path, bytes);
+            return run.map_err(|stop| if neither { stop.noted(NO_MARK) } else { stop });
+        }
+        let visit = Visit::from_saved(bytes);
+        let visit = visit.map_err(|refused| format!("{}: {refused}", input::name(path)))?;
+        self.names.fit(&visit.sheet())?;
+        Ok(Run::begun(visit, true))
+    }
+
+    /// What keeps a text from being right.
+    pub fn right(&self, path: &Path, bytes: &[u8]) -> Result<(), Stop> {
+        let sheet = sheet_of(bytes);
+        self.accepted_unnamed(path, sheet)?;
+        if sheet == bytes {
+            return Ok(());
+        }
+        short_enough(path, bytes)?;
+        malformed(bytes).map_or(Ok(()), |line| Err(self.no_request(path, &line)))
     }
 
     /// A script that was run here and by the core's own run, with one outcome.
     fn followed<'a>(&self, path: &Path, bytes: &'a [u8]) -> Result<Run<'a>, Stop> {
         let file = input::name(path);
-        if bytes.len() > raw::MAX_SCRIPT {
-            let (most, length) = (raw::MAX_SCRIPT, bytes.len());
-            return Err(format!(
-                "{file}: refused with 2: a script has at most {most} bytes, and this has {length}"
-            )
-            .into());
+        if is_saved(bytes) {
+            return Err(saved_state(path, "script"));
         }
-        let run = follow(bytes).map_err(|refused| self.refused(path, split(bytes).0, &refused))?;
+        short_enough(path, bytes)?;
+        let run = follow(bytes).map_err(|refused| self.refused(path, bytes, &refused))?;
         if output(&run).as_bytes() != pilgonca::script(bytes) {
             return Err(format!("{file}: desk read the requests otherwise than the core did; this is an error in desk").into());
         }
@@ -108,26 +186,27 @@ impl Desk {
     }
 
     /// What was printed, and the line that ended the run if one did.
-    fn ended(&self, path: &Path, run: &Run, text: String) -> Result<String, Stop> {
-        let Some(malformed) = &run.malformed else {
-            return Ok(text);
-        };
+    fn ended(&self, path: &Path, run: &Run, printed: String) -> Result<String, Stop> {
+        match &run.malformed {
+            None => Ok(printed),
+            Some(line) => Err(Stop {
+                printed,
+                ..self.no_request(path, line)
+            }),
+        }
+    }
+
+    /// A line is no request.
+    fn no_request(&self, path: &Path, line: &Malformed) -> Stop {
         let paint = self.paints.error;
+        let found = Diagnosis {
+            line_number: line.line_number,
+            line: line.line,
+            flaw: line.flaw.clone(),
+            right: right(line.line),
+        };
         let how = paint.of(Tone::Bad, "refused with 1");
-        let block = block(
-            malformed.line_number,
-            malformed.line,
-            &malformed.flaw,
-            &right(malformed.line),
-            paint,
-        );
-        Err(Stop {
-            printed: text,
-            end: End::BadInput,
-            problem: format!(
-                "{}: a line is {how}, and the run ends there\n{block}",
-                input::name(path)
-            ),
-        })
+        let words = format!("a line is {how}, and the run ends there");
+        Stop::refused(Problem::at(words, found.at(&input::name(path), 1, paint)))
     }
 }

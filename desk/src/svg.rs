@@ -11,6 +11,7 @@ text { font-family: Helvetica, Arial, 'DejaVu Sans', sans-serif; font-size: 12px
 .note { fill: #5a6775; }
 .strong { font-weight: bold; }
 .light { fill: #ffffff; font-weight: bold; }
+.chip { font-size: 11px; }
 .middle { text-anchor: middle; }
 .right { text-anchor: end; }
 .grid { stroke: #d5dce4; stroke-width: 1; }
@@ -22,7 +23,14 @@ text { font-family: Helvetica, Arial, 'DejaVu Sans', sans-serif; font-size: 12px
 .loose { fill: #ffffff; stroke: #3f7cac; stroke-width: 2; }
 .free { stroke: #8593a1; stroke-width: 2; }
 .cell { fill: #ffffff; stroke: #3f7cac; stroke-width: 1.5; }
-.band { fill: #1f3a5f; }
+.owned { stroke: #8a5a0b; stroke-width: 3; }
+.own { fill: #fdf5e3; stroke: #8a5a0b; stroke-width: 2.5; }
+.stripe { fill: #fdf5e3; }
+.pair { fill: #ffffff; fill-opacity: 0; }
+.call { fill: #1f3a5f; stroke: #1f3a5f; stroke-width: 1.5; }
+.come { fill: #ffffff; stroke: #1f3a5f; stroke-width: 1.5; }
+.open { fill: #ffffff; stroke: #1f3a5f; stroke-width: 1.5; stroke-dasharray: 6 3; }
+.only { fill: #ffffff; stroke: #8593a1; stroke-width: 1; stroke-dasharray: 2 2; }
 .adapter { fill: #fdf5e3; stroke: #a8731a; stroke-width: 1.5; stroke-dasharray: 5 3; }
 .object { fill: #dfe9f2; stroke: #1f3a5f; stroke-width: 2.5; }
 .way { fill: none; stroke: #5a6775; stroke-width: 1.5; }
@@ -54,7 +62,8 @@ impl Canvas {
     }
 
     pub fn rect(&mut self, class: &str, (x, y): (usize, usize), (width, height): (usize, usize)) {
-        self.add(format_args!("<rect class=\"{class}\" x=\"{x}\" y=\"{y}\" width=\"{width}\" height=\"{height}\" rx=\"3\"/>"));
+        let round = if height < 10 { 0 } else { 3 };
+        self.add(format_args!("<rect class=\"{class}\" x=\"{x}\" y=\"{y}\" width=\"{width}\" height=\"{height}\" rx=\"{round}\"/>"));
     }
 
     pub fn circle(&mut self, class: &str, (x, y): (usize, usize), radius: usize) {
@@ -67,6 +76,24 @@ impl Canvas {
         self.add(format_args!(
             "<line class=\"{class}\" x1=\"{x}\" y1=\"{y}\" x2=\"{to_x}\" y2=\"{to_y}\"/>"
         ));
+    }
+
+    /// A square that stands on a corner.
+    pub fn diamond(&mut self, class: &str, (x, y): (usize, usize), radius: usize) {
+        let ((left, right), (top, bottom)) = ((x - radius, x + radius), (y - radius, y + radius));
+        self.add(format_args!(
+            "<path class=\"{class}\" d=\"M {left} {y} L {x} {top} L {right} {y} L {x} {bottom} Z\"/>"
+        ));
+    }
+
+    /// What is drawn next, and all together, is told by a tooltip; an empty one is none.
+    pub fn told(&mut self, tooltip: &str, draw: impl FnOnce(&mut Canvas)) {
+        if tooltip.is_empty() {
+            return draw(self);
+        }
+        self.add(format_args!("<g><title>{}</title>", escaped(tooltip)));
+        draw(self);
+        self.add(format_args!("</g>"));
     }
 
     pub fn text(&mut self, class: &str, (x, y): (usize, usize), text: &str) {
@@ -82,6 +109,12 @@ impl Canvas {
         self.add(format_args!(
             "<text transform=\"translate({x} {y}) rotate(-90)\">{text}</text>"
         ));
+    }
+
+    /// Whether something of this class is drawn.
+    #[cfg(feature = "visits")]
+    pub fn has(&self, class: &str) -> bool {
+        self.body.contains(&format!("class=\"{class}\""))
     }
 
     /// An element as it is written.
@@ -126,6 +159,21 @@ pub fn text_width(text: &str, size: usize, bold: bool) -> usize {
     (hundredths * size).div_ceil(100)
 }
 
+/// A text of font size 12 in lines no wider than this, broken between words; a word that is wider has a line of its own.
+#[cfg(feature = "visits")]
+pub fn wrapped(text: &str, width: usize) -> Vec<String> {
+    let mut lines: Vec<String> = Vec::new();
+    for word in text.split(' ') {
+        match lines.last_mut() {
+            Some(line) if text_width(&format!("{line} {word}"), 12, false) <= width => {
+                *line += &format!(" {word}");
+            }
+            _ => lines.push(word.to_string()),
+        }
+    }
+    lines
+}
+
 /// In hundredths of the font size, as in DejaVu Sans, which is wider than most.
 fn letter_width(letter: char) -> usize {
     match letter {
@@ -152,5 +200,16 @@ mod tests {
         assert!(text_width("mm", 12, false) > text_width("il", 12, false));
         assert!(text_width("mm", 12, true) > text_width("mm", 12, false));
         assert_eq!(text_width("", 12, true), 0);
+    }
+
+    #[cfg(feature = "visits")]
+    #[test]
+    fn long_text_is_broken_and_whole() {
+        let text = "3, 5, 7 to 16, an_exceedingly_long_name, 20";
+        let lines = wrapped(text, 60);
+        assert_eq!(lines.join(" "), text);
+        assert_eq!(lines.len(), 4, "{lines:?}");
+        let long = |line: &&String| text_width(line, 12, false) > 60;
+        assert_eq!(lines.iter().filter(long).count(), 1);
     }
 }

@@ -3,6 +3,13 @@
 /// Lines of text are broken here.
 const WIDTH: usize = 110;
 
+/// How the program was called, where a message names one of its commands; ./run sets it.
+pub fn called() -> String {
+    let set = std::env::var("DESK_COMMAND").ok();
+    let set = set.filter(|words| !words.is_empty() && !words.contains(char::is_control));
+    set.unwrap_or_else(|| "desk".to_string())
+}
+
 /// So many of something.
 pub fn plural(count: usize, one: &str) -> String {
     let many = match one {
@@ -24,6 +31,21 @@ pub fn listed(words: impl Iterator<Item = String>) -> String {
         Some((last, [])) => last.clone(),
         Some((last, before)) => format!("{} and {last}", before.join(", ")),
     }
+}
+
+/// Numbers in ascending order, three or more in a row as such: `3, 5, 7 to 16`.
+#[cfg(feature = "visits")]
+pub fn ranges(numbers: &[i64]) -> String {
+    let in_a_row = |one: &i64, next: &i64| *next == *one + 1;
+    let words = numbers.chunk_by(in_a_row).map(|row| match row {
+        [first, _, .., last] => format!("{first} to {last}"),
+        _ => row
+            .iter()
+            .map(i64::to_string)
+            .collect::<Vec<_>>()
+            .join(", "),
+    });
+    words.collect::<Vec<String>>().join(", ")
 }
 
 /// A text behind a heading, broken between words; further lines stand under its first word.
@@ -64,6 +86,13 @@ mod tests {
             [row(&[]), row(&["a"]), row(&["a", "b", "c"])],
             ["", "a", "a, b and c"]
         );
+    }
+
+    #[cfg(feature = "visits")]
+    #[test]
+    fn numbers_in_a_row() {
+        let told = [&[][..], &[4], &[4, 5], &[3, 5, 7, 8, 9, 16], &[0, 1, 2]].map(ranges);
+        assert_eq!(told, ["", "4", "4, 5", "3, 5, 7 to 9, 16", "0 to 2"]);
     }
 
     #[test]

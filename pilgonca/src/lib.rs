@@ -15,15 +15,26 @@
 //! # }
 //! ```
 //!
-//! `Visit` and `script` are the feature `visits`, which is on unless it is turned off: sheets alone need one static library of the four.
+//! # The library first
 //!
-//! A request takes up to half a megabyte of stack (docs/MEASURED.md): the 2 MB that std gives a thread do.
+//! The package links static libraries that are made of the proved crates, for x86-64 Linux; cargo cannot make them. In a clone of the repository `tools/libraries` proves and
+//! writes them, into target/staticlib, where the package finds them. Elsewhere, as for a dependency by git: `tools/install PREFIX` in a clone, and
+//! `PILGONCA_LIB_DIR=PREFIX/lib` in the environment of cargo, an absolute path. Both need the toolchain `rt`, once.
+//!
+//! `Visit` and `script` are the feature `visits`, which is on unless it is turned off: sheets alone need two static libraries of the five.
+//!
+//! # Stack
+//!
+//! The deepest request takes 160 KB of stack (docs/MEASURED.md): the 2 MB that std gives a thread do.
+#![deny(missing_docs)]
 #![deny(unsafe_code)]
 
 mod numbers;
 pub mod raw;
 mod records;
 mod refusal;
+#[cfg(feature = "visits")]
+pub mod saved;
 mod sheet;
 #[cfg(feature = "visits")]
 mod visit;
@@ -31,9 +42,14 @@ mod visit;
 pub use numbers::{Call, Cell, Method, Place, Subject, Type};
 pub use records::{Key, Kind, MethodInfo, Representation, Signature, TypeInfo};
 pub use refusal::{Refusal, SheetRefused};
-pub use sheet::{Answers, Pairs, Sheet};
 #[cfg(feature = "visits")]
-pub use visit::{Answered, CallInfo, Called, CellInfo, Held, PlaceInfo, PlaceKind, Visit, script};
+pub use saved::SavedRefused;
+pub use sheet::{Comparison, Pairs, Sheet};
+#[cfg(feature = "visits")]
+pub use visit::{script, Answered, CallInfo, Called, CellInfo, Held, PlaceInfo, PlaceKind, Visit};
+
+/// The version of the whole, as `PILGONCA_VERSION` of the C header.
+pub const VERSION: &str = env!("CARGO_PKG_VERSION");
 
 /// The first sheet of docs/GUIDE.md, for examples: two subjects, the methods read (0) and mark (1), and the class 1.
 pub const EXAMPLE: &[u8] = include_bytes!("../../examples/guide.sheet");

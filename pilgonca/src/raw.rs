@@ -15,19 +15,26 @@ pub use functions::tools;
 pub use functions::{compare, pairs, read, write};
 #[cfg(feature = "visits")]
 pub use state::{
-    CALL_RECORD, CELL_RECORD, Calls, Cells, MAX_CALLS, MAX_CELLS, MAX_PLACES, PLACE_RECORD, Places,
-    SCRIPT_LONGER, State, StateCounts, StateMut, StateRef, Values,
+    Calls, Cells, Places, State, StateCounts, StateMut, StateRef, Values, CALL_RECORD, CELL_RECORD,
+    MAX_CALLS, MAX_CELLS, MAX_PLACES, PLACE_RECORD, SCRIPT_LONGER,
 };
 
-/// Limits (T1 to T5).
+/// The most subjects (T1).
 pub const MAX_SUBJECTS: usize = 16;
+/// The most methods (T2).
 pub const MAX_METHODS: usize = 16;
+/// The most arguments of a signature (T13).
+pub const MAX_ARGUMENTS: usize = 4;
+/// The most categories, 0 not counted (T3).
 pub const MAX_CATEGORIES: usize = 31;
+/// The most types of a sheet (T4).
 pub const MAX_SHEET_TYPES: usize = 48;
+/// The most types, derived ones included (T5).
 pub const MAX_TYPES: usize = 128;
 
-/// Bytes of one record (B1, B11).
+/// Bytes of a type's record (B1).
 pub const TYPE_RECORD: usize = 128;
+/// Bytes of the links of a category (B11).
 pub const LINK_RECORD: usize = 3;
 
 /// The longest input that the programs serve (P1).
@@ -38,10 +45,13 @@ pub const MAX_TEXT: usize = "guide=1\nsubjects=16\nmethods=16\ncats=31\ntypes=48
     .len()
     + MAX_CATEGORIES * "under=29,30\n".len()
     + MAX_SHEET_TYPES * "type=47\nrep=ref\ncat=31\nown=yes\n".len()
-    + MAX_SHEET_TYPES * MAX_METHODS * "m=optional(47,47)47\n".len();
+    + MAX_SHEET_TYPES
+        * MAX_METHODS
+        * ("m=optional(47)47\n".len() + (MAX_ARGUMENTS - 1) * ",47".len());
 
-/// The records of types, and of a category's links.
+/// The records of types (B1 to B10).
 pub type Types = [u8; MAX_TYPES * TYPE_RECORD];
+/// The broader categories of each category (B11).
 pub type Links = [u8; (MAX_CATEGORIES + 1) * LINK_RECORD];
 
 /// The answers at (T,S) in byte T * 48 + S (B24).
@@ -53,23 +63,32 @@ pub type TableCounts = [usize; 5];
 /// A table that is kept in one piece.
 #[derive(Clone, PartialEq, Eq)]
 pub struct Table {
+    /// The types.
     pub types: Types,
+    /// The broader categories of each category.
     pub links: Links,
+    /// How many there are of each; what is behind a count may hold anything.
     pub counts: TableCounts,
 }
 
 /// A table lent to be read.
 #[derive(Clone, Copy)]
 pub struct TableRef<'a> {
+    /// As in [`Table`].
     pub types: &'a Types,
+    /// As in [`Table`].
     pub links: &'a Links,
+    /// As in [`Table`].
     pub counts: &'a TableCounts,
 }
 
 /// A table lent to be stored in.
 pub struct TableMut<'a> {
+    /// As in [`Table`].
     pub types: &'a mut Types,
+    /// As in [`Table`].
     pub links: &'a mut Links,
+    /// As in [`Table`].
     pub counts: &'a mut TableCounts,
 }
 
@@ -84,6 +103,7 @@ impl Default for Table {
 }
 
 impl Table {
+    /// Lends it to be read.
     pub fn lend(&self) -> TableRef<'_> {
         TableRef {
             types: &self.types,
@@ -92,6 +112,7 @@ impl Table {
         }
     }
 
+    /// Lends it to be stored in.
     pub fn lend_mut(&mut self) -> TableMut<'_> {
         TableMut {
             types: &mut self.types,

@@ -6,51 +6,72 @@ use crate::raw::TYPE_RECORD;
 /// What values of a type are (T8).
 #[derive(Clone, Copy, PartialEq, Eq, Debug)]
 pub enum Representation {
+    /// A reference.
     Ref,
+    /// A signed number of 32 bits.
     W32,
+    /// A signed number of 64 bits.
     W64,
 }
 
 /// How a type was derived (T17).
 #[derive(Clone, Copy, PartialEq, Eq, Hash, Debug)]
 pub enum Kind {
+    /// What is left of the left type where a reference comes from the right one (D1, D2).
     Sub,
+    /// The same of a type that stands against the direction of a signature (D3, D4).
     Sup,
+    /// The type of an adapter: what the left type permits of what the right one has (D7, D8).
     Closed,
 }
 
 /// What a type was derived by.
 #[derive(Clone, Copy, PartialEq, Eq, Debug)]
 pub struct Key {
+    /// How.
     pub kind: Kind,
+    /// The first of the two types that it was derived from.
     pub left: Type,
+    /// The second.
     pub right: Type,
 }
 
 /// The types of a method's arguments, and of its answer if it has one.
 #[derive(Clone, PartialEq, Eq, Debug)]
 pub struct Signature {
+    /// The types of the arguments, at most two.
     pub arguments: Vec<Type>,
+    /// The type of the answer.
     pub answer: Option<Type>,
 }
 
 /// What a type says of a method (T10, T12).
 #[derive(Clone, PartialEq, Eq, Debug)]
 pub enum MethodInfo {
+    /// Nothing is said, and nothing may be done.
     Denied,
+    /// The object does not have it.
     Unavail,
+    /// The object may have it; it is called by way of a type in which it is avail.
     Optional(Signature),
+    /// The object has it, and it may be called.
     Avail(Signature),
 }
 
 /// A type: of the sheet, or derived, and then it has a key. A number type has no methods.
 #[derive(Clone, PartialEq, Eq, Debug)]
 pub struct TypeInfo {
+    /// Its number.
     pub number: Type,
+    /// What its values are.
     pub representation: Representation,
+    /// Its category, 0 for none.
     pub category: usize,
+    /// Whether none but the owner of the object may hold it.
     pub own: bool,
+    /// What it says of each method, by number.
     pub methods: Vec<MethodInfo>,
+    /// What it was derived by.
     pub key: Option<Key>,
 }
 

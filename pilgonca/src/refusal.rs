@@ -3,28 +3,42 @@
 use std::error::Error;
 use std::fmt;
 
-/// Why something is refused: the first test that failed, numbered from 1 in this order (docs/SPEC.md, Refusals).
-#[derive(Clone, Copy, PartialEq, Eq, PartialOrd, Ord, Hash, Debug)]
-pub enum Refusal {
-    Form,
-    OutOfRange,
-    NotBelow,
-    ShortBuffer,
-    UnknownSubject,
-    NotHeld,
-    UnknownType,
-    Unrelated,
-    NotOwner,
-    NotStrict,
-    TypesFull,
-    PlacesFull,
-    CellsFull,
-    NotCallable,
-    WrongValues,
-    TooWide,
-    AnsweredAlready,
-    CallsFull,
-    LaterLayer,
+/// One list for the names, their order and the words, which are the variants' documentation too. tools/refusals holds it against docs/refusals.txt.
+macro_rules! refusals {
+    ($($name:ident: $words:literal,)*) => {
+        /// Why something is refused: the first test that failed, numbered from 1 in this order (docs/refusals.txt).
+        /// More will come, so a match has an arm for the rest.
+        #[non_exhaustive]
+        #[derive(Clone, Copy, PartialEq, Eq, PartialOrd, Ord, Hash, Debug)]
+        pub enum Refusal {
+            $(#[doc = $words] $name,)*
+        }
+
+        const WORDS: &[&str] = &[$($words,)*];
+        const ALL: [Refusal; WORDS.len()] = [$(Refusal::$name,)*];
+    };
+}
+
+refusals! {
+    Form: "the line is not of the form that is due there",
+    OutOfRange: "a number is outside its range, the input is too long, or the table or state handed in is unsound",
+    NotBelow: "a broader category does not come before its own, or an own type stands in a signature",
+    ShortBuffer: "the buffer is too short",
+    UnknownSubject: "there is no such subject",
+    NotHeld: "the subject does not hold the cell, or does not own what was called",
+    UnknownType: "there is no such type, or it is not of the kind needed",
+    Unrelated: "the types do not go together",
+    NotOwner: "the type is own and the receiver does not own the object",
+    NotStrict: "what the reference leads to lacks a method or is of another category",
+    TypesFull: "no type number is free",
+    PlacesFull: "no place is free",
+    CellsFull: "no cell is free",
+    NotCallable: "the method cannot be called by the type of the cell",
+    WrongValues: "the arguments or the answer are not what the signature asks for",
+    TooWide: "the number does not fit 32 bits",
+    AnsweredAlready: "the call is answered already",
+    CallsFull: "no call is free",
+    LaterLayer: "a value fails at a layer behind the first of the call",
 }
 
 impl Refusal {
@@ -34,27 +48,7 @@ impl Refusal {
     /// use pilgonca::Refusal;
     /// assert!(Refusal::ALL.iter().zip(1..).all(|(refusal, number)| refusal.number() == number));
     /// ```
-    pub const ALL: [Refusal; 19] = [
-        Refusal::Form,
-        Refusal::OutOfRange,
-        Refusal::NotBelow,
-        Refusal::ShortBuffer,
-        Refusal::UnknownSubject,
-        Refusal::NotHeld,
-        Refusal::UnknownType,
-        Refusal::Unrelated,
-        Refusal::NotOwner,
-        Refusal::NotStrict,
-        Refusal::TypesFull,
-        Refusal::PlacesFull,
-        Refusal::CellsFull,
-        Refusal::NotCallable,
-        Refusal::WrongValues,
-        Refusal::TooWide,
-        Refusal::AnsweredAlready,
-        Refusal::CallsFull,
-        Refusal::LaterLayer,
-    ];
+    pub const ALL: [Refusal; WORDS.len()] = ALL;
 
     /// Its number.
     ///
@@ -86,37 +80,7 @@ impl Refusal {
     }
 
     fn words(self) -> &'static str {
-        match self {
-            Refusal::Form => "the line is not of the form that is due there",
-            Refusal::OutOfRange => {
-                "a number is outside its range, the input is too long, or the table or state handed in is unsound"
-            }
-            Refusal::NotBelow => {
-                "a broader category does not come before its own, or an own type stands in a signature"
-            }
-            Refusal::ShortBuffer => "the buffer is too short",
-            Refusal::UnknownSubject => "there is no such subject",
-            Refusal::NotHeld => {
-                "the subject does not hold the cell, or does not own what was called"
-            }
-            Refusal::UnknownType => "there is no such type, or it is not of the kind needed",
-            Refusal::Unrelated => "the types do not go together",
-            Refusal::NotOwner => "the type is own and the receiver does not own the object",
-            Refusal::NotStrict => {
-                "what the reference leads to lacks a method or is of another category"
-            }
-            Refusal::TypesFull => "no type number is free",
-            Refusal::PlacesFull => "no place is free",
-            Refusal::CellsFull => "no cell is free",
-            Refusal::NotCallable => "the method cannot be called by the type of the cell",
-            Refusal::WrongValues => {
-                "the arguments or the answer are not what the signature asks for"
-            }
-            Refusal::TooWide => "the number does not fit 32 bits",
-            Refusal::AnsweredAlready => "the call is answered already",
-            Refusal::CallsFull => "no call is free",
-            Refusal::LaterLayer => "a value fails at a layer behind the first of the call",
-        }
+        WORDS[self as usize]
     }
 }
 
@@ -136,7 +100,9 @@ impl Error for Refusal {}
 /// A sheet that is refused: why, and the offset of the first byte of the line at fault (S31).
 #[derive(Clone, Copy, PartialEq, Eq, Debug)]
 pub struct SheetRefused {
+    /// Why: 1, 2 or 3.
     pub refusal: Refusal,
+    /// Where the line begins, in bytes from 0.
     pub offset: usize,
 }
 

@@ -1,10 +1,10 @@
 //! A table of types: of a sheet's text, or of a visit.
 
-use crate::numbers::{Type, below};
-use crate::raw::{self, LINK_RECORD, MAX_SHEET_TYPES, MAX_TEXT, PairTable, Table};
+use crate::numbers::{below, Type};
+use crate::raw::{self, PairTable, Table, LINK_RECORD, MAX_SHEET_TYPES, MAX_TEXT};
 #[cfg(feature = "tools")]
-use crate::records::{Kind, numbered};
-use crate::records::{TypeInfo, type_info};
+use crate::records::{numbered, Kind};
+use crate::records::{type_info, TypeInfo};
 use crate::refusal::{Refusal, SheetRefused};
 use std::fmt;
 
@@ -16,17 +16,21 @@ pub struct Sheet {
 
 /// Which of the four relations hold between T and S: S is a subtype of T; T strictly, loosely, freely from S (R2).
 #[derive(Clone, Copy, PartialEq, Eq, Debug)]
-pub struct Answers {
+pub struct Comparison {
+    /// S passes as T as it is (R8).
     pub subtype: bool,
+    /// S has every method that T calls, and its category fits (R9).
     pub strict: bool,
+    /// S shows every method that T calls (R10).
     pub loose: bool,
+    /// The signatures that both show agree (R11).
     pub free: bool,
 }
 
-impl Answers {
+impl Comparison {
     /// From the sum that stands for them (B24).
-    fn of_sum(sum: usize) -> Answers {
-        Answers {
+    fn of_sum(sum: usize) -> Comparison {
+        Comparison {
             subtype: sum & 1 != 0,
             strict: sum & 2 != 0,
             loose: sum & 4 != 0,
@@ -62,10 +66,10 @@ impl Pairs {
     /// assert!(!pairs.at(Type(5), Type(2)).loose);
     /// assert!(!pairs.at(Type(0), Type(6)).free);
     /// ```
-    pub fn at(&self, t: Type, s: Type) -> Answers {
+    pub fn at(&self, t: Type, s: Type) -> Comparison {
         let pair = below(t.0, self.types).zip(below(s.0, self.types));
         let entry = pair.map_or(0, |(t, s)| self.entries[t * MAX_SHEET_TYPES + s]);
-        Answers::of_sum(usize::from(entry))
+        Comparison::of_sum(usize::from(entry))
     }
 }
 
@@ -122,9 +126,9 @@ impl Sheet {
     /// assert!(sheet.compare(Type(3), Type(1)).unwrap().subtype);
     /// assert_eq!(sheet.compare(Type(3), Type(6)), Err(Refusal::UnknownType));
     /// ```
-    pub fn compare(&self, t: Type, s: Type) -> Result<Answers, Refusal> {
+    pub fn compare(&self, t: Type, s: Type) -> Result<Comparison, Refusal> {
         match raw::compare(self.table.lend(), t.0, s.0).checked_sub(16) {
-            Some(sum) => Ok(Answers::of_sum(sum)),
+            Some(sum) => Ok(Comparison::of_sum(sum)),
             // a number that names no type is all that can be wrong with an accepted table
             None => Err(Refusal::UnknownType),
         }

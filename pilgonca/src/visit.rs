@@ -3,10 +3,11 @@
 mod records;
 mod script;
 
-use crate::numbers::{Call, Cell, Method, Place, Subject, Type, below};
+use crate::numbers::{below, Call, Cell, Method, Place, Subject, Type};
 use crate::raw::{self, State, StateMut, Table, Values};
-use crate::records::{TypeInfo, type_info};
+use crate::records::{type_info, TypeInfo};
 use crate::refusal::{Refusal, SheetRefused};
+use crate::saved::{self, SavedRefused};
 use crate::sheet::Sheet;
 use records::{call_info, cell_info, place_info};
 use std::fmt;
@@ -15,6 +16,9 @@ pub use records::{CallInfo, CellInfo, PlaceInfo, PlaceKind};
 pub use script::script;
 
 /// A state: a table with the cells, places and calls made since it was loaded. A request that is refused changes nothing of it (Q14).
+///
+/// A request's first operand is the subject that asks. Whoever keeps the `Visit` says which that is, by what it knows itself, and never takes it from a module: the core
+/// believes it (docs/HOSTILE.md).
 #[derive(Clone)]
 pub struct Visit {
     state: Box<State>,
@@ -23,7 +27,9 @@ pub struct Visit {
 /// A reference that was made: its cell, and the place that it leads to.
 #[derive(Clone, Copy, PartialEq, Eq, Debug)]
 pub struct Held {
+    /// The new cell.
     pub cell: Cell,
+    /// What it leads to: where its reference came from, or a new adapter in front of that.
     pub place: Place,
 }
 
@@ -36,18 +42,25 @@ impl Held {
     }
 }
 
-/// A call that was made, and how many adapters it goes through.
-#[derive(Clone, Copy, PartialEq, Eq, Debug)]
+/// A call that was made.
+#[derive(Clone, PartialEq, Eq, Debug)]
 pub struct Called {
+    /// The number to answer by.
     pub call: Call,
+    /// How many adapters it goes through.
     pub adapters: usize,
+    /// What the references among the arguments became, in their order: cells of the owner of what was called, who is to be told of them (C17).
+    pub arguments: Vec<Held>,
 }
 
 /// What a caller gets for an answer.
 #[derive(Clone, Copy, PartialEq, Eq, Debug)]
 pub enum Answered {
+    /// A reference, now in a cell of its own.
     Reference(Held),
+    /// A number.
     Number(i64),
+    /// The method has no answer.
     Nothing,
 }
 
@@ -78,12 +91,43 @@ impl Visit {
     /// assert_eq!(Visit::from_state(kept).unwrap_err(), Refusal::OutOfRange);
     /// ```
     pub fn from_state(state: State) -> Result<Visit, Refusal> {
-        let visit = Visit {
-            state: Box::new(state),
-        };
+        Visit::checked(Box::new(state))
+    }
+
+    fn checked(state: Box<State>) -> Result<Visit, Refusal> {
+        let visit = Visit { state };
         // asked of any cell, the answer begins with the check (E11)
         visit.offers(Cell(0), &[])?;
         Ok(visit)
+    }
+
+    /// The bytes of a file that keeps the state ([`saved`]). A state that a sheet began always comes back (Q19).
+    ///
+    /// ```
+    /// use pilgonca::{Subject, Type, Visit, EXAMPLE};
+    /// let mut visit = Visit::load(EXAMPLE).unwrap();
+    /// visit.new_object(Subject(0), Type(1), Type(4)).unwrap();
+    /// let bytes = visit.save();
+    /// assert_eq!(bytes.len(), 8 + 2 + 16 + 6 * 128 + 3 + 3 + 4);
+    /// let again = Visit::from_saved(&bytes).unwrap();
+    /// assert_eq!((again.cells().count(), again.save()), (1, bytes));
+    /// ```
+    pub fn save(&self) -> Vec<u8> {
+        saved::write(&self.state)
+    }
+
+    /// The state of a file. Its bytes are trusted in nothing: what they hold is a state handed in, and the core checks it.
+    ///
+    /// ```
+    /// use pilgonca::{SavedRefused, Visit, EXAMPLE};
+    /// let mut bytes = Visit::load(EXAMPLE).unwrap().save();
+    /// assert_eq!(Visit::from_saved(EXAMPLE).unwrap_err(), SavedRefused::NotMarked);
+    /// bytes[30] ^= 1;
+    /// assert!(matches!(Visit::from_saved(&bytes), Err(SavedRefused::Checksum { .. })));
+    /// ```
+    pub fn from_saved(bytes: &[u8]) -> Result<Visit, SavedRefused> {
+        let state = saved::read(bytes)?;
+        Visit::checked(state).map_err(SavedRefused::State)
     }
 
     /// The bytes of the state, to be kept.
@@ -147,6 +191,7 @@ impl Visit {
     }
 
     /// The subject calls the method through its cell (C). Where the signature has a reference, the argument is the number of a cell that the subject holds.
+    /// What such arguments became is in [`Called::arguments`].
     ///
     /// ```
     /// use pilgonca::{Call, Method, Subject, Type, Visit, EXAMPLE};
@@ -165,10 +210,17 @@ impl Visit {
         let ask = |state: StateMut, values: &mut Values| {
             raw::call(state, subject.0, cell.0, method.0, arguments, values)
         };
+        let before = self.cells().count();
         let [_, call, adapters] = self.request(ask)?;
+        // the owner's, one for each reference (C17)
+        let made = self.cells().skip(before).map(|made| Held {
+            cell: made.number,
+            place: made.place,
+        });
         Ok(Called {
             call: Call(call),
             adapters: usize::try_from(adapters).expect("adapters are counted from 0"),
+            arguments: made.collect(),
         })
     }
 

@@ -1,8 +1,8 @@
 //! What the doc tests have no room for: the guide's sheet, the longest text, full states, references as answers, bytes that were kept.
 
 use pilgonca::{
-    Answered, Call, Cell, EXAMPLE, Method, MethodInfo, PlaceKind, Refusal, Sheet, Subject, Type,
-    Visit, raw,
+    raw, Answered, Call, Cell, Method, MethodInfo, Place, PlaceKind, Refusal, Sheet, Subject, Type,
+    Visit, EXAMPLE,
 };
 use std::error::Error;
 use std::fmt::Write;
@@ -27,6 +27,39 @@ fn the_guide_has_the_sizes() {
     assert!(guide.contains("| 18,720:") && guide.contains("| 16,520 |"));
 }
 
+/// Whoever opens README sees what the core needs: platform, state, stack, code (tests/install.rs measures it), and no heap.
+#[test]
+fn the_first_screen_says_what_it_needs() {
+    let screen: Vec<&str> = include_str!("../../README.md").lines().take(24).collect();
+    let screen = screen.join("\n");
+    let state = format!("{} KB", size_of::<raw::State>().div_ceil(1000));
+    for words in [
+        "x86-64 Linux",
+        &state,
+        "no heap",
+        "160 KB of stack",
+        "45 KB of code",
+        "120 KB",
+        "docs/HOSTILE.md",
+    ] {
+        assert!(screen.contains(words), "{words}");
+    }
+}
+
+/// What the core cannot see stands wherever an integrator looks: who gives the subject, and which cells arguments become.
+#[test]
+fn the_pages_say_who_asks_and_what_arguments_become() {
+    let header = include_str!("../../include/pilgonca.h");
+    let guide = include_str!("../../docs/GUIDE.md");
+    let manual = include_str!("../../docs/pilgonca.3");
+    let hostile = include_str!("../../docs/HOSTILE.md");
+    for page in [header, guide, manual, hostile] {
+        assert!(page.contains("irmware gives") && page.contains("subject"));
+    }
+    assert!(header.contains("become the next cells of the owner of what is called, in their order"));
+    assert!(guide.contains("the next ones, in the order of the arguments"));
+}
+
 /// A sheet with every limit reached and the longest lines that there can be.
 fn longest() -> String {
     let mut text = String::from("guide=1\nsubjects=16\nmethods=16\ncats=31\n");
@@ -36,7 +69,7 @@ fn longest() -> String {
     }
     text.push_str("types=48\n");
     for number in 0..48 {
-        let method = "m=optional(46,46)46\n".repeat(16);
+        let method = "m=optional(46,46,46,46)46\n".repeat(16);
         let own = if number == 46 { "no" } else { "yes" };
         write!(text, "type={number}\nrep=ref\ncat=31\nown={own}\n{method}").expect("a string");
     }
@@ -56,7 +89,7 @@ fn the_longest_text_is_written() {
     assert_eq!(sheet.types().count(), 48);
     let last = sheet.types().last().expect("a type");
     assert!((last.number, last.category, last.own) == (Type(47), 31, true));
-    assert!(matches!(&last.methods[15], MethodInfo::Optional(s) if s.arguments.len() == 2));
+    assert!(matches!(&last.methods[15], MethodInfo::Optional(s) if s.arguments.len() == 4));
 }
 
 /// Requests until they are refused; the last refusal.
@@ -111,6 +144,41 @@ fn an_answer_may_be_a_reference() {
     assert_eq!((got.cell, got.place), (Cell(2), held.place));
     assert_eq!(visit.offers(got.cell, &[Method(0); 9]), Ok(true));
     assert_eq!(visit.offers(Cell(-1), &[]), Ok(false));
+}
+
+/// Two subjects. Method 0 of class 2 takes arguments of these types: 0 is a number, 1 a class.
+fn taker(arguments: &str) -> String {
+    let class = "rep=ref\ncat=0\nown=no\n";
+    let number = "type=0\nrep=w32\ncat=0\n";
+    format!(
+        "guide=1\nsubjects=2\nmethods=1\ncats=0\ntypes=3\n{number}type=1\n{class}m=unavail\ntype=2\n{class}m=avail({arguments})-\nend=sheet\n"
+    )
+}
+
+/// References among the arguments become the next cells, the owner's, in the order of the arguments (C10, C12, C17), and the call says which.
+#[test]
+fn a_call_says_what_its_arguments_became() {
+    let caller = Subject(1);
+    for arguments in ["1,1", "1,0", "0,1", "0,0"] {
+        let mut visit = Visit::load(taker(arguments).as_bytes()).expect("a sheet");
+        let taker = visit.new_object(DESK, Type(2), Type(2)).expect("made");
+        let lent = visit.move_reference(DESK, taker.cell, caller, Type(2));
+        let mut given = || visit.new_object(caller, Type(1), Type(1)).expect("made");
+        let given = [given(), given()];
+        // cells 2 and 3, which are numbers too
+        let values = [given[1].cell.0, given[0].cell.0];
+        let called = visit.call(caller, lent.expect("lent").cell, Method(0), &values);
+        let became = called.expect("called").arguments;
+        let places: Vec<Place> = became.iter().map(|held| held.place).collect();
+        let of_references = arguments.split(',').zip([given[1].place, given[0].place]);
+        let references = of_references.filter(|(t, _)| *t == "1");
+        let due: Vec<Place> = references.map(|(_, place)| place).collect();
+        assert_eq!(places, due, "{arguments}");
+        for (held, number) in became.iter().zip(4..) {
+            assert_eq!(held.cell, Cell(number));
+            assert_eq!(visit.cell_info(held.cell).expect("a cell").holder, DESK);
+        }
+    }
 }
 
 /// A request that is refused leaves every byte; one on a state that is unsound is refused.

@@ -1,28 +1,42 @@
-//! The headers, and examples/visit.c, compile without a warning with the system's C compiler; the example prints what examples/visit.out has.
+//! The headers and the examples in C compile without a warning with the system's C compiler; visit.c prints what examples/visit.out has, and saved.c reads and
+//! writes the saved states that this package does.
 
+use pilgonca::saved::checksum;
+use pilgonca::{Refusal, Subject, Type, Visit, EXAMPLE};
+use std::fs;
 use std::path::{Path, PathBuf};
-use std::process::Command;
+use std::process::{Command, Output};
 
 fn root() -> PathBuf {
     Path::new(env!("CARGO_MANIFEST_DIR")).join("..")
 }
 
-/// The compiler accepts what it is told to compile, and says nothing.
-fn compile(tell: impl FnOnce(&mut Command) -> &mut Command) {
-    let mut cc = Command::new("cc");
-    cc.args(["-std=c99", "-Wall", "-Wextra", "-Werror", "-pedantic"])
-        .arg("-I")
-        .arg(root().join("include"));
-    let output = tell(&mut cc).output().expect("a C compiler, cc");
-    let said = String::from_utf8_lossy(&output.stderr);
-    assert!(output.status.success() && said.is_empty(), "cc: {said}");
+fn example(name: &str) -> PathBuf {
+    root().join("examples").join(name)
 }
 
-/// Compiles the example; the path of the program.
-fn compiled() -> PathBuf {
-    let program = Path::new(env!("CARGO_TARGET_TMPDIR")).join("visit");
+/// Whether the compiler accepts what it is told to compile, and what it says.
+fn told(words: &[&str], tell: impl FnOnce(&mut Command) -> &mut Command) -> (bool, String) {
+    let mut cc = Command::new("cc");
+    cc.args(words)
+        .args(["-Wall", "-Wextra", "-Werror", "-pedantic", "-I"])
+        .arg(root().join("include"));
+    let output = tell(&mut cc).output().expect("a C compiler, cc");
+    let said = String::from_utf8_lossy(&output.stderr).into_owned();
+    (output.status.success(), said)
+}
+
+/// The compiler accepts it as C99, and says nothing.
+fn compile(tell: impl FnOnce(&mut Command) -> &mut Command) {
+    assert_eq!(told(&["-std=c99"], tell), (true, String::new()));
+}
+
+/// Compiles a program of one file over the libraries; the path of the program.
+fn compiled(source: &Path) -> PathBuf {
+    let name = source.file_stem().expect("a name");
+    let program = Path::new(env!("CARGO_TARGET_TMPDIR")).join(name);
     compile(|cc| {
-        cc.arg(root().join("examples/visit.c"))
+        cc.arg(source)
             .args(env!("PILGONCA_LIBRARIES").split(':'))
             .arg("-o")
             .arg(&program)
@@ -30,17 +44,59 @@ fn compiled() -> PathBuf {
     program
 }
 
+const HEADERS: [&str; 2] = ["pilgonca.h", "pilgonca_tools.h"];
+const LANGUAGES: [[&str; 2]; 2] = [["-xc", "-std=c99"], ["-xc++", "-std=c++98"]];
+
 #[test]
 fn each_header_stands_alone() {
-    for name in ["pilgonca.h", "pilgonca_tools.h"] {
-        let header = root().join("include").join(name);
-        compile(|cc| cc.args(["-fsyntax-only", "-x", "c"]).arg(header));
+    for name in HEADERS {
+        for language in LANGUAGES {
+            let header = root().join("include").join(name);
+            let found = told(&language, |cc| cc.arg("-fsyntax-only").arg(header));
+            assert_eq!(found, (true, String::new()), "{name} {language:?}");
+        }
     }
+}
+
+/// Where size_t has 32 bits a header does not compile, and the message says why; what it includes does.
+#[test]
+fn a_size_t_of_32_bits_is_refused() {
+    let bare = file("bare.h");
+    fs::write(&bare, "#include <stddef.h>\n#include <stdint.h>\n").expect("a file");
+    for language in LANGUAGES {
+        // the compiler's own headers, since the system's for 32 bits may be missing
+        let on_32_bits = |file: &Path| {
+            let words = ["-m32", "-ffreestanding", "-fsyntax-only"];
+            told(&language, |cc| cc.args(words).arg(file))
+        };
+        assert_eq!(on_32_bits(&bare), (true, String::new()), "{language:?}");
+        for name in HEADERS {
+            let (accepted, said) = on_32_bits(&root().join("include").join(name));
+            assert!(!accepted, "{name} {language:?}");
+            assert!(said.contains("needs_a_size_t_of_64_bits"), "{said}");
+        }
+    }
+}
+
+/// What `pilgonca_refusal_text` says for each number is what the crate says.
+#[test]
+fn c_has_the_words_of_the_refusals() {
+    let source = file("words.c");
+    let text = "#include \"pilgonca.h\"\n#include <stdio.h>\n\
+        int main(void) { for (size_t n = 0; n < 21; n++) puts(pilgonca_refusal_text(n)); return 0; }\n";
+    fs::write(&source, text).expect("a file");
+    let output = Command::new(compiled(&source)).output().expect("runs");
+    let said = String::from_utf8(output.stdout).expect("ASCII");
+    let words = Refusal::ALL.iter().map(Refusal::to_string);
+    let none = String::from("there is no refusal with this number");
+    let expected = [String::from("accepted")].into_iter().chain(words);
+    let expected: Vec<String> = expected.chain([none]).collect();
+    assert_eq!(said.lines().collect::<Vec<_>>(), expected);
 }
 
 #[test]
 fn the_c_example_prints_its_week() {
-    let program = compiled();
+    let program = compiled(&example("visit.c"));
     let run = |sheet: &str| {
         let output = Command::new(&program)
             .arg(root().join("examples").join(sheet))
@@ -56,4 +112,76 @@ fn the_c_example_prints_its_week() {
     let said = String::from_utf8_lossy(&output.stderr).into_owned();
     assert!(said.contains("refused with 1 at byte"), "{said}");
     assert!(!output.status.success() && output.stdout.is_empty());
+}
+
+/// A file of this test alone.
+fn file(name: &str) -> PathBuf {
+    Path::new(env!("CARGO_TARGET_TMPDIR")).join(name)
+}
+
+fn saved(program: &Path, words: &[&Path]) -> Output {
+    let output = Command::new(program).args(words).output();
+    output.expect("the program runs")
+}
+
+/// What C makes of bytes as a saved state: what it says, and whether it takes them.
+fn taken(program: &Path, bytes: &[u8]) -> (String, bool) {
+    let path = file("taken.state");
+    fs::write(&path, bytes).expect("a file");
+    let output = saved(program, &[&path]);
+    let said = [output.stdout, output.stderr].concat();
+    (
+        String::from_utf8_lossy(&said).into_owned(),
+        output.status.success(),
+    )
+}
+
+#[test]
+fn a_saved_state_is_the_same_in_c() {
+    let program = compiled(&example("saved.c"));
+    written_alike(&program);
+    refused_alike(&program);
+}
+
+fn written_alike(program: &Path) {
+    let written = file("written.state");
+    let sheet = root().join("examples/case-p.sheet");
+    let output = saved(program, &[&sheet, &written]);
+    assert!(output.status.success(), "{output:?}");
+    let example = fs::read(root().join("examples/optional.state")).expect("a state");
+    assert_eq!(fs::read(&written).expect("written"), example);
+    let read = Visit::from_saved(&example).expect("a state");
+    assert_eq!(read.save(), example);
+    let mut visit = Visit::load(EXAMPLE).expect("a sheet");
+    let held = visit.new_object(Subject(0), Type(1), Type(2));
+    let cell = held.expect("made").cell;
+    let adapted = visit.move_reference(Subject(0), cell, Subject(1), Type(3));
+    adapted.expect("an adapter");
+    let (said, accepted) = taken(program, &visit.save());
+    assert!(accepted, "{said}");
+    assert_eq!(said, "cells 2, places 2, calls 0\n");
+}
+
+/// One damage of each kind.
+fn refused_alike(program: &Path) {
+    let bytes = fs::read(root().join("examples/optional.state")).expect("a state");
+    let with = |at: usize, byte: u8| {
+        let mut front = bytes[..bytes.len() - 4].to_vec();
+        front[at] = byte;
+        [&front[..], &checksum(&front).to_le_bytes()].concat()
+    };
+    let mut damaged = bytes.clone();
+    damaged[100] ^= 1;
+    for (bytes, words) in [
+        (&b"guide=1"[..], "no saved state"),
+        (&bytes[..bytes.len() - 1], "cut short"),
+        (&[&bytes[..], b"x"].concat(), "too long"),
+        (&with(8, 2), "of another version"),
+        (&with(21, 9), "a count is above its limit"),
+        (&damaged, "damaged"),
+        (&with(bytes.len() - 5, 2), "refused by the core"),
+    ] {
+        assert_eq!(taken(program, bytes), (format!("{words}\n"), false));
+        assert!(Visit::from_saved(bytes).is_err());
+    }
 }

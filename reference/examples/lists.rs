@@ -4,7 +4,7 @@
 
 use reference::coverage::{self, Seen};
 use reference::dump::account;
-use reference::gen::{generate, Profile};
+use reference::generators::{generate, Profile};
 use reference::script;
 use reference::serving;
 use reference::state::State;

@@ -112,12 +112,8 @@ impl Book {
 
     fn accept(&mut self, request: &Request) -> Option<()> {
         match request {
-            Request::New {
-                class, cell_type, ..
-            } => self.new_page(*class, *cell_type),
-            Request::Move {
-                cell, cell_type, ..
-            } => self.move_page(*cell, *cell_type),
+            Request::New { class, type_, .. } => self.new_page(*class, *type_),
+            Request::Move { cell, type_, .. } => self.move_page(*cell, *type_),
             Request::Call {
                 cell,
                 method,
@@ -129,20 +125,20 @@ impl Book {
     }
 
     /// L9.
-    fn new_page(&mut self, class: i64, cell_type: i64) -> Option<()> {
+    fn new_page(&mut self, class: i64, type_: i64) -> Option<()> {
         let page = Page {
             class: self.sheet_type(class)?,
             closed: Vec::new(),
             trail: Vec::new(),
         };
-        let types = [self.sheet_type(cell_type)?];
+        let types = [self.sheet_type(type_)?];
         self.next_page(page, &types)
     }
 
     /// L10.
-    fn move_page(&mut self, cell: i64, cell_type: i64) -> Option<()> {
+    fn move_page(&mut self, cell: i64, type_: i64) -> Option<()> {
         let page = self.page(cell)?.clone();
-        let types = [self.sheet_type(cell_type)?];
+        let types = [self.sheet_type(type_)?];
         self.next_page(page, &types)
     }
 
@@ -297,11 +293,11 @@ mod tests {
         Book::of_sheet(&sheet::read(text.as_bytes()).unwrap())
     }
 
-    fn new(class: i64, cell_type: i64) -> Request {
+    fn new(class: i64, type_: i64) -> Request {
         Request::New {
             subject: 0,
             class,
-            cell_type,
+            type_,
         }
     }
 
@@ -317,7 +313,7 @@ mod tests {
             subject: 0,
             cell: 0,
             receiver: 0,
-            cell_type: 2,
+            type_: 2,
         };
         book.feed(&back, true).unwrap();
         assert_eq!(book.pages[1].trail, [2]);

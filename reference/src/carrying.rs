@@ -1,7 +1,7 @@
 //! What a call or an answer carries through the layers (C8 to C17, A7 to A10).
 
 use crate::model::Model;
-use crate::refusal::{Refusal, ARGUMENTS, CROSSING, LATER_CROSSING, STRICT, WIDTH};
+use crate::refusal::{Refusal, LATER_LAYER, NOT_STRICT, TOO_WIDE, UNRELATED, WRONG_VALUES};
 use crate::requests::index;
 use crate::table::{Representation, TypeNo};
 
@@ -30,10 +30,10 @@ impl Model {
         if !self.state.table.types[named].is_ref() {
             return Ok(Value::Number(operand));
         }
-        let cell = self.held_cell(subject, operand).ok_or(ARGUMENTS)?;
+        let cell = self.held_cell(subject, operand).ok_or(WRONG_VALUES)?;
         let cell = self.state.cells[cell];
         Ok(Value::Reference {
-            static_type: cell.cell_type,
+            static_type: cell.type_,
             place: cell.place,
         })
     }
@@ -62,7 +62,7 @@ impl Model {
         named: Option<TypeNo>,
         receiver: usize,
     ) -> Result<Value, Refusal> {
-        let t = named.ok_or(CROSSING)?;
+        let t = named.ok_or(UNRELATED)?;
         match (value, self.state.table.types[t].representation) {
             (Value::Number(number), Representation::W64) => Ok(Value::Number(number)),
             (Value::Number(number), Representation::W32) => narrow(number),
@@ -71,15 +71,15 @@ impl Model {
                 let static_type = t;
                 Ok(Value::Reference { static_type, place })
             }
-            _ => Err(CROSSING),
+            _ => Err(UNRELATED),
         }
     }
 }
 
 /// A refusal as it is at a layer: past the first, 8 and 10 are 19 (C13).
 fn at_layer(layer: usize, number: Refusal) -> Refusal {
-    if layer > 0 && matches!(number, CROSSING | STRICT) {
-        return LATER_CROSSING;
+    if layer > 0 && matches!(number, UNRELATED | NOT_STRICT) {
+        return LATER_LAYER;
     }
     number
 }
@@ -87,7 +87,7 @@ fn at_layer(layer: usize, number: Refusal) -> Refusal {
 /// A number at w32 (C14).
 fn narrow(number: i64) -> Result<Value, Refusal> {
     if i32::try_from(number).is_err() {
-        return Err(WIDTH);
+        return Err(TOO_WIDE);
     }
     Ok(Value::Number(number))
 }

@@ -21,7 +21,7 @@ pub fn permits(table: &Table, one: TypeNo, chain: &[usize]) -> bool {
 /// The types that both have to permit a chain for a cell to offer it (L18).
 pub fn offered(state: &State, cell: usize) -> Vec<TypeNo> {
     let cell = state.cells[cell];
-    vec![cell.cell_type, state.place_type(cell.place)]
+    vec![cell.type_, state.place_type(cell.place)]
 }
 
 /// Types of one table that must all permit a chain.

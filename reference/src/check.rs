@@ -296,14 +296,14 @@ fn place(bytes: &[u8], number: usize, table: &Table) -> Result<Place, Reason> {
 /// A cell (H9).
 fn cell(bytes: &[u8], places: usize, table: &Table) -> Result<Cell, Reason> {
     let holder = below(bytes[0], table.subjects, Reason::CellHolderUnknown)?;
-    let cell_type = usize::from(bytes[1]);
-    if !table.is_sheet_ref(cell_type) {
+    let type_ = usize::from(bytes[1]);
+    if !table.is_sheet_ref(type_) {
         return Err(Reason::CellTypeNotSheetRef);
     }
     let place = below(bytes[2], places, Reason::CellPlaceUnknown)?;
     Ok(Cell {
         holder,
-        cell_type,
+        type_,
         place,
     })
 }

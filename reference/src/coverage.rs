@@ -27,6 +27,8 @@ pub struct Seen {
     /// Refused requests by name and number.
     pub refused: BTreeMap<(&'static str, Refusal), u64>,
     pub situations: BTreeMap<Situation, u64>,
+    /// Calls refused by an argument, by number and its position.
+    pub positions: BTreeMap<(Refusal, usize), u64>,
 }
 
 impl Seen {
@@ -39,6 +41,12 @@ impl Seen {
         match result {
             Ok(_) => *self.accepted.entry(name).or_default() += 1,
             Err(number) => *self.refused.entry((name, *number)).or_default() += 1,
+        }
+    }
+
+    fn refused_at(&mut self, number: Refusal, position: Option<usize>) {
+        if let Some(position) = position {
+            *self.positions.entry((number, position)).or_default() += 1;
         }
     }
 
@@ -65,6 +73,9 @@ impl Seen {
         for (situation, count) in &other.situations {
             *self.situations.entry(*situation).or_default() += count;
         }
+        for (key, count) in &other.positions {
+            *self.positions.entry(*key).or_default() += count;
+        }
     }
 
     /// The counters as text.
@@ -81,6 +92,12 @@ impl Seen {
         for (situation, count) in &self.situations {
             text.push_str(&format!("  {situation:?}: {count}\n"));
         }
+        for ((number, position), count) in &self.positions {
+            text.push_str(&format!(
+                "  call {number} by argument {}: {count}\n",
+                position + 1
+            ));
+        }
         text
     }
 }
@@ -93,6 +110,10 @@ pub fn serve(state: State, requests: &[Request]) -> Seen {
         let before = model.state.counts();
         let result = model.request(request);
         seen.request(request, &result);
+        if let Err(number) = result {
+            let position = situations::refused_at(&model, request);
+            seen.refused_at(number, position);
+        }
         for situation in situations::met(&model, before, request, result) {
             seen.situation(situation);
         }
@@ -107,3 +128,6 @@ pub const OF_REQUESTS: &[(&str, &[Refusal])] = &[
     ("call", &[5, 6, 8, 10, 11, 12, 13, 14, 15, 16, 18]),
     ("answer", &[5, 6, 8, 10, 11, 12, 13, 15, 16, 17]),
 ];
+
+/// The refusals that an argument of a call can meet on a loaded sheet, at each position.
+pub const OF_ARGUMENTS: [Refusal; 7] = [8, 10, 11, 12, 13, 15, 16];

@@ -2,7 +2,7 @@
 //! subject receives it.
 
 use crate::model::Model;
-use crate::refusal::{Refusal, CROSSING, NOT_OWNER, STRICT};
+use crate::refusal::{Refusal, NOT_OWNER, NOT_STRICT, UNRELATED};
 use crate::relations::Relation;
 use crate::restriction::{closed, sub};
 use crate::state::Place;
@@ -22,7 +22,7 @@ impl Model {
         // X1
         let needed = if own { Relation::Free } else { Relation::Loose };
         if !self.relations.holds(needed, t, s) {
-            return Err(CROSSING);
+            return Err(UNRELATED);
         }
         if own {
             let base = self.unwrap(place, receiver)?;
@@ -54,7 +54,7 @@ impl Model {
         }
         // X7
         if !self.relations.holds(Relation::Strict, r, v) {
-            return Err(STRICT);
+            return Err(NOT_STRICT);
         }
         // X8, X9
         let closed = self.derive(closed, r, v)?;

@@ -2,6 +2,7 @@
 
 use crate::random::Random;
 use crate::script::MAX_INPUT;
+use crate::table::MAX_ARGUMENTS;
 
 /// Bytes of the alphabet of sheets and requests, and a few others.
 pub const BYTES: &[u8] = b"0123456789=,()-+ \n\r\0\xffabdeghilmnopstuvwyA";
@@ -55,7 +56,7 @@ pub const NUMBERS: [&str; 43] = [
 ];
 
 /// Lines that are right somewhere in a sheet, or nearly right.
-const LINES: [&str; 48] = [
+const LINES: [&str; 53] = [
     "guide=1\n",
     "guide=2\n",
     "guide=0\n",
@@ -90,6 +91,10 @@ const LINES: [&str; 48] = [
     "m=avail\n",
     "m=avail(0,0,99)0\n",
     "m=avail(0,0,0)0\n",
+    "m=avail(0,0,0,0)0\n",
+    "m=optional(0,0,0,99)-\n",
+    "m=avail(0,0,0,0,0)0\n",
+    "m=avail(0,0,0,0,99)0\n",
     "m=optional(0,)-\n",
     "m=optional(0)-\n",
     "m=avail()\n",
@@ -103,12 +108,13 @@ const LINES: [&str; 48] = [
     "end=sheet\n",
     "end=sheet",
     "do=new 0 0 0\n",
+    "do=call 0 0 0 0 0 0 0 0\n",
     "\n",
 ];
 
 /// One damage to a text.
 pub fn damage(random: &mut Random, text: &mut Vec<u8>) {
-    match random.weighted(&[24, 8, 8, 6, 12, 4, 4, 6, 8, 8, 6, 24]) {
+    match random.weighted(&[24, 8, 8, 6, 12, 4, 4, 6, 8, 8, 6, 24, 8, 4]) {
         0 => any_byte(random, text),
         1 => change_lines(random, text, |random, lines, at| {
             let to = random.below(lines.len());
@@ -130,6 +136,8 @@ pub fn damage(random: &mut Random, text: &mut Vec<u8>) {
         8 => own_yes(random, text),
         9 => other_links(random, text),
         10 => long_number(random, text),
+        11 => longer_signature(random, text),
+        12 => longer_call(random, text),
         _ => other_number(random, text),
     }
 }
@@ -202,6 +210,25 @@ fn other_links(random: &mut Random, text: &mut Vec<u8>) {
         false => format!("under={first},{second}\n"),
     };
     other_line(random, text, b"under=", line.as_bytes());
+}
+
+/// Puts a signature with as many arguments as there may be, or one less or more, into an `m=` line.
+fn longer_signature(random: &mut Random, text: &mut Vec<u8>) {
+    let count = random.within((MAX_ARGUMENTS - 1, MAX_ARGUMENTS + 1));
+    let list = vec!["0"; count].join(",");
+    other_line(
+        random,
+        text,
+        b"m=",
+        format!("m=avail({list})-\n").as_bytes(),
+    );
+}
+
+/// The same for a `do=call` line.
+fn longer_call(random: &mut Random, text: &mut Vec<u8>) {
+    let count = random.within((MAX_ARGUMENTS - 1, MAX_ARGUMENTS + 1));
+    let line = format!("do=call 0 0 0{}\n", " 0".repeat(count));
+    other_line(random, text, b"do=call", line.as_bytes());
 }
 
 /// Puts another number in place of one.

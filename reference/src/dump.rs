@@ -36,7 +36,7 @@ pub fn state(state: &State) -> String {
     for (number, cell) in state.cells.iter().enumerate() {
         text.push_str(&format!(
             "cell {number} holder={} type={} place={}\n",
-            cell.holder, cell.cell_type, cell.place
+            cell.holder, cell.type_, cell.place
         ));
     }
     text.push_str(&format!("calls {}\n", state.calls.len()));

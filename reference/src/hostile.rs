@@ -9,12 +9,13 @@ pub use breaking::break_one;
 pub use noise::noise;
 
 use crate::check::{self, REASONS};
-use crate::gen::{self, MEDIUM, SMALL};
+use crate::generators::{self, LONG, MEDIUM, SMALL};
 use crate::model::Model;
 use crate::random::Random;
 use crate::raw::RawState;
 use crate::requests::Request;
 use crate::state::State;
+use crate::table::MAX_ARGUMENTS;
 use bending::{bend, fill};
 
 /// A hostile state and requests to put to it, each to the same state or to
@@ -46,9 +47,11 @@ pub fn crowded(seed: u64) -> Hostile {
 
 /// A state that requests led to, mostly bent.
 fn bent(random: &mut Random) -> State {
-    let plan = if random.chance(75) { SMALL } else { MEDIUM };
-    let table = gen::table(random, &plan);
-    let mut state = gen::requests(random, &plan, table).model.state;
+    let plan = random
+        .pick(&[SMALL, SMALL, MEDIUM, LONG[0].clone()])
+        .clone();
+    let table = generators::table(random, &plan);
+    let mut state = generators::requests(random, &plan, table).model.state;
     if random.chance(70) {
         for _ in 0..random.within((1, 12)) {
             bend(random, &mut state);
@@ -81,12 +84,24 @@ fn handed_in(random: &mut Random, state: State) -> Hostile {
 
 /// A request; guided by the state if it is right.
 fn request(random: &mut Random, state: &State, right: Option<&Model>) -> Request {
-    match right {
+    let mut request = match right {
         Some(model) if random.chance(90) => {
             let mut plan = SMALL;
             plan.weights = [10, 30, 35, 20, 5];
-            gen::request(random, &plan, model)
+            generators::request(random, &plan, model)
         }
-        _ => gen::any_request(random, state),
+        _ => generators::any_request(random, state),
+    };
+    if random.chance(4) {
+        lengthen(random, &mut request);
+    }
+    request
+}
+
+/// Brings a call to more arguments than any signature has, which no script can (P7).
+fn lengthen(random: &mut Random, request: &mut Request) {
+    if let Request::Call { arguments, .. } = request {
+        let more = *random.pick(&[1, 1, 2, 60]);
+        arguments.resize(MAX_ARGUMENTS + more, 0);
     }
 }

@@ -67,7 +67,7 @@ pub mod random;
 
 pub mod damage;
 
-pub mod gen;
+pub mod generators;
 
 pub mod hostile;
 

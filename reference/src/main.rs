@@ -3,7 +3,7 @@
 use reference::check;
 use reference::dump;
 use reference::entry;
-use reference::gen::{self, Profile};
+use reference::generators::{self, Profile};
 use reference::hostile;
 use reference::pairs;
 use reference::report;
@@ -12,7 +12,7 @@ use std::io::{Read, Write};
 use std::process::ExitCode;
 
 const USAGE: &str = "usage: reference script|sheet|pairs|dump|account < input
-       reference gen SEED small|medium|big|full|damaged
+       reference gen SEED small|medium|big|full|long|damaged
        reference hostile SEED
        reference cover [SEEDS]
 ";
@@ -42,7 +42,7 @@ fn output(words: &[&str]) -> Option<Vec<u8>> {
         ["account"] => Some(dump::account(&input()).into_bytes()),
         ["gen", seed, profile] => {
             let profile = Profile::of_name(profile)?;
-            Some(gen::generate(seed.parse().ok()?, profile))
+            Some(generators::generate(seed.parse().ok()?, profile))
         }
         ["hostile", seed] => Some(hostile_text(seed.parse().ok()?).into_bytes()),
         ["cover"] => Some(report::collect(0..500).text().into_bytes()),

@@ -1,6 +1,6 @@
 //! Compare (R14), and the program `pairs` (P16, P17).
 
-use crate::refusal::{Refusal, TYPE};
+use crate::refusal::{Refusal, UNKNOWN_TYPE};
 use crate::relations::{Relations, RELATIONS};
 use crate::requests::index;
 use crate::script::MAX_INPUT;
@@ -9,8 +9,8 @@ use crate::table::Table;
 
 /// The four answers at a pair of types (R14).
 pub fn compare(table: &Table, t: i64, s: i64) -> Result<[bool; 4], Refusal> {
-    let t = index(t, table.types.len()).ok_or(TYPE)?;
-    let s = index(s, table.types.len()).ok_or(TYPE)?;
+    let t = index(t, table.types.len()).ok_or(UNKNOWN_TYPE)?;
+    let s = index(s, table.types.len()).ok_or(UNKNOWN_TYPE)?;
     let relations = Relations::of(table);
     Ok(RELATIONS.map(|relation| relations.holds(relation, t, s)))
 }

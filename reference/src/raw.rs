@@ -3,8 +3,8 @@
 
 use crate::state::{Call, Cell, Place, State, MAX_CALLS, MAX_CELLS, MAX_PLACES};
 use crate::table::{
-    Broader, Key, Kind, MethodState, Representation, Signature, Table, MAX_CATEGORIES, MAX_METHODS,
-    MAX_TYPES,
+    Broader, Key, Kind, MethodState, Representation, Signature, Table, MAX_ARGUMENTS,
+    MAX_CATEGORIES, MAX_METHODS, MAX_TYPES,
 };
 
 /// The bytes of a type (B1), and in it those of a method (B7), with the slots
@@ -13,6 +13,10 @@ pub const TYPE_BYTES: usize = 128;
 pub const METHODS_AT: usize = 16;
 pub const METHOD_BYTES: usize = 7;
 pub const ARGUMENT_SLOTS: usize = 4;
+const _: () = assert!(
+    MAX_ARGUMENTS <= ARGUMENT_SLOTS,
+    "an argument without a slot"
+);
 /// The bytes of a category's links (B11), a cell (B26), a place (B27) and a
 /// call (B28).
 pub const BROADER_BYTES: usize = 3;
@@ -238,7 +242,7 @@ impl RawState {
 }
 
 fn cell_bytes(cell: Cell) -> [u8; CELL_BYTES] {
-    [byte(cell.holder), byte(cell.cell_type), byte(cell.place)]
+    [byte(cell.holder), byte(cell.type_), byte(cell.place)]
 }
 
 fn place_bytes(place: Place) -> [u8; PLACE_BYTES] {

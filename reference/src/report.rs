@@ -1,18 +1,21 @@
 //! What a set of generated inputs and handed-in states met.
 
 use crate::check::{self, Reason, REASONS};
-use crate::coverage::{self, Seen, OF_REQUESTS};
+use crate::coverage::{self, Seen, OF_ARGUMENTS, OF_REQUESTS};
+use crate::damage::lines;
 use crate::demand;
 use crate::entry;
-use crate::gen::{generate, Profile, PROFILES};
+use crate::generators::{generate, Profile, PROFILES};
 use crate::hostile;
 use crate::random::Random;
 use crate::raw::RawTable;
-use crate::refusal::{Refusal, LATER_CROSSING, RANGE, SHORT_BUFFER, TYPE};
+use crate::refusal::{Refusal, FORM, LATER_LAYER, OUT_OF_RANGE, SHORT_BUFFER, UNKNOWN_TYPE};
+use crate::requests::Request;
 use crate::script;
 use crate::sheet;
 use crate::situations::{OF_HANDED_IN, OF_SHEETS};
 use crate::state::State;
+use crate::table::MAX_ARGUMENTS;
 use std::collections::BTreeMap;
 
 /// What a set of generated inputs met.
@@ -29,6 +32,11 @@ pub struct Report {
     /// Scripts that were too long, and ones ended by a malformed `do=` line.
     pub too_long: u64,
     pub malformed: u64,
+    /// One argument more than there may be: in the `m=` line that a sheet is refused at, in the
+    /// `do=` line that ends a script, and in a type record that is handed in.
+    pub five_in_line: u64,
+    pub five_in_call: u64,
+    pub five_in_record: u64,
     /// Runs whose book was held against the state, cells compared, and the
     /// seeds of those where demand 3 did not hold.
     pub books: u64,
@@ -81,6 +89,11 @@ impl Report {
             return;
         };
         self.malformed += u64::from(script.malformed);
+        if script.malformed {
+            let (_, rest) = script::split(&input);
+            let line = lines(rest)[script.requests.len()];
+            self.five_in_call += u64::from(is_longer_call(line));
+        }
         let state = State::of_sheet(script.table);
         self.scripts.add(&coverage::serve(state, &run.requests));
     }
@@ -94,6 +107,8 @@ impl Report {
         if let Err((number, offset)) = sheet::read(text) {
             *self.sheets.entry(number).or_default() += 1;
             let kind = line_kind(&text[offset..]);
+            let first = lines(&text[offset..]).first().copied();
+            self.five_in_line += u64::from(number == FORM && first.is_some_and(is_longer_list));
             *self.lines.entry((number, kind)).or_default() += 1;
         }
     }
@@ -105,7 +120,11 @@ impl Report {
         self.write(&mut random, &hostile.state.table);
         self.compare(&mut random, &hostile.state.table);
         match check::state(&hostile.state) {
-            Err(reason) => *self.reasons.entry(reason).or_default() += 1,
+            Err(reason) => {
+                *self.reasons.entry(reason).or_default() += 1;
+                let five = reason == Reason::TooManyArguments && has_longer(&hostile.state.table);
+                self.five_in_record += u64::from(five);
+            }
             Ok(state) => {
                 self.right += 1;
                 self.requests
@@ -121,7 +140,7 @@ impl Report {
         match entry::write(table, &mut buffer) {
             Ok(_) => self.written += 1,
             Err(SHORT_BUFFER) => self.short += 1,
-            Err(RANGE) => self.write_refused += 1,
+            Err(OUT_OF_RANGE) => self.write_refused += 1,
             Err(number) => panic!("sheet write refused with {number}"),
         }
     }
@@ -132,8 +151,8 @@ impl Report {
         let s = random.below(types + 2) as i64 - 1;
         match entry::compare(table, t, s) {
             Ok(_) => self.compared += 1,
-            Err(TYPE) => self.compare_unknown += 1,
-            Err(RANGE) => self.compare_refused += 1,
+            Err(UNKNOWN_TYPE) => self.compare_unknown += 1,
+            Err(OUT_OF_RANGE) => self.compare_refused += 1,
             Err(number) => panic!("compare refused with {number}"),
         }
     }
@@ -189,6 +208,15 @@ impl Report {
             let count = self.scripts.met(situation);
             met.push((count > 0, format!("{situation:?}")));
         }
+        met.extend(of_positions(&self.scripts, &OF_ARGUMENTS));
+        met.push((
+            self.five_in_line > 0,
+            "five arguments in an m= line".to_string(),
+        ));
+        met.push((
+            self.five_in_call > 0,
+            "five arguments in a do= line".to_string(),
+        ));
         met
     }
 
@@ -197,7 +225,7 @@ impl Report {
         let situations = OF_HANDED_IN
             .map(|situation| (self.requests.met(situation) > 0, format!("{situation:?}")));
         let later = ["call", "answer"].map(|name| {
-            let met = self.requests.refused.contains_key(&(name, LATER_CROSSING));
+            let met = self.requests.refused.contains_key(&(name, LATER_LAYER));
             (met, format!("{name} 19 on a handed-in state"))
         });
         let reasons =
@@ -212,7 +240,12 @@ impl Report {
         ]
         .map(|(count, what)| (count > 0, what.to_string()));
         let all = situations.into_iter().chain(later).chain(reasons);
-        all.chain(tables).collect()
+        let five = (
+            self.five_in_record > 0,
+            "five arguments in a type record".to_string(),
+        );
+        let positions = of_positions(&self.requests, &[LATER_LAYER]);
+        all.chain(tables).chain(positions).chain([five]).collect()
     }
 
     /// The report as text.
@@ -251,10 +284,51 @@ impl Report {
         for (reason, count) in &self.reasons {
             text.push_str(&format!("  2 by {reason:?}: {count}\n"));
         }
+        text.push_str(&format!(
+            "  five arguments: m= lines {}, do= lines {}, type records {}\n",
+            self.five_in_line, self.five_in_call, self.five_in_record
+        ));
         text.push_str(&self.requests.text());
         text.push_str(&format!("\nmissing: {:?}\n", self.missing()));
         text
     }
+}
+
+/// Whether each of these numbers was met by a call at each position, and its name.
+fn of_positions(seen: &Seen, numbers: &[Refusal]) -> Vec<(bool, String)> {
+    let of_number = |number: Refusal| {
+        (0..MAX_ARGUMENTS).map(move |position| {
+            let met = seen.positions.contains_key(&(number, position));
+            (met, format!("call {number} by argument {}", position + 1))
+        })
+    };
+    numbers.iter().copied().flat_map(of_number).collect()
+}
+
+/// Whether a `do=call` line has one argument too many and is right but for that (P11).
+fn is_longer_call(line: &[u8]) -> bool {
+    let shorter = line.strip_suffix(b"\n").and_then(|line| {
+        let last = line.iter().rposition(|byte| *byte == b' ')?;
+        script::parse(&line[..last])
+    });
+    matches!(shorter, Some(Request::Call { arguments, .. }) if arguments.len() == MAX_ARGUMENTS)
+}
+
+/// Whether a line has a list of numbers with one more than a signature may have (S11).
+fn is_longer_list(line: &[u8]) -> bool {
+    let text = String::from_utf8_lossy(line);
+    let list = text
+        .split_once('(')
+        .and_then(|(_, rest)| rest.split_once(')'));
+    list.is_some_and(|(list, _)| list.split(',').count() == MAX_ARGUMENTS + 1)
+}
+
+/// Whether a method that is permitted counts one argument more than it may have (H3).
+fn has_longer(table: &RawTable) -> bool {
+    let methods =
+        |number| (0..table.methods as usize).map(move |method| table.method(number, method));
+    let mut all = (0..table.types as usize).flat_map(methods);
+    all.any(|bytes| matches!(bytes[0], 1 | 2) && usize::from(bytes[1]) == MAX_ARGUMENTS + 1)
 }
 
 /// The word before `=` of the first line, or what else is there.

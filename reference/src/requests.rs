@@ -6,13 +6,13 @@ pub enum Request {
     New {
         subject: i64,
         class: i64,
-        cell_type: i64,
+        type_: i64,
     },
     Move {
         subject: i64,
         cell: i64,
         receiver: i64,
-        cell_type: i64,
+        type_: i64,
     },
     Call {
         subject: i64,

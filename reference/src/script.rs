@@ -2,7 +2,7 @@
 //! line of answer goes out for each.
 
 use crate::model::Model;
-use crate::refusal::{Refusal, FORM, RANGE};
+use crate::refusal::{Refusal, FORM, OUT_OF_RANGE};
 use crate::requests::{Got, Request};
 use crate::sheet;
 use crate::state::State;
@@ -22,7 +22,7 @@ pub struct Script {
 /// Reads an input, refused where it is too long or its sheet is (P1 to P4).
 pub fn read(input: &[u8]) -> Result<Script, Refusal> {
     if input.len() > MAX_INPUT {
-        return Err(RANGE);
+        return Err(OUT_OF_RANGE);
     }
     let (text, mut rest) = split(input);
     let mut script = Script {
@@ -135,16 +135,16 @@ pub fn parse(line: &[u8]) -> Option<Request> {
     let name = words.next()?;
     let words: Vec<&str> = words.collect();
     Some(match (name, words.as_slice()) {
-        ("new", [subject, class, cell_type]) => Request::New {
+        ("new", [subject, class, type_]) => Request::New {
             subject: operand(subject)?,
             class: operand(class)?,
-            cell_type: operand(cell_type)?,
+            type_: operand(type_)?,
         },
-        ("move", [subject, cell, receiver, cell_type]) => Request::Move {
+        ("move", [subject, cell, receiver, type_]) => Request::Move {
             subject: operand(subject)?,
             cell: operand(cell)?,
             receiver: operand(receiver)?,
-            cell_type: operand(cell_type)?,
+            type_: operand(type_)?,
         },
         ("call", [subject, cell, method, arguments @ ..]) if arguments.len() <= 4 => {
             let arguments = arguments.iter().map(|word| operand(word));
@@ -185,14 +185,14 @@ pub fn line(request: &Request) -> String {
         Request::New {
             subject,
             class,
-            cell_type,
-        } => format!("do=new {subject} {class} {cell_type}\n"),
+            type_,
+        } => format!("do=new {subject} {class} {type_}\n"),
         Request::Move {
             subject,
             cell,
             receiver,
-            cell_type,
-        } => format!("do=move {subject} {cell} {receiver} {cell_type}\n"),
+            type_,
+        } => format!("do=move {subject} {cell} {receiver} {type_}\n"),
         Request::Call {
             subject,
             cell,

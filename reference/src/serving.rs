@@ -3,7 +3,9 @@
 
 use crate::carrying::Value;
 use crate::model::Model;
-use crate::refusal::{Refusal, ANSWERED, ARGUMENTS, METHOD, NOT_HELD, SUBJECT, TYPE};
+use crate::refusal::{
+    Refusal, ANSWERED_ALREADY, NOT_CALLABLE, NOT_HELD, UNKNOWN_SUBJECT, UNKNOWN_TYPE, WRONG_VALUES,
+};
 use crate::requests::{index, Got, Request};
 use crate::state::{Call, Cell, Place, State};
 use crate::table::{Signature, Table, TypeNo};
@@ -23,14 +25,14 @@ impl Model {
             Request::New {
                 subject,
                 class,
-                cell_type,
-            } => model.new_object(*subject, *class, *cell_type),
+                type_,
+            } => model.new_object(*subject, *class, *type_),
             Request::Move {
                 subject,
                 cell,
                 receiver,
-                cell_type,
-            } => model.move_cell(*subject, *cell, *receiver, *cell_type),
+                type_,
+            } => model.move_cell(*subject, *cell, *receiver, *type_),
             Request::Call {
                 subject,
                 cell,
@@ -46,13 +48,13 @@ impl Model {
     }
 
     /// N1 to N8.
-    fn new_object(&mut self, subject: i64, class: i64, cell_type: i64) -> Result<Got, Refusal> {
+    fn new_object(&mut self, subject: i64, class: i64, type_: i64) -> Result<Got, Refusal> {
         let subject = self.subject(subject)?;
         let class = self.sheet_type(class, Table::is_sheet_class)?;
-        let cell_type = self.sheet_type(cell_type, Table::is_sheet_ref)?;
+        let type_ = self.sheet_type(type_, Table::is_sheet_ref)?;
         let owner = subject;
         let object = self.add_place(Place::Object { class, owner })?;
-        self.hand_over(object, class, cell_type, subject)
+        self.hand_over(object, class, type_, subject)
     }
 
     /// M1 to M6.
@@ -61,14 +63,14 @@ impl Model {
         subject: i64,
         cell: i64,
         receiver: i64,
-        cell_type: i64,
+        type_: i64,
     ) -> Result<Got, Refusal> {
         let subject = self.subject(subject)?;
         let receiver = self.subject(receiver)?;
         let cell = self.held_cell(subject, cell).ok_or(NOT_HELD)?;
-        let cell_type = self.sheet_type(cell_type, Table::is_sheet_ref)?;
+        let type_ = self.sheet_type(type_, Table::is_sheet_ref)?;
         let from = self.state.cells[cell];
-        self.hand_over(from.place, from.cell_type, cell_type, receiver)
+        self.hand_over(from.place, from.type_, type_, receiver)
     }
 
     /// A reference crosses from S to T and becomes a cell of the receiver (N6
@@ -117,7 +119,7 @@ impl Model {
         signature: &Signature,
     ) -> Result<Vec<Value>, Refusal> {
         if arguments.len() != signature.arguments.len() {
-            return Err(ARGUMENTS);
+            return Err(WRONG_VALUES);
         }
         let named = signature.arguments.iter();
         let operands = arguments.iter().zip(named);
@@ -128,7 +130,12 @@ impl Model {
 
     /// The arguments, one after the other, go to the owner of the base (C10 to
     /// C12). A reference becomes a cell before the next is begun (C17).
-    fn send(&mut self, cell: usize, method: usize, values: &[Value]) -> Result<(), Refusal> {
+    pub(crate) fn send(
+        &mut self,
+        cell: usize,
+        method: usize,
+        values: &[Value],
+    ) -> Result<(), Refusal> {
         let layers = self.state.layers(cell);
         let owner = self.state.owner(self.state.cells[cell].place);
         for (position, value) in values.iter().enumerate() {
@@ -151,17 +158,17 @@ impl Model {
             return Err(NOT_HELD);
         }
         if call.answered {
-            return Err(ANSWERED);
+            return Err(ANSWERED_ALREADY);
         }
-        let cell_type = self.state.cells[call.cell].cell_type;
-        let due = self.answer_type(cell_type, call.method);
+        let type_ = self.state.cells[call.cell].type_;
+        let due = self.answer_type(type_, call.method);
         let got = match (due, value) {
             (None, None) => Got::Nothing,
             (Some(due), Some(value)) => {
                 let value = self.value(subject, value, due)?;
                 self.send_back(call, value, call.caller)?
             }
-            _ => return Err(ARGUMENTS),
+            _ => return Err(WRONG_VALUES),
         };
         self.state.calls[number].answered = true;
         Ok(got)
@@ -191,19 +198,23 @@ impl Model {
     }
 
     /// A method that is avail in a cell's type, and its signature there (C3).
-    fn avail_method(&self, cell: usize, method: i64) -> Result<(usize, Signature), Refusal> {
+    pub(crate) fn avail_method(
+        &self,
+        cell: usize,
+        method: i64,
+    ) -> Result<(usize, Signature), Refusal> {
         let table = &self.state.table;
-        let method = index(method, table.methods).ok_or(METHOD)?;
-        let state = table.types[self.state.cells[cell].cell_type].state(method);
+        let method = index(method, table.methods).ok_or(NOT_CALLABLE)?;
+        let state = table.types[self.state.cells[cell].type_].state(method);
         match state.signature() {
             Some(signature) if state.is_avail() => Ok((method, signature.clone())),
-            _ => Err(METHOD),
+            _ => Err(NOT_CALLABLE),
         }
     }
 
     /// N1, M1, C1, A1.
     fn subject(&self, operand: i64) -> Result<usize, Refusal> {
-        index(operand, self.state.table.subjects).ok_or(SUBJECT)
+        index(operand, self.state.table.subjects).ok_or(UNKNOWN_SUBJECT)
     }
 
     /// A sheet type of a kind (N2, N3, M3).
@@ -213,18 +224,18 @@ impl Model {
         of_kind: fn(&Table, TypeNo) -> bool,
     ) -> Result<TypeNo, Refusal> {
         let table = &self.state.table;
-        let number = index(operand, table.sheet_types).ok_or(TYPE)?;
+        let number = index(operand, table.sheet_types).ok_or(UNKNOWN_TYPE)?;
         if !of_kind(table, number) {
-            return Err(TYPE);
+            return Err(UNKNOWN_TYPE);
         }
         Ok(number)
     }
 
     /// A reference that arrived becomes a cell (N7, N8, M5, M6, C17, A10).
-    fn deliver(&mut self, holder: usize, cell_type: TypeNo, place: usize) -> Result<Got, Refusal> {
+    fn deliver(&mut self, holder: usize, type_: TypeNo, place: usize) -> Result<Got, Refusal> {
         let cell = self.add_cell(Cell {
             holder,
-            cell_type,
+            type_,
             place,
         })?;
         Ok(Got::Cell { cell, place })

@@ -1,6 +1,6 @@
 //! The text of a sheet (S20 to S27), its reader (S) and its writer (W).
 
-use crate::refusal::{Refusal, BROADER, FORM, RANGE, SHORT_BUFFER};
+use crate::refusal::{Refusal, FORM, NOT_BELOW, OUT_OF_RANGE, SHORT_BUFFER};
 use crate::table::*;
 
 /// The number, and the offset of the line that is refused (S31).
@@ -44,7 +44,7 @@ pub fn read(input: &[u8]) -> Result<Table, SheetRefusal> {
         keys: Vec::new(),
     };
     if table.own_in_signature() {
-        return Err((BROADER, last));
+        return Err((NOT_BELOW, last));
     }
     Ok(table)
 }
@@ -136,7 +136,7 @@ fn ranged(line: &[u8], prefix: &str, lowest: usize, highest: usize) -> Result<us
     if (lowest..=highest).contains(&number) {
         Ok(number)
     } else {
-        Err(RANGE)
+        Err(OUT_OF_RANGE)
     }
 }
 
@@ -155,10 +155,10 @@ fn under(line: &[u8], category: usize, categories: usize) -> Result<Broader, Ref
         return Err(FORM);
     }
     if numbers.iter().any(|number| *number > categories) {
-        return Err(RANGE);
+        return Err(OUT_OF_RANGE);
     }
     if numbers.iter().any(|number| *number >= category) {
-        return Err(BROADER);
+        return Err(NOT_BELOW);
     }
     Ok(Broader {
         first: numbers[0],
@@ -219,7 +219,7 @@ fn signature(text: &[u8], sheet_types: usize) -> Result<Signature, Refusal> {
     };
     let signature = Signature { arguments, answer };
     if signature.named().any(|number| number >= sheet_types) {
-        return Err(RANGE);
+        return Err(OUT_OF_RANGE);
     }
     Ok(signature)
 }

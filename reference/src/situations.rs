@@ -3,12 +3,12 @@
 //! the counts before tell what is new.
 
 use crate::model::Model;
-use crate::refusal::{Refusal, CROSSING, LATER_CROSSING, TYPES_FULL, WIDTH};
+use crate::refusal::{Refusal, LATER_LAYER, TOO_WIDE, TYPES_FULL, UNRELATED, WRONG_VALUES};
 use crate::relations::Relation;
 use crate::requests::{index, Got, Request};
 use crate::restriction::sub;
 use crate::state::{Counts, Place, State};
-use crate::table::{Representation, Signature, TypeNo, MAX_TYPES};
+use crate::table::{Representation, Signature, TypeNo, MAX_ARGUMENTS, MAX_TYPES};
 
 /// Situations worth meeting.
 #[derive(Clone, Copy, PartialEq, Eq, Debug, Hash, PartialOrd, Ord)]
@@ -40,13 +40,21 @@ pub enum Situation {
     TypesFullAtClosed,
     /// 11 met after part of a derivation had taken its numbers.
     TypesFullInside,
+    /// Four references, through two adapters or more.
+    FourReferencesThroughSeveral,
+    /// 11 met while the last argument that a signature can have crosses, the others having crossed.
+    TypesFullAtLastArgument,
     LayerWithoutValue,
     LayerNumberForReference,
     LayerReferenceForNumber,
+    /// A call accepted though a layer has more arguments than the cell's type (C16).
+    LayerWithMoreArguments,
+    /// A call with more arguments than any signature has (C4).
+    MoreArgumentsThanAny,
 }
 
 /// Every situation a loaded sheet can meet.
-pub const OF_SHEETS: [Situation; 24] = [
+pub const OF_SHEETS: [Situation; 26] = [
     Situation::PassedBySubtype,
     Situation::PassedByPlaceType,
     Situation::AdapterOnObject,
@@ -71,13 +79,17 @@ pub const OF_SHEETS: [Situation; 24] = [
     Situation::TypesFullAtSub,
     Situation::TypesFullAtClosed,
     Situation::TypesFullInside,
+    Situation::FourReferencesThroughSeveral,
+    Situation::TypesFullAtLastArgument,
 ];
 
 /// The situations of handed-in states alone.
-pub const OF_HANDED_IN: [Situation; 3] = [
+pub const OF_HANDED_IN: [Situation; 5] = [
     Situation::LayerWithoutValue,
     Situation::LayerNumberForReference,
     Situation::LayerReferenceForNumber,
+    Situation::LayerWithMoreArguments,
+    Situation::MoreArgumentsThanAny,
 ];
 
 /// The situations that a request met.
@@ -96,9 +108,15 @@ pub fn met(
             met.extend(passages(model, before, request, got));
             met.extend(references(state, before, request, got));
             met.extend(ends_of_w32(state, request));
+            met.extend(long_signatures(state, request, got));
         }
-        Err(TYPES_FULL) => met.extend(types_full(state, request)),
-        Err(WIDTH) => met.extend(beyond_w32(state, request)),
+        Err(TYPES_FULL) => {
+            met.extend(types_full(state, request));
+            let last = refused_at(model, request) == Some(MAX_ARGUMENTS - 1);
+            met.extend(last.then_some(Situation::TypesFullAtLastArgument));
+        }
+        Err(WRONG_VALUES) => met.extend(too_many(request)),
+        Err(TOO_WIDE) => met.extend(beyond_w32(state, request)),
         Err(number) => met.extend(unfit_layer(state, request, number)),
     }
     met
@@ -144,14 +162,10 @@ fn new_types(state: &State, before: Counts) -> Vec<Situation> {
 fn crossed(state: &State, request: &Request) -> Option<(TypeNo, TypeNo)> {
     let named = |number: i64| index(number, state.table.sheet_types);
     match request {
-        Request::New {
-            class, cell_type, ..
-        } => Some((named(*class)?, named(*cell_type)?)),
-        Request::Move {
-            cell, cell_type, ..
-        } => {
+        Request::New { class, type_, .. } => Some((named(*class)?, named(*type_)?)),
+        Request::Move { cell, type_, .. } => {
             let cell = index(*cell, state.cells.len())?;
-            Some((state.cells[cell].cell_type, named(*cell_type)?))
+            Some((state.cells[cell].type_, named(*type_)?))
         }
         _ => None,
     }
@@ -216,6 +230,76 @@ fn references(state: &State, before: Counts, request: &Request, got: Got) -> Vec
     let called = (Situation::CallThroughAdapter, of_call && adapters > 0);
     let all = names.into_iter().zip(of_names).chain([called]);
     all.filter_map(|(name, met)| met.then_some(name)).collect()
+}
+
+/// What an accepted call met of signatures as long as they can be, and of longer layers.
+fn long_signatures(state: &State, request: &Request, got: Got) -> Vec<Situation> {
+    let Got::Call { adapters, .. } = got else {
+        return Vec::new();
+    };
+    let all = carried(state, request).unwrap_or_default();
+    let four = all.len() == MAX_ARGUMENTS && all.iter().all(|one| one.reference);
+    let longer = |layer: TypeNo, method: usize| {
+        let signature = state.table.types[layer].permits(method);
+        signature.is_some_and(|signature| signature.arguments.len() > all.len())
+    };
+    let more = match request {
+        Request::Call { cell, method, .. } => {
+            let mut layers = state.layers(*cell as usize).into_iter();
+            !all.is_empty() && layers.any(|layer| longer(layer, *method as usize))
+        }
+        _ => false,
+    };
+    let met = [
+        (
+            Situation::FourReferencesThroughSeveral,
+            four && adapters > 1,
+        ),
+        (Situation::LayerWithMoreArguments, more),
+    ];
+    met.into_iter()
+        .filter_map(|(name, met)| met.then_some(name))
+        .collect()
+}
+
+fn too_many(request: &Request) -> Option<Situation> {
+    let longer =
+        matches!(request, Request::Call { arguments, .. } if arguments.len() > MAX_ARGUMENTS);
+    longer.then_some(Situation::MoreArgumentsThanAny)
+}
+
+/// The position of the argument that a call was refused by, if it was by one: the first whose
+/// cell is not held (C5), or the first that does not arrive when those up to it are sent once more.
+pub fn refused_at(model: &Model, request: &Request) -> Option<usize> {
+    let Request::Call {
+        subject,
+        cell,
+        method,
+        arguments,
+    } = request
+    else {
+        return None;
+    };
+    let caller = index(*subject, model.state.table.subjects)?;
+    let cell = model.held_cell(caller, *cell)?;
+    let (method, signature) = model.avail_method(cell, *method).ok()?;
+    if arguments.len() != signature.arguments.len() {
+        return None;
+    }
+    let operands = arguments.iter().zip(&signature.arguments);
+    let looked_up = operands.map(|(operand, named)| model.value(caller, *operand, *named));
+    let mut values = Vec::new();
+    for (position, value) in looked_up.enumerate() {
+        match value {
+            Ok(value) => values.push(value),
+            Err(_) => return Some(position),
+        }
+    }
+    model.call_is_free().ok()?;
+    let arrive = |count: &usize| model.clone().send(cell, method, &values[..*count]).is_ok();
+    (1..=values.len())
+        .find(|count| !arrive(count))
+        .map(|count| count - 1)
 }
 
 /// An operand of a call or an answer, and of each layer, in the order that they
@@ -332,8 +416,8 @@ fn types_full(state: &State, request: &Request) -> Vec<Situation> {
 /// before, unless the layer is the first that can give the number.
 fn unfit_layer(state: &State, request: &Request, number: Refusal) -> Option<Situation> {
     let first = match number {
-        CROSSING => 0,
-        LATER_CROSSING => 1,
+        UNRELATED => 0,
+        LATER_LAYER => 1,
         _ => return None,
     };
     for one in carried(state, request)? {

@@ -20,7 +20,7 @@ pub enum Place {
 #[derive(Clone, Copy, PartialEq, Eq, Debug)]
 pub struct Cell {
     pub holder: usize,
-    pub cell_type: TypeNo,
+    pub type_: TypeNo,
     pub place: usize,
 }
 
@@ -112,7 +112,7 @@ impl State {
     /// The layers of a call through a cell (C9).
     pub fn layers(&self, cell: usize) -> Vec<TypeNo> {
         let (adapters, base) = self.stack(self.cells[cell].place);
-        let mut layers = vec![self.cells[cell].cell_type];
+        let mut layers = vec![self.cells[cell].type_];
         layers.extend(adapters.iter().map(|place| self.place_type(*place)));
         layers.push(self.place_type(base));
         layers

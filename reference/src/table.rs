@@ -11,7 +11,7 @@ pub const MAX_SHEET_TYPES: usize = 48;
 /// T5.
 pub const MAX_TYPES: usize = 128;
 /// T13.
-pub const MAX_ARGUMENTS: usize = 2;
+pub const MAX_ARGUMENTS: usize = 4;
 
 /// A type number, from 0.
 pub type TypeNo = usize;

@@ -237,8 +237,102 @@ fn script_forms() {
     assert_eq!(p("do=new 0 1 4"), "no=1\n");
     assert_eq!(p(""), "");
     assert_eq!(run("", ""), "no=1\n");
-    // P14: three or four arguments are right in form.
+    // P7, C4: three and four arguments are right in form, where none is due too.
+    assert_eq!(last(&p("do=new 0 1 4\ndo=call 0 0 0 1 2 3\n")), "no=15");
     assert_eq!(last(&p("do=new 0 1 4\ndo=call 0 0 0 1 2 3 4\n")), "no=15");
+}
+
+/// A class (2) whose method 0 takes four references as type 4, which shows method 1 alone; behind
+/// type 3 it is come to through an adapter. Type 5 shows nothing, type 6 has no method 2.
+const FOUR: &str = "guide=1\nsubjects=2\nmethods=3\ncats=0\ntypes=7\n\
+type=0\nrep=w32\ncat=0\n\
+type=1\nrep=ref\ncat=0\nown=no\nm=unavail\nm=avail()0\nm=avail()-\n\
+type=2\nrep=ref\ncat=0\nown=no\nm=avail(4,4,4,4)-\nm=avail()0\nm=avail()-\n\
+type=3\nrep=ref\ncat=0\nown=no\nm=avail(4,4,4,4)-\nm=denied\nm=unavail\n\
+type=4\nrep=ref\ncat=0\nown=no\nm=denied\nm=avail()0\nm=denied\n\
+type=5\nrep=ref\ncat=0\nown=no\nm=denied\nm=denied\nm=denied\n\
+type=6\nrep=ref\ncat=0\nown=no\nm=denied\nm=avail()0\nm=unavail\n\
+end=sheet\n";
+
+/// Cells 0 and 1 are subject 0's: the called one of type 3, behind an adapter, and an object of
+/// type 1. Cell 2 is of type 5, cell 3 is subject 1's.
+const FOUR_CELLS: &str = "do=new 0 2 3\ndo=new 0 1 1\ndo=move 0 1 0 5\ndo=move 0 1 1 4\n";
+
+/// Four references through an adapter (C10, C11, C17), and each refused at each position in turn.
+#[test]
+fn four_references_through_an_adapter() {
+    let after = |list: &str| run(FOUR, &format!("{FOUR_CELLS}{list}"));
+    let setup = "got=0 1\ngot=1 2\ngot=2 2\ngot=3 2\n";
+    assert_eq!(after(""), setup);
+    // four cells come of it, in order, and the next object's is the one behind them
+    let done = after("do=call 0 0 0 1 1 1 1\ndo=new 0 1 1\n");
+    assert_eq!(done, format!("{setup}got=0 1\ngot=8 3\n"));
+    for position in 0..4 {
+        // type 5 does not show method 1 (8); cell 3 is another's, cell 9 is none (15)
+        for (cell, number) in [("2", 8), ("3", 15), ("9", 15), ("-1", 15)] {
+            let mut list = ["1"; 4];
+            list[position] = cell;
+            let call = format!("do=call 0 0 0 {}\ndo=new 0 1 1\n", list.join(" "));
+            // nothing stays of the arguments in front of it (C20)
+            let expected = format!("{setup}no={number}\ngot=4 3\n");
+            assert_eq!(after(&call), expected, "{position} {cell}");
+        }
+    }
+    // three and five
+    assert_eq!(last(&after("do=call 0 0 0 1 1 1\n")), "no=15");
+    assert_eq!(last(&after("do=call 0 0 0 1 1 1 1 1\n")), "no=1");
+}
+
+/// 13 at each position: so many cells are left that the arguments in front of it fit (C17).
+#[test]
+fn cells_full_at_each_position() {
+    let with_left = |left: usize| {
+        let moves = "do=move 0 1 0 1\n".repeat(256 - 4 - left);
+        let list = format!("{FOUR_CELLS}{moves}do=call 0 0 0 1 1 1 1\n");
+        last(&run(FOUR, &list)).to_string()
+    };
+    for left in 0..4 {
+        assert_eq!(with_left(left), "no=13", "{left}");
+    }
+    assert_eq!(with_left(4), "got=0 1");
+}
+
+/// 16 at each position, and numbers at both ends of w32 at all of them (C14).
+#[test]
+fn four_numbers() {
+    let sheet = "guide=1\nsubjects=1\nmethods=1\ncats=0\ntypes=3\ntype=0\nrep=w32\ncat=0\n\
+        type=1\nrep=w64\ncat=0\n\
+        type=2\nrep=ref\ncat=0\nown=no\nm=avail(0,0,0,0)-\nend=sheet\n";
+    let called = |list: &[&str]| {
+        let call = format!("do=new 0 2 2\ndo=call 0 0 0 {}\n", list.join(" "));
+        last(&run(sheet, &call)).to_string()
+    };
+    let ends = ["2147483647", "-2147483648", "2147483647", "-2147483648"];
+    assert_eq!(called(&ends), "got=0 0");
+    for position in 0..4 {
+        for beyond in ["2147483648", "-2147483649"] {
+            let mut list = ends;
+            list[position] = beyond;
+            assert_eq!(called(&list), "no=16", "{position}");
+        }
+    }
+}
+
+/// The book over four arguments (L11): each has a page, with the trail of its own position.
+#[test]
+fn the_book_has_a_page_for_each_argument() {
+    let sheet = FOUR.replace("avail(4,4,4,4)-", "avail(4,5,4,6)-");
+    let list = "do=new 0 2 2\ndo=new 0 1 1\ndo=call 0 0 0 1 1 1 1\n";
+    let run = script::run_whole(format!("{sheet}{list}").as_bytes());
+    assert_eq!(run.output, b"got=0 0\ngot=1 1\ngot=0 0\n");
+    let table = sheet::read(sheet.as_bytes()).unwrap();
+    let book = Book::of_run(&table, &run.requests, &run.results).unwrap();
+    book.check_exactly(&run.model.unwrap().state).unwrap();
+    let last = |cell: usize| book.pages[cell].last_trail();
+    assert_eq!((2..6).map(last).collect::<Vec<_>>(), [4, 5, 4, 6]);
+    // type 6 has method 2 as unavail: for the fourth alone an adapter is made
+    let adapters = |cell: usize| book.pages[cell].closed.len();
+    assert_eq!((2..6).map(adapters).collect::<Vec<_>>(), [0, 0, 0, 1]);
 }
 
 #[test]
@@ -263,6 +357,7 @@ fn request_lines_round_trip() {
         "do=new 0 -1 2",
         "do=move 1 2 3 4",
         "do=call 1 2 3 -4 5",
+        "do=call 1 2 3 -4 5 6 -7",
         "do=answer 1 2 -",
         "do=answer 1 2 -9",
     ] {

@@ -1,7 +1,7 @@
 //! The commands, run as programs, against the library.
 
 use reference::external::{difference, run};
-use reference::gen::{generate, PROFILES};
+use reference::generators::{generate, PROFILES};
 use reference::{dump, pairs, script};
 use std::path::Path;
 

@@ -4,7 +4,7 @@
 use faults::{named, Fault, ALL};
 use reference::book::Book;
 use reference::external::difference;
-use reference::gen::{generate, Profile};
+use reference::generators::{generate, Profile};
 use reference::script::{self, printed};
 use reference::serving;
 use reference::shrink::shrink;
@@ -32,7 +32,12 @@ fn differs(input: &[u8], fault: Fault) -> bool {
 
 /// The first generated input for which the faulty model prints something else.
 fn found(fault: Fault) -> Option<Vec<u8>> {
-    let profiles = [Profile::Small, Profile::Medium, Profile::Full];
+    let profiles = [
+        Profile::Small,
+        Profile::Medium,
+        Profile::Long,
+        Profile::Full,
+    ];
     let mut inputs = profiles
         .into_iter()
         .flat_map(|profile| (0..SEEDS).map(move |seed| generate(seed, profile)));
@@ -61,7 +66,7 @@ fn found_in_state(fault: Fault) -> bool {
 
 #[test]
 fn every_fault_is_found() {
-    assert!(ALL.len() >= 21, "{}", ALL.len());
+    assert!(ALL.len() >= 30, "{}", ALL.len());
     for fault in ALL {
         let found = match fault.name {
             // 19 is met on handed-in states alone

@@ -4,7 +4,7 @@ use reference::chains::{first_difference, All};
 use reference::check::{self, REASONS};
 use reference::demand;
 use reference::entry;
-use reference::gen::{self, generate, Profile};
+use reference::generators::{self, generate, Profile, PROFILES};
 use reference::hostile;
 use reference::random::Random;
 use reference::raw::{RawState, RawTable};
@@ -33,9 +33,10 @@ fn demand_3_on_medium_inputs() {
 }
 
 #[test]
-fn demand_3_on_big_and_full_inputs() {
+fn demand_3_on_big_full_and_long_inputs() {
     demand_3(Profile::Big, 0..150);
     demand_3(Profile::Full, 0..100);
+    demand_3(Profile::Long, 0..300);
 }
 
 /// Inputs of a long run: REFERENCE_LONG in the environment, or two millions.
@@ -54,6 +55,7 @@ fn demand_3_at_length() {
     demand_3(Profile::Medium, 0..count / 10);
     demand_3(Profile::Big, 0..count / 200);
     demand_3(Profile::Full, 0..count / 200);
+    demand_3(Profile::Long, 0..count / 200);
 }
 
 /// Each number 1 to 18 from sheets and scripts, 19 on handed-in states, each
@@ -80,8 +82,9 @@ fn coverage_is_whole() {
 
 #[test]
 fn generated_inputs_keep_their_limits() {
-    for profile in [Profile::Small, Profile::Medium, Profile::Big, Profile::Full] {
-        for seed in 0..40 {
+    for profile in PROFILES {
+        let right = profile != Profile::Damaged;
+        for seed in (0..40).filter(|_| right) {
             let input = generate(seed, profile);
             assert!(input.len() <= script::MAX_INPUT);
             let run = script::run_whole(&input);
@@ -94,8 +97,12 @@ fn generated_inputs_keep_their_limits() {
 
 fn tables(count: u64) -> impl Iterator<Item = Table> {
     (0..count).map(|seed| {
-        let plan = if seed % 4 == 0 { gen::BIG } else { gen::MEDIUM };
-        gen::table(&mut Random::new(seed), &plan)
+        let plan = if seed % 4 == 0 {
+            generators::BIG
+        } else {
+            generators::MEDIUM
+        };
+        generators::table(&mut Random::new(seed), &plan)
     })
 }
 
@@ -348,7 +355,7 @@ fn a_place_type_is_a_subtype_of_the_cell_type() {
         for cell in &model.state.cells {
             let place_type = model.state.place_type(cell.place);
             let relation = Relation::SubtypeOwnAside;
-            assert!(model.relations.holds(relation, cell.cell_type, place_type));
+            assert!(model.relations.holds(relation, cell.type_, place_type));
         }
     }
 }

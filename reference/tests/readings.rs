@@ -109,8 +109,17 @@ fn s2_s3_numbers() {
 fn s5_s11_s12_lines_with_several_faults() {
     let m = "m=avail(0,1)1\n";
     for (line, number) in [
-        ("m=avail(0,0,99)0\n", 1),
-        ("m=avail(0,0,0)0\n", 1),
+        ("m=avail(0,0,99)0\n", 2),
+        ("m=avail(0,0,0,99)0\n", 2),
+        ("m=avail(99,0,0,0)0\n", 2),
+        ("m=avail(0,0,0,0)99\n", 2),
+        ("m=avail(0,0,0,0,99)0\n", 1),
+        ("m=avail(0,0,0,0,0)0\n", 1),
+        ("m=optional(0,0,0,0,0)-\n", 1),
+        ("m=avail(0,0,0,0,0,0)0\n", 1),
+        ("m=avail(0,0,99)x\n", 1),
+        ("m=avail(0,0,0,)0\n", 1),
+        ("m=avail(0,0,0,01)0\n", 1),
         ("m=avail(0,99)x\n", 1),
         ("m=avail(0,2)0\n", 2),
         ("m=avail(0,1)2\n", 2),
@@ -140,6 +149,8 @@ fn s5_s11_s12_lines_with_several_faults() {
         "m=unavail\n",
         "m=optional()-\n",
         "m=avail(1,1)-\n",
+        "m=avail(0,1,0)1\n",
+        "m=optional(1,0,0,1)-\n",
     ] {
         assert_eq!(refused(PLAIN, m, line), None, "{line:?}");
     }
@@ -410,6 +421,143 @@ fn arguments_are_looked_up_first() {
     );
 }
 
+/// T14, S13: own at any position.
+#[test]
+fn own_in_a_signature_at_each_position() {
+    for position in 0..MAX_ARGUMENTS {
+        let mut list = vec!["1"; MAX_ARGUMENTS];
+        list[position] = "0";
+        let state = format!("avail({})-", list.join(","));
+        let text = sheet_of(1, &[&["yes", "denied"], &["no", &state]]);
+        let last = text.len() - "end=sheet\n".len();
+        assert_eq!(sheet::read(text.as_bytes()), Err((3, last)), "{position}");
+    }
+}
+
+/// B9, B13, B17: the slots that a count says are used, and those behind it 0.
+#[test]
+fn arguments_stand_in_their_slots() {
+    let states = [
+        "avail()4",
+        "avail(4)4",
+        "avail(4,3)4",
+        "avail(4,3,2)4",
+        "avail(4,3,2,1)4",
+    ];
+    let one = |state: &'static str| ["no", state];
+    let types = states.map(one);
+    let types: Vec<&[&str]> = types.iter().map(|one| &one[..]).collect();
+    let raw = RawTable::of(&table_of(1, &types));
+    let bytes = [
+        [2, 0, 0, 0, 0, 0, 5],
+        [2, 1, 4, 0, 0, 0, 5],
+        [2, 2, 4, 3, 0, 0, 5],
+        [2, 3, 4, 3, 2, 0, 5],
+        [2, 4, 4, 3, 2, 1, 5],
+    ];
+    for (number, bytes) in bytes.into_iter().enumerate() {
+        assert_eq!(raw.method(number, 0), bytes);
+    }
+}
+
+/// H3, H6, H7, H15: counts of arguments, and what stands in each slot, of a table handed in.
+#[test]
+fn slots_of_handed_in_signatures() {
+    let table = table_of(1, &[&["no", "avail()-"], &["yes", "denied"]]);
+    let with = |state: u8, count: u8, slots: [u8; 4]| {
+        let mut raw = RawTable::of(&table);
+        let [a, b, c, d] = slots;
+        raw.method_mut(0, 0)
+            .copy_from_slice(&[state, count, a, b, c, d, 0]);
+        check::table(&raw).err()
+    };
+    for state in [1, 2] {
+        for count in 0..=4 {
+            assert_eq!(with(state, count, [0; 4]), None);
+        }
+        for count in [5, 6, 255] {
+            assert_eq!(with(state, count, [0; 4]), Some(Reason::TooManyArguments));
+        }
+        for slot in 0..4 {
+            let mut slots = [0; 4];
+            slots[slot] = 2;
+            assert_eq!(with(state, slot as u8, slots), None);
+            assert_eq!(
+                with(state, slot as u8 + 1, slots),
+                Some(Reason::ArgumentUnknown)
+            );
+            slots[slot] = 1;
+            assert_eq!(with(state, slot as u8, slots), None);
+            assert_eq!(
+                with(state, slot as u8 + 1, slots),
+                Some(Reason::OwnInSignature)
+            );
+        }
+    }
+    for state in [0, 3] {
+        assert_eq!(with(state, 255, [255; 4]), None);
+    }
+}
+
+/// R6: a relation is asked of each argument, with the sides exchanged; R4: of equally many.
+#[test]
+fn every_argument_is_compared() {
+    // 0 has more than 1, so 0 is a subtype of 1 and not the reverse
+    for position in 0..MAX_ARGUMENTS {
+        let list = |special: &str| {
+            let mut list = vec!["0"; MAX_ARGUMENTS];
+            list[position] = special;
+            format!("avail({})-", list.join(","))
+        };
+        let (takes_more, takes_less) = (list("0"), list("1"));
+        let table = table_of(
+            1,
+            &[
+                &["no", "avail()-"],
+                &["no", "denied"],
+                &["no", &takes_more],
+                &["no", &takes_less],
+                &["no", "avail(0,0,0)-"],
+            ],
+        );
+        let relations = Relations::of(&table);
+        let subtype = |t, s| relations.holds(Relation::Subtype, t, s);
+        assert!(subtype(2, 3) && !subtype(3, 2), "{position}");
+        assert!(!relations.holds(Relation::Free, 2, 4) && !relations.holds(Relation::Free, 4, 2));
+    }
+}
+
+/// D5, D6, D17: four arguments are derived in order, each before the next, and then the answer.
+#[test]
+fn four_arguments_of_derived_types() {
+    // Pairs of types that differ in what they say of method 1 alone.
+    let plain: [&[&str]; 2] = [&["no", "denied", "avail()-"], &["no", "denied", "denied"]];
+    let types: Vec<&[&str]> = [
+        &["no", "avail(2,4,6,8)10", "denied"][..],
+        &["no", "avail(3,5,7,9)11", "denied"],
+    ]
+    .into_iter()
+    .chain(plain.into_iter().cycle().take(10))
+    .collect();
+    let mut table = table_of(2, &types);
+    let key = |kind, left, right| Key { kind, left, right };
+    let signature = |first: usize| Signature {
+        arguments: (first..first + 4).collect(),
+        answer: Some(first + 4),
+    };
+    assert_eq!(sub(&mut table, 0, 1), Ok(12));
+    assert_eq!(table.types[12].permits(0), Some(&signature(13)));
+    assert_eq!(sup(&mut table, 0, 1), Ok(18));
+    assert_eq!(table.types[18].permits(0), Some(&signature(19)));
+    assert_eq!(closed(&mut table, 0, 1), Ok(24));
+    assert_eq!(table.types[24].permits(0), Some(&signature(13)));
+    let of_arguments = |kind| [(3, 2), (5, 4), (7, 6), (9, 8)].map(|(s, t)| key(kind, s, t));
+    assert_eq!(table.keys[1..5], of_arguments(Kind::Sup));
+    assert_eq!(table.keys[5], key(Kind::Sub, 10, 11));
+    assert_eq!(table.keys[7..11], of_arguments(Kind::Sub));
+    assert_eq!(table.keys[11], key(Kind::Sup, 10, 11));
+}
+
 /// C14, A9.
 #[test]
 fn numbers_meet_16_at_any_w32_layer() {
@@ -466,11 +614,11 @@ fn nothing_due() {
     assert_eq!(entry::request(&mut raw, &answer(None)), Err(17));
 }
 
-fn new(subject: i64, class: i64, cell_type: i64) -> Request {
+fn new(subject: i64, class: i64, type_: i64) -> Request {
     Request::New {
         subject,
         class,
-        cell_type,
+        type_,
     }
 }
 
@@ -485,7 +633,7 @@ fn call(cell: i64, arguments: &[i64]) -> Request {
 
 /// A state with one object of class 0, one adapter of a type, and cell 0 of a
 /// type holding the adapter; cell 1 of type 0 holding the object.
-fn handed_in(table: Table, adapter: usize, cell_type: usize) -> RawState {
+fn handed_in(table: Table, adapter: usize, type_: usize) -> RawState {
     let mut model = Model::new(State::of_sheet(table));
     model.request(&new(0, 0, 0)).unwrap();
     let mut state = model.state;
@@ -494,7 +642,7 @@ fn handed_in(table: Table, adapter: usize, cell_type: usize) -> RawState {
         closed: adapter,
     });
     let mut first = state.cells[0];
-    first.cell_type = cell_type;
+    first.type_ = type_;
     first.place = 1;
     state.cells.insert(0, first);
     let raw = RawState::of(&state);
@@ -544,8 +692,8 @@ fn unfit_layers_of_handed_in_states() {
         call: 0,
         value: Some(value),
     };
-    let with_call = |adapter, cell_type| {
-        let mut raw = handed_in(table.clone(), adapter, cell_type);
+    let with_call = |adapter, type_| {
+        let mut raw = handed_in(table.clone(), adapter, type_);
         raw.calls = 1;
         raw.call_mut(0).copy_from_slice(&[0, 0, 0, 0]);
         raw

@@ -1,8 +1,11 @@
-// Small numbers: a byte as a number and back, and the smaller of two. Every crate that reads or writes bytes uses these. And operands: signed 64-bit numbers at
-// every entry point, of which one becomes the number of a thing of which there are n.
+// Small numbers: a byte as a number and back, a truth value as a byte, and the smaller of two. Every crate that reads or writes bytes uses these. And operands:
+// signed 64-bit numbers at every entry point, of which one becomes the number of a thing of which there are n. And the refusals by name.
 ghost use mathlib.Core.Path.{_≡_};
 ghost use Prim.Native.Nat.{_≤_, _<_, min};
+ghost use Rattle.spec_model.specs.Relations.{bit};
 ghost use Rattle.base_numbers.specs.Index.{indexOf};
+
+pub mod refusal;
 
 // A byte as a number.
 pub fn wide(x: u8) -> usize
@@ -24,6 +27,16 @@ pub fn narrow(x: usize) -> u8
     ensures { λ r. ⌜ r ≡ x ⌝ }
 {
     x as u8
+}
+
+// A truth value as a byte.
+pub fn bit_of(x: bool) -> u8
+    ensures { λ r. ⌜ (r ≡ bit x) × (r ≤ 1) ⌝ }
+{
+    if x {
+        return 1;
+    }
+    0
 }
 
 // The smaller of two numbers.

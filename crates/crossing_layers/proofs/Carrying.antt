@@ -13,15 +13,17 @@ use Rattle.spec_model.specs.Basics.{Res, refuse, ok, try}
 use Rattle.spec_model.specs.Crossing.{Reference, cross}
 use Rattle.spec_model.specs.Requests.{atLayer, renumber, crossLayers}
 use Rattle.spec_model.specs.Check.{answerOf}
+use Rattle.spec_model.specs.Refusals.{unrelated}
 use Rattle.table_record.specs.declared.Counts.{Counts}
 use Rattle.table_record.specs.Store.{tableIn, withCount}
 use Rattle.table_record.proofs.Codes.{answer-is}
+use Rattle.table_record.specs.Layout.{typesSize}
 use Rattle.state_record.specs.declared.Places.{Places}
 use Rattle.state_record.specs.View.{placesIn}
 use Rattle.crossing_one.specs.declared.Crossed.{Crossed}
 use Rattle.crossing_one.specs.Crossed.{Ready, Stands, reference, referenceOf, crossedOf, stopped, Came, Leaves}
 use Rattle.crossing_one.proofs.Laws.{ready-on, refused-is, came-is, stops, leaves-on}
-use Rattle.crossing_layers.specs.Carried.{crossTo}
+use Rattle.crossing_layers.specs.Carried.{crossTo, maxLayers}
 use Rattle.crossing_layers.proofs.Laws.{rest-next, nothing-left}
 
 -- ---- One layer.
@@ -42,7 +44,7 @@ layer-none false = refl
 
 -- what came of the crossing y, its refusal by the number e of its layer
 abbrev numbered : Crossed → ℕ → Crossed
-numbered y e = record { refusal = e; sort = y .sort; place = y .place; places = y .places; types = y .types }
+numbered y e = record { refusal = e; ty = y .ty; place = y .place; places = y .places; types = y .types }
 
 module _ (first : Bool) (y : Crossed) (e : ℕ) (w : e ≡ atLayer first (y .refusal)) where
   numbered-is : (b l : List ℕ) (c : Counts) → crossedOf b l c (numbered y e) ≡ renumber first (crossedOf b l c y)
@@ -56,7 +58,7 @@ module _ (first : Bool) (y : Crossed) (e : ℕ) (w : e ≡ atLayer first (y .ref
     long = k .long;
     kept = k .kept;
     came = λ z. let m = k .came (go z (none-or (y .refusal))) in
-        record { sort = m .sort; types = m .types; falling = m .falling; place = m .place; typed = m .typed; before = m .before };
+        record { ty = m .ty; types = m .types; descending = m .descending; place = m .place; typed = m .typed; before = m .before };
   } where
     go : e ≡ 0 → (y .refusal ≡ 0) ⊎ (y .refusal ≡ 0 → ⊥) → y .refusal ≡ 0
     go z (inl u) = u
@@ -64,12 +66,12 @@ module _ (first : Bool) (y : Crossed) (e : ℕ) (w : e ≡ atLayer first (y .ref
 
 module _ (b l : List ℕ) (c : Counts) (x : Crossed) (target r i : ℕ) where
   abbrev Steps : List ℕ → Crossed → Type 0
-  Steps b′ q = (crossedOf b′ l c q ≡ crossTo (eqb i 0) (referenceOf b l c x) r (answerOf target)) × Leaves (withCount c (x .types)) (x .places) (x .sort) b b′ q
+  Steps b′ q = (crossedOf b′ l c q ≡ crossTo (eqb i 0) (referenceOf b l c x) r (answerOf target)) × Leaves (withCount c (x .types)) (x .places) (x .ty) b b′ q
 
-  pub one-none : length b ≡ 16384 → target ≡ 0 → (e : ℕ) → e ≡ atLayer (eqb i 0) 8 → (q : Crossed) → q ≡ stopped (x .places) e → Steps b q
+  pub one-none : length b ≡ typesSize → target ≡ 0 → (e : ℕ) → e ≡ atLayer (eqb i 0) unrelated → (q : Crossed) → q ≡ stopped (x .places) e → Steps b q
   one-none long z e w =
       let some-no : e ≡ 0 → ⊥ = λ y. layer-some (eqb i 0) 8 (λ u. omega (arith, u)) (sym w ∙ y) in
-      stops b b l (withCount c (x .types)) (x .places) (x .sort) e (positive e some-no)
+      stops b b l (withCount c (x .types)) (x .places) (x .ty) e (positive e some-no)
       (ap (λ (n : ℕ). refuse n) w ∙ sym (ap (λ (n : ℕ). crossTo (eqb i 0) (referenceOf b l c x) r (answerOf n)) z)) long (λ j h. refl)
     where
       positive : (n : ℕ) → (n ≡ 0 → ⊥) → 0 < n
@@ -78,13 +80,13 @@ module _ (b l : List ℕ) (c : Counts) (x : Crossed) (target r i : ℕ) where
 
   module _ (some-target : target ≡ 0 → ⊥) (to : ℕ) (at : to ≡ target - 1) (d : Counts) (de : d ≡ withCount c (x .types)) (b′ : List ℕ) (y : Crossed) where
     abbrev Asks : Counts → Res Reference
-    Asks k = cross (reference (tableIn b l k) (placesIn (x .places)) (x .sort) (x .place)) to r
+    Asks k = cross (reference (tableIn b l k) (placesIn (x .places)) (x .ty) (x .place)) to r
 
-    pub one-crosses : crossedOf b′ l d y ≡ Asks d → Leaves d (x .places) (x .sort) b b′ y → (e : ℕ) → e ≡ atLayer (eqb i 0) (y .refusal) → Steps b′ (numbered y e)
+    pub one-crosses : crossedOf b′ l d y ≡ Asks d → Leaves d (x .places) (x .ty) b b′ y → (e : ℕ) → e ≡ atLayer (eqb i 0) (y .refusal) → Steps b′ (numbered y e)
     one-crosses is leaves e w = (
       numbered-is (eqb i 0) y e w b′ l c ∙ ap (renumber (eqb i 0)) (subst (λ (k : Counts). crossedOf b′ l k y ≡ Asks k) de is)
           ∙ sym (ap (crossTo (eqb i 0) (referenceOf b l c x) r) (answer-is target some-target ∙ ap (λ (k : ℕ). some k) (sym at))),
-      numbered-leaves (eqb i 0) y e w (subst (λ (k : Counts). Leaves k (x .places) (x .sort) b b′ y) de leaves),
+      numbered-leaves (eqb i 0) y e w (subst (λ (k : Counts). Leaves k (x .places) (x .ty) b b′ y) de leaves),
     )
 
 pub one-ready : (b l : List ℕ) (c d : Counts) (n : ℕ) → d ≡ withCount c n → Ready l (withCount c n) b → Ready l d b
@@ -111,7 +113,7 @@ module _ (b l : List ℕ) (c : Counts) (ps : Places) (s p r : ℕ) (list : List 
     pub carries : Leaves c ps s b b₁ x
     pub rest : crossLayers (eqb i 0) (referenceOf b₁ l c x) r (map answerOf (drop i (take n list))) ≡ All
 
-  pub goes-starts : Ready l c b → Stands ps p → Goes b (record { refusal = 0; sort = s; place = p; places = ps; types = c .types }) 0
+  pub goes-starts : Ready l c b → Stands ps p → Goes b (record { refusal = 0; ty = s; place = p; places = ps; types = c .types }) 0
   goes-starts h k = record {
     refusal = refl;
     within = omega arith;
@@ -119,9 +121,9 @@ module _ (b l : List ℕ) (c : Counts) (ps : Places) (s p r : ℕ) (list : List 
       long = h .long;
       kept = λ i q. refl;
       came = λ _. record {
-        sort = λ k. k;
+        ty = λ k. k;
         types = record { more = omega arith; room = h .checked .limits .types; exact = λ i u v. absurd (omega (arith, u, v)) };
-        falling = k .falling;
+        descending = k .descending;
         place = k .place;
         typed = λ t. t;
         before = record { more = omega arith; same = λ i q. refl };
@@ -135,7 +137,7 @@ module _ (b l : List ℕ) (c : Counts) (ps : Places) (s p r : ℕ) (list : List 
     came = w .carries .came (w .refusal)
 
     pub goes-ready : Ready l (withCount c (x .types)) b₁ × Stands (x .places) (x .place)
-    goes-ready = (ready-on l c (x .types) b b₁ h (came .types) (w .carries .long), record { falling = came .falling; place = came .place })
+    goes-ready = (ready-on l c (x .types) b b₁ h (came .types) (w .carries .long), record { descending = came .descending; place = came .place })
 
     abbrev Done : List ℕ → Crossed → Type 0
     Done b₂ q = (crossedOf b₂ l c q ≡ All) × Leaves c ps s b b₂ q
@@ -147,8 +149,8 @@ module _ (b l : List ℕ) (c : Counts) (ps : Places) (s p r : ℕ) (list : List 
       w .carries,
     )
 
-    module _ (long : length list ≡ 129) (few : n ≤ 129) (low : i < n) (target : ℕ) (is : target ≡ getD list i 0) (b₂ : List ℕ) (q : Crossed)
-        (step : crossedOf b₂ l c q ≡ crossTo (eqb i 0) (referenceOf b₁ l c x) r (answerOf target)) (k : Leaves (withCount c (x .types)) (x .places) (x .sort) b₁ b₂ q) where
+    module _ (long : length list ≡ maxLayers) (few : n ≤ maxLayers) (low : i < n) (target : ℕ) (is : target ≡ getD list i 0) (b₂ : List ℕ) (q : Crossed)
+        (step : crossedOf b₂ l c q ≡ crossTo (eqb i 0) (referenceOf b₁ l c x) r (answerOf target)) (k : Leaves (withCount c (x .types)) (x .places) (x .ty) b₁ b₂ q) where
       abbrev After : Reference → Res Reference
       After g = crossLayers false g r (map answerOf (drop (i + 1) (take n list)))
 

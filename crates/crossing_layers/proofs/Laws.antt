@@ -19,7 +19,9 @@ use Rattle.spec_model.specs.Table.{Method as Methodᵐ}
 use Rattle.spec_model.specs.Requests.{atLayer, within, passLayers}
 use Rattle.spec_model.specs.Check.{RawType, stateOf, repOf, answerOf, methodOf, noRawType, noRawMethod}
 use Rattle.spec_model.proofs.Codes.{answer-back, code-back}
-use Rattle.spec_model.specs.Records.{answerCode}
+use Rattle.spec_model.specs.Records.{answerCode, argumentSlots}
+use Rattle.spec_model.specs.Refusals.{unrelated, notStrict, tooWide, laterLayer}
+use Rattle.spec_model.specs.Crossing.{maxPlaces}
 use Rattle.table_record.specs.declared.Counts.{Counts}
 use Rattle.table_record.specs.declared.Head.{Head}
 use Rattle.table_record.specs.declared.Method.{Method}
@@ -28,7 +30,7 @@ use Rattle.table_record.proofs.Tables.{type-is, type-out}
 use Rattle.table_record.proofs.Codes.{rep-code, answer-is}
 use Rattle.crossing_layers.specs.declared.Slot.{Slot}
 use Rattle.crossing_layers.specs.declared.Slot.the-variants.{Argument, Answer}
-use Rattle.crossing_layers.specs.Carried.{argumentOf, slotIn, slotAt, widthAt, passAs, passTo, passedOf}
+use Rattle.crossing_layers.specs.Carried.{argumentOf, slotIn, slotAt, widthAt, passAs, passTo, passedOf, maxLayers}
 use Rattle.law_table.proofs.Methods.{ref-is, method-is, method-out}
 
 -- ---- Lists.
@@ -45,35 +47,35 @@ read : (list : List ℕ) (i : ℕ) → i < length list → take (i + 1) list ≡
 read list i h = ap (λ (n : ℕ). take n list) (add-one i) ∙ take-suc list i 0 h
 
 -- a way so far: the cell's type, and the first i layers
-pub way-next : (list layers : List ℕ) (sort i v : ℕ) → length list ≡ 129 → i < 128 → length layers ≡ 128 → v ≡ getD layers i 0 →
-    take (i + 1) list ≡ sort ∷ take i layers → take (i + 1 + 1) (set list (i + 1) v) ≡ sort ∷ take (i + 1) layers
-way-next list layers sort i v e h k z w =
-    stored list (i + 1) v (omega arith) ∙ ap (λ (xs : List ℕ). xs ++ (v ∷ [])) w ∙ ap (λ (y : ℕ). sort ∷ (take i layers ++ (y ∷ []))) z
-    ∙ ap (λ (xs : List ℕ). sort ∷ xs) (sym (read layers i (omega arith)))
+pub call-layers-next : (list layers : List ℕ) (ty i v : ℕ) → length list ≡ maxLayers → i < maxPlaces → length layers ≡ maxPlaces → v ≡ getD layers i 0 →
+    take (i + 1) list ≡ ty ∷ take i layers → take (i + 1 + 1) (set list (i + 1) v) ≡ ty ∷ take (i + 1) layers
+call-layers-next list layers ty i v e h k z w =
+    stored list (i + 1) v (omega arith) ∙ ap (λ (xs : List ℕ). xs ++ (v ∷ [])) w ∙ ap (λ (y : ℕ). ty ∷ (take i layers ++ (y ∷ []))) z
+    ∙ ap (λ (xs : List ℕ). ty ∷ xs) (sym (read layers i (omega arith)))
 
-pub way-ends : (list layers : List ℕ) (sort n i : ℕ) → i ≤ n → n ≤ i → take (i + 1) list ≡ sort ∷ take i layers → take (n + 1) list ≡ sort ∷ take n layers
-way-ends list layers sort n i h g w = let e : i ≡ n = omega arith in subst (λ (j : ℕ). take (j + 1) list ≡ sort ∷ take j layers) e w
+pub call-layers-end : (list layers : List ℕ) (ty n i : ℕ) → i ≤ n → n ≤ i → take (i + 1) list ≡ ty ∷ take i layers → take (n + 1) list ≡ ty ∷ take n layers
+call-layers-end list layers ty n i h g w = let e : i ≡ n = omega arith in subst (λ (j : ℕ). take (j + 1) list ≡ ty ∷ take j layers) e w
 
 -- ---- Codes.
 
 -- targets so far: what f gives for the first i types of the way
-pub targets-next : (f : ℕ → Option ℕ) (list way : List ℕ) (i v : ℕ) → length list ≡ 129 → length way ≡ 129 → i < 129 → v ≡ answerCode (f (getD way i 0)) →
-    map answerOf (take i list) ≡ map f (take i way) → map answerOf (take (i + 1) (set list i v)) ≡ map f (take (i + 1) way)
-targets-next f list way i v e k h z w =
+pub targets-next : (f : ℕ → Option ℕ) (list ls : List ℕ) (i v : ℕ) → length list ≡ maxLayers → length ls ≡ maxLayers → i < maxLayers → v ≡ answerCode (f (getD ls i 0)) →
+    map answerOf (take i list) ≡ map f (take i ls) → map answerOf (take (i + 1) (set list i v)) ≡ map f (take (i + 1) ls)
+targets-next f list ls i v e k h z w =
     ap (map answerOf) (stored list i v (omega arith)) ∙ map-append answerOf (take i list) (v ∷ [])
     ∙ ap (λ (xs : List (Option ℕ)). xs ++ (answerOf v ∷ [])) w
-    ∙ ap (λ (x : Option ℕ). map f (take i way) ++ (x ∷ [])) (ap answerOf z ∙ answer-back (f (getD way i 0)))
-    ∙ sym (ap (map f) (read way i (omega arith)) ∙ map-append f (take i way) (getD way i 0 ∷ []))
+    ∙ ap (λ (x : Option ℕ). map f (take i ls) ++ (x ∷ [])) (ap answerOf z ∙ answer-back (f (getD ls i 0)))
+    ∙ sym (ap (map f) (read ls i (omega arith)) ∙ map-append f (take i ls) (getD ls i 0 ∷ []))
 
-pub targets-end : (f : ℕ → Option ℕ) (list way : List ℕ) (n i : ℕ) → i ≤ n → n ≤ i → map answerOf (take i list) ≡ map f (take i way)
-    → map answerOf (take n list) ≡ map f (take n way)
-targets-end f list way n i h g w = let e : i ≡ n = omega arith in subst (λ (j : ℕ). map answerOf (take j list) ≡ map f (take j way)) e w
+pub targets-end : (f : ℕ → Option ℕ) (list ls : List ℕ) (n i : ℕ) → i ≤ n → n ≤ i → map answerOf (take i list) ≡ map f (take i ls)
+    → map answerOf (take n list) ≡ map f (take n ls)
+targets-end f list ls n i h g w = let e : i ≡ n = omega arith in subst (λ (j : ℕ). map answerOf (take j list) ≡ map f (take j ls)) e w
 
 -- the last i of n targets, from the last one on; the k before them are still to come
 pub back-starts : (xs : List ℕ) (n k : ℕ) → 0 + k ≡ n → reverse (take k xs) ≡ reverse (take n xs)
 back-starts xs n k e = let z : k ≡ n = omega arith in ap (λ (j : ℕ). reverse (take j xs)) z
 
-pub back-next : (list xs : List ℕ) (n i v : ℕ) → length list ≡ 129 → length xs ≡ 129 → n ≤ 129 → i < n → v ≡ getD xs (n - i - 1) 0 →
+pub back-next : (list xs : List ℕ) (n i v : ℕ) → length list ≡ maxLayers → length xs ≡ maxLayers → n ≤ maxLayers → i < n → v ≡ getD xs (n - i - 1) 0 →
     ((k : ℕ) → i + k ≡ n → take i list ++ reverse (take k xs) ≡ reverse (take n xs)) →
     (k : ℕ) → i + 1 + k ≡ n → take (i + 1) (set list i v) ++ reverse (take k xs) ≡ reverse (take n xs)
 back-next list xs n i v e f m h z w k q =
@@ -112,11 +114,11 @@ module _ (x : Method) (i n : ℕ) (e : n ≡ x .count) where
   pub argument-uncounted : n ≤ i → 0 ≡ answerCode (argumentOf x i)
   argument-uncounted h = ap answerCode (sym (elem-count (x .count) (x .args) i (omega arith)))
 
-  module _ (four : length (x .args) ≡ 4) where
-    pub argument-out : 4 ≤ i → 0 ≡ answerCode (argumentOf x i)
+  module _ (four : length (x .args) ≡ argumentSlots) where
+    pub argument-out : argumentSlots ≤ i → 0 ≡ answerCode (argumentOf x i)
     argument-out h = ap answerCode (sym (elem-past (x .count) (x .args) i (omega arith)))
 
-    pub argument-is : i < n → i < 4 → (v j : ℕ) → j ≡ i → v ≡ getD (x .args) j 0 → v + 1 ≡ answerCode (argumentOf x i)
+    pub argument-is : i < n → i < argumentSlots → (v j : ℕ) → j ≡ i → v ≡ getD (x .args) j 0 → v + 1 ≡ answerCode (argumentOf x i)
     argument-is h k v j s z =
         add-one v ∙ ap suc (z ∙ ap (λ (m : ℕ). getD (x .args) m 0) s) ∙ ap answerCode (sym (elem-in (x .count) (x .args) i (omega arith) (omega arith)))
 
@@ -175,16 +177,16 @@ module _ (i e : ℕ) where
   at-first h = ap (λ (q : Bool). atLayer q e) (sym (eq-eqb i 0 h))
 
   module _ (h : i ≡ 0 → ⊥) where
-    later : atLayer (eqb i 0) e ≡ cond (eqb e 8 || eqb e 10) 19 e
+    later : atLayer (eqb i 0) e ≡ cond (eqb e unrelated || eqb e notStrict) laterLayer e
     later = ap (λ (q : Bool). atLayer q e) (ne-eqb i 0 h)
 
-    pub at-later-8 : e ≡ 8 → 19 ≡ atLayer (eqb i 0) e
-    at-later-8 z = sym (later ∙ ap (λ (n : ℕ). cond (eqb n 8 || eqb n 10) 19 n) z)
+    pub at-later-8 : e ≡ unrelated → laterLayer ≡ atLayer (eqb i 0) e
+    at-later-8 z = sym (later ∙ ap (λ (n : ℕ). cond (eqb n unrelated || eqb n notStrict) laterLayer n) z)
 
-    pub at-later-10 : e ≡ 10 → 19 ≡ atLayer (eqb i 0) e
-    at-later-10 z = sym (later ∙ ap (λ (n : ℕ). cond (eqb n 8 || eqb n 10) 19 n) z)
+    pub at-later-10 : e ≡ notStrict → laterLayer ≡ atLayer (eqb i 0) e
+    at-later-10 z = sym (later ∙ ap (λ (n : ℕ). cond (eqb n unrelated || eqb n notStrict) laterLayer n) z)
 
-    pub at-later : (e ≡ 8 → ⊥) → (e ≡ 10 → ⊥) → e ≡ atLayer (eqb i 0) e
+    pub at-later : (e ≡ unrelated → ⊥) → (e ≡ notStrict → ⊥) → e ≡ atLayer (eqb i 0) e
     at-later y z = sym (later ∙ rw (ne-eqb e 8 y, ne-eqb e 10 z))
 
 abbrev passedAs : ℕ → Bool → Res (Unit {0})
@@ -229,10 +231,10 @@ module _ (b l : List ℕ) (c : Counts) (v : ℤ) (target i e : ℕ) where
   abbrev Passes : Type 0
   Passes = passedOf e ≡ passTo (eqb i 0) (tableIn b l c) v (answerOf target)
 
-  refused-there : e ≡ atLayer (eqb i 0) 8 → passedOf e ≡ refuse (atLayer (eqb i 0) 8)
-  refused-there z = ap passedOf z ∙ passed-no (atLayer (eqb i 0) 8) (refused-8 (eqb i 0))
+  refused-there : e ≡ atLayer (eqb i 0) unrelated → passedOf e ≡ refuse (atLayer (eqb i 0) unrelated)
+  refused-there z = ap passedOf z ∙ passed-no (atLayer (eqb i 0) unrelated) (refused-8 (eqb i 0))
 
-  pub pass-none : target ≡ 0 → e ≡ atLayer (eqb i 0) 8 → Passes
+  pub pass-none : target ≡ 0 → e ≡ atLayer (eqb i 0) unrelated → Passes
   pass-none z w = refused-there w ∙ sym (ap (λ (n : ℕ). passTo (eqb i 0) (tableIn b l c) v (answerOf n)) z)
 
   module _ (some-target : target ≡ 0 → ⊥) (t : ℕ) (is : t ≡ target - 1) where
@@ -247,7 +249,7 @@ module _ (b l : List ℕ) (c : Counts) (v : ℤ) (target i e : ℕ) where
       rep-of : (r : Rep) → repOf (h .rep) ≡ r → typeAt (tableIn b l c) t .rep ≡ r
       rep-of r w = ap (λ (x : Ty). x .rep) (type-is b l c t low) ∙ ap (λ (x : Head). repOf (x .rep)) (sym z) ∙ w
 
-      pub pass-ref : h .rep ≡ 0 → e ≡ atLayer (eqb i 0) 8 → Passes
+      pub pass-ref : h .rep ≡ 0 → e ≡ atLayer (eqb i 0) unrelated → Passes
       pass-ref y w = refused-there w ∙ sym (pass-as ref (rep-of ref (ap repOf y)))
 
       pub pass-32 : h .rep ≡ 1 → passedOf e ≡ widthAt v → Passes
@@ -258,7 +260,7 @@ module _ (b l : List ℕ) (c : Counts) (v : ℤ) (target i e : ℕ) where
 
 -- ---- The rest of a way.
 -- the first n targets: what is left from i on
-module _ (list : List ℕ) (n : ℕ) (long : length list ≡ 129) (few : n ≤ 129) where
+module _ (list : List ℕ) (n : ℕ) (long : length list ≡ maxLayers) (few : n ≤ maxLayers) where
   counted : length (take n list) ≡ n
   counted = length-take-le n list (omega arith)
 
@@ -275,15 +277,15 @@ nothing-left (x ∷ xs) (suc n) (suc i) h = nothing-left xs n i (le-of-suc-le-su
 
 -- what `passLayers` does at a type of the representation, with what comes after
 abbrev onward : Bool → ℤ → Res (Unit {0}) → Rep → Res (Unit {0})
-onward first v k r = elim r [ ref ↦ refuse (atLayer first 8) | w32 ↦ need (within 2147483648 v) 16 (λ _. k) | w64 ↦ k ]
+onward first v k r = elim r [ ref ↦ refuse (atLayer first 8) | w32 ↦ need (within 2147483648 v) tooWide (λ _. k) | w64 ↦ k ]
 
 abbrev tested : Bool → Res (Unit {0})
-tested q = need q 16 λ _. ok tt
+tested q = need q tooWide λ _. ok tt
 
 onward-is : (first : Bool) (v : ℤ) (k : Res (Unit {0})) (r : Rep) → onward first v k r ≡ try (passAs first v r) (λ _. k)
 onward-is first v k ref = refl
 onward-is first v k w32 = go (within 2147483648 v) where
-  go : (q : Bool) → need q 16 (λ _. k) ≡ try (tested q) (λ _. k)
+  go : (q : Bool) → need q tooWide (λ _. k) ≡ try (tested q) (λ _. k)
   go true = refl
   go false = refl
 onward-is first v k w64 = refl
@@ -300,7 +302,7 @@ PassRest t v list n i = passLayers (eqb i 0) t v (map answerOf (drop i (take n l
 pub pass-starts : (t : Table) (v : ℤ) (list : List ℕ) (n : ℕ) → PassRest t v list n 0
 pass-starts t v list n = refl
 
-module _ (t : Table) (v : ℤ) (list : List ℕ) (n : ℕ) (long : length list ≡ 129) (few : n ≤ 129) (i : ℕ) (h : i < n) (w : PassRest t v list n i)
+module _ (t : Table) (v : ℤ) (list : List ℕ) (n : ℕ) (long : length list ≡ maxLayers) (few : n ≤ maxLayers) (i : ℕ) (h : i < n) (w : PassRest t v list n i)
     (target : ℕ) (is : target ≡ getD list i 0) (e : ℕ) (k : passedOf e ≡ passTo (eqb i 0) t v (answerOf target)) where
   pass-on : passLayers true t v (map answerOf (take n list)) ≡ try (passedOf e) (λ _. passLayers false t v (map answerOf (drop (i + 1) (take n list))))
   pass-on =

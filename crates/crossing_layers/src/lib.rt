@@ -10,18 +10,21 @@ ghost use lib.ListN.{length, getD, take};
 ghost use Rattle.spec_model.specs.Requests.{atLayer, within, crossLayers, passLayers};
 ghost use Rattle.spec_model.specs.Check.{methodOf, answerOf};
 ghost use Rattle.spec_model.specs.Records.{answerCode};
+ghost use Rattle.spec_model.specs.Crossing.{maxPlaces};
 ghost use Rattle.table_record.specs.Store.{rawMethod, tableIn, withCount};
 ghost use Rattle.table_record.specs.Limits.{Limits};
 ghost use Rattle.state_record.specs.View.{placesIn};
 ghost use Rattle.state_record.specs.Sound.{layersIn};
 ghost use Rattle.crossing_one.specs.Crossed.{Ready, Stands, reference, referenceOf, crossedOf, Leaves};
-ghost use Rattle.crossing_layers.specs.Carried.{wayIn, targetsIn, argumentOf, slotIn, slotAt, widthAt, passTo, passedOf, crossTo};
+ghost use Rattle.crossing_layers.specs.Carried.{callLayersIn, targetsIn, argumentOf, slotIn, slotAt, widthAt, passTo, passedOf, crossTo, maxLayers};
 use base_numbers::least;
+use base_numbers::refusal;
 use base_numbers::wide;
 use crossing_one::Crossed;
 use crossing_one::Crossing;
 use state_record::Layers;
 use state_record::Places;
+use state_record::State;
 use table_record::Counts;
 use table_record::Head;
 use table_record::LINK_BYTES;
@@ -29,14 +32,14 @@ use table_record::Method;
 use table_record::TYPE_BYTES;
 
 // The types whose signatures a value meets: that of the called cell, and then the layers of its place (C9).
-pub struct Way {
-    pub list: [u8; Way::TYPES],
+pub struct CallLayers {
+    pub list: [u8; CallLayers::MAX],
     pub count: usize,
 }
 
-// the cell's type, and at most 128 layers
-impl Way {
-    pub const TYPES: usize = 129;
+// the cell's type, and the layers of a place
+impl CallLayers {
+    pub const MAX: usize = State::PLACES + 1;
 }
 
 // What a value is to be: an argument of the method, by its number, or the answer.
@@ -48,34 +51,37 @@ pub enum Slot {
 // The type that each layer has for the value: 0 for none, else its number and 1. Types are taken at their word (H14), and a byte can be 255: so a code is no
 // byte.
 pub struct Targets {
-    pub list: [usize; Way::TYPES],
+    pub list: [usize; CallLayers::MAX],
     pub count: usize,
 }
 
-pub fn way_of(sort: u8, l: Layers) -> Way
-    requires { ⌜ l .count ≤ 128 ⌝ }
-    ensures { λ r. ⌜ (wayIn r ≡ sort ∷ layersIn l) × (r .count ≡ suc (l .count)) ⌝ }
+pub fn call_layers(ty: u8, l: Layers) -> CallLayers
+    requires { ⌜ l .count ≤ maxPlaces ⌝ }
+    ensures { λ r. ⌜ (callLayersIn r ≡ ty ∷ layersIn l) × (r .count ≡ suc (l .count)) ⌝ }
 {
     let n = l.count;
-    let mut list = [sort; Way::TYPES];
+    let mut list = [ty; CallLayers::MAX];
     let mut i: usize = 0;
     while i < n {
         list[i + 1] = l.list[i];
         i += 1;
     }
-    Way { list, count: n + 1 }
+    CallLayers { list, count: n + 1 }
 }
+
+// The last argument slot of a record.
+const LAST_SLOT: usize = Method::SLOTS - 1;
 
 // Argument i of a signature. A count above the four that a record has room for uses all of them.
 pub fn argument_in(x: Method, i: usize) -> usize
     ensures { λ r. ⌜ r ≡ answerCode (argumentOf x i) ⌝ }
 {
     let n = wide(x.count);
-    let a = wide(x.args[least(i, 3)]);
+    let a = x.argument(least(i, LAST_SLOT));
     if n <= i {
         return 0;
     }
-    if 4 <= i {
+    if Method::SLOTS <= i {
         return 0;
     }
     a + 1
@@ -113,13 +119,13 @@ pub fn target_at(types: &[u8; TYPE_BYTES], c: Counts, m: usize, s: Slot, t: usiz
     slot_in(table_record::get_method(types, t, m), s)
 }
 
-// The targets of a value over a way, by the types as they are before it starts.
-pub fn targets_of(types: &[u8; TYPE_BYTES], c: Counts, m: usize, s: Slot, w: Way) -> Targets
-    requires { ⌜ Limits c × (w .count ≤ 129) ⌝ }
-    ensures { λ r. ⌜ ((l : List ℕ) → targetsIn r ≡ map (slotAt (tableIn (now (types .entry)) l c) m s) (wayIn w)) × (r .count ≡ w .count) ⌝ }
+// The targets of a value over the layers of a call, by the types as they are before it starts.
+pub fn targets_of(types: &[u8; TYPE_BYTES], c: Counts, m: usize, s: Slot, w: CallLayers) -> Targets
+    requires { ⌜ Limits c × (w .count ≤ maxLayers) ⌝ }
+    ensures { λ r. ⌜ ((l : List ℕ) → targetsIn r ≡ map (slotAt (tableIn (now (types .entry)) l c) m s) (callLayersIn w)) × (r .count ≡ w .count) ⌝ }
 {
     let n = w.count;
-    let mut list = [0usize; Way::TYPES];
+    let mut list = [0usize; CallLayers::MAX];
     let mut i: usize = 0;
     while i < n {
         list[i] = target_at(types, c, m, s, wide(w.list[i]));
@@ -130,11 +136,11 @@ pub fn targets_of(types: &[u8; TYPE_BYTES], c: Counts, m: usize, s: Slot, w: Way
 
 // An answer goes outward, from the class's layer to the cell's (A7).
 pub fn reversed(x: Targets) -> Targets
-    requires { ⌜ x .count ≤ 129 ⌝ }
+    requires { ⌜ x .count ≤ maxLayers ⌝ }
     ensures { λ r. ⌜ (targetsIn r ≡ reverse (targetsIn x)) × (r .count ≡ x .count) ⌝ }
 {
     let n = x.count;
-    let mut list = [0usize; Way::TYPES];
+    let mut list = [0usize; CallLayers::MAX];
     let mut i: usize = 0;
     while i < n {
         list[i] = x.list[n - i - 1];
@@ -150,11 +156,11 @@ fn at_layer(i: usize, e: usize) -> usize
     if i == 0 {
         return e;
     }
-    if e == 8 {
-        return 19;
+    if e == refusal::UNRELATED {
+        return refusal::LATER_LAYER;
     }
-    if e == 10 {
-        return 19;
+    if e == refusal::NOT_STRICT {
+        return refusal::LATER_LAYER;
     }
     e
 }
@@ -179,7 +185,7 @@ fn fits32(v: i64) -> usize
     if in_width(v, -2147483648, 2147483647) {
         return 0;
     }
-    16
+    refusal::TOO_WIDE
 }
 
 // A number at layer i, whose target is coded: its refusal, or 0 (C14, C15). A number that names no type is met as w32, as in the model.
@@ -188,7 +194,7 @@ fn pass_one(types: &[u8; TYPE_BYTES], c: Counts, v: i64, target: usize, i: usize
     ensures { λ r. ⌜ ((l : List ℕ) → passedOf r ≡ passTo (eqb i 0) (tableIn (now (types .entry)) l c) v (answerOf target)) ⌝ }
 {
     if target == 0 {
-        return at_layer(i, 8);
+        return at_layer(i, refusal::UNRELATED);
     }
     let t = target - 1;
     if c.types <= t {
@@ -196,7 +202,7 @@ fn pass_one(types: &[u8; TYPE_BYTES], c: Counts, v: i64, target: usize, i: usize
     }
     let h = table_record::get_head(types, t);
     if h.rep == Head::REF {
-        return at_layer(i, 8);
+        return at_layer(i, refusal::UNRELATED);
     }
     if h.rep == Head::W32 {
         return fits32(v);
@@ -206,7 +212,7 @@ fn pass_one(types: &[u8; TYPE_BYTES], c: Counts, v: i64, target: usize, i: usize
 
 // A number passes each target in turn: its refusal, or 0.
 pub fn pass(types: &[u8; TYPE_BYTES], c: Counts, v: i64, targets: Targets) -> usize
-    requires { ⌜ Limits c × (targets .count ≤ 129) ⌝ }
+    requires { ⌜ Limits c × (targets .count ≤ maxLayers) ⌝ }
     ensures { λ r. ⌜ ((l : List ℕ) → passedOf r ≡ passLayers true (tableIn (now (types .entry)) l c) v (targetsIn targets)) ⌝ }
 {
     let n = targets.count;
@@ -232,16 +238,17 @@ fn carry_one(
     i: usize,
 ) -> Crossed
     requires { ⌜ Ready (now links) (withCount c (x .types)) (now types) × Stands (x .places) (x .place) ⌝ }
-    ensures is { λ q. ⌜ crossedOf (now (types .exit)) (now (links .entry)) c q ≡ crossTo (eqb i 0) (referenceOf (now (types .entry)) (now (links .entry)) c x) r (answerOf target) ⌝ }
-    ensures leaves { λ q. ⌜ Leaves (withCount c (x .types)) (x .places) (x .sort) (now (types .entry)) (now (types .exit)) q ⌝ }
+    ensures is { λ q. ⌜ crossedOf (now (types .exit)) (now (links .entry)) c q
+        ≡ crossTo (eqb i 0) (referenceOf (now (types .entry)) (now (links .entry)) c x) r (answerOf target) ⌝ }
+    ensures leaves { λ q. ⌜ Leaves (withCount c (x .types)) (x .places) (x .ty) (now (types .entry)) (now (types .exit)) q ⌝ }
 {
     let ps = x.places;
     if target == 0 {
-        return crossing_one::refused(ps, at_layer(i, 8));
+        return crossing_one::refused(ps, at_layer(i, refusal::UNRELATED));
     }
-    let d = crossing_one::grown(c, x.types);
+    let d = c.with_types(x.types);
     let next = Crossing {
-        from: x.sort,
+        from: x.ty,
         place: x.place,
         to: target - 1,
         receiver: r,
@@ -262,13 +269,14 @@ pub fn carry(
     targets: Targets,
     r: usize,
 ) -> Crossed
-    requires { ⌜ Ready (now links) c (now types) × Stands ps p × (targets .count ≤ 129) ⌝ }
-    ensures is { λ q. ⌜ crossedOf (now (types .exit)) (now (links .entry)) c q ≡ crossLayers true (reference (tableIn (now (types .entry)) (now (links .entry)) c) (placesIn ps) s p) r (targetsIn targets) ⌝ }
+    requires { ⌜ Ready (now links) c (now types) × Stands ps p × (targets .count ≤ maxLayers) ⌝ }
+    ensures is { λ q. ⌜ crossedOf (now (types .exit)) (now (links .entry)) c q
+        ≡ crossLayers true (reference (tableIn (now (types .entry)) (now (links .entry)) c) (placesIn ps) s p) r (targetsIn targets) ⌝ }
     ensures leaves { λ q. ⌜ Leaves c ps s (now (types .entry)) (now (types .exit)) q ⌝ }
 {
     let mut x = Crossed {
         refusal: 0,
-        sort: s,
+        ty: s,
         place: p,
         places: ps,
         types: c.types,

@@ -10,7 +10,7 @@ use lib.ListN.{length, getD}
 use lib.Seq.{getD-set-other}
 use borrow.Author.Tests.{eq-eqb, ne-eqb, lt-ltb, le-ltb}
 use Rattle.spec_model.specs.Basics.{Res, refuse, ok, need, try}
-use Rattle.spec_model.specs.Table.{Kind, Table, Ty, isRef, typeAt, sub, closed}
+use Rattle.spec_model.specs.Table.{Kind, Table, Ty, isRef, typeAt, sub, closed, maxTypes}
 use Rattle.spec_model.specs.Relations.{related, subtype, conforms, strict, loose, free}
 use Rattle.spec_model.specs.Restriction.{derived}
 use Rattle.spec_model.specs.Crossing.{Place, Reference, placeAt, placeType, baseOf, baseOwner, maxPlaces, adapter, adapt, cross}
@@ -18,11 +18,13 @@ use Rattle.spec_model.specs.Check.{noRawType}
 use Rattle.spec_model.proofs.Largest.{keeps-related}
 use Rattle.spec_model.proofs.Order.{strict→loose, loose→free}
 use Rattle.spec_model.proofs.ChainLaws.{sort-eq}
+use Rattle.spec_model.specs.Refusals.{unrelated, notOwner, notStrict, typesFull, placesFull}
 use Rattle.table_record.specs.declared.Counts.{Counts}
 use Rattle.table_record.specs.Store.{typesIn, tableIn, withCount, ownOf}
 use Rattle.table_record.specs.Limits.{Checked}
 use Rattle.table_record.proofs.Lists.{lt-or-ge}
 use Rattle.table_record.proofs.Tables.{size-is, type-is, type-out}
+use Rattle.table_record.specs.Layout.{typesSize}
 use Rattle.derive_record.specs.declared.Derived.{Derived}
 use Rattle.derive_record.specs.declared.Derived.the-variants.{Full, At}
 use Rattle.derive_sub_sup.specs.Link.{derivationIn, Kept, ExactAt, ExactTo, Sized, Derives}
@@ -32,9 +34,9 @@ use Rattle.derive_sub_sup.proofs.Bytes.{exact-same}
 use Rattle.state_record.specs.declared.Places.{Places}
 use Rattle.state_record.specs.declared.Place.the-variants.{Adapter}
 use Rattle.state_record.specs.View.{placesIn, blankPlace}
-use Rattle.state_record.specs.Sound.{Falling, BaseAt}
+use Rattle.state_record.specs.Sound.{Descending, BaseAt}
 use Rattle.state_record.proofs.Laws.{places-length}
-use Rattle.state_record.proofs.Kept.{falling-more, typed-more}
+use Rattle.state_record.proofs.Kept.{descending-more, typed-more}
 use Rattle.crossing_one.specs.declared.Crossing.{Crossing}
 use Rattle.crossing_one.specs.declared.Landing.the-variants as landing
 use Rattle.crossing_one.specs.declared.Crossed.{Crossed}
@@ -44,12 +46,12 @@ use Rattle.crossing_one.specs.Crossed.{Ready, ownIn, reference, crossing
 module _ (t : Table) (ps : List Place) (s p to r : ℕ) where
   -- an own target
   module _ (own : typeAt t to .own ≡ true) where
-    own-8 : related free t to s ≡ false → refuse 8 ≡ cross (reference t ps s p) to r
+    own-8 : related free t to s ≡ false → refuse unrelated ≡ cross (reference t ps s p) to r
     unfolding cross
     own-8 e = rw (own, e)
 
     module _ (met : related free t to s ≡ true) where
-      own-9 : eqb r (baseOwner ps p) ≡ false → refuse 9 ≡ cross (reference t ps s p) to r
+      own-9 : eqb r (baseOwner ps p) ≡ false → refuse notOwner ≡ cross (reference t ps s p) to r
       unfolding cross
       own-9 e = rw (own, met, e)
 
@@ -59,7 +61,7 @@ module _ (t : Table) (ps : List Place) (s p to r : ℕ) where
 
   -- any other
   module _ (own : typeAt t to .own ≡ false) where
-    other-8 : related loose t to s ≡ false → refuse 8 ≡ cross (reference t ps s p) to r
+    other-8 : related loose t to s ≡ false → refuse unrelated ≡ cross (reference t ps s p) to r
     unfolding cross
     other-8 e = rw (own, e)
 
@@ -69,7 +71,7 @@ module _ (t : Table) (ps : List Place) (s p to r : ℕ) where
       other-stays e = rw (own, met, e)
 
       module _ (less : related subtype t to s ≡ false) where
-        other-11 : refuse 11 ≡ derived t sub to s → refuse 11 ≡ cross (reference t ps s p) to r
+        other-11 : refuse typesFull ≡ derived t sub to s → refuse typesFull ≡ cross (reference t ps s p) to r
         unfolding cross
         other-11 e = rw (own, met, less, ← e)
 
@@ -82,7 +84,7 @@ module _ (t : Table) (ps : List Place) (to r p v : ℕ) (is : v ≡ placeType (p
   abbrev Meets : Bool → Bool → Res (Table × ℕ) → Bool → Res Reference
   Meets passes fits d room = elim passes [
     | true ↦ ok (reference t ps to p)
-    | false ↦ need fits 10 λ _. try d λ x. need room 12 λ _. ok (reference (x .0) (ps ++ (adapter p (x .1) ∷ [])) to (length ps))
+    | false ↦ need fits notStrict λ _. try d λ x. need room placesFull λ _. ok (reference (x .0) (ps ++ (adapter p (x .1) ∷ [])) to (length ps))
   ]
 
   adapt-is : adapt t ps to r p ≡ Meets (related conforms t r v) (related strict t r v) (derived t closed r v) (ltb (length ps) maxPlaces)
@@ -93,15 +95,15 @@ module _ (t : Table) (ps : List Place) (to r p v : ℕ) (is : v ≡ placeType (p
   meet-passes e = sym (adapt-is ∙ rw e)
 
   module _ (less : related conforms t r v ≡ false) where
-    meet-10 : related strict t r v ≡ false → refuse 10 ≡ adapt t ps to r p
+    meet-10 : related strict t r v ≡ false → refuse notStrict ≡ adapt t ps to r p
     meet-10 e = sym (adapt-is ∙ rw (less, e))
 
     module _ (met : related strict t r v ≡ true) where
-      meet-11 : refuse 11 ≡ derived t closed r v → refuse 11 ≡ adapt t ps to r p
+      meet-11 : refuse typesFull ≡ derived t closed r v → refuse typesFull ≡ adapt t ps to r p
       meet-11 e = sym (adapt-is ∙ rw (less, met, ← e))
 
       module _ (u : Table) (i : ℕ) (e : ok (u, i) ≡ derived t closed r v) where
-        meet-12 : ltb (length ps) maxPlaces ≡ false → refuse 12 ≡ adapt t ps to r p
+        meet-12 : ltb (length ps) maxPlaces ≡ false → refuse placesFull ≡ adapt t ps to r p
         meet-12 f = sym (adapt-is ∙ rw (less, met, ← e, f))
 
         meet-adapts : ltb (length ps) maxPlaces ≡ true → ok (reference u (ps ++ (adapter p i ∷ [])) to (length ps)) ≡ adapt t ps to r p
@@ -125,16 +127,16 @@ own-table b l c t = go (lt-or-ge t (c .types)) where
   go (inr h) = ap (λ (x : Ty). x .own) (type-out b l c t h) ∙ own-out (c .types) t b h
 
 -- ---- What a crossing leaves.
-pub grown-checked : (l : List ℕ) (c : Counts) (m : ℕ) → Checked l c → c .types ≤ m → m ≤ 128 → Checked l (withCount c m)
+pub grown-checked : (l : List ℕ) (c : Counts) (m : ℕ) → Checked l c → c .types ≤ m → m ≤ maxTypes → Checked l (withCount c m)
 grown-checked l c m h p q = let x = h .limits in record {
   limits = record { subjects = x .subjects; methods = x .methods; cats = x .cats; sheet = x .sheet; counted = let u = x .counted in omega arith; types = q };
-  falls = h .falls;
+  descends = h .descends;
 }
 
 same-kept : (n : ℕ) (b : List ℕ) → Kept n b b
 same-kept n b i h = refl
 
-none-new : (c : Counts) (b : List ℕ) → c .types ≤ 128 → Grew c (c .types) b
+none-new : (c : Counts) (b : List ℕ) → c .types ≤ maxTypes → Grew c (c .types) b
 none-new c b h = record { more = omega arith; room = h; exact = λ i p q. absurd (omega arith) }
 
 -- new types behind new types
@@ -161,7 +163,7 @@ equal : {m n : ℕ} → m ≡ n → eqb m n ≡ true
 equal {m} {n} h = eq-eqb m n h
 
 -- what the next crossing asks
-pub ready-on : (l : List ℕ) (c : Counts) (n : ℕ) (b b′ : List ℕ) → Ready l c b → Grew c n b′ → length b′ ≡ 16384 → Ready l (withCount c n) b′
+pub ready-on : (l : List ℕ) (c : Counts) (n : ℕ) (b b′ : List ℕ) → Ready l c b → Grew c n b′ → length b′ ≡ typesSize → Ready l (withCount c n) b′
 ready-on l c n b b′ h g long = record { checked = grown-checked l c n (h .checked) (g .more) (g .room); long = long }
 
 -- ---- What came of it.
@@ -175,7 +177,7 @@ pub came-is : (b l : List ℕ) (c : Counts) (x : Crossed) → x .refusal ≡ 0 �
 came-is b l c x h = ap (Comes (x .refusal) (ok (referenceOf b l c x))) (equal h)
 
 -- a refusal with the number e, of what the model refuses with it
-pub stops : (b b′ l : List ℕ) (c : Counts) (ps : Places) (s e : ℕ) → 0 < e → {m : Res Reference} → refuse e ≡ m → length b′ ≡ 16384 → Kept (c .types) b b′ →
+pub stops : (b b′ l : List ℕ) (c : Counts) (ps : Places) (s e : ℕ) → 0 < e → {m : Res Reference} → refuse e ≡ m → length b′ ≡ typesSize → Kept (c .types) b b′ →
     (q : Crossed) → q ≡ stopped ps e → (crossedOf b′ l c q ≡ m) × Leaves c ps s b b′ q
 stops b b′ l c ps s e low {m} is long kept q z = subst (λ (x : Crossed). (crossedOf b′ l c x ≡ m) × Leaves c ps s b b′ x) (sym z) (
   refused-is b′ l c (stopped ps e) (λ y. omega (arith, y, low)) ∙ is,
@@ -183,11 +185,11 @@ stops b b′ l c ps s e low {m} is long kept q z = subst (λ (x : Crossed). (cro
 )
 
 -- the reference leads to a place that stands
-stands : (c : Counts) (ps : Places) (s to p n : ℕ) (b : List ℕ) → Falling ps → p < ps .count → Grew c n b → (s < c .types → to < n) → Came c ps s b (landed ps to (landing.Stands p) n)
-stands c ps s to p n b fall place g sort = record {
-  sort = sort;
+stands : (c : Counts) (ps : Places) (s to p n : ℕ) (b : List ℕ) → Descending ps → p < ps .count → Grew c n b → (s < c .types → to < n) → Came c ps s b (landed ps to (landing.Stands p) n)
+stands c ps s to p n b desc place g ty = record {
+  ty = ty;
   types = g;
-  falling = fall;
+  descending = desc;
   place = place;
   typed = λ t k l. let u = g .more in let v = t k l in omega arith;
   before = record { more = omega arith; same = λ k l. refl };
@@ -198,14 +200,14 @@ module _ (c : Counts) (ps : Places) (s : ℕ) (b b₁ : List ℕ) (x : Crossed) 
   came : Came c ps s b₁ x
   came = h .came z
 
-  pub leaves-on : (b₂ : List ℕ) (q : Crossed) → Leaves (withCount c (x .types)) (x .places) (x .sort) b₁ b₂ q → Leaves c ps s b b₂ q
+  pub leaves-on : (b₂ : List ℕ) (q : Crossed) → Leaves (withCount c (x .types)) (x .places) (x .ty) b₁ b₂ q → Leaves c ps s b b₂ q
   leaves-on b₂ q k = record {
     long = k .long;
     kept = λ j y. k .kept j (let u = came .types .more in omega arith) ∙ h .kept j y;
     came = λ y. let m = k .came y in record {
-      sort = λ g. m .sort (came .sort g);
+      ty = λ g. m .ty (came .ty g);
       types = grew-on c (x .types) (q .types) b₁ b₂ (came .types) (k .kept) (m .types);
-      falling = m .falling;
+      descending = m .descending;
       place = m .place;
       typed = λ t. m .typed (came .typed t);
       before = record {
@@ -228,7 +230,7 @@ pub sub-asked : (b l : List ℕ) (c : Counts) → Ready l c b → (t s : ℕ) �
 sub-asked b l c h t s e = derivable b l c h t s (loose→free (tableIn b l c) t s (sym e))
 
 -- ---- X6 to X10: R is r, and the type of place p is v.
-module _ (b l : List ℕ) (c : Counts) (h : Ready l c b) (ps : Places) (fall : Falling ps) (to r p : ℕ) (place : p < ps .count) (v : ℕ) (is : v ≡ placeType (placeAt (placesIn ps) p)) where
+module _ (b l : List ℕ) (c : Counts) (h : Ready l c b) (ps : Places) (desc : Descending ps) (to r p : ℕ) (place : p < ps .count) (v : ℕ) (is : v ≡ placeType (placeAt (placesIn ps) p)) where
   abbrev U : Table
   U = tableIn b l c
 
@@ -238,7 +240,7 @@ module _ (b l : List ℕ) (c : Counts) (h : Ready l c b) (ps : Places) (fall : F
   pub meets-passes : true ≡ related conforms U r v → (q : Crossed) → q ≡ landed ps to (landing.Stands p) (c .types) → Meets-as b q
   meets-passes e q z = subst (Meets-as b) (sym z) (
     meet-passes U (placesIn ps) to r p v is (sym e),
-    record { long = h .long; kept = same-kept (c .types) b; came = λ _. stands c ps to to p (c .types) b fall place (none-new c b (h .checked .limits .types)) (λ k. k) },
+    record { long = h .long; kept = same-kept (c .types) b; came = λ _. stands c ps to to p (c .types) b desc place (none-new c b (h .checked .limits .types)) (λ k. k) },
   )
 
   module _ (less : false ≡ related conforms U r v) where
@@ -280,14 +282,14 @@ module _ (b l : List ℕ) (c : Counts) (h : Ready l c b) (ps : Places) (fall : F
           pub closed-byte : i < 256
           closed-byte = let z = derives-sized (c .types) r v e (g .keeps) in let w = closed-low in let u = z .1 in omega arith
 
-          pub meets-12 : 128 ≤ ps .count → (q : Crossed) → q ≡ stopped ps 12 → Meets-as b′ q
+          pub meets-12 : maxPlaces ≤ ps .count → (q : Crossed) → q ≡ stopped ps 12 → Meets-as b′ q
           meets-12 f = stops b b′ l c ps to 12 (omega arith)
               (meet-12 U (placesIn ps) to r p v is (sym less) (sym met) (tableIn b′ l (withCount c m)) i (gives (At i m) e)
-              (ap (λ (n : ℕ). ltb n maxPlaces) (places-length ps) ∙ le-ltb (ps .count) 128 f))
+              (ap (λ (n : ℕ). ltb n maxPlaces) (places-length ps) ∙ le-ltb (ps .count) maxPlaces f))
               (g .keeps .long) (g .keeps .kept)
 
           -- the adapter's record has x and y
-          module _ (f : ps .count < 128) (x y : ℕ) (ex : x ≡ p) (ey : y ≡ i) where
+          module _ (f : ps .count < maxPlaces) (x y : ℕ) (ex : x ≡ p) (ey : y ≡ i) where
             abbrev New : Crossed
             New = landed ps to (landing.Adapter (record { place = Adapter x y })) m
 
@@ -297,14 +299,14 @@ module _ (b l : List ℕ) (c : Counts) (h : Ready l c b) (ps : Places) (fall : F
                   ∙ ap (λ (k : ℕ). placesIn ps ++ (adapter p k ∷ [])) ey)
                   ∙ ap (λ (k : ℕ). ok (reference (tableIn b′ l (withCount c m)) (placesIn ps ++ (adapter p i ∷ [])) to k)) (sym (places-length ps))
                   ∙ meet-adapts U (placesIn ps) to r p v is (sym less) (sym met) (tableIn b′ l (withCount c m)) i (gives (At i m) e)
-                  (ap (λ (n : ℕ). ltb n maxPlaces) (places-length ps) ∙ lt-ltb (ps .count) 128 f),
+                  (ap (λ (n : ℕ). ltb n maxPlaces) (places-length ps) ∙ lt-ltb (ps .count) maxPlaces f),
               record {
                 long = g .keeps .long;
                 kept = g .keeps .kept;
                 came = λ _. let w = derives-grew c r v e g in record {
-                  sort = λ k. let u = w .more in omega arith;
+                  ty = λ k. let u = w .more in omega arith;
                   types = w;
-                  falling = falling-more ps (New .places) (adapter x y) refl are fall f (λ _. omega (arith, ex, place));
+                  descending = descending-more ps (New .places) (adapter x y) refl are desc f (λ _. omega (arith, ex, place));
                   place = omega arith;
                   typed = λ t. typed-more ps (New .places) (adapter x y) refl are (withCount c m) (λ k u. let n = t k u in let o = w .more in omega arith) (omega (arith, ey, closed-low));
                   before = record { more = omega arith; same = λ k u. getD-set-other (ps .list) (ps .count) k (record { place = Adapter x y }) blankPlace (λ n. omega (arith, n, u)) };
@@ -346,11 +348,11 @@ module _ (b l : List ℕ) (c : Counts) (h : Ready l c b) (ps : Places) (x : Cros
           long = k .long;
           kept = k .kept;
           came = λ z. let w = k .came z in
-              record { sort = λ _. w .sort (known (sym met)); types = w .types; falling = w .falling; place = w .place; typed = w .typed; before = w .before };
+              record { ty = λ _. w .ty (known (sym met)); types = w .types; descending = w .descending; place = w .place; typed = w .typed; before = w .before };
         },
       )
 
-  module _ (fall : Falling ps) (place : x .place < ps .count) (own : ownIn (c .types) b (x .to) ≡ false) where
+  module _ (desc : Descending ps) (place : x .place < ps .count) (own : ownIn (c .types) b (x .to) ≡ false) where
     pub restrict-8 : false ≡ related loose T (x .to) (x .from) → (q : Crossed) → q ≡ stopped ps 8 → Crosses b q
     restrict-8 e = stops b b l c ps (x .from) 8 (omega arith) (other-8 T (placesIn ps) (x .from) (x .place) (x .to) (x .receiver) (own-table b l c (x .to) ∙ own) (sym e)) (h .long)
         (same-kept (c .types) b)
@@ -365,7 +367,7 @@ module _ (b l : List ℕ) (c : Counts) (h : Ready l c b) (ps : Places) (x : Cros
         record {
           long = h .long;
           kept = same-kept (c .types) b;
-          came = λ _. stands c ps (x .from) (x .to) (x .place) (c .types) b fall place (none-new c b (h .checked .limits .types)) (λ _. low);
+          came = λ _. stands c ps (x .from) (x .to) (x .place) (c .types) b desc place (none-new c b (h .checked .limits .types)) (λ _. low);
         },
       )
 
@@ -386,7 +388,7 @@ module _ (b l : List ℕ) (c : Counts) (h : Ready l c b) (ps : Places) (x : Cros
           half = let w = derives-grew c (x .to) (x .from) e g in record {
             long = g .keeps .long;
             kept = g .keeps .kept;
-            came = λ _. stands c ps (x .from) (x .to) (x .place) m b₁ fall place w (λ _. let u = w .more in omega (arith, low, u));
+            came = λ _. stands c ps (x .from) (x .to) (x .place) m b₁ desc place w (λ _. let u = w .more in omega (arith, low, u));
           }
 
           pub restrict-meets : (b₂ : List ℕ) (q : Crossed) → crossedOf b₂ l n q ≡ adapt (tableIn b₁ l n) (placesIn ps) (x .to) i (x .place) → Leaves n ps (x .to) b₁ b₂ q → Crosses b₂ q

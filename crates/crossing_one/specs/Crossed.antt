@@ -13,10 +13,11 @@ use Rattle.spec_model.specs.Check.{noRawType}
 use Rattle.table_record.specs.declared.Counts.{Counts}
 use Rattle.table_record.specs.Store.{typesIn, tableIn, withCount, ownOf}
 use Rattle.table_record.specs.Limits.{Checked}
+use Rattle.table_record.specs.Layout.{typesSize}
 use Rattle.derive_sub_sup.specs.Link.{Kept, Exact}
 use Rattle.state_record.specs.declared.Places.{Places}
 use Rattle.state_record.specs.View.{placesIn, placeOf, placeAdded, blankPlace}
-use Rattle.state_record.specs.Sound.{Falling, Typed}
+use Rattle.state_record.specs.Sound.{Descending, Typed}
 use Rattle.crossing_one.specs.declared.Crossing.{Crossing}
 use Rattle.crossing_one.specs.declared.Landing.{Landing}
 use Rattle.crossing_one.specs.declared.Landing.the-variants as landing
@@ -26,10 +27,10 @@ use Rattle.crossing_one.specs.declared.Crossed.{Crossed}
 -- at their word (H14), or of the numbers of types and subjects: one that names nothing is met as in the model.
 pub record Ready (l : List ℕ) (c : Counts) (b : List ℕ) : Type 0 where
   pub checked : Checked l c
-  pub long : length b ≡ 16384
+  pub long : length b ≡ typesSize
 
 pub record Stands (ps : Places) (p : ℕ) : Type 0 where
-  pub falling : Falling ps
+  pub descending : Descending ps
   pub place : p < ps .count
 
 -- own, of a number that may name no type of the first n
@@ -45,18 +46,18 @@ crossing t ps x = cross (reference t (placesIn ps) (x .from) (x .place)) (x .to)
 
 -- What came of it: its refusal, or the reference as it has become, with the table of the bytes left.
 abbrev pub referenceOf : List ℕ → List ℕ → Counts → Crossed → Reference
-referenceOf b l c x = reference (tableIn b l (withCount c (x .types))) (placesIn (x .places)) (x .sort) (x .place)
+referenceOf b l c x = reference (tableIn b l (withCount c (x .types))) (placesIn (x .places)) (x .ty) (x .place)
 
 abbrev pub crossedOf : List ℕ → List ℕ → Counts → Crossed → Res Reference
 crossedOf b l c x = elim (eqb (x .refusal) 0) [ false ↦ refuse (x .refusal) | true ↦ ok (referenceOf b l c x) ]
 
 abbrev pub stopped : Places → ℕ → Crossed
-stopped ps e = record { refusal = e; sort = 0; place = 0; places = ps; types = 0 }
+stopped ps e = record { refusal = e; ty = 0; place = 0; places = ps; types = 0 }
 
 -- the places with the new adapter among them, and where the reference leads
 abbrev pub landed : Places → ℕ → Landing → ℕ → Crossed
-landed ps to (landing.Stands p) n = record { refusal = 0; sort = to; place = p; places = ps; types = n }
-landed ps to (landing.Adapter r) n = record { refusal = 0; sort = to; place = ps .count; places = placeAdded ps r; types = n }
+landed ps to (landing.Stands p) n = record { refusal = 0; ty = to; place = p; places = ps; types = n }
+landed ps to (landing.Adapter r) n = record { refusal = 0; ty = to; place = ps .count; places = placeAdded ps r; types = n }
 
 abbrev pub placesWith : List Placeᵐ → Landing → List Placeᵐ
 placesWith ps (landing.Stands p) = ps
@@ -80,15 +81,15 @@ pub record Before (ps qs : Places) : Type 0 where
 -- What is known of a reference that has come through: new types are stored as the records that stand for them, its place is one of places as a
 -- request needs them, and its static type, if it began with one of the table, is one of the table.
 pub record Came (c : Counts) (ps : Places) (s : ℕ) (b : List ℕ) (x : Crossed) : Type 0 where
-  pub sort : s < c .types → x .sort < x .types
+  pub ty : s < c .types → x .ty < x .types
   pub types : Grew c (x .types) b
-  pub falling : Falling (x .places)
+  pub descending : Descending (x .places)
   pub place : x .place < x .places .count
   pub typed : Typed ps c → Typed (x .places) (withCount c (x .types))
   pub before : Before ps (x .places)
 
 -- What is left, refused or not: every byte of the types that there were.
 pub record Leaves (c : Counts) (ps : Places) (s : ℕ) (b b′ : List ℕ) (x : Crossed) : Type 0 where
-  pub long : length b′ ≡ 16384
+  pub long : length b′ ≡ typesSize
   pub kept : Kept (c .types) b b′
   pub came : x .refusal ≡ 0 → Came c ps s b′ x

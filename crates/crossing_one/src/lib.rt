@@ -5,12 +5,14 @@ ghost use mathlib.Core.Bool.{true, false};
 ghost use Prim.Native.Nat.{ℕ, _≤_, _<_};
 ghost use Rattle.spec_model.specs.Crossing.{adapt};
 ghost use Rattle.spec_model.specs.Relations.{related};
+ghost use Rattle.spec_model.specs.Table.{maxTypes};
 ghost use Rattle.table_record.specs.Store.{tableIn, withCount};
 ghost use Rattle.table_record.specs.Limits.{Checked};
 ghost use Rattle.relation_rule.specs.Asked.{relationOf};
 ghost use Rattle.state_record.specs.View.{placesIn};
 ghost use Rattle.crossing_one.specs.Crossed.{Ready, Stands, ownIn, crossedOf, crossing, Leaves, stopped, landed, Room, placesWith};
 use base_numbers::narrow;
+use base_numbers::refusal;
 use derive_record::Derived;
 use relation_rule::Relation;
 use state_record::Place;
@@ -39,7 +41,7 @@ pub enum Landing {
 // types there are now. The places stand beside the number, since no enum can hold an array.
 pub struct Crossed {
     pub refusal: usize,
-    pub sort: usize,
+    pub ty: usize,
     pub place: usize,
     pub places: Places,
     pub types: usize,
@@ -62,7 +64,7 @@ pub fn asked(
 
 // Whether type t of the first n is own. A number that names no type is not.
 fn is_own(types: &[u8; TYPE_BYTES], n: usize, t: usize) -> bool
-    requires { ⌜ n ≤ 128 ⌝ }
+    requires { ⌜ n ≤ maxTypes ⌝ }
     ensures { λ q. ⌜ q ≡ ownIn n (now (types .entry)) t ⌝ }
 {
     if n <= t {
@@ -72,26 +74,13 @@ fn is_own(types: &[u8; TYPE_BYTES], n: usize, t: usize) -> bool
     !plain
 }
 
-// The counts, with so many types.
-pub fn grown(c: Counts, types: usize) -> Counts
-    ensures { λ q. ⌜ q ≡ withCount c types ⌝ }
-{
-    Counts {
-        subjects: c.subjects,
-        methods: c.methods,
-        cats: c.cats,
-        sheet: c.sheet,
-        types,
-    }
-}
-
 // A crossing that is refused leaves the places as they were.
 pub fn refused(ps: Places, number: usize) -> Crossed
     ensures { λ q. ⌜ q ≡ stopped ps number ⌝ }
 {
     Crossed {
         refusal: number,
-        sort: 0,
+        ty: 0,
         place: 0,
         places: ps,
         types: 0,
@@ -99,21 +88,21 @@ pub fn refused(ps: Places, number: usize) -> Crossed
 }
 
 // A new adapter becomes the next place, so that the next crossing and the new cell find it.
-fn land(ps: Places, sort: usize, x: Landing, types: usize) -> Crossed
+fn land(ps: Places, ty: usize, x: Landing, types: usize) -> Crossed
     requires { ⌜ Room ps x ⌝ }
-    ensures { λ q. ⌜ (q ≡ landed ps sort x types) × (placesIn (q .places) ≡ placesWith (placesIn ps) x) ⌝ }
+    ensures { λ q. ⌜ (q ≡ landed ps ty x types) × (placesIn (q .places) ≡ placesWith (placesIn ps) x) ⌝ }
 {
     match x {
         Landing::Stands(place) => Crossed {
             refusal: 0,
-            sort,
+            ty,
             place,
             places: ps,
             types,
         },
         Landing::Adapter(record) => Crossed {
             refusal: 0,
-            sort,
+            ty,
             place: ps.count,
             places: ps.add(record),
             types,
@@ -133,7 +122,8 @@ fn meet(
     p: usize,
 ) -> Crossed
     requires { ⌜ Ready (now links) c (now types) × Stands ps p ⌝ }
-    ensures is { λ q. ⌜ crossedOf (now (types .exit)) (now (links .entry)) c q ≡ adapt (tableIn (now (types .entry)) (now (links .entry)) c) (placesIn ps) to right p ⌝ }
+    ensures is { λ q. ⌜ crossedOf (now (types .exit)) (now (links .entry)) c q
+        ≡ adapt (tableIn (now (types .entry)) (now (links .entry)) c) (placesIn ps) to right p ⌝ }
     ensures leaves { λ q. ⌜ Leaves c ps to (now (types .entry)) (now (types .exit)) q ⌝ }
 {
     let v = state_record::place_type(state_record::place_at(ps, p));
@@ -143,13 +133,13 @@ fn meet(
     }
     let strict = asked(types, links, c, Relation::Strict, right, v);
     if !strict {
-        return refused(ps, 10);
+        return refused(ps, refusal::NOT_STRICT);
     }
     let Derived::At(closed, count) = derive_closed::closed_any(types, c, right, v) else {
-        return refused(ps, 11);
+        return refused(ps, refusal::TYPES_FULL);
     };
     if State::PLACES <= ps.count {
-        return refused(ps, 12);
+        return refused(ps, refusal::PLACES_FULL);
     }
     let place = Place::Adapter {
         behind: narrow(p),
@@ -172,12 +162,12 @@ fn unwrap(
 {
     let free = asked(types, links, c, Relation::Free, x.to, x.from);
     if !free {
-        return refused(ps, 8);
+        return refused(ps, refusal::UNRELATED);
     }
     let owner = state_record::base_owner(ps, x.place);
     let receiver = x.receiver;
     if owner != receiver {
-        return refused(ps, 9);
+        return refused(ps, refusal::NOT_OWNER);
     }
     let base = state_record::base_of(ps, x.place);
     meet(types, links, c, ps, x.to, x.to, base)
@@ -197,15 +187,15 @@ fn restrict_to(
 {
     let loose = asked(types, links, c, Relation::Loose, x.to, x.from);
     if !loose {
-        return refused(ps, 8);
+        return refused(ps, refusal::UNRELATED);
     }
     if asked(types, links, c, Relation::Subtype, x.to, x.from) {
         return land(ps, x.to, Landing::Stands(x.place), c.types);
     }
     let Derived::At(right, count) = derive_sub_sup::sub_type(types, c, x.to, x.from) else {
-        return refused(ps, 11);
+        return refused(ps, refusal::TYPES_FULL);
     };
-    meet(types, links, grown(c, count), ps, x.to, right, x.place)
+    meet(types, links, c.with_types(count), ps, x.to, right, x.place)
 }
 
 // The crossing of a reference to a place of `ps`.

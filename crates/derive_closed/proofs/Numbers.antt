@@ -12,7 +12,7 @@ use lib.ListN.{length, getD, set, replicate}
 use lib.Seq.{getD-set-same}
 use borrow.Author.Tests.{lt-ltb, le-ltb}
 use Rattle.spec_model.specs.Basics.{from}
-use Rattle.spec_model.specs.Table.{closed, Ty, Method, Table, noType, typeAt, withTypes, isRef}
+use Rattle.spec_model.specs.Table.{closed, Ty, Method, Table, noType, typeAt, withTypes, isRef, maxMethods, maxTypes}
 use Rattle.spec_model.specs.Restriction.{find, withoutNew, entry, pending, Derivation, deriveMethods, derive}
 use Rattle.spec_model.specs.Check.{RawType, noRawType, noRawMethod, repOf, typeOf, methodOf, rawTypeFits}
 use Rattle.spec_model.proofs.Rules.{never}
@@ -46,7 +46,7 @@ rep-w64 x e = record { is = go x e; some = omega arith; code = omega arith } whe
   go (suc (suc x)) e z = refl
 
 -- the methods of an empty type
-blanks : (j : ℕ) → j < 16 → getD (map rawMethod (emptyType .methods)) j noRawMethod ≡ blank
+blanks : (j : ℕ) → j < maxMethods → getD (map rawMethod (emptyType .methods)) j noRawMethod ≡ blank
 blanks j l = go 16 j l where
   go : (n j : ℕ) → j < n → getD (map rawMethod (replicate n emptyMethod)) j noRawMethod ≡ blank
   go zero j l = absurd (omega arith)
@@ -80,11 +80,11 @@ module _ {c : Counts} {r v : ℕ} {b : List ℕ} (asked : Ready c (c .types) r v
   pub numbers-known : i < n → Gives closed c n r v b b (At i n)
   numbers-known h = settled closed asked {g = Settled (At i n)} refl (closed-begins c n r v b (Settled (At i n)) (found-known Found n r v b i (λ T. is) h))
 
-  pub numbers-full : n ≤ i → 128 ≤ n → Gives closed c n r v b b Full
+  pub numbers-full : n ≤ i → maxTypes ≤ n → Gives closed c n r v b b Full
   numbers-full h l = settled closed asked {g = Settled Full} refl (closed-begins c n r v b (Settled Full) (found-full Found n r v b i (λ T. is) h l))
 
   -- A new one: x is its record, h the head of R.
-  module _ (none-known : n ≤ i) (room : n < 128) (left : NumberIn n b r) (right : NumberIn n b v) (h : Head) (read : h ≡ headOf (getD (typesIn b) r noRawType)) (x : RawType)
+  module _ (none-known : n ≤ i) (room : n < maxTypes) (left : NumberIn n b r) (right : NumberIn n b v) (h : Head) (read : h ≡ headOf (getD (typesIn b) r noRawType)) (x : RawType)
       (number : NumberType h r v x) (b′ : List ℕ) (put : Put b n x b′) where
     abbrev ms : ℕ
     ms = c .methods
@@ -167,7 +167,7 @@ module _ {c : Counts} {r v : ℕ} {b : List ℕ} (asked : Ready c (c .types) r v
           ∙ ap (λ (y : Ty). Tb .types ++ (y ∷ [])) entry-is ∙ sym (set-last (Tb .types) (pending Tb closed r v) (entry Tb closed r v []))
           ∙ ap (λ (k : ℕ). set (Tb .types ++ (pending Tb closed r v ∷ [])) k (entry Tb closed r v [])) (size-tabled T c n b)
 
-      derives : (f : ℕ) → 128 ≤ n + f → some (tabled T c (n + 1) b′, n) ≡ derive f Tb closed r v
+      derives : (f : ℕ) → maxTypes ≤ n + f → some (tabled T c (n + 1) b′, n) ≡ derive f Tb closed r v
       unfolding derive
       derives zero l = absurd (omega arith)
       derives (suc f) l =

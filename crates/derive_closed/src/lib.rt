@@ -11,6 +11,7 @@ ghost use Rattle.derive_closed.specs.Numbers.{Alike, NumberIn, NumberRep
 use base_numbers::narrow;
 use derive_record::Begun;
 use derive_record::Derived;
+use derive_slots::METHOD_SLOTS;
 use derive_slots::SLOT_BYTES;
 use derive_slots::Slot;
 use table_record::Counts;
@@ -30,7 +31,7 @@ fn closed(b: &mut [u8; TYPE_BYTES], c: Counts, r: usize, v: usize) -> Derived
         return answer;
     }
     let w = derive_record::start(b, n, Key::CLOSED, r, v);
-    let end = c.methods * 5;
+    let end = c.methods * METHOD_SLOTS;
     let mut bytes = [0u8; SLOT_BYTES];
     let mut m = n + 1;
     let mut k: usize = 0;

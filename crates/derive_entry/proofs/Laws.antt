@@ -12,10 +12,12 @@ use Rattle.spec_model.specs.Table.{Kind, Table, size}
 use Rattle.spec_model.specs.Restriction.{derived}
 use Rattle.spec_model.specs.Check.{kindOf, tableAccepted}
 use Rattle.spec_model.proofs.Rules.{never}
+use Rattle.spec_model.specs.Refusals.{outOfRange, unknownType, typesFull}
 use Rattle.table_record.specs.declared.Counts.{Counts}
 use Rattle.table_record.specs.Store.{rawTable, tableIn}
 use Rattle.table_record.specs.Limits.{Limits}
 use Rattle.table_record.proofs.Tables.{size-is}
+use Rattle.table_record.specs.Layout.{typesSize}
 use Rattle.base_numbers.specs.Index.{indexOf}
 use Rattle.base_numbers.proofs.Laws.{index-unknown, index-known}
 use Rattle.derive_record.specs.declared.Derived.{Derived}
@@ -63,7 +65,7 @@ refused-answers b l c {n} h w = answered-as {r = refusedWith n b c} (record {
 
 -- What a derivation over lent bytes answered.
 module _ (b b′ : List ℕ) (c : Counts) (k : Kind) (t s : ℕ) {d : Derived} (does : Derives k c t s b b′ d) (l : List ℕ) where
-  pub full-is : d ≡ Full → refuse 11 ≡ derived (tableIn b l c) k t s
+  pub full-is : d ≡ Full → refuse typesFull ≡ derived (tableIn b l c) k t s
   full-is e = sym (ap (derivationIn b′ l c) e) ∙ does .is l
 
   pub at-answers : {i m : ℕ} → d ≡ At i m → Answered b l c (derived (tableIn b l c) k t s) (record { refusal = 0; number = i; count = m; types = b′ })
@@ -80,21 +82,21 @@ module _ (b l : List ℕ) (c : Counts) (kind : ℕ) (t s : ℤ) where
   T = tableIn b l c
 
   abbrev Answer : Bool → Bool → Bool → Res (Table × ℕ) → Res (Table × ℕ)
-  Answer left right asked d = need (left && right) 7 λ _. need asked 7 λ _. d
+  Answer left right asked d = need (left && right) unknownType λ _. need asked unknownType λ _. d
 
   named-is : deriveNamed T kind t s ≡ Answer (names t (size T)) (names s (size T)) (kindAsked kind (isRefType T (named t) && isRefType T (named s))) (derived T (kindOf kind) (named t) (named s))
   unfolding deriveNamed
   named-is = refl
 
   module _ (x : ℕ) (ex : x ≡ indexOf t (c .types)) where
-    pub no-left : c .types ≤ x → refuse 7 ≡ deriveNamed T kind t s
+    pub no-left : c .types ≤ x → refuse unknownType ≡ deriveNamed T kind t s
     no-left h = let u : names t (size T) ≡ false = rw (size-is b l c) (index-unknown t (c .types) x ex h) in sym (named-is ∙ rw u)
 
     module _ (p : x < c .types) (y : ℕ) (ey : y ≡ indexOf s (c .types)) where
       left-known : (names t (size T) ≡ true) × (named t ≡ x)
       left-known = let k = index-known t (c .types) x ex p in (rw (size-is b l c) (k .0), k .1)
 
-      pub no-right : c .types ≤ y → refuse 7 ≡ deriveNamed T kind t s
+      pub no-right : c .types ≤ y → refuse unknownType ≡ deriveNamed T kind t s
       no-right h = let u : names s (size T) ≡ false = rw (size-is b l c) (index-unknown s (c .types) y ey h) in sym (named-is ∙ rw (left-known .0, u))
 
       module _ (q : y < c .types) (asked : Bool) (ea : asked ≡ kindAsked kind (refIn (c .types) b x && refIn (c .types) b y)) where
@@ -104,14 +106,14 @@ module _ (b l : List ℕ) (c : Counts) (kind : ℕ) (t s : ℤ) where
         known : deriveNamed T kind t s ≡ Answer true true asked (derived T (kindOf kind) x y)
         known = named-is ∙ rw (left-known .0, right-known .0, left-known .1, right-known .1, ref-table b l c x, ref-table b l c y, ea)
 
-        pub no-kind : asked ≡ false → refuse 7 ≡ deriveNamed T kind t s
+        pub no-kind : asked ≡ false → refuse unknownType ≡ deriveNamed T kind t s
         no-kind h = sym (known ∙ rw h)
 
         pub named-derived : asked ≡ true → derived T (kindOf kind) x y ≡ deriveNamed T kind t s
         named-derived h = sym (known ∙ rw h)
 
   -- On a table handed in.
-  pub handed-unfit : tableAccepted (rawTable b l c) ≡ false → refuse 2 ≡ deriveHanded (rawTable b l c) kind t s
+  pub handed-unfit : tableAccepted (rawTable b l c) ≡ false → refuse outOfRange ≡ deriveHanded (rawTable b l c) kind t s
   unfolding deriveHanded
   handed-unfit e = rw e
 
@@ -120,5 +122,5 @@ module _ (b l : List ℕ) (c : Counts) (kind : ℕ) (t s : ℤ) where
   handed-fit e = rw e
 
 -- What a checked table gives to the derivation.
-pub ready : (b : List ℕ) (c : Counts) {t s : ℕ} → Limits c → length b ≡ 16384 → t < c .types → s < c .types → Ready c (c .types) t s b
+pub ready : (b : List ℕ) (c : Counts) {t s : ℕ} → Limits c → length b ≡ typesSize → t < c .types → s < c .types → Ready c (c .types) t s b
 ready b c h long p q = let n = h .types in record { limits = h; left = omega arith; right = omega arith; long = long }

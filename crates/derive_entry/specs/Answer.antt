@@ -7,6 +7,7 @@ use lib.Dec.{eqb}
 use Rattle.spec_model.specs.Basics.{Res, refuse, ok}
 use Rattle.spec_model.specs.Table.{Table}
 use Rattle.spec_model.specs.Check.{codesFit}
+use Rattle.spec_model.specs.Refusals.{outOfRange, unknownType, typesFull}
 use Rattle.table_record.specs.declared.Counts.{Counts}
 use Rattle.table_record.specs.Layout.{rawTable, tableIn, withCount}
 use Rattle.derive_sub_sup.specs.Bytes.{Writes}
@@ -30,9 +31,9 @@ refusedWith n b c = record { refusal = n; number = 0; count = c .types; types = 
 
 -- what the code's answer and the bytes that it leaves say
 abbrev pub left : Counts → Made → List ℕ → Derivation
-left c Unfit b = refusedWith 2 b c
-left c Unknown b = refusedWith 7 b c
-left c Full b = refusedWith 11 b c
+left c Unfit b = refusedWith outOfRange b c
+left c Unknown b = refusedWith unknownType b c
+left c Full b = refusedWith typesFull b c
 left c (At i m) b = record { refusal = 0; number = i; count = m; types = b }
 
 -- What is left, r, of bytes and counts handed in and counts handed in, where the model's is `a`: every counted byte is determined, a refusal hands back what was handed in,

@@ -6,6 +6,7 @@ use Rattle.spec_model.specs.Basics.{Res, need, names, named}
 use Rattle.spec_model.specs.Table.{Table, size, typeAt, isRef}
 use Rattle.spec_model.specs.Restriction.{derived}
 use Rattle.spec_model.specs.Check.{RawTable, kindOf, tableOf, tableAccepted}
+use Rattle.spec_model.specs.Refusals.{outOfRange, unknownType}
 
 -- 0 is Sub, 1 Sup, and 2 Closed, which only two reference types have; another number is no kind.
 abbrev pub kindAsked : ℕ → Bool → Bool
@@ -21,11 +22,11 @@ isRefType t i = isRef (typeAt t i .rep)
 unfoldable pub deriveNamed : Table → ℕ → ℤ → ℤ → Res (Table × ℕ)
 unfolding derived
 deriveNamed t kind a b =
-    need (names a (size t) && names b (size t)) 7 λ _.
-    need (kindAsked kind (isRefType t (named a) && isRefType t (named b))) 7 λ _.
+    need (names a (size t) && names b (size t)) unknownType λ _.
+    need (kindAsked kind (isRefType t (named a) && isRefType t (named b))) unknownType λ _.
     derived t (kindOf kind) (named a) (named b)
 
 -- 2 before all else.
 unfoldable pub deriveHanded : RawTable → ℕ → ℤ → ℤ → Res (Table × ℕ)
 unfolding tableAccepted tableOf deriveNamed
-deriveHanded r kind a b = need (tableAccepted r) 2 λ _. deriveNamed (tableOf r) kind a b
+deriveHanded r kind a b = need (tableAccepted r) outOfRange λ _. deriveNamed (tableOf r) kind a b

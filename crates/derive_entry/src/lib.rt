@@ -7,8 +7,10 @@ ghost use Prim.Native.Nat.{ℕ, _≤_, _<_};
 ghost use lib.ListN.{length};
 ghost use Rattle.spec_model.specs.Restriction.{derived};
 ghost use Rattle.spec_model.specs.Check.{kindOf};
+ghost use Rattle.spec_model.specs.Table.{maxTypes};
 ghost use Rattle.table_record.specs.Store.{rawTable, tableIn};
 ghost use Rattle.table_record.specs.Limits.{Limits};
+ghost use Rattle.table_record.specs.Layout.{typesSize};
 ghost use Rattle.derive_record.specs.Begins.{refIn};
 ghost use Rattle.derive_sub_sup.specs.Link.{Ready, Derives};
 ghost use Rattle.derive_entry.specs.Handed.{kindAsked, deriveNamed, deriveHanded};
@@ -29,7 +31,7 @@ pub enum Made {
 
 // Whether the kind is one of the three, Closed only of two reference types.
 fn is_asked(b: &[u8; TYPE_BYTES], n: usize, kind: usize, t: usize, s: usize) -> bool
-    requires { ⌜ n ≤ 128 ⌝ }
+    requires { ⌜ n ≤ maxTypes ⌝ }
     ensures { λ r. ⌜ r ≡ kindAsked kind (refIn n (now (b .entry)) t && refIn n (now (b .entry)) s) ⌝ }
 {
     if kind < 2 {
@@ -60,7 +62,7 @@ fn derive_kind(b: &mut [u8; TYPE_BYTES], c: Counts, kind: usize, t: usize, s: us
 
 // A copy of lent bytes. Bytes that are held have their length, of lent ones nothing says it.
 fn copied(b: [u8; TYPE_BYTES]) -> [u8; TYPE_BYTES]
-    ensures { λ r. ⌜ (r ≡ b) × (length b ≡ 16384) ⌝ }
+    ensures { λ r. ⌜ (r ≡ b) × (length b ≡ typesSize) ⌝ }
 {
     b
 }
@@ -109,7 +111,8 @@ pub fn derive(
     t: i64,
     s: i64,
 ) -> Made
-    ensures { λ r. ⌜ Answered (now (b .entry)) (now (l .entry)) c (deriveHanded (rawTable (now (b .entry)) (now (l .entry)) c) kind t s) (left c r (now (b .exit))) ⌝ }
+    ensures { λ r. ⌜ Answered (now (b .entry)) (now (l .entry)) c (deriveHanded (rawTable (now (b .entry)) (now (l .entry)) c) kind t s)
+        (left c r (now (b .exit))) ⌝ }
 {
     if table_check::table_fits(b, l, c) {
         return derive_named(b, c, kind, t, s);

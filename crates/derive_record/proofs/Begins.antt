@@ -10,16 +10,14 @@ use lib.Dec.{eqb, ltb}
 use lib.ListN.{getD}
 use borrow.Author.Tests.{eq-eqb, ne-eqb, lt-ltb, le-ltb, ltb-true, ltb-false}
 use Rattle.spec_model.specs.Basics.{from}
-use Rattle.spec_model.specs.Table.{Kind, closed, Ty, Table, noType, typeAt, isRef}
+use Rattle.spec_model.specs.Table.{Kind, closed, Ty, Table, noType, typeAt, isRef, maxTypes}
 use Rattle.spec_model.specs.Restriction.{isKey, find, withoutNew, mainSide}
 use Rattle.spec_model.specs.Check.{RawType, noRawType, repOf, kindOf, typeOf}
 use Rattle.spec_model.proofs.Largest.{getD-from-out}
 use Rattle.spec_model.proofs.Rules.{first, second}
 use Rattle.table_record.specs.declared.Counts.{Counts}
-use Rattle.table_record.specs.declared.Head.{Head}
-use Rattle.table_record.specs.Store.{typesIn, typesTo, headOf}
+use Rattle.table_record.specs.Store.{typesIn, typesTo, headOf, refAs}
 use Rattle.table_record.proofs.Tables.{types-to-at}
-use Rattle.table_record.proofs.Codes.{rep-code}
 use Rattle.derive_record.specs.declared.Derived.the-variants.{Full, At}
 use Rattle.derive_record.specs.declared.Begun.{Begun}
 use Rattle.derive_record.specs.declared.Begun.the-variants.{Settled, New}
@@ -87,9 +85,8 @@ module _ (d : Kind) (t s ms sh n : ℕ) (rs : List RawType) where
 pub no-ref : (n t : ℕ) (b : List ℕ) → n ≤ t → false ≡ refIn n b t
 no-ref n t b h = rw (le-ltb t n h)
 
-pub ref-code : (n t : ℕ) (b : List ℕ) (h : Head) → t < n → h ≡ headOf (getD (typesIn b) t noRawType) → eqb (h .rep) 0 ≡ refIn n b t
-ref-code n t b h l e = ap (λ (x : Head). eqb (x .rep) 0) e ∙ rep-code (getD (typesIn b) t noRawType .rep) ∙ sym
-    (ap (λ (a : Bool). a && isRef (repOf (getD (typesIn b) t noRawType .rep))) (lt-ltb t n l))
+pub ref-among : (n t : ℕ) (b : List ℕ) (r : Bool) → t < n → r ≡ refAs (getD (typesIn b) t noRawType) → r ≡ refIn n b t
+ref-among n t b r l e = e ∙ sym (ap (λ (a : Bool). a && refAs (getD (typesIn b) t noRawType)) (lt-ltb t n l))
 
 pub ref-below : (n t : ℕ) (b : List ℕ) → refIn n b t ≡ true → t < n
 ref-below n t b e = ltb-true t n (first (ltb t n) _ e)
@@ -113,10 +110,10 @@ module _ (o : Table → Option ℕ) (n t s : ℕ) (b : List ℕ) (i : ℕ) (is :
   none-found : n ≤ i → (T : Table) → o T ≡ none
   none-found h T = sym (is T) ∙ ap (λ (a : Bool). cond a (some i) none) (le-ltb i n h)
 
-  pub found-full : n ≤ i → 128 ≤ n → Begins o n t s b (Settled Full)
+  pub found-full : n ≤ i → maxTypes ≤ n → Begins o n t s b (Settled Full)
   found-full h l = (none-found h, l)
 
-  pub found-new : n ≤ i → n < 128 → refIn n b t ≡ true → refIn n b s ≡ true → Begins o n t s b New
+  pub found-new : n ≤ i → n < maxTypes → refIn n b t ≡ true → refIn n b s ≡ true → Begins o n t s b New
   found-new h l p q = (none-found h, l, p, q)
 
 begins-same : (o u : Table → Option ℕ) (n t s : ℕ) (b : List ℕ) (g : Begun) → ((T : Table) → u T ≡ o T) → Begins o n t s b g → Begins u n t s b g

@@ -6,7 +6,7 @@ use mathlib.Core.Option.{Option, none, some}
 use Prim.Native.Nat.{ℕ, _≤_, _<_}
 use lib.Dec.{ltb}
 use lib.ListN.{getD}
-use Rattle.spec_model.specs.Table.{Table, withTypes, isRef}
+use Rattle.spec_model.specs.Table.{Table, withTypes, isRef, maxTypes}
 use Rattle.spec_model.specs.Check.{noRawType, repOf}
 use Rattle.table_record.specs.declared.Counts.{Counts}
 use Rattle.table_record.specs.declared.TypeRec.{TypeRec}
@@ -31,9 +31,9 @@ Below t s m i = (z : ℕ) → m ≤ z → t < z → s < z → i < z
 
 -- How a derivation begins, where `o` is what needs no new type: that type; or nothing is left; or a new one, of two reference types.
 abbrev pub Begins : (Table → Option ℕ) → ℕ → ℕ → ℕ → List ℕ → Begun → Type 0
-Begins o n t s b (Settled Full) = ((T : Table) → o T ≡ none) × (128 ≤ n)
+Begins o n t s b (Settled Full) = ((T : Table) → o T ≡ none) × (maxTypes ≤ n)
 Begins o n t s b (Settled (At i m)) = ((T : Table) → o T ≡ some i) × (m ≡ n) × Below t s n i
-Begins o n t s b New = ((T : Table) → o T ≡ none) × (n < 128) × (refIn n b t ≡ true) × (refIn n b s ≡ true)
+Begins o n t s b New = ((T : Table) → o T ≡ none) × (n < maxTypes) × (refIn n b t ≡ true) × (refIn n b s ≡ true)
 
 -- the first of n types that a search found, n being none
 abbrev pub foundOf : ℕ → ℕ → Option ℕ

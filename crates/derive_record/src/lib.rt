@@ -1,20 +1,21 @@
-// What the three derivations (D) share, over the lent bytes of a type table: the known type that answers at once, and the record of a new one, begun and finished.
-// A new type takes the next number and stands there with every method denied until its signatures are derived; then it is stored once, whole. Both sides are read before anything
-// is derived, and nothing below the count is ever written (B22). What the answers mean is in specs/Begins.antt, the order in which signatures are derived in
-// crate `derive_slots`.
+// What the three derivations (D) share, over the lent bytes of a type table: the known type that answers at once, and the record of a new one, begun and
+// finished. A new type takes the next number and stands there with every method denied until its signatures are derived; then it is stored once, whole. Both
+// sides are read before anything is derived, and nothing below the count is ever written (B22). What the answers mean is in specs/Begins.antt, the order in
+// which signatures are derived in crate `derive_slots`.
 ghost use mathlib.Core.Path.{_≡_};
 ghost use mathlib.Core.Bool.{true};
 ghost use Prim.Native.Nat.{_≤_, _<_};
 ghost use lib.ListN.{length};
 ghost use Rattle.spec_model.specs.Restriction.{find, withoutNew, mainSide};
 ghost use Rattle.spec_model.specs.Check.{kindOf};
+ghost use Rattle.spec_model.specs.Table.{maxMethods, maxTypes};
 ghost use Rattle.table_record.specs.Store.{typesIn, typesTo, withCount};
 ghost use Rattle.table_record.specs.Limits.{Limits};
+ghost use Rattle.table_record.specs.Layout.{typesSize};
 ghost use Rattle.derive_record.specs.Begins.{Begins, Opened, Stored, foundOf, refIn, tabled};
 use derive_slots::SLOT_BYTES;
 use derive_slots::Work;
 use table_record::Counts;
-use table_record::Head;
 use table_record::Key;
 use table_record::TYPE_BYTES;
 
@@ -48,14 +49,13 @@ pub fn lookup(b: &[u8; TYPE_BYTES], c: Counts, n: usize, key: Key) -> usize
 
 // Whether type t is a reference type of the first n.
 pub fn is_ref(b: &[u8; TYPE_BYTES], n: usize, t: usize) -> bool
-    requires { ⌜ n ≤ 128 ⌝ }
+    requires { ⌜ n ≤ maxTypes ⌝ }
     ensures { λ r. ⌜ r ≡ refIn n (now (b .entry)) t ⌝ }
 {
     if n <= t {
         return false;
     }
-    let h = table_record::get_head(b, t);
-    h.rep == Head::REF
+    table_record::is_ref(b, t)
 }
 
 // Of two reference types: the known type, or whether there is room for a new one (D14, D15).
@@ -110,7 +110,7 @@ pub fn begin(b: &[u8; TYPE_BYTES], c: Counts, n: usize, kind: u8, t: usize, s: u
 
 // Both sides are read. The new type has its number from here on (D16); until its signatures are there every method of it is denied.
 pub fn start(b: &mut [u8; TYPE_BYTES], n: usize, kind: u8, t: usize, s: usize) -> Work
-    requires { ⌜ (n < 128) × (t < 128) × (s < 128) × (length (now b) ≡ 16384) ⌝ }
+    requires { ⌜ (n < maxTypes) × (t < maxTypes) × (s < maxTypes) × (length (now b) ≡ typesSize) ⌝ }
     ensures { λ w. ⌜ Opened kind t s n w (now (b .entry)) (now (b .exit)) ⌝ }
 {
     let x = table_record::get_type(b, t);
@@ -138,7 +138,7 @@ pub fn start(b: &mut [u8; TYPE_BYTES], n: usize, kind: u8, t: usize, s: usize) -
 
 // The type at work is stored, whole (B13).
 pub fn finish(b: &mut [u8; TYPE_BYTES], n: usize, w: Work, methods: usize, bytes: [u8; SLOT_BYTES])
-    requires { ⌜ (n < 128) × (length (now b) ≡ 16384) × (w .key .kind < 3) × (w .key .left < 256) × (w .key .right < 256) × (methods ≤ 16) ⌝ }
+    requires { ⌜ (n < maxTypes) × (length (now b) ≡ typesSize) × (w .key .kind < 3) × (w .key .left < 256) × (w .key .right < 256) × (methods ≤ maxMethods) ⌝ }
     ensures { λ _. ⌜ Stored w methods n bytes (now (b .entry)) (now (b .exit)) ⌝ }
 {
     let z = derive_slots::finished(w, methods, bytes);

@@ -10,13 +10,14 @@ use lib.ListN.{length, getD, set, take, replicate, length-set, length-map, List�
 use lib.Seq.{take-nil, getD-set-other}
 use borrow.Author.Tests.{eq-eqb, ne-eqb, le-leb, lt-ltb, le-ltb}
 use Rattle.spec_model.specs.Basics.{_⇒_}
-use Rattle.spec_model.specs.Table.{State, denied, optional, avail, unavail, Kind, sub, sup, closed, permit}
+use Rattle.spec_model.specs.Table.{State, denied, optional, avail, unavail, Kind, sub, sup, closed, permit, maxArguments}
 use Rattle.spec_model.specs.Table as model
 use Rattle.spec_model.specs.Restriction.{restricted, sameKind, isKey}
 use Rattle.spec_model.specs.Check.{RawMethod, RawType, noRawMethod, stateOf, kindOf, answerOf, methodOf}
 use Rattle.spec_model.proofs.Rules.{never, both, second, imply, applied}
 use Rattle.spec_model.proofs.Tests.{so-ltb, leb-so, so-leb}
 use Rattle.spec_model.proofs.States.{each₂}
+use Rattle.spec_model.specs.Records.{argumentSlots}
 use Rattle.table_record.specs.declared.Head.{Head}
 use Rattle.table_record.specs.declared.Method.{Method}
 use Rattle.table_record.specs.declared.TypeRec.{TypeRec}
@@ -28,7 +29,7 @@ use Rattle.law_table.proofs.Exact.{blank, unsigned-exact, signed-exact, derived
 use Rattle.derive_slots.specs.declared.Work.{Work}
 use Rattle.derive_slots.specs.declared.Slot.the-variants.{Empty, Argument, Answer}
 use Rattle.derive_slots.specs.Slots.{argumentSlot, answerSlot, slotOf, shared, fill, fillAt, leftIn, rightIn, methodIn, rawIn, MethodCoded, bareMethod, slotByte, signedMethod, keyIn}
-use Rattle.derive_slots.specs.Slots.{kindIn, catIn, mainOf, newRecord, keptState, Finished}
+use Rattle.derive_slots.specs.Slots.{kindIn, catIn, mainOf, newRecord, keptState, Finished, methodSlots}
 
 -- Kinds.
 pub closed-same : (kind k : ℕ) → kind ≡ 2 → leb 2 k ≡ sameKind (kindOf kind) (kindOf k)
@@ -181,7 +182,7 @@ module _ (d : Kind) (p q : RawMethod) where
     pub slot-answer : (i : ℕ) → i ≡ 4 → answerSlot (answerOf (p .answer)) (answerOf (q .answer)) ≡ slotOf d (methodOf p) (methodOf q) i
     slot-answer i h = rw (h, e, left-on, right-on)
 
-    pub slot-argument : (i : ℕ) → i < 4 → argumentSlot i (take (p .count) (p .args)) (take (q .count) (q .args)) ≡ slotOf d (methodOf p) (methodOf q) i
+    pub slot-argument : (i : ℕ) → i < argumentSlots → argumentSlot i (take (p .count) (p .args)) (take (q .count) (q .args)) ≡ slotOf d (methodOf p) (methodOf q) i
     slot-argument i h = rw (e, lt-ltb i 4 h, left-on, right-on)
 
   -- The method from its slots: what it means, that it is stored exactly, and that its codes name something where the left side's do.
@@ -198,12 +199,12 @@ module _ (d : Kind) (p q : RawMethod) where
     pub bare-made : permit (stateOf st) ≡ false → Made (bareMethod st)
     bare-made e = (rw (e, es, sym (ap permit es) ∙ e), (unsigned-exact st low e, λ h. both (so-ltb low) (imply (permit (stateOf st)) true (λ _. refl))))
 
-    pub signed-made : permit (stateOf st) ≡ true → length args ≡ 4 → length (p .args) ≡ 4 → length (q .args) ≡ 4 → Made (signedMethod st count args a)
+    pub signed-made : permit (stateOf st) ≡ true → length args ≡ argumentSlots → length (p .args) ≡ argumentSlots → length (q .args) ≡ argumentSlots → Made (signedMethod st count args a)
     signed-made e l lp lq = (
       rw (e, es, s, left-on s, right-on s, same),
       (
         signed-exact (signedMethod st count args a) low e shared-low refl (slots-zero count args),
-        λ h. both (so-ltb low) (imply (permit (stateOf st)) (leb count 2) (λ _. so-leb (few h))),
+        λ h. both (so-ltb low) (imply (permit (stateOf st)) (leb count maxArguments) (λ _. so-leb (few h))),
       ),
     )
       where
@@ -217,9 +218,9 @@ module _ (d : Kind) (p q : RawMethod) where
             ∙ ap (λ (n : ℕ). take (min (min (p .count) (q .count)) n) args) (sym l) ∙ take-capped (min (p .count) (q .count)) args
             ∙ take-shared (p .count) (q .count) (p .args) (q .args) args (omega arith) (omega arith)
 
-        few : MethodCoded p → count ≤ 2
+        few : MethodCoded p → count ≤ maxArguments
         few h =
-            let w : p .count ≤ 2 = leb-so (applied (second (ltb (p .state) 4) _ h) (left-on s)) in
+            let w : p .count ≤ maxArguments = leb-so (applied (second (ltb (p .state) 4) _ h) (left-on s)) in
             let u = min-le-left (min (p .count) (q .count)) 4 in
             let v = min-le-left (p .count) (q .count) in omega arith
 
@@ -271,13 +272,16 @@ pub raw-methods : (ms : List Method) (j : ℕ) → rawMethod (getD ms j absent) 
 raw-methods ms j = sym (List·getD-map rawMethod ms j absent)
 
 filled-here : (d : Kind) (x y : TypeRec) (ns : List ℕ) (j : ℕ) (p q m : Method) → rawMethod p ≡ rawIn x j → rawMethod q ≡ rawIn y j
-    → methodOf (rawMethod m) ≡ fill d (methodOf (rawMethod p)) (methodOf (rawMethod q)) (getD ns (j * 5) 0 ∷ getD ns (j * 5 + 1) 0 ∷ getD ns (j * 5 + 2) 0 ∷ getD ns (j * 5 + 3) 0 ∷ [])
-    (getD ns (j * 5 + 4) 0)
+    → methodOf (rawMethod m) ≡ fill d (methodOf (rawMethod p)) (methodOf (rawMethod q))
+    (getD ns (j * methodSlots) 0 ∷ getD ns (j * methodSlots + 1) 0 ∷ getD ns (j * methodSlots + 2) 0 ∷ getD ns (j * methodSlots + 3) 0 ∷ [])
+    (getD ns (j * methodSlots + argumentSlots) 0)
     → methodOf (rawMethod m) ≡ fillAt d (methodIn x) (methodIn y) ns j
 filled-here d x y ns j p q m ep eq em =
-    em ∙ ap (λ (z : model.Method). fill d z (methodOf (rawMethod q)) (getD ns (j * 5) 0 ∷ getD ns (j * 5 + 1) 0 ∷ getD ns (j * 5 + 2) 0 ∷ getD ns (j * 5 + 3) 0 ∷ [])
-    (getD ns (j * 5 + 4) 0)) (ap methodOf ep)
-    ∙ ap (λ (z : model.Method). fill d (methodIn x j) z (getD ns (j * 5) 0 ∷ getD ns (j * 5 + 1) 0 ∷ getD ns (j * 5 + 2) 0 ∷ getD ns (j * 5 + 3) 0 ∷ []) (getD ns (j * 5 + 4) 0))
+    em ∙ ap (λ (z : model.Method). fill d z (methodOf (rawMethod q)) (getD ns (j * methodSlots) 0 ∷ getD ns (j * methodSlots + 1) 0 ∷ getD ns (j * methodSlots + 2) 0 ∷ getD ns
+    (j * methodSlots + 3) 0 ∷ [])
+    (getD ns (j * methodSlots + argumentSlots) 0)) (ap methodOf ep)
+    ∙ ap (λ (z : model.Method). fill d (methodIn x j) z (getD ns (j * methodSlots) 0 ∷ getD ns (j * methodSlots + 1) 0 ∷ getD ns (j * methodSlots + 2) 0 ∷ getD ns (j * methodSlots + 3)
+    0 ∷ []) (getD ns (j * methodSlots + argumentSlots) 0))
     (ap methodOf eq)
 
 -- The loop over the methods: those before j are made from their slots, the others are blank.
@@ -304,7 +308,7 @@ module _ (w : Work) (ns : List ℕ) where
   pub filling-next : {ms : ℕ} {all : List Method} {j : ℕ} → Filling ms all j → j < ms → ms ≤ 16 → (p q m : Method) → rawMethod p ≡ rawIn (leftIn w) j
       → rawMethod q ≡ rawIn (rightIn w) j
       → (methodOf (rawMethod m) ≡ fill (kindIn w) (methodOf (rawMethod p)) (methodOf (rawMethod q))
-      (getD ns (j * 5) 0 ∷ getD ns (j * 5 + 1) 0 ∷ getD ns (j * 5 + 2) 0 ∷ getD ns (j * 5 + 3) 0 ∷ []) (getD ns (j * 5 + 4) 0))
+      (getD ns (j * methodSlots) 0 ∷ getD ns (j * methodSlots + 1) 0 ∷ getD ns (j * methodSlots + 2) 0 ∷ getD ns (j * methodSlots + 3) 0 ∷ []) (getD ns (j * methodSlots + argumentSlots) 0))
       × (MethodExact (rawMethod m) × (MethodCoded (rawMethod p) → MethodCoded (rawMethod m))) → Filling ms (set all j m) (j + 1)
   filling-next {ms} {all} {j} so h few p q m ep eq em = let l = so .long in record {
     low = omega arith;

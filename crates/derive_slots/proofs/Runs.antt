@@ -14,9 +14,10 @@ use Rattle.spec_model.specs.Basics.{then, from}
 use Rattle.spec_model.specs.Table.{State, Kind, Method, Table, permit, signed}
 use Rattle.spec_model.specs.Restriction.{restricted, argKind, answerKind, Derivation, deriveArgs, deriveAnswer, deriveMethod, deriveMethods}
 use Rattle.spec_model.specs.Check.{answerOf}
+use Rattle.spec_model.specs.Records.{argumentSlots}
 use Rattle.derive_slots.specs.declared.Slot.{Slot}
 use Rattle.derive_slots.specs.declared.Slot.the-variants.{Empty, Argument, Answer}
-use Rattle.derive_slots.specs.Slots.{argumentSlot, answerSlot, slotOf, slotAt, shared, fill, fillAt}
+use Rattle.derive_slots.specs.Slots.{argumentSlot, answerSlot, slotOf, slotAt, shared, fill, fillAt, methodSlots}
 
 -- the table as it has become, and the bytes of the slots
 abbrev pub Row : Type 0
@@ -184,9 +185,9 @@ module _ (rec : Derivation) (d : Kind) where
     abbrev Signs : Method → Method → State → Table → List ℕ → Option (Table × Method)
     Signs x y s t zs = then (deriveAnswer rec d t (x .answer) (y .answer)) λ z. some (z .0, signed s zs (z .1))
 
-    permitted-run : {B : Type 0} (x y : Method) (s : State) (k : ℕ) (q : Row) (go : Table → Method → Option B) → shared (x .args) (y .args) ≤ 4 → k + 5 ≤ length (q .1)
+    permitted-run : {B : Type 0} (x y : Method) (s : State) (k : ℕ) (q : Row) (go : Table → Method → Option B) → shared (x .args) (y .args) ≤ argumentSlots → k + methodSlots ≤ length (q .1)
         → getD (q .1) (k + 4) 0 ≡ 0
-        → ((i : ℕ) → i < 4 → f (k + i) ≡ argumentSlot i (x .args) (y .args)) → f (k + 4) ≡ answerSlot (x .answer) (y .answer)
+        → ((i : ℕ) → i < argumentSlots → f (k + i) ≡ argumentSlot i (x .args) (y .args)) → f (k + argumentSlots) ≡ answerSlot (x .answer) (y .answer)
         → _≡_ {A = Option B} (then (then (deriveArgs rec d (q .0) (x .args) (y .args)) λ p. Signs x y s (p .0) (p .1)) (λ p. go (p .0) (p .1)))
         (then (Run 5 k q) λ p. go (p .0) (signed s (take (shared (x .args) (y .args)) (four k (p .1))) (answerOf (getD (p .1) (k + 4) 0))))
     permitted-run {B} x y s k q go few room blank args ans =
@@ -207,9 +208,9 @@ module _ (rec : Derivation) (d : Kind) where
         end : Row → Option B
         end p = go (p .0) (signed s (take (shared (x .args) (y .args)) (four k (p .1))) (answerOf (getD (p .1) (k + 4) 0)))
 
-    method-run : {B : Type 0} (x y : Method) (k : ℕ) (q : Row) (go : Table → Method → Option B) → shared (x .args) (y .args) ≤ 4 → k + 5 ≤ length (q .1)
+    method-run : {B : Type 0} (x y : Method) (k : ℕ) (q : Row) (go : Table → Method → Option B) → shared (x .args) (y .args) ≤ argumentSlots → k + methodSlots ≤ length (q .1)
         → getD (q .1) (k + 4) 0 ≡ 0 →
-        ((i : ℕ) → i < 5 → f (k + i) ≡ slotOf d x y i)
+        ((i : ℕ) → i < methodSlots → f (k + i) ≡ slotOf d x y i)
         → then (deriveMethod rec d (q .0) x y) (λ p. go (p .0) (p .1)) ≡ then (Run 5 k q) λ p. go (p .0) (fill d x y (four k (p .1)) (getD (p .1) (k + 4) 0))
     unfolding deriveMethod
     method-run {B} x y k q go few room blank slots = by (permit s) refl
@@ -227,14 +228,14 @@ module _ (rec : Derivation) (d : Kind) where
         by false e = sym (ap (λ (o : Option Row). then o λ p. go (p .0) (signed s [] none)) (runs-empty 5 k q (λ i l. slots i l ∙ rw e)))
 
   -- All methods: what they come to reads only their own slots, which nothing later changes.
-  module _ (x y : ℕ → Method) (few : (i : ℕ) → shared (x i .args) (y i .args) ≤ 4) where
-    slot-in : (j i : ℕ) → i < 5 → slotAt d x y (j * 5 + i) ≡ slotOf d (x j) (y j) i
-    slot-in j i h = let a : (j * 5 + i) / 5 ≡ j = omega arith in let b : (j * 5 + i) % 5 ≡ i = omega arith in rw (a, b)
+  module _ (x y : ℕ → Method) (few : (i : ℕ) → shared (x i .args) (y i .args) ≤ argumentSlots) where
+    slot-in : (j i : ℕ) → i < methodSlots → slotAt d x y (j * methodSlots + i) ≡ slotOf d (x j) (y j) i
+    slot-in j i h = let a : (j * methodSlots + i) / methodSlots ≡ j = omega arith in let b : (j * methodSlots + i) % methodSlots ≡ i = omega arith in rw (a, b)
 
-    fill-same : (j : ℕ) (ns ms : List ℕ) → ((i : ℕ) → i < suc j * 5 → getD ms i 0 ≡ getD ns i 0) → fillAt d x y ns j ≡ fillAt d x y ms j
+    fill-same : (j : ℕ) (ns ms : List ℕ) → ((i : ℕ) → i < suc j * methodSlots → getD ms i 0 ≡ getD ns i 0) → fillAt d x y ns j ≡ fillAt d x y ms j
     fill-same j ns ms e =
-        ap (λ (l : List ℕ). fill d (x j) (y j) l (getD ns (j * 5 + 4) 0)) (four-same (j * 5) ns ms (λ i l. e i (omega arith)))
-        ∙ ap (fill d (x j) (y j) (four (j * 5) ms)) (sym (e (j * 5 + 4) (omega arith)))
+        ap (λ (l : List ℕ). fill d (x j) (y j) l (getD ns (j * methodSlots + argumentSlots) 0)) (four-same (j * methodSlots) ns ms (λ i l. e i (omega arith)))
+        ∙ ap (fill d (x j) (y j) (four (j * methodSlots) ms)) (sym (e (j * methodSlots + argumentSlots) (omega arith)))
 
     abbrev All : ℕ → ℕ → Row → Option (Table × List Method)
     All c j p = some (p .0, from c j (fillAt d x y (p .1)))
@@ -243,36 +244,36 @@ module _ (rec : Derivation) (d : Kind) where
     After c j p = some (p .0, fillAt d x y (p .1) j ∷ from c (suc j) (fillAt d x y (p .1)))
 
     abbrev Rest : ℕ → ℕ → Row → Option Row
-    Rest c j q = runs rec d (slotAt d x y) (c * 5) (j * 5) (q .0) (q .1)
+    Rest c j q = runs rec d (slotAt d x y) (c * methodSlots) (j * methodSlots) (q .0) (q .1)
 
     -- the slots of one method, then those of the rest
-    rest-parts : (c j : ℕ) (q : Row) → then (Rest (suc c) j q) (After c j) ≡ then (runs rec d (slotAt d x y) 5 (j * 5) (q .0) (q .1)) λ p. then (Rest c (suc j) p) (After c j)
+    rest-parts : (c j : ℕ) (q : Row) → then (Rest (suc c) j q) (After c j) ≡ then (runs rec d (slotAt d x y) methodSlots (j * methodSlots) (q .0) (q .1)) λ p. then (Rest c (suc j) p) (After c j)
     rest-parts c j q =
-        let e : suc c * 5 ≡ 5 + c * 5 = omega arith in
-        let g : j * 5 + 5 ≡ suc j * 5 = omega arith in
-        ap (λ (n : ℕ). then (runs rec d (slotAt d x y) n (j * 5) (q .0) (q .1)) (After c j)) e
-        ∙ ap (λ (o : Option Row). then o (After c j)) (runs-parts (slotAt d x y) 5 (c * 5) (j * 5) q)
-        ∙ bind (runs rec d (slotAt d x y) 5 (j * 5) (q .0) (q .1)) (λ p. runs rec d (slotAt d x y) (c * 5) (j * 5 + 5) (p .0) (p .1)) (After c j)
-        ∙ ap (λ (n : ℕ). then (runs rec d (slotAt d x y) 5 (j * 5) (q .0) (q .1)) λ p. then (runs rec d (slotAt d x y) (c * 5) n (p .0) (p .1)) (After c j)) g
+        let e : suc c * methodSlots ≡ methodSlots + c * methodSlots = omega arith in
+        let g : j * methodSlots + methodSlots ≡ suc j * methodSlots = omega arith in
+        ap (λ (n : ℕ). then (runs rec d (slotAt d x y) n (j * methodSlots) (q .0) (q .1)) (After c j)) e
+        ∙ ap (λ (o : Option Row). then o (After c j)) (runs-parts (slotAt d x y) methodSlots (c * methodSlots) (j * methodSlots) q)
+        ∙ bind (runs rec d (slotAt d x y) methodSlots (j * methodSlots) (q .0) (q .1)) (λ p. runs rec d (slotAt d x y) (c * methodSlots) (j * methodSlots + methodSlots) (p .0) (p .1)) (After c j)
+        ∙ ap (λ (n : ℕ). then (runs rec d (slotAt d x y) methodSlots (j * methodSlots) (q .0) (q .1)) λ p. then (runs rec d (slotAt d x y) (c * methodSlots) n (p .0) (p .1)) (After c j)) g
 
-    methods-from : (c j : ℕ) (q : Row) → j * 5 + c * 5 ≤ length (q .1) → ((i : ℕ) → j * 5 ≤ i → getD (q .1) i 0 ≡ 0)
+    methods-from : (c j : ℕ) (q : Row) → j * methodSlots + c * methodSlots ≤ length (q .1) → ((i : ℕ) → j * methodSlots ≤ i → getD (q .1) i 0 ≡ 0)
         → deriveMethods rec d (q .0) (from c j x) (from c j y) ≡ then (Rest c j q) (All c j)
     unfolding deriveMethods from runs
     methods-from zero j q room blank = refl
     methods-from (suc c) j q room blank =
-        method-run (slotAt d x y) (x j) (y j) (j * 5) q (λ t m. then (deriveMethods rec d t (from c (suc j) x) (from c (suc j) y)) λ z. some (z .0, m ∷ z .1)) (few j) (omega arith)
-        (blank (j * 5 + 4) (omega arith)) (slot-in j)
-        ∙ runs-same (slotAt d x y) 5 (j * 5) q (λ p. then (deriveMethods rec d (p .0) (from c (suc j) x) (from c (suc j) y)) λ z. some (z .0, fillAt d x y (p .1) j ∷ z .1))
+        method-run (slotAt d x y) (x j) (y j) (j * methodSlots) q (λ t m. then (deriveMethods rec d t (from c (suc j) x) (from c (suc j) y)) λ z. some (z .0, m ∷ z .1)) (few j) (omega arith)
+        (blank (j * methodSlots + argumentSlots) (omega arith)) (slot-in j)
+        ∙ runs-same (slotAt d x y) methodSlots (j * methodSlots) q (λ p. then (deriveMethods rec d (p .0) (from c (suc j) x) (from c (suc j) y)) λ z. some (z .0, fillAt d x y (p .1) j ∷ z .1))
         (λ p. then (Rest c (suc j) p) (After c j))
         (λ p b. ap (λ (o : Option (Table × List Method)). then o λ z. some (z .0, fillAt d x y (p .1) j ∷ z .1))
         (methods-from c (suc j) p (let l = b .0 in omega arith) (λ i l. b .1 i (inr (omega arith)) ∙ blank i (omega arith)))
         ∙ bind (Rest c (suc j) p) (All c (suc j)) (λ z. some (z .0, fillAt d x y (p .1) j ∷ z .1))
-        ∙ runs-same (slotAt d x y) (c * 5) (suc j * 5) p (λ z. some (z .0, fillAt d x y (p .1) j ∷ from c (suc j) (fillAt d x y (z .1)))) (After c j)
+        ∙ runs-same (slotAt d x y) (c * methodSlots) (suc j * methodSlots) p (λ z. some (z .0, fillAt d x y (p .1) j ∷ from c (suc j) (fillAt d x y (z .1)))) (After c j)
         (λ z g. ap (λ (m : Method). some (z .0, m ∷ from c (suc j) (fillAt d x y (z .1)))) (fill-same j (p .1) (z .1) (λ i l. g .1 i (inl l)))))
         ∙ sym (rest-parts c j q)
 
 -- The methods of a derived type come from its slots, run in order over bytes that are 0.
-pub methods-run : (rec : Derivation) (d : Kind) (x y : ℕ → Method) (c : ℕ) (t : Table) (ns : List ℕ) → ((i : ℕ) → shared (x i .args) (y i .args) ≤ 4) → c * 5 ≤ length ns →
+pub methods-run : (rec : Derivation) (d : Kind) (x y : ℕ → Method) (c : ℕ) (t : Table) (ns : List ℕ) → ((i : ℕ) → shared (x i .args) (y i .args) ≤ argumentSlots) → c * methodSlots ≤ length ns →
     ((i : ℕ) → getD ns i 0 ≡ 0)
-    → deriveMethods rec d t (from c 0 x) (from c 0 y) ≡ then (runs rec d (slotAt d x y) (c * 5) 0 t ns) λ q. some (q .0, from c 0 (fillAt d x y (q .1)))
+    → deriveMethods rec d t (from c 0 x) (from c 0 y) ≡ then (runs rec d (slotAt d x y) (c * methodSlots) 0 t ns) λ q. some (q .0, from c 0 (fillAt d x y (q .1)))
 methods-run rec d x y c t ns few room blank = methods-from rec d x y few c 0 (t, ns) (omega arith) (λ i l. blank i)

@@ -6,15 +6,24 @@ use mathlib.Core.Option.{Option, none, some}
 use Prim.Native.Nat.{ℕ, zero, suc, _+_, _*_, _/_, _%_, _≤_, _<_}
 use lib.Dec.{ltb}
 use lib.ListN.{getD, take}
-use Rattle.spec_model.specs.Table.{State, Kind, sub, sup, closed, Key, Method, permit}
+use Rattle.spec_model.specs.Table.{State, Kind, sub, sup, closed, Key, Method, permit, maxMethods}
 use Rattle.spec_model.specs.Restriction.{restricted}
 use Rattle.spec_model.specs.Check.{RawMethod, RawType, noRawType, noRawMethod, kindOf, answerOf, methodOf, rawMethodFits}
+use Rattle.spec_model.specs.Records.{argumentSlots}
 use Rattle.table_record.specs.declared.Head.{Head}
 use Rattle.table_record.specs.declared.TypeRec.{TypeRec}
 use Rattle.table_record.specs.Store.{rawMethod, rawOf, typesIn, emptyType, TypeExact}
 use Rattle.derive_slots.specs.declared.Work.{Work}
 use Rattle.derive_slots.specs.declared.Slot.{Slot}
 use Rattle.derive_slots.specs.declared.Slot.the-variants.{Empty, Argument, Answer}
+
+-- the slots of a method: its arguments, and its answer
+abbrev pub methodSlots : ℕ
+methodSlots = suc argumentSlots
+
+-- the slots of all methods
+abbrev pub slotsSize : ℕ
+slotsSize = maxMethods * methodSlots
 
 -- What is derived for argument i of two signatures, the sides exchanged, and for their answers.
 abbrev pub argumentSlot : ℕ → List ℕ → List ℕ → Slot
@@ -30,11 +39,11 @@ answerSlot (some x) (some y) = Answer x y
 
 -- slot i of a method; nothing where the derived type doesn't permit it
 abbrev pub slotOf : Kind → Method → Method → ℕ → Slot
-slotOf d x y i = cond (permit (restricted d (x .state) (y .state))) (cond (ltb i 4) (argumentSlot i (x .args) (y .args)) (answerSlot (x .answer) (y .answer))) Empty
+slotOf d x y i = cond (permit (restricted d (x .state) (y .state))) (cond (ltb i argumentSlots) (argumentSlot i (x .args) (y .args)) (answerSlot (x .answer) (y .answer))) Empty
 
 -- slot k of all methods
 abbrev pub slotAt : Kind → (ℕ → Method) → (ℕ → Method) → ℕ → Slot
-slotAt d x y k = slotOf d (x (k / 5)) (y (k / 5)) (k % 5)
+slotAt d x y k = slotOf d (x (k / methodSlots)) (y (k / methodSlots)) (k % methodSlots)
 
 -- The numbers that a slot of bytes can name: an answer is stored as its number plus 1.
 abbrev pub Low : Slot → Type 0
@@ -58,7 +67,8 @@ fill d x y args answer = record {
 
 -- method j, from the bytes of all slots
 abbrev pub fillAt : Kind → (ℕ → Method) → (ℕ → Method) → List ℕ → ℕ → Method
-fillAt d x y ns j = fill d (x j) (y j) (getD ns (j * 5) 0 ∷ getD ns (j * 5 + 1) 0 ∷ getD ns (j * 5 + 2) 0 ∷ getD ns (j * 5 + 3) 0 ∷ []) (getD ns (j * 5 + 4) 0)
+fillAt d x y ns j = fill d (x j) (y j) (getD ns (j * methodSlots) 0 ∷ getD ns (j * methodSlots + 1) 0 ∷ getD ns (j * methodSlots + 2) 0 ∷ getD ns (j * methodSlots + 3) 0 ∷ [])
+    (getD ns (j * methodSlots + argumentSlots) 0)
 
 -- method j of a type of the code: as it is stored, and what it means
 abbrev pub rawIn : TypeRec → ℕ → RawMethod

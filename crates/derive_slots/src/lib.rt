@@ -7,8 +7,10 @@ ghost use lib.Dec.{ltb};
 ghost use lib.ListN.{length, getD, take};
 ghost use Rattle.spec_model.specs.Restriction.{restricted, sameKind, isKey};
 ghost use Rattle.spec_model.specs.Check.{stateOf, kindOf, answerOf, methodOf};
+ghost use Rattle.spec_model.specs.Table.{maxMethods, maxTypes};
+ghost use Rattle.spec_model.specs.Records.{argumentSlots};
 ghost use Rattle.table_record.specs.Store.{rawMethod, rawOf, MethodExact};
-ghost use Rattle.derive_slots.specs.Slots.{answerSlot, argumentSlot, slotOf, slotAt, fill, methodAt, MethodCoded, Low};
+ghost use Rattle.derive_slots.specs.Slots.{answerSlot, argumentSlot, slotOf, slotAt, fill, methodAt, MethodCoded, Low, methodSlots, slotsSize};
 ghost use Rattle.derive_slots.specs.Slots.{keyIn, kindIn, catIn, keptState, bareMethod, signedMethod, newRecord, pendingRecord, Finished};
 use base_numbers::least;
 use base_numbers::narrow;
@@ -31,8 +33,10 @@ pub struct Work {
     pub right: [Method; Counts::METHODS],
 }
 
-// Five slots to each of 16 methods, a byte to each.
-pub const SLOT_BYTES: usize = 80;
+// The slots of a method, and those of all methods, a byte to each.
+pub const METHOD_SLOTS: usize = Method::SLOTS + 1;
+
+pub const SLOT_BYTES: usize = Counts::METHODS * METHOD_SLOTS;
 
 // What is derived for a slot of a new type: nothing, an argument or an answer, from these two types.
 pub enum Slot {
@@ -133,17 +137,9 @@ fn answer_slot(x: u8, y: u8) -> Slot
     Slot::Answer(left, right)
 }
 
-fn argument(m: Method, i: usize) -> usize
-    requires { ⌜ i < 4 ⌝ }
-    ensures { λ r. ⌜ (r ≡ getD (m .args) i 0) × (r < 256) × (length (m .args) ≡ 4) ⌝ }
-{
-    let args = m.args;
-    wide(args[i])
-}
-
 // Argument slot i: the sides are exchanged, the right side's argument on the left (D5, D6).
 fn argument_slot(p: Method, q: Method, i: usize) -> Slot
-    requires { ⌜ i < 4 ⌝ }
+    requires { ⌜ i < argumentSlots ⌝ }
     ensures { λ r. ⌜ (r ≡ argumentSlot i (take (p .count) (p .args)) (take (q .count) (q .args))) × Low r ⌝ }
 {
     let c = wide(p.count);
@@ -154,14 +150,14 @@ fn argument_slot(p: Method, q: Method, i: usize) -> Slot
     if e <= i {
         return Slot::Empty;
     }
-    let left = argument(q, i);
-    let right = argument(p, i);
+    let left = q.argument(i);
+    let right = p.argument(i);
     Slot::Argument(left, right)
 }
 
 // Slot i of a method: four arguments, then the answer; nothing where the derived type doesn't permit the method.
 fn slot_of(kind: u8, p: Method, q: Method, i: usize) -> Slot
-    requires { ⌜ (kind < 3) × (i < 5) ⌝ }
+    requires { ⌜ (kind < 3) × (i < methodSlots) ⌝ }
     ensures { λ r. ⌜ (r ≡ slotOf (kindOf kind) (methodOf (rawMethod p)) (methodOf (rawMethod q)) i) × Low r ⌝ }
 {
     let state = state_of(kind, p.state, q.state);
@@ -169,7 +165,7 @@ fn slot_of(kind: u8, p: Method, q: Method, i: usize) -> Slot
     if !stays {
         return Slot::Empty;
     }
-    if i == 4 {
+    if i == Method::SLOTS {
         return answer_slot(p.answer, q.answer);
     }
     argument_slot(p, q, i)
@@ -177,23 +173,23 @@ fn slot_of(kind: u8, p: Method, q: Method, i: usize) -> Slot
 
 // Slot k of all, five to a method, of the types that the key names.
 pub fn slot_at(b: &[u8; TYPE_BYTES], key: Key, k: usize) -> Slot
-    requires { ⌜ (key .kind < 3) × (key .left < 128) × (key .right < 128) × (k < 80) ⌝ }
+    requires { ⌜ (key .kind < 3) × (key .left < maxTypes) × (key .right < maxTypes) × (k < slotsSize) ⌝ }
     ensures { λ r. ⌜ (r ≡ slotAt (kindOf (key .kind)) (methodAt (now (b .entry)) (key .left)) (methodAt (now (b .entry)) (key .right)) k) × Low r ⌝ }
 {
-    let j = k / 5;
+    let j = k / METHOD_SLOTS;
     let p = get_method(b, key.left, j);
     let q = get_method(b, key.right, j);
-    slot_of(key.kind, p, q, k % 5)
+    slot_of(key.kind, p, q, k % METHOD_SLOTS)
 }
 
 // How many arguments both signatures have (D20), at most the four that a record has room for.
 fn shared_count(x: u8, y: u8) -> usize
-    ensures { λ r. ⌜ r ≡ min (min x y) 4 ⌝ }
+    ensures { λ r. ⌜ r ≡ min (min x y) argumentSlots ⌝ }
 {
     let c = wide(x);
     let e = wide(y);
     let both = least(c, e);
-    least(both, 4)
+    least(both, Method::SLOTS)
 }
 
 // The byte of argument i of so many: 0 past the last (B17).
@@ -220,7 +216,7 @@ fn unsigned(state: u8) -> Method
 
 // A method with a signature of so many arguments.
 fn signed(state: u8, count: usize, args: [u8; Method::SLOTS], answer: u8) -> Method
-    requires { ⌜ count ≤ 4 ⌝ }
+    requires { ⌜ count ≤ argumentSlots ⌝ }
     ensures { λ r. ⌜ rawMethod r ≡ signedMethod state count args answer ⌝ }
 {
     let a = argument_byte(args[0], 0, count);
@@ -292,7 +288,7 @@ pub fn pending(w: Work) -> TypeRec
 
 // The derived type, from the bytes of its slots.
 pub fn finished(w: Work, methods: usize, slots: [u8; SLOT_BYTES]) -> TypeRec
-    requires { ⌜ (w .key .kind < 3) × (w .key .left < 256) × (w .key .right < 256) × (methods ≤ 16) ⌝ }
+    requires { ⌜ (w .key .kind < 3) × (w .key .left < 256) × (w .key .right < 256) × (methods ≤ maxMethods) ⌝ }
     ensures { λ r. ⌜ Finished w methods slots r ⌝ }
 {
     let empty = Method::empty();
@@ -301,9 +297,9 @@ pub fn finished(w: Work, methods: usize, slots: [u8; SLOT_BYTES]) -> TypeRec
     while j < methods {
         let p = w.left[j];
         let q = w.right[j];
-        let k = j * 5;
+        let k = j * METHOD_SLOTS;
         let args = [slots[k], slots[k + 1], slots[k + 2], slots[k + 3]];
-        let m = filled(w.key.kind, p, q, args, slots[k + 4]);
+        let m = filled(w.key.kind, p, q, args, slots[k + Method::SLOTS]);
         all[j] = m;
         j += 1;
     }

@@ -13,7 +13,7 @@ use lib.Seq.{getD-set-same, getD-set-other}
 use borrow.Author.Tests.{lt-ltb, le-ltb}
 use Rattle.spec_model.specs.Basics.{Res, refuse, ok, then, from}
 use Rattle.spec_model.specs.Table.{Rep, ref, w32, w64, Kind, sub, sup, closed, Method, Ty, Table, noMethod, noType, size, typeAt, withTypes, isRef, permit}
-use Rattle.spec_model.specs.Table.{Key as Keyᵐ}
+use Rattle.spec_model.specs.Table.{Key as Keyᵐ, maxMethods, maxTypes}
 use Rattle.spec_model.specs.Restriction.{mainSide, withoutNew, entry, pending, Derivation, deriveMethods, make, derive, derived}
 use Rattle.spec_model.specs.Check.{RawMethod, RawType, noRawType, noRawMethod, repOf, kindOf, stateOf, methodOf, typeOf, tableOf, rawMethodFits, rawTypeFits}
 use Rattle.spec_model.proofs.Rules.{never}
@@ -24,9 +24,12 @@ use Rattle.table_record.specs.Store.{rawMethod, rawOf, typesIn, typesTo, tableI
 use Rattle.table_record.specs.Limits.{Limits}
 use Rattle.table_record.specs.Records.{bytesOf}
 use Rattle.spec_model.proofs.Lists.{from-same}
+use Rattle.spec_model.specs.Refusals.{typesFull}
+use Rattle.spec_model.specs.Records.{argumentSlots}
 use Rattle.table_record.proofs.Lists.{lt-or-ge, same-or}
 use Rattle.table_record.proofs.Laws.{types-length, methods-length, method-in, put-length, put-types}
 use Rattle.table_record.proofs.Tables.{types-to-length, types-to-at, types-add, types-put, types-of, size-is}
+use Rattle.table_record.specs.Layout.{typeSize, typesSize}
 use Rattle.derive_record.specs.declared.Derived.{Derived}
 use Rattle.derive_record.specs.declared.Derived.the-variants.{Full, At}
 use Rattle.derive_record.specs.declared.Begun.{Begun}
@@ -37,6 +40,7 @@ use Rattle.derive_slots.specs.Slots.{slotAt, shared, fillAt, leftIn, rightIn, m
 use Rattle.derive_record.specs.Begins.{Begins, Opened, Stored, refIn, tabled}
 use Rattle.derive_sub_sup.specs.Link.{Ready, Writes, recordAt, Kept, ExactAt, Exact, ExactTo, Sized, Leaves, Coded, Derives, Gives, derivedIn, derivationIn}
 use Rattle.derive_slots.proofs.Runs.{Row, methods-run}
+use Rattle.derive_slots.specs.Slots.{slotsSize}
 use Rattle.derive_record.proofs.Begins.{ref-below, ref-rep, ref-type}
 use Rattle.derive_sub_sup.proofs.Bytes.{record-same, exact-same, put-below, put-above, put-exact, kept-take, exact-take}
 use Rattle.derive_sub_sup.proofs.Codes.{denied-coded, methods-coded, new-coded, codes-stay}
@@ -59,10 +63,10 @@ module _ (T : Table) (d : Kind) (t s : ℕ) where
   derive-known i zero e = by-known T i none (withoutNew T d t s) e
   derive-known i (suc f) e = by-known T i _ (withoutNew T d t s) e
 
-  derive-full : (f : ℕ) → withoutNew T d t s ≡ none → 128 ≤ size T → none ≡ derive f T d t s
+  derive-full : (f : ℕ) → withoutNew T d t s ≡ none → maxTypes ≤ size T → none ≡ derive f T d t s
   unfolding derive make
   derive-full zero e h = sym (by-new T none (withoutNew T d t s) e)
-  derive-full (suc f) e h = sym (by-new T _ (withoutNew T d t s) e ∙ by-room _ (ltb (size T) 128) (le-ltb (size T) 128 h))
+  derive-full (suc f) e h = sym (by-new T _ (withoutNew T d t s) e ∙ by-room _ (ltb (size T) maxTypes) (le-ltb (size T) maxTypes h))
 
   -- The methods of a type that is not known are derived on the table with its number taken, and stored at that number.
   abbrev pub Last : ℕ → Option (Table × List Method) → Option (Table × ℕ)
@@ -71,12 +75,12 @@ module _ (T : Table) (d : Kind) (t s : ℕ) where
   abbrev pub Methods : Derivation → Option (Table × List Method)
   Methods rec = deriveMethods rec d (withTypes T (T .types ++ (pending T d t s ∷ []))) (typeAt T t .methods) (typeAt T s .methods)
 
-  pub make-new : (n : ℕ) → withoutNew T d t s ≡ none → size T ≡ n → n < 128 → (rec : Derivation) → make rec T d t s ≡ Last n (Methods rec)
+  pub make-new : (n : ℕ) → withoutNew T d t s ≡ none → size T ≡ n → n < maxTypes → (rec : Derivation) → make rec T d t s ≡ Last n (Methods rec)
   unfolding make
   make-new n unknown is room rec =
-      by-new T (elim (ltb (size T) 128) as (λ _. Option (Table × ℕ)) [ false ↦ none | true ↦ Last (size T) (Methods rec) ]) (withoutNew T d t s) unknown
-      ∙ ap (λ (k : ℕ). elim (ltb k 128) as (λ _. Option (Table × ℕ)) [ false ↦ none | true ↦ Last k (Methods rec) ]) is
-      ∙ ap (λ (a : Bool). elim a as (λ _. Option (Table × ℕ)) [ false ↦ none | true ↦ Last n (Methods rec) ]) (lt-ltb n 128 room)
+      by-new T (elim (ltb (size T) maxTypes) as (λ _. Option (Table × ℕ)) [ false ↦ none | true ↦ Last (size T) (Methods rec) ]) (withoutNew T d t s) unknown
+      ∙ ap (λ (k : ℕ). elim (ltb k maxTypes) as (λ _. Option (Table × ℕ)) [ false ↦ none | true ↦ Last k (Methods rec) ]) is
+      ∙ ap (λ (a : Bool). elim a as (λ _. Option (Table × ℕ)) [ false ↦ none | true ↦ Last n (Methods rec) ]) (lt-ltb n maxTypes room)
 
 pub size-tabled : (T : Table) (c : Counts) (n : ℕ) (b : List ℕ) → size (tabled T c n b) ≡ n
 size-tabled T c n b = types-to-length (c .methods) (c .sheet) (typesIn b) n
@@ -107,7 +111,7 @@ module _ (d : Kind) {c : Counts} {n t s : ℕ} {b : List ℕ} (asked : Ready c n
     new-begins = subst (Begins (Without d c n t s b) n t s b) e h
 
     -- what `start` asks
-    pub new-ready : (n < 128) × (t < 128) × (s < 128) × (length b ≡ 16384)
+    pub new-ready : (n < maxTypes) × (t < maxTypes) × (s < maxTypes) × (length b ≡ typesSize)
     new-ready =
         let p = ref-below n t b (new-begins .2) in let q = ref-below n s b (new-begins .3) in let u = asked .limits .types in
         (new-begins .1, omega arith, omega arith, asked .long)
@@ -115,7 +119,7 @@ module _ (d : Kind) {c : Counts} {n t s : ℕ} {b : List ℕ} (asked : Ready c n
 -- A new type: what is known when the type at work has been stored.
 pub record Started (d : Kind) (c : Counts) (n t s : ℕ) (w : Work) (b b₀ : List ℕ) : Type 0 where
   pub limits : Limits (withCount c n)
-  pub room : n < 128
+  pub room : n < maxTypes
   pub kinds : kindIn w ≡ d
   pub known : w .key .kind < 3
   pub keyLeft : w .key .left ≡ t
@@ -126,7 +130,7 @@ pub record Started (d : Kind) (c : Counts) (n t s : ℕ) (w : Work) (b b₀ : Li
   pub leftRecord : rawOf (leftIn w) ≡ getD (typesIn b) t noRawType
   pub rightRecord : rawOf (rightIn w) ≡ getD (typesIn b) s noRawType
   pub put : Put b n (pendingRecord w) b₀
-  pub long : length b ≡ 16384
+  pub long : length b ≡ typesSize
 
 pub started : {d : Kind} {kind : ℕ} {c : Counts} {n t s : ℕ} {w : Work} {b b₀ : List ℕ} {g : Begun} → Ready c n t s b → kindOf kind ≡ d → kind < 3 → g ≡ New → Begins
     (Without d c n t s b) n t s b g → Opened kind t s n w b b₀ → Started d c n t s w b b₀
@@ -157,15 +161,15 @@ take-le zero l = omega arith
 take-le (suc c) [] = omega arith
 take-le (suc c) (x ∷ l) = let h = take-le c l in omega arith
 
-raw-four : (b : List ℕ) (t j : ℕ) → t < 128 → length (getD (getD (typesIn b) t noRawType .methods) j noRawMethod .args) ≤ 4
+raw-four : (b : List ℕ) (t j : ℕ) → t < maxTypes → length (getD (getD (typesIn b) t noRawType .methods) j noRawMethod .args) ≤ argumentSlots
 raw-four b t j h = ⊎-elim
-    (λ (l : j < 16). let e : length (getD (getD (typesIn b) t noRawType .methods) j noRawMethod .args) ≡ 4 = ap (λ (m : RawMethod). length (m .args)) (method-in b t j h l) in omega arith)
+    (λ (l : j < maxMethods). let e : length (getD (getD (typesIn b) t noRawType .methods) j noRawMethod .args) ≡ 4 = ap (λ (m : RawMethod). length (m .args)) (method-in b t j h l) in omega arith)
     (λ (l : 16 ≤ j). let g = methods-length b t h in
     let e : length (getD (getD (typesIn b) t noRawType .methods) j noRawMethod .args) ≡ 0 = ap (λ (m : RawMethod). length (m .args))
     (List·getD-eq-default (getD (typesIn b) t noRawType .methods) noRawMethod {n = j} (omega arith)) in omega arith)
     (lt-or-ge j 16)
 
-method-four : (m : RawMethod) → length (m .args) ≤ 4 → length (methodOf m .args) ≤ 4
+method-four : (m : RawMethod) → length (m .args) ≤ argumentSlots → length (methodOf m .args) ≤ argumentSlots
 method-four m h = go (permit (stateOf (m .state)))
   where
     go : (b : Bool) → length (cond b (take (m .count) (m .args)) []) ≤ 4
@@ -173,7 +177,7 @@ method-four m h = go (permit (stateOf (m .state)))
     go false = omega arith
 
 -- every method of a type at work is denied
-pending-method : (j : ℕ) → methodOf (getD (map rawMethod (replicate 16 emptyMethod)) j noRawMethod) ≡ noMethod
+pending-method : (j : ℕ) → methodOf (getD (map rawMethod (replicate maxMethods emptyMethod)) j noRawMethod) ≡ noMethod
 pending-method j = go 16 j
   where
     go : (n j : ℕ) → methodOf (getD (map rawMethod (replicate n emptyMethod)) j noRawMethod) ≡ noMethod
@@ -230,11 +234,12 @@ module _ {d : Kind} {c : Counts} {n t s : ℕ} {w : Work} {b b₀ : List ℕ} (f
   stored : typesIn b₀ ≡ set (typesIn b) n (pendingRecord w)
   stored = put-types (from-start .put) (from-start .long) (from-start .room)
 
-  few-args : (i : ℕ) → shared (methodIn x i .args) (methodIn y i .args) ≤ 4
+  few-args : (i : ℕ) → shared (methodIn x i .args) (methodIn y i .args) ≤ argumentSlots
   few-args i =
       let p = ref-below n t b (from-start .left) in let q = from-start .room in
       let e = shared-left (methodIn x i .args) (methodIn y i .args) in
-      let h : length (getD (rawOf x .methods) i noRawMethod .args) ≤ 4 = subst (λ (r : RawType). length (getD (r .methods) i noRawMethod .args) ≤ 4) (sym (from-start .leftRecord))
+      let h : length (getD (rawOf x .methods) i noRawMethod .args) ≤ argumentSlots = subst (λ (r : RawType). length (getD (r .methods) i noRawMethod .args) ≤ argumentSlots)
+      (sym (from-start .leftRecord))
       (raw-four b t i (omega arith)) in
       let g = method-four (getD (rawOf x .methods) i noRawMethod) h in omega arith
 
@@ -254,7 +259,7 @@ module _ {d : Kind} {c : Counts} {n t s : ℕ} {w : Work} {b b₀ : List ℕ} (f
       subst (λ (k : ℕ). So (rawTypeFits ms sh k (getD (typesIn b₀) k noRawType))) (sym e)
       (subst (λ (r : RawType). So (rawTypeFits ms sh n r)) (sym
       (ap (λ (rs : List RawType). getD rs n noRawType) stored ∙ getD-set-same (typesIn b) n (pendingRecord w) noRawType (let z = types-length b in let r = from-start .room in omega arith)))
-      (new-coded ms sh n w (map rawMethod (replicate 16 emptyMethod)) (from-start .known) (λ j l. denied-coded 16 j))))
+      (new-coded ms sh n w (map rawMethod (replicate maxMethods emptyMethod)) (from-start .known) (λ j l. denied-coded 16 j))))
       (lt-or-ge i n)
 
   finished-coded : Coded c n b → (z : TypeRec) {ns : List ℕ} → Finished w ms ns z → So (rawTypeFits ms sh n (rawOf z))
@@ -272,7 +277,7 @@ module _ {d : Kind} {c : Counts} {n t s : ℕ} {w : Work} {b b₀ : List ℕ} (f
       record-same b₀ b₁ i (omega arith) (now .kept i (omega arith)) ∙ record-same b b₀ i (omega arith) (start-kept i l)
 
   pub slot-ready : {b₁ : List ℕ} {end : ℕ} {ns : List ℕ} {m k : ℕ} → Loop d c n w b₀ b₁ end ns m k → k < end → {kind : ℕ} → kind < 3
-      → (kind < 3) × (t < 128) × (s < 128) × (k < 80)
+      → (kind < 3) × (t < maxTypes) × (s < maxTypes) × (k < slotsSize)
   slot-ready now test known =
       let p = ref-below n t b (from-start .left) in let q = ref-below n s b (from-start .right) in let r = from-start .room in let e = now .edge in let u = now .limits .methods in
       (known, omega arith, omega arith, omega arith)
@@ -287,8 +292,8 @@ module _ {d : Kind} {c : Counts} {n t s : ℕ} {w : Work} {b b₀ : List ℕ} (f
 
   -- what `finish` asks
   pub finish-ready : {b₁ : List ℕ} {end : ℕ} {ns : List ℕ} {m k : ℕ} → Ready c n t s b → Loop d c n w b₀ b₁ end ns m k
-      → (n < 128) × (length b₁ ≡ 16384) × (w .key .kind < 3) ×
-      (w .key .left < 256) × (w .key .right < 256) × (ms ≤ 16)
+      → (n < maxTypes) × (length b₁ ≡ typesSize) × (w .key .kind < 3) ×
+      (w .key .left < 256) × (w .key .right < 256) × (ms ≤ maxMethods)
   finish-ready asked now = (
     from-start .room,
     now .long,
@@ -315,8 +320,8 @@ module _ {d : Kind} {c : Counts} {n t s : ℕ} {w : Work} {b b₀ : List ℕ} (f
 
     pending-is : typeOf ms sh n (pendingRecord w) ≡ pending Tb d t s
     pending-is =
-        entry-is (map rawMethod (replicate 16 emptyMethod)) (from (T .methods) 0 (λ _. noMethod))
-        (from-same (λ j. methodOf (getD (map rawMethod (replicate 16 emptyMethod)) j noRawMethod)) (λ _. noMethod) ms 0 (λ j p q. pending-method j) ∙ rw et)
+        entry-is (map rawMethod (replicate maxMethods emptyMethod)) (from (T .methods) 0 (λ _. noMethod))
+        (from-same (λ j. methodOf (getD (map rawMethod (replicate maxMethods emptyMethod)) j noRawMethod)) (λ _. noMethod) ms 0 (λ j p q. pending-method j) ∙ rw et)
 
     begun-is : withTypes Tb (Tb .types ++ (pending Tb d t s ∷ [])) ≡ tabled T c (n + 1) b₀
     begun-is =
@@ -340,10 +345,10 @@ module _ {d : Kind} {c : Counts} {n t s : ℕ} {w : Work} {b b₀ : List ℕ} (f
         (ap (λ (u : Table). deriveMethods (derive f) d u (typeAt Tb t .methods) (typeAt Tb s .methods)) begun-is
         ∙ ap (λ (l : List Method). deriveMethods (derive f) d (tabled T c (n + 1) b₀) l (typeAt Tb s .methods)) (side-methods T c n b t x (from-start .left) (from-start .leftRecord))
         ∙ ap (λ (l : List Method). deriveMethods (derive f) d (tabled T c (n + 1) b₀) (from ms 0 (methodIn x)) l) (side-methods T c n b s y (from-start .right) (from-start .rightRecord))
-        ∙ methods-run (derive f) d (methodIn x) (methodIn y) ms (tabled T c (n + 1) b₀) zeros few-args (let l = from-start .limits .methods in omega arith) (zero-at 80))
+        ∙ methods-run (derive f) d (methodIn x) (methodIn y) ms (tabled T c (n + 1) b₀) zeros few-args (let l = from-start .limits .methods in omega arith) (zero-at slotsSize))
         ∙ last-after (Whole d c n w b₀ T f)
 
-    derive-runs : (f : ℕ) → 128 ≤ n + f → (o : Table → ℕ → Option Row) → Comes d c n w b₀ o → (g : ℕ) × (derive f Tb d t s ≡ After (o T g))
+    derive-runs : (f : ℕ) → maxTypes ≤ n + f → (o : Table → ℕ → Option Row) → Comes d c n w b₀ o → (g : ℕ) × (derive f Tb d t s ≡ After (o T g))
     unfolding derive
     derive-runs zero h o all = let l = from-start .room in absurd (omega arith)
     derive-runs (suc f) h o all = (f, make-runs f ∙ ap After (all T et f (omega arith)))
@@ -408,7 +413,7 @@ module _ {d : Kind} {c : Counts} {n t s : ℕ} {w : Work} {b b₀ : List ℕ} (f
 -- What the public functions promise.
 module _ {d : Kind} {t s : ℕ} {b b′ : List ℕ} (c : Counts) {r : Derived} (g : Gives d c (c .types) t s b b′ r) where
   abbrev answer : Option (Table × ℕ) → Res (Table × ℕ)
-  answer o = elim o [ none ↦ refuse 11 | some p ↦ ok p ]
+  answer o = elim o [ none ↦ refuse typesFull | some p ↦ ok p ]
 
   answered : (l : List ℕ) (r : Derived) → derivationIn b′ l c r ≡ answer (derivedIn (tableIn b l c) c r b′)
   unfolding tableIn tableOf typesTo
@@ -417,13 +422,13 @@ module _ {d : Kind} {t s : ℕ} {b b′ : List ℕ} (c : Counts) {r : Derived} (
 
   derivation-is : (l : List ℕ) → derivationIn b′ l c r ≡ derived (tableIn b l c) d t s
   unfolding derived tableIn tableOf typesTo
-  derivation-is l = answered l r ∙ ap answer (g .is (tableIn b l c) refl 128 (omega arith))
+  derivation-is l = answered l r ∙ ap answer (g .is (tableIn b l c) refl maxTypes (omega arith))
 
   written : (l : List ℕ) (r : Derived) → Sized (c .types) t s r → ExactTo c (c .types) b′ r → Writes (c .types) b b′ (derivationIn b′ l c r)
   written l Full z x = kept-take (c .types) b b′ (g .keeps .kept)
   written l (At i m) z x =
-      ap (λ (k : ℕ). take (k * 128) b′) (size-is b′ l (withCount c m)) ∙ exact-take c (c .types) m b b′ (z .0) (g .keeps .kept) x
-      ∙ ap (λ (ts : List Ty). take (c .types * 128) b ++ flatten (map bytesOf (drop (c .types) ts))) (sym (types-of b′ l (withCount c m)))
+      ap (λ (k : ℕ). take (k * typeSize) b′) (size-is b′ l (withCount c m)) ∙ exact-take c (c .types) m b b′ (z .0) (g .keeps .kept) x
+      ∙ ap (λ (ts : List Ty). take (c .types * typeSize) b ++ flatten (map bytesOf (drop (c .types) ts))) (sym (types-of b′ l (withCount c m)))
 
   pub derives : Derives d c t s b b′ r
   derives = record {

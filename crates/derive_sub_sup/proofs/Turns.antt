@@ -8,7 +8,7 @@ use native.Mathlib.Omega.{arith}
 use native.Mathlib.Numerals.{add-one}
 use lib.ListN.{length, set, replicate, length-set}
 use Rattle.spec_model.specs.Basics.{then}
-use Rattle.spec_model.specs.Table.{Kind, Table}
+use Rattle.spec_model.specs.Table.{Kind, Table, maxTypes}
 use Rattle.spec_model.specs.Restriction.{argKind, answerKind, Derivation, derive}
 use Rattle.table_record.specs.declared.Counts.{Counts}
 use Rattle.table_record.specs.Store.{withCount}
@@ -18,16 +18,17 @@ use Rattle.derive_record.specs.declared.Derived.{Derived}
 use Rattle.derive_record.specs.declared.Derived.the-variants.{Full, At}
 use Rattle.derive_slots.specs.declared.Slot.{Slot}
 use Rattle.derive_slots.specs.declared.Slot.the-variants.{Empty, Argument, Answer}
-use Rattle.derive_slots.specs.Slots.{slotAt, Low, leftIn, rightIn, methodIn, kindIn}
+use Rattle.derive_slots.specs.Slots.{slotAt, Low, leftIn, rightIn, methodIn, kindIn, methodSlots, slotsSize}
 use Rattle.derive_record.specs.Begins.{Below, tabled}
 use Rattle.derive_sub_sup.specs.Link.{Ready, Kept, Sized, Exact, ExactTo, Coded, CodedTo, Gives, derivedIn}
 use Rattle.derive_sub_sup.proofs.Bytes.{exact-same}
 use Rattle.table_record.proofs.Lists.{lt-or-ge}
+use Rattle.table_record.specs.Layout.{typesSize}
 use Rattle.derive_slots.proofs.Runs.{Row, step, runs}
 
 -- the bytes of the slots before the first turn
 abbrev pub zeros : List ℕ
-zeros = replicate 80 0
+zeros = replicate slotsSize 0
 
 -- slot k of the type at work, whose kind is d
 abbrev pub slotIn : Kind → Work → ℕ → Slot
@@ -35,27 +36,27 @@ slotIn d w = slotAt d (methodIn (leftIn w)) (methodIn (rightIn w))
 
 -- The whole run, with the types in signatures derived by the model, in a table that ends with the type at work.
 abbrev pub Whole : Kind → Counts → ℕ → Work → List ℕ → Table → ℕ → Option Row
-Whole d c n w b₀ T f = runs (derive f) d (slotIn d w) (c .methods * 5) 0 (tabled T c (n + 1) b₀) zeros
+Whole d c n w b₀ T f = runs (derive f) d (slotIn d w) (c .methods * methodSlots) 0 (tabled T c (n + 1) b₀) zeros
 
 abbrev pub Comes : Kind → Counts → ℕ → Work → List ℕ → (Table → ℕ → Option Row) → Type 0
-Comes d c n w b₀ o = (T : Table) → T .methods ≡ c .methods → (f : ℕ) → 128 ≤ n + 1 + f → Whole d c n w b₀ T f ≡ o T f
+Comes d c n w b₀ o = (T : Table) → T .methods ≡ c .methods → (f : ℕ) → maxTypes ≤ n + 1 + f → Whole d c n w b₀ T f ≡ o T f
 
 pub record Loop (d : Kind) (c : Counts) (n : ℕ) (w : Work) (b₀ b : List ℕ) (end : ℕ) (ns : List ℕ) (m k : ℕ) : Type 0 where
-  pub edge : end ≡ c .methods * 5
+  pub edge : end ≡ c .methods * methodSlots
   pub limits : Limits (withCount c n)
   pub kinds : kindIn w ≡ d
-  pub room : n < 128
-  pub long : length b ≡ 16384
-  pub wide : length ns ≡ 80
+  pub room : n < maxTypes
+  pub long : length b ≡ typesSize
+  pub wide : length ns ≡ slotsSize
   pub more : n < m
-  pub most : m ≤ 128
+  pub most : m ≤ maxTypes
   pub kept : Kept (n + 1) b₀ b
   pub exact : Exact c (n + 1) m b
   pub coded : Coded c (n + 1) b₀ → Coded c m b
   pub same : Comes d c n w b₀ (λ T f. runs (derive f) d (slotIn d w) (end - k) k (tabled T c m b) ns)
 
-pub loop-starts : (d : Kind) (c : Counts) (n : ℕ) (w : Work) (b : List ℕ) → Limits (withCount c n) → kindIn w ≡ d → n < 128 → length b ≡ 16384
-    → Loop d c n w b b (c .methods * 5) zeros (n + 1) 0
+pub loop-starts : (d : Kind) (c : Counts) (n : ℕ) (w : Work) (b : List ℕ) → Limits (withCount c n) → kindIn w ≡ d → n < maxTypes → length b ≡ typesSize
+    → Loop d c n w b b (c .methods * methodSlots) zeros (n + 1) 0
 loop-starts d c n w b limits kinds room long = record {
   edge = refl;
   limits = limits;
@@ -68,7 +69,7 @@ loop-starts d c n w b limits kinds room long = record {
   kept = λ i l. refl;
   exact = λ i p q. absurd (omega arith);
   coded = λ h. h;
-  same = λ T e f h. let l : c .methods * 5 - 0 ≡ c .methods * 5 = omega arith in rw l;
+  same = λ T e f h. let l : c .methods * methodSlots - 0 ≡ c .methods * methodSlots = omega arith in rw l;
 }
 
 -- what is left at slot k, when it is known what that slot asks for
@@ -83,7 +84,7 @@ run-none : (rec : Derivation) (d : Kind) (f : ℕ → Slot) (n k : ℕ) (t : Tab
 unfolding runs
 run-none rec d f n k t ns h = let l : n - k ≡ 0 = omega arith in rw l
 
-sized-at : (n t s i m : ℕ) (g : Derived) → g ≡ At i m → Sized n t s g → (n ≤ m) × (m ≤ 128) × Below t s m i
+sized-at : (n t s i m : ℕ) (g : Derived) → g ≡ At i m → Sized n t s g → (n ≤ m) × (m ≤ maxTypes) × Below t s m i
 sized-at n t s i m g e h = subst (Sized n t s) e h
 
 module _ {d : Kind} {c : Counts} {n : ℕ} {w : Work} {b₀ b : List ℕ} {end : ℕ} {ns : List ℕ} {m k : ℕ} (now : Loop d c n w b₀ b end ns m k) where

@@ -6,13 +6,15 @@ use mathlib.Core.Option.{Option, none, some}
 use Prim.Native.Nat.{ℕ, _+_, _*_, _≤_, _<_}
 use lib.ListN.{length, getD, take, drop}
 use Rattle.spec_model.specs.Basics.{Res, refuse, ok}
-use Rattle.spec_model.specs.Table.{Kind, Table}
+use Rattle.spec_model.specs.Table.{Kind, Table, maxTypes}
 use Rattle.spec_model.specs.Restriction.{derive, derived}
 use Rattle.spec_model.specs.Check.{noRawType, typeOf, rawTypeFits, codesFit}
+use Rattle.spec_model.specs.Refusals.{typesFull}
 use Rattle.table_record.specs.declared.Counts.{Counts}
 use Rattle.table_record.specs.Store.{typesIn, rawTable, tableIn, withCount}
 use Rattle.table_record.specs.Records.{bytesOf}
 use Rattle.table_record.specs.Limits.{Limits}
+use Rattle.table_record.specs.Layout.{typeSize, typesSize}
 use Rattle.derive_record.specs.declared.Derived.{Derived}
 use Rattle.derive_record.specs.declared.Derived.the-variants.{Full, At}
 use Rattle.derive_record.specs.Begins.{Below, tabled}
@@ -20,7 +22,7 @@ pub use Rattle.derive_sub_sup.specs.Bytes.{Writes}
 
 -- The 128 bytes of type i. Those below the count n stay as they are, also where the table is full.
 abbrev pub recordAt : List ℕ → ℕ → List ℕ
-recordAt b i = take 128 (drop (i * 128) b)
+recordAt b i = take typeSize (drop (i * typeSize) b)
 
 abbrev pub Kept : ℕ → List ℕ → List ℕ → Type 0
 Kept n b b′ = (i : ℕ) → i < n → recordAt b′ i ≡ recordAt b i
@@ -34,7 +36,7 @@ Exact c n m b = (i : ℕ) → n ≤ i → i < m → ExactAt c b i
 
 -- The public answer: a full table is refused with 11; else the number, and the table with so many types.
 abbrev pub derivationIn : List ℕ → List ℕ → Counts → Derived → Res (Table × ℕ)
-derivationIn b l c Full = refuse 11
+derivationIn b l c Full = refuse typesFull
 derivationIn b l c (At i m) = ok (tableIn b l (withCount c m), i)
 
 -- What a derivation asks: counts within their limits, n being the types so far, and numbers that a byte can hold.
@@ -42,7 +44,7 @@ pub record Ready (c : Counts) (n t s : ℕ) (b : List ℕ) : Type 0 where
   pub limits : Limits (withCount c n)
   pub left : t < 256
   pub right : s < 256
-  pub long : length b ≡ 16384
+  pub long : length b ≡ typesSize
 
 -- the same up to the new count
 abbrev pub ExactTo : Counts → ℕ → List ℕ → Derived → Type 0
@@ -52,10 +54,10 @@ ExactTo c n b (At i m) = Exact c n m b
 -- the count grows, within its limit
 abbrev pub Sized : ℕ → ℕ → ℕ → Derived → Type 0
 Sized n t s Full = Unit {0}
-Sized n t s (At i m) = (n ≤ m) × (m ≤ 128) × Below t s m i
+Sized n t s (At i m) = (n ≤ m) × (m ≤ maxTypes) × Below t s m i
 
 pub record Leaves (n t s : ℕ) (b b′ : List ℕ) (r : Derived) : Type 0 where
-  pub long : length b′ ≡ 16384
+  pub long : length b′ ≡ typesSize
   pub kept : Kept n b b′
   pub sized : Sized n t s r
 
@@ -92,6 +94,6 @@ derivedIn t c (At i m) b = some (tabled t c m b, i)
 -- The contract of the recursion: the answer is the model's, whatever else there is in the table, and for every fuel of at least the free numbers.
 pub record Gives (d : Kind) (c : Counts) (n t s : ℕ) (b b′ : List ℕ) (r : Derived) : Type 0 where
   pub keeps : Leaves n t s b b′ r
-  pub is : (T : Table) → T .methods ≡ c .methods → (f : ℕ) → 128 ≤ n + f → derivedIn T c r b′ ≡ derive f (tabled T c n b) d t s
+  pub is : (T : Table) → T .methods ≡ c .methods → (f : ℕ) → maxTypes ≤ n + f → derivedIn T c r b′ ≡ derive f (tabled T c n b) d t s
   pub exact : ExactTo c n b′ r
   pub coded : Coded c n b → CodedTo c b′ r

@@ -6,6 +6,7 @@ ghost use Rattle.spec_model.specs.Table.{sub, sup};
 ghost use Rattle.derive_sub_sup.specs.Link.{Ready, Derives, Gives};
 use derive_record::Begun;
 use derive_record::Derived;
+use derive_slots::METHOD_SLOTS;
 use derive_slots::SLOT_BYTES;
 use derive_slots::Slot;
 use table_record::Counts;
@@ -22,7 +23,7 @@ pub fn sub(b: &mut [u8; TYPE_BYTES], c: Counts, n: usize, t: usize, s: usize) ->
         return answer;
     }
     let w = derive_record::start(b, n, Key::SUB, t, s);
-    let end = c.methods * 5;
+    let end = c.methods * METHOD_SLOTS;
     let mut bytes = [0u8; SLOT_BYTES];
     let mut m = n + 1;
     let mut k: usize = 0;
@@ -66,7 +67,7 @@ pub fn sup(b: &mut [u8; TYPE_BYTES], c: Counts, n: usize, t: usize, s: usize) ->
         return answer;
     }
     let w = derive_record::start(b, n, Key::SUP, t, s);
-    let end = c.methods * 5;
+    let end = c.methods * METHOD_SLOTS;
     let mut bytes = [0u8; SLOT_BYTES];
     let mut m = n + 1;
     let mut k: usize = 0;

@@ -14,11 +14,13 @@ use Rattle.spec_model.specs.Table.{maxArguments, size, typeAt, methodAt, isRef,
 use Rattle.spec_model.specs.Requests.{System, Request, call, Result, cellAt, held, argumentsHeld, callRequest, serve, after}
 use Rattle.spec_model.specs.Check.{RawSystem, systemFits, systemAccepted, systemOf}
 use Rattle.spec_model.specs.Handed.{counted, handBack, serveHanded}
+use Rattle.spec_model.specs.Refusals.{outOfRange, unknownSubject, notHeld, notCallable, wrongValues}
 use Rattle.law_model.proofs.Checked.{fits-bounded}
 use Rattle.law_model.proofs.Returned.{accepted-codes}
 use Rattle.table_record.specs.Store.{withCount}
 use Rattle.table_record.specs.Records.{bytesOf}
 use Rattle.table_record.proofs.Lists.{lt-or-ge}
+use Rattle.table_record.specs.Layout.{typeSize}
 use Rattle.state_bytes.specs.Flat.{countsIn, rawFlat}
 use Rattle.request_results.specs.States.{LentState, outcomeNumber, outcomeValues, defined, Handed}
 
@@ -39,8 +41,8 @@ module _ (s : System) (h : So (systemFits s)) (subject k m : ℤ) where
 
   -- with one argument too many or more, whatever they are
   abbrev tooMany : Res (System × Result)
-  tooMany = need (names subject (s .table .subjects)) 5 λ _. need (held s subject k) 6 λ _.
-      need (names m (s .table .methods) && isAvail (methodAt (s .table) (cellAt s (named k) .type) (named m) .state)) 14 λ _. refuse 15
+  tooMany = need (names subject (s .table .subjects)) unknownSubject λ _. need (held s subject k) notHeld λ _.
+      need (names m (s .table .methods) && isAvail (methodAt (s .table) (cellAt s (named k) .type) (named m) .state)) notCallable λ _. refuse wrongValues
 
   refuses : (vs : List ℤ) → maxArguments < length vs → callRequest s subject k m vs ≡ tooMany
   unfolding callRequest
@@ -76,7 +78,7 @@ module _ (q q′ : Request) (n : ℕ) (old new : LentState) (e : defined (rawFla
     where
       Bytes : Res (System × Result) → Type 0
       Bytes x = let t = after (systemOf (rawFlat (old .state))) x .table in let c = countsIn (old .state .counts) .types in
-          take (size t * 128) (new .state .types) ≡ take (c * 128) (old .state .types) ++ flatten (map bytesOf (drop c (t .types)))
+          take (size t * typeSize) (new .state .types) ≡ take (c * typeSize) (old .state .types) ++ flatten (map bytesOf (drop c (t .types)))
 
 -- ---- So a call is owed what it is with its arguments cut.
 pub handed-cut : (subject k m : ℤ) (vs : List ℤ) (n : ℕ) (old new : LentState) → Handed (call subject k m (take (suc maxArguments) vs)) n old new → Handed (call subject k m vs) n old new
@@ -86,7 +88,7 @@ handed-cut subject k m vs n old new = handed-as _ _ n old new (go (systemAccepte
     r : RawSystem
     r = rawFlat (old .state)
 
-    go : (b : Bool) → systemAccepted r ≡ b → _≡_ {A = Res (System × Result)} (need b 2 λ _. serve (systemOf r) (call subject k m (take (suc maxArguments) vs)))
-        (need b 2 λ _. serve (systemOf r) (call subject k m vs))
+    go : (b : Bool) → systemAccepted r ≡ b → _≡_ {A = Res (System × Result)} (need b outOfRange λ _. serve (systemOf r) (call subject k m (take (suc maxArguments) vs)))
+        (need b outOfRange λ _. serve (systemOf r) (call subject k m vs))
     go true e = call-cut (systemOf r) (accepted-codes r e .2) subject k m vs
     go false e = refl

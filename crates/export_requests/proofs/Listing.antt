@@ -36,17 +36,17 @@ module _ (g n : ℕ) (e : n ≡ answerOperands g) where
 
 -- ---- Call: i of the arguments stand behind the first three operands.
 module _ (s k m : ℤ) (vs : List ℤ) where
-  module _ (items : List ℤ) (i : ℕ) (size : length items ≡ 6) (few : i ≤ 3) (is : take (3 + i) items ≡ s ∷ k ∷ m ∷ take i vs) where
+  module _ (items : List ℤ) (i : ℕ) (size : length items ≡ 3 + suc maxArguments) (few : i ≤ suc maxArguments) (is : take (3 + i) items ≡ s ∷ k ∷ m ∷ take i vs) where
     listed : take i vs ≡ take (suc maxArguments) vs → Listed (callOperands s k m vs) (record { count = 3 + i; items = items })
     listed e = record { is = is ∙ ap (λ (xs : List ℤ). s ∷ k ∷ m ∷ xs) e; fits = omega arith }
 
     pub listed-all : length vs ≤ i → Listed (callOperands s k m vs) (record { count = 3 + i; items = items })
-    listed-all l = listed (take-all i vs l ∙ sym (take-all 3 vs (omega arith)))
+    listed-all l = listed (take-all i vs l ∙ sym (take-all (suc maxArguments) vs (omega arith)))
 
-    pub listed-cut : 2 < i → Listed (callOperands s k m vs) (record { count = 3 + i; items = items })
-    listed-cut l = let e : i ≡ 3 = omega arith in listed (ap (λ (n : ℕ). take n vs) e)
+    pub listed-cut : maxArguments < i → Listed (callOperands s k m vs) (record { count = 3 + i; items = items })
+    listed-cut l = let e : i ≡ suc maxArguments = omega arith in listed (ap (λ (n : ℕ). take n vs) e)
 
-    pub listed-next : i ≤ 2 → i < length vs → take (3 + (i + 1)) (set items (3 + i) (getD vs i (pos 0))) ≡ s ∷ k ∷ m ∷ take (i + 1) vs
+    pub listed-next : i ≤ maxArguments → i < length vs → take (3 + (i + 1)) (set items (3 + i) (getD vs i (pos 0))) ≡ s ∷ k ∷ m ∷ take (i + 1) vs
     listed-next l h =
         let v = getD vs i (pos 0) in let e : 3 + (i + 1) ≡ suc (3 + i) = omega arith in let f : suc i ≡ i + 1 = omega arith in
         ap (λ (n : ℕ). take n (set items (3 + i) v)) e ∙ take-suc-set items (3 + i) v (omega arith) ∙ ap (λ (xs : List ℤ). xs ++ (v ∷ [])) is

@@ -9,6 +9,7 @@ ghost use Rattle.spec_model.specs.Coded.{byCode};
 ghost use Rattle.state_bytes.specs.Flat.{flat};
 ghost use Rattle.request_results.specs.States.{Handed, lentState};
 ghost use Rattle.export_requests.specs.States.{givenIn, answerOperands, callOperands, Listed};
+use base_numbers::refusal;
 use state_bytes::CALL_BYTES;
 use state_bytes::CELL_BYTES;
 use state_bytes::PLACE_BYTES;
@@ -35,10 +36,15 @@ fn serve_bytes(
     ops: &[i64],
     values: &mut [i64; 3],
 ) -> usize
-    ensures { λ n. ⌜ ((q : Request) → byCode code (now (ops .entry)) ≡ some q → Handed q n (lentState (flat (now (types .entry)) (now (links .entry)) (now (cells .entry)) (now (places .entry)) (now (calls .entry)) (now (counts .entry))) (now (values .entry))) (lentState (flat (now (types .exit)) (now (links .entry)) (now (cells .exit)) (now (places .exit)) (now (calls .exit)) (now (counts .exit))) (now (values .exit)))) ⌝ }
+    ensures { λ n. ⌜ ((q : Request) → byCode code (now (ops .entry)) ≡ some q
+        → Handed q n
+        (lentState (flat (now (types .entry)) (now (links .entry)) (now (cells .entry)) (now (places .entry)) (now (calls .entry)) (now (counts .entry)))
+        (now (values .entry)))
+        (lentState (flat (now (types .exit)) (now (links .entry)) (now (cells .exit)) (now (places .exit)) (now (calls .exit)) (now (counts .exit)))
+        (now (values .exit)))) ⌝ }
 {
     if !state_bytes::codes_fit(places, calls, counts[6], counts[7]) {
-        return 2;
+        return refusal::OUT_OF_RANGE;
     }
     let s = state_bytes::state_from(links, cells, places, calls, *counts);
     let r = request_serve::serve(types, s, code, ops);
@@ -59,7 +65,11 @@ pub extern "C" fn pilgonca_new(
     to: i64,
     values: &mut [i64; 3],
 ) -> usize
-    ensures { λ n. ⌜ Handed (new subject class to) n (lentState (flat (now (types .entry)) (now (links .entry)) (now (cells .entry)) (now (places .entry)) (now (calls .entry)) (now (counts .entry))) (now (values .entry))) (lentState (flat (now (types .exit)) (now (links .entry)) (now (cells .exit)) (now (places .exit)) (now (calls .exit)) (now (counts .exit))) (now (values .exit))) ⌝ }
+    ensures { λ n. ⌜ Handed (new subject class to) n
+        (lentState (flat (now (types .entry)) (now (links .entry)) (now (cells .entry)) (now (places .entry)) (now (calls .entry)) (now (counts .entry)))
+        (now (values .entry)))
+        (lentState (flat (now (types .exit)) (now (links .entry)) (now (cells .exit)) (now (places .exit)) (now (calls .exit)) (now (counts .exit)))
+        (now (values .exit))) ⌝ }
 {
     let ops = [subject, class, to];
     serve_bytes(
@@ -90,7 +100,11 @@ pub extern "C" fn pilgonca_move(
     to: i64,
     values: &mut [i64; 3],
 ) -> usize
-    ensures { λ n. ⌜ Handed (move subject cell receiver to) n (lentState (flat (now (types .entry)) (now (links .entry)) (now (cells .entry)) (now (places .entry)) (now (calls .entry)) (now (counts .entry))) (now (values .entry))) (lentState (flat (now (types .exit)) (now (links .entry)) (now (cells .exit)) (now (places .exit)) (now (calls .exit)) (now (counts .exit))) (now (values .exit))) ⌝ }
+    ensures { λ n. ⌜ Handed (move subject cell receiver to) n
+        (lentState (flat (now (types .entry)) (now (links .entry)) (now (cells .entry)) (now (places .entry)) (now (calls .entry)) (now (counts .entry)))
+        (now (values .entry)))
+        (lentState (flat (now (types .exit)) (now (links .entry)) (now (cells .exit)) (now (places .exit)) (now (calls .exit)) (now (counts .exit)))
+        (now (values .exit))) ⌝ }
 {
     let ops = [subject, cell, receiver, to];
     serve_bytes(
@@ -151,7 +165,11 @@ pub extern "C" fn pilgonca_call(
     arguments: &[i64],
     values: &mut [i64; 3],
 ) -> usize
-    ensures { λ n. ⌜ Handed (call subject cell method (now (arguments .entry))) n (lentState (flat (now (types .entry)) (now (links .entry)) (now (cells .entry)) (now (places .entry)) (now (calls .entry)) (now (counts .entry))) (now (values .entry))) (lentState (flat (now (types .exit)) (now (links .entry)) (now (cells .exit)) (now (places .exit)) (now (calls .exit)) (now (counts .exit))) (now (values .exit))) ⌝ }
+    ensures { λ n. ⌜ Handed (call subject cell method (now (arguments .entry))) n
+        (lentState (flat (now (types .entry)) (now (links .entry)) (now (cells .entry)) (now (places .entry)) (now (calls .entry)) (now (counts .entry)))
+        (now (values .entry)))
+        (lentState (flat (now (types .exit)) (now (links .entry)) (now (cells .exit)) (now (places .exit)) (now (calls .exit)) (now (counts .exit)))
+        (now (values .exit))) ⌝ }
 {
     let o = call_operands(subject, cell, method, arguments);
     let items = o.items;
@@ -194,7 +212,11 @@ pub extern "C" fn pilgonca_answer(
     value: i64,
     values: &mut [i64; 3],
 ) -> usize
-    ensures { λ n. ⌜ Handed (answer subject call (givenIn given value)) n (lentState (flat (now (types .entry)) (now (links .entry)) (now (cells .entry)) (now (places .entry)) (now (calls .entry)) (now (counts .entry))) (now (values .entry))) (lentState (flat (now (types .exit)) (now (links .entry)) (now (cells .exit)) (now (places .exit)) (now (calls .exit)) (now (counts .exit))) (now (values .exit))) ⌝ }
+    ensures { λ n. ⌜ Handed (answer subject call (givenIn given value)) n
+        (lentState (flat (now (types .entry)) (now (links .entry)) (now (cells .entry)) (now (places .entry)) (now (calls .entry)) (now (counts .entry)))
+        (now (values .entry)))
+        (lentState (flat (now (types .exit)) (now (links .entry)) (now (cells .exit)) (now (places .exit)) (now (calls .exit)) (now (counts .exit)))
+        (now (values .exit))) ⌝ }
 {
     let ops = [subject, call, value];
     let n = answer_count(given);

@@ -6,12 +6,12 @@ use Rattle.sheet_read.specs.View.{answered}
 use Rattle.state_record.specs.declared.State.{State as Rest}
 use Rattle.state_record.specs.Whole.{whole}
 use Rattle.state_record.specs.View.{stateLoaded}
-use Rattle.state_bytes.specs.Flat.{Flat}
+use Rattle.state_bytes.specs.Flat.{Flat, cellsSize, placesSize, callsSize}
 use Rattle.request_results.specs.Stored.{Stored}
 use Rattle.export_runs.specs.Results.{noBytes, LoadedIs}
 
 module _ (a : SheetAnswer) (y : Sheet) (read : y ≡ answered a) (old new : Flat) where
-  pub loaded-is : (s : Rest) → s ≡ stateLoaded (y .links) (y .counts) → (old .cells ≡ noBytes 768) × (old .places ≡ noBytes 384) × (old .calls ≡ noBytes 1024)
+  pub loaded-is : (s : Rest) → s ≡ stateLoaded (y .links) (y .counts) → (old .cells ≡ noBytes cellsSize) × (old .places ≡ noBytes placesSize) × (old .calls ≡ noBytes callsSize)
       → new .links ≡ y .links → Stored (whole (y .types) s) old new → LoadedIs a (y .refusal) (y .at) new
   loaded-is s e none links z = go (subst (λ (x : Rest). Stored (whole (y .types) x) old new) e z)
     where

@@ -21,6 +21,7 @@ use Rattle.request_results.proofs.Handing.{stored-counted}
 use Rattle.request_run.specs.Requested.{requests, runAsked, runHanded}
 use Rattle.request_run.specs.Ran.{Over as Ran, Runs, RanAs}
 use Rattle.export_runs.specs.Results.{LentRun, lentRun, RanOut, RunsOut}
+use Rattle.table_record.specs.Layout.{typeSize}
 
 abbrev withBytes : Flat → List ℕ → Flat
 withBytes f t = record { types = t; links = f .links; cells = f .cells; places = f .places; calls = f .calls; counts = f .counts }
@@ -62,7 +63,7 @@ module _ (f : Flat) (k : ℕ) (ws : List ℤ) where
         records = stored-counted (r .state) was g z (links ∙ sym (v .links)) ∙ v .records ∙ ap counted (stored-same (rawState (stateFrom f)) (rawFlat f) (read-counted f fits) m);
         links = links;
         counts = z .counts ∙ v .counts;
-        types = ap (take (size (m .table) * 128)) (z .types) ∙ v .types;
+        types = ap (take (size (m .table) * typeSize)) (z .types) ∙ v .types;
       }
 
       pub run-taken : r .refusal ≡ 0 → RunsOut (runHanded (rawFlat f) k ws) 0 (lentRun f old served) (lentRun g new (r .served))

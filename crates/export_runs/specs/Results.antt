@@ -11,9 +11,9 @@ use Rattle.spec_model.specs.Relations.{bit}
 use Rattle.spec_model.specs.Table.{size}
 use Rattle.spec_model.specs.Requests.{System, Outcome}
 use Rattle.spec_model.specs.Handed.{counted, storedFrom}
-use Rattle.table_record.specs.Layout.{withCount}
+use Rattle.table_record.specs.Layout.{withCount, typeSize}
 use Rattle.table_record.specs.Records.{bytesOf}
-use Rattle.state_bytes.specs.Flat.{Flat, countsIn, cellCount, placeCount, callCount, rawFlat}
+use Rattle.state_bytes.specs.Flat.{Flat, countsIn, cellCount, placeCount, callCount, rawFlat, cellsSize, placesSize, callsSize}
 use Rattle.request_run.specs.Ran.{answersOf}
 use Rattle.spec_sheet.specs.Sheet.{SheetAnswer}
 use Rattle.sheet_read.specs.Answer.{answered, sheetOf}
@@ -30,9 +30,9 @@ noBytes n = replicate n 0
 -- Where `a` is the reader's answer: number, offset and table are its parts, as `pilgonca_read` hands them out; no cell, place or call is counted, and every byte of theirs is 0.
 pub record LoadedIs (a : SheetAnswer) (n at : ℕ) (f : Flat) : Type 0 where
   pub sheet : sheetOf n at (f .types) (f .links) (countsIn (f .counts)) ≡ answered a
-  pub cells : f .cells ≡ noBytes 768
-  pub places : f .places ≡ noBytes 384
-  pub calls : f .calls ≡ noBytes 1024
+  pub cells : f .cells ≡ noBytes cellsSize
+  pub places : f .places ≡ noBytes placesSize
+  pub calls : f .calls ≡ noBytes callsSize
   pub none : (cellCount (f .counts) ≡ 0) × (placeCount (f .counts) ≡ 0) × (callCount (f .counts) ≡ 0)
 
 -- What a caller lends to a run (U): the state, the list for its answers, and where the number of those served goes.
@@ -56,8 +56,8 @@ pub record RanOut (os : List Outcome) (m : System) (n : ℕ) (old new : LentRun)
   pub links : new .state .links ≡ old .state .links
   pub counts : countsIn (new .state .counts) ≡ withCount (countsIn (old .state .counts)) (size (m .table))
   -- Every counted byte of the types: those that there were, and behind them the record that stands for each new one (B22).
-  pub types : take (size (m .table) * 128) (new .state .types)
-      ≡ take (countsIn (old .state .counts) .types * 128) (old .state .types) ++ flatten (map bytesOf (drop (countsIn (old .state .counts) .types) (m .table .types)))
+  pub types : take (size (m .table) * typeSize) (new .state .types)
+      ≡ take (countsIn (old .state .counts) .types * typeSize) (old .state .types) ++ flatten (map bytesOf (drop (countsIn (old .state .counts) .types) (m .table .types)))
 
 -- One that is refused changes nothing (Q14).
 abbrev pub RunsOut : Res (List Outcome × System) → ℕ → LentRun → LentRun → Type 0

@@ -2,11 +2,12 @@
 // run of requests, for any bytes and any numbers.
 ghost use mathlib.Core.Path.{_≡_};
 ghost use Rattle.spec_sheet.specs.Sheet.{read as readSheet};
-ghost use Rattle.state_bytes.specs.Flat.{flat, rawFlat};
+ghost use Rattle.state_bytes.specs.Flat.{flat, rawFlat, cellsSize, placesSize, callsSize};
 ghost use Rattle.state_offers.specs.Chained.{offersHanded, offeredAs};
 ghost use Rattle.request_run.specs.Requested.{runHanded};
 ghost use Rattle.request_run.specs.Ran.{room};
 ghost use Rattle.export_runs.specs.Results.{offeredOut, noBytes, LoadedIs, lentRun, RunsOut};
+use base_numbers::refusal;
 use state_bytes::CALL_BYTES;
 use state_bytes::CELL_BYTES;
 use state_bytes::PLACE_BYTES;
@@ -16,7 +17,7 @@ use table_record::LINK_BYTES;
 use table_record::TYPE_BYTES;
 
 fn clear(cells: &mut [u8; CELL_BYTES], places: &mut [u8; PLACE_BYTES], calls: &mut [u8; CALL_BYTES])
-    ensures { λ _. ⌜ (now (cells .exit) ≡ noBytes 768) × (now (places .exit) ≡ noBytes 384) × (now (calls .exit) ≡ noBytes 1024) ⌝ }
+    ensures { λ _. ⌜ (now (cells .exit) ≡ noBytes cellsSize) × (now (places .exit) ≡ noBytes placesSize) × (now (calls .exit) ≡ noBytes callsSize) ⌝ }
 {
     *cells = [0u8; CELL_BYTES];
     *places = [0u8; PLACE_BYTES];
@@ -35,7 +36,8 @@ pub extern "C" fn pilgonca_load(
     counts: &mut [usize; 8],
     at: &mut usize,
 ) -> usize
-    ensures { λ n. ⌜ LoadedIs (readSheet (now (text .entry))) n (now (at .exit)) (flat (now (types .exit)) (now (links .exit)) (now (cells .exit)) (now (places .exit)) (now (calls .exit)) (now (counts .exit))) ⌝ }
+    ensures { λ n. ⌜ LoadedIs (readSheet (now (text .entry))) n (now (at .exit))
+        (flat (now (types .exit)) (now (links .exit)) (now (cells .exit)) (now (places .exit)) (now (calls .exit)) (now (counts .exit))) ⌝ }
 {
     let r = sheet_read::read(text);
     let t = r.types;
@@ -55,7 +57,7 @@ fn offered_code(o: Offered, offered: &mut usize) -> usize
     ensures { λ n. ⌜ (n, now (offered .exit)) ≡ offeredOut (now (offered .entry)) (offeredAs o) ⌝ }
 {
     match o {
-        Offered::Unfit => 2,
+        Offered::Unfit => refusal::OUT_OF_RANGE,
         Offered::Yes => {
             *offered = 1;
             0
@@ -80,10 +82,15 @@ pub extern "C" fn pilgonca_offers(
     chain: &[i64],
     offered: &mut usize,
 ) -> usize
-    ensures { λ n. ⌜ (n, now (offered .exit)) ≡ offeredOut (now (offered .entry)) (offersHanded (rawFlat (flat (now (types .entry)) (now (links .entry)) (now (cells .entry)) (now (places .entry)) (now (calls .entry)) (now (counts .entry)))) cell (now (chain .entry))) ⌝ }
+    ensures { λ n. ⌜ (n, now (offered .exit))
+        ≡ offeredOut (now (offered .entry))
+        (offersHanded
+        (rawFlat
+        (flat (now (types .entry)) (now (links .entry)) (now (cells .entry)) (now (places .entry)) (now (calls .entry)) (now (counts .entry)))) cell
+        (now (chain .entry))) ⌝ }
 {
     if !state_bytes::codes_fit(places, calls, counts[6], counts[7]) {
-        return 2;
+        return refusal::OUT_OF_RANGE;
     }
     let s = state_bytes::state_from(links, cells, places, calls, *counts);
     let o = state_offers::offers(types, s, cell, chain);
@@ -103,10 +110,17 @@ pub extern "C" fn pilgonca_run(
     answers: &mut [i64],
     served: &mut usize,
 ) -> usize
-    ensures { λ n. ⌜ RunsOut (runHanded (rawFlat (flat (now (types .entry)) (now (links .entry)) (now (cells .entry)) (now (places .entry)) (now (calls .entry)) (now (counts .entry)))) (room (now (answers .entry))) (now (words .entry))) n (lentRun (flat (now (types .entry)) (now (links .entry)) (now (cells .entry)) (now (places .entry)) (now (calls .entry)) (now (counts .entry))) (now (answers .entry)) (now (served .entry))) (lentRun (flat (now (types .exit)) (now (links .entry)) (now (cells .exit)) (now (places .exit)) (now (calls .exit)) (now (counts .exit))) (now (answers .exit)) (now (served .exit))) ⌝ }
+    ensures { λ n. ⌜ RunsOut
+        (runHanded
+        (rawFlat (flat (now (types .entry)) (now (links .entry)) (now (cells .entry)) (now (places .entry)) (now (calls .entry)) (now (counts .entry))))
+        (room (now (answers .entry))) (now (words .entry))) n
+        (lentRun (flat (now (types .entry)) (now (links .entry)) (now (cells .entry)) (now (places .entry)) (now (calls .entry)) (now (counts .entry)))
+        (now (answers .entry)) (now (served .entry)))
+        (lentRun (flat (now (types .exit)) (now (links .entry)) (now (cells .exit)) (now (places .exit)) (now (calls .exit)) (now (counts .exit)))
+        (now (answers .exit)) (now (served .exit))) ⌝ }
 {
     if !state_bytes::codes_fit(places, calls, counts[6], counts[7]) {
-        return 2;
+        return refusal::OUT_OF_RANGE;
     }
     let s = state_bytes::state_from(links, cells, places, calls, *counts);
     let r = request_run::run(types, s, words, answers);

@@ -5,7 +5,7 @@ use mathlib.Core.List.{List}
 use Prim.Native.Nat.{ℕ, _+_}
 use Rattle.spec_model.specs.Basics.{Res, refuse, ok}
 use Rattle.spec_model.specs.Table.{Table}
-use Rattle.spec_model.specs.Relations.{Answers}
+use Rattle.spec_model.specs.Relations.{Comparison}
 use Rattle.spec_model.specs.Check.{codesFit}
 use Rattle.table_record.specs.Layout.{rawTable, withCount}
 use Rattle.state_bytes.specs.Flat.{countsIn}
@@ -13,24 +13,16 @@ use Rattle.relation_compare.specs.Pairs.{pairCode}
 use Rattle.derive_sub_sup.specs.Bytes.{Writes}
 use Rattle.derive_entry.specs.Answer.{Derivation, derivationOf}
 use Rattle.spec_sheet.specs.Text.{Written}
+pub use Rattle.text_write.specs.Written.{numberOf, valueOf}
 
 -- 16 and the answers, as in the pair table (B24)
-abbrev pub answersCode : Answers → ℕ
-answersCode a = 16 + pairCode a
+abbrev pub comparisonCode : Comparison → ℕ
+comparisonCode a = 16 + pairCode a
 
 -- Compare's answer: the number of the refusal, or the code of the answers
-abbrev pub comparedCode : Res Answers → ℕ
+abbrev pub comparedCode : Res Comparison → ℕ
 comparedCode (refuse n) = n
-comparedCode (ok a) = answersCode a
-
--- the number of a refusal, or 0; and what is handed out beside it, which stays `old` where it is refused
-abbrev pub numberOf : {A : Type 0} → Res A → ℕ
-numberOf (refuse n) = n
-numberOf (ok _) = 0
-
-abbrev pub valueOf : {A : Type 0} → A → Res A → A
-valueOf old (refuse n) = old
-valueOf old (ok x) = x
+comparedCode (ok a) = comparisonCode a
 
 -- what the writer leaves, each part by itself: number, length (old and new) and buffer
 pub record WrittenIs (w : Written) (n old new : ℕ) (buffer : List ℕ) : Type 0 where

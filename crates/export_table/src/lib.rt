@@ -1,26 +1,23 @@
-// What tests, benchmarks and integrators link: C functions on numbers and arrays of bytes, for any numbers and any bytes (E2, E12). A table is three arrays: the bytes
-// of its types, those of its links, and five counts in the order of B12; docs/SPEC.md, section B, has the layout. The numbers returned are given by definitions in
-// specs/Codes.antt.
+// What tests, benchmarks and integrators link: C functions on numbers and arrays of bytes, for any numbers and any bytes (E2, E12). A table is three arrays:
+// the bytes of its types, those of its links, and five counts in the order of B12; docs/SPEC.md, section B, has the layout. The numbers returned are given by
+// definitions in specs/Codes.antt.
 ghost use mathlib.Core.Path.{_≡_};
 ghost use Prim.Native.Nat.{_+_};
 ghost use Rattle.spec_model.specs.Check.{compareHanded};
 ghost use Rattle.table_record.specs.Store.{rawTable};
-ghost use Rattle.relation_search.specs.Answered.{answersOf};
+ghost use Rattle.relation_search.specs.Answered.{comparisonOf};
 ghost use Rattle.relation_compare.specs.Answered.{comparedOf};
 ghost use Rattle.relation_compare.specs.Pairs.{pairsHanded};
 ghost use Rattle.derive_entry.specs.Handed.{deriveHanded};
-ghost use Rattle.spec_sheet.specs.Sheet.{read as readSheet};
 ghost use Rattle.spec_sheet.specs.Text.{write};
-ghost use Rattle.sheet_read.specs.View.{answered, sheetOf};
-ghost use Rattle.sheet_write.specs.Answer.{wroteAnswer};
 ghost use Rattle.state_bytes.specs.Flat.{countsIn};
-ghost use Rattle.export_table.specs.Codes.{answersCode, comparedCode, numberOf, valueOf, WrittenIs, handedOut, DerivedIs, lent};
+ghost use Rattle.export_table.specs.Codes.{comparisonCode, comparedCode, WrittenIs, handedOut, DerivedIs, lent};
+use base_numbers::refusal;
 use base_numbers::wide;
 use derive_entry::Made;
 use relation_compare::Compared;
 use relation_compare::PAIR_BYTES;
-use relation_search::Answers;
-use sheet_write::Wrote;
+use relation_search::Comparison;
 use table_record::Counts;
 use table_record::LINK_BYTES;
 use table_record::TYPE_BYTES;
@@ -39,8 +36,8 @@ fn counts_of(n: [usize; 5]) -> Counts
 }
 
 // The answers as one number.
-fn answers_code(a: Answers) -> usize
-    ensures { λ n. ⌜ n ≡ answersCode (answersOf a) ⌝ }
+fn comparison_code(a: Comparison) -> usize
+    ensures { λ n. ⌜ n ≡ comparisonCode (comparisonOf a) ⌝ }
 {
     let code = relation_compare::pair_code(a);
     16 + wide(code)
@@ -51,9 +48,9 @@ fn compared_code(r: Compared) -> usize
     ensures { λ n. ⌜ n ≡ comparedCode (comparedOf r) ⌝ }
 {
     match r {
-        Compared::Unfit => 2,
-        Compared::Unknown => 7,
-        Compared::Answers(a) => answers_code(a),
+        Compared::Unfit => refusal::OUT_OF_RANGE,
+        Compared::Unknown => refusal::UNKNOWN_TYPE,
+        Compared::Comparison(a) => comparison_code(a),
     }
 }
 
@@ -73,38 +70,6 @@ pub extern "C" fn pilgonca_compare(
     compared_code(r)
 }
 
-// Sheet read (S) of any bytes: 0 and the table, with offset 0; or the refusal and the byte offset of the line, with a table whose every count and byte is 0 (B21).
-#[no_mangle]
-pub extern "C" fn pilgonca_read(
-    text: &[u8],
-    types: &mut [u8; TYPE_BYTES],
-    links: &mut [u8; LINK_BYTES],
-    counts: &mut [usize; 5],
-    at: &mut usize,
-) -> usize
-    ensures { λ n. ⌜ sheetOf n (now (at .exit)) (now (types .exit)) (now (links .exit)) (countsIn (now (counts .exit))) ≡ answered (readSheet (now (text .entry))) ⌝ }
-{
-    let r = sheet_read::read_into(text, types, links);
-    let c = r.counts;
-    *counts = [c.subjects, c.methods, c.cats, c.sheet, c.types];
-    *at = r.at;
-    r.refusal
-}
-
-// The writer's answer: the refusal's number, or 0 with the length handed out.
-fn wrote_code(w: Wrote, length: &mut usize) -> usize
-    ensures { λ n. ⌜ (n ≡ numberOf (wroteAnswer w)) × (now (length .exit) ≡ valueOf (now (length .entry)) (wroteAnswer w)) ⌝ }
-{
-    match w {
-        Wrote::UnfitTable => 2,
-        Wrote::ShortBuffer => 4,
-        Wrote::Length(n) => {
-            *length = n;
-            0
-        }
-    }
-}
-
 // Sheet write (W) of a table handed in: 2, then 4 where the buffer is short, else 0 and the length; a refusal leaves buffer and length as they were.
 #[no_mangle]
 pub extern "C" fn pilgonca_write(
@@ -114,11 +79,12 @@ pub extern "C" fn pilgonca_write(
     counts: &[usize; 5],
     length: &mut usize,
 ) -> usize
-    ensures { λ n. ⌜ WrittenIs (write (rawTable (now (types .entry)) (now (links .entry)) (countsIn (now (counts .entry)))) (now (buffer .entry))) n (now (length .entry)) (now (length .exit)) (now (buffer .exit)) ⌝ }
+    ensures { λ n. ⌜ WrittenIs (write (rawTable (now (types .entry)) (now (links .entry)) (countsIn (now (counts .entry)))) (now (buffer .entry))) n
+        (now (length .entry)) (now (length .exit)) (now (buffer .exit)) ⌝ }
 {
     let c = counts_of(*counts);
     let w = sheet_write::write_sheet(buffer, types, links, c);
-    wrote_code(w, length)
+    text_write::wrote_code(w, length)
 }
 
 // The pair table (E9) of a table handed in: 0 and the answers at every pair of sheet types, or 2 and `out` as it was.
@@ -129,7 +95,8 @@ pub extern "C" fn pilgonca_pairs(
     counts: &[usize; 5],
     out: &mut [u8; PAIR_BYTES],
 ) -> usize
-    ensures { λ n. ⌜ (n, now (out .exit)) ≡ handedOut (now (out .entry)) (pairsHanded (rawTable (now (types .entry)) (now (links .entry)) (countsIn (now (counts .entry))))) ⌝ }
+    ensures { λ n. ⌜ (n, now (out .exit))
+        ≡ handedOut (now (out .entry)) (pairsHanded (rawTable (now (types .entry)) (now (links .entry)) (countsIn (now (counts .entry))))) ⌝ }
 {
     let c = counts_of(*counts);
     let r = relation_compare::pairs_of(types, links, c);
@@ -138,7 +105,7 @@ pub extern "C" fn pilgonca_pairs(
         *out = entries;
         return 0;
     }
-    2
+    refusal::OUT_OF_RANGE
 }
 
 // A derivation (E10) on a table handed in: Sub (kind 0), Sup (1) or Closed (2) of types t and s. 0, with types and counts those of the table that there is now
@@ -153,14 +120,16 @@ pub extern "C" fn pilgonca_derive(
     s: i64,
     number: &mut usize,
 ) -> usize
-    ensures { λ n. ⌜ DerivedIs (now (links .entry)) (deriveHanded (rawTable (now (types .entry)) (now (links .entry)) (countsIn (now (counts .entry)))) kind t s) n (lent (now (types .entry)) (now (counts .entry)) (now (number .entry))) (lent (now (types .exit)) (now (counts .exit)) (now (number .exit))) ⌝ }
+    ensures { λ n. ⌜ DerivedIs (now (links .entry))
+        (deriveHanded (rawTable (now (types .entry)) (now (links .entry)) (countsIn (now (counts .entry)))) kind t s) n
+        (lent (now (types .entry)) (now (counts .entry)) (now (number .entry))) (lent (now (types .exit)) (now (counts .exit)) (now (number .exit))) ⌝ }
 {
     let c = counts_of(*counts);
     let r = derive_entry::derive(types, links, c, kind, t, s);
     match r {
-        Made::Unfit => 2,
-        Made::Unknown => 7,
-        Made::Full => 11,
+        Made::Unfit => refusal::OUT_OF_RANGE,
+        Made::Unknown => refusal::UNKNOWN_TYPE,
+        Made::Full => refusal::TYPES_FULL,
         Made::At(i, count) => {
             *counts = [c.subjects, c.methods, c.cats, c.sheet, count];
             *number = i;

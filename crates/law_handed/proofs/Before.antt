@@ -10,6 +10,7 @@ use Rattle.spec_model.specs.Requests.{System, Request, Result, Outcome, noCell,
 use Rattle.spec_model.specs.Check.{RawCall, RawSystem, noRawType, noRawLinks, noRawPlace, noRawCall, typeOf, placeOf, callOf, firstOf, tableOf, systemOf, systemAccepted}
 use Rattle.spec_model.specs.Handed.{counted, storedFrom, handBack, serveHanded, Returns}
 use Rattle.spec_model.proofs.Lists.{length-from, from-first}
+use Rattle.spec_model.specs.Refusals.{outOfRange}
 use Rattle.law_model.proofs.Steps.{IfOk}
 use Rattle.law_model.proofs.Onward.{Onward, serve-onward}
 use Rattle.law_model.proofs.Returned.{Before, rawFlagged, returned-before}
@@ -43,7 +44,7 @@ served-more r q = go (systemAccepted r)
     last (refuse n) w = same-counts r
     last (ok x) w = stored-more r (x .0) w
 
-    go : (b : Bool) → More r (handBack r (need b 2 λ _. serve (systemOf r) q) .state)
+    go : (b : Bool) → More r (handBack r (need b outOfRange λ _. serve (systemOf r) q) .state)
     go true = last (serve (systemOf r) q) (serve-onward (systemOf r) q)
     go false = same-counts r
 

@@ -15,6 +15,7 @@ use Rattle.spec_model.specs.Records.{typeRecord}
 use Rattle.spec_model.specs.Handed.{countedTable, counted, storedTable, storedFrom, handBack, serveHanded}
 use Rattle.spec_model.proofs.Tests.{ltb-so}
 use Rattle.spec_model.proofs.Lists.{from-first, from-same}
+use Rattle.spec_model.specs.Refusals.{outOfRange}
 
 -- what is made of each counted record, the list being cut to its count or not
 cut : {A B : Type 0} (f : ℕ → A → B) (n m i : ℕ) (d : A) (xs : List A) → i + m ≤ n → from m i (λ k. f k (getD (firstOf n d xs) k d)) ≡ from m i (λ k. f k (getD xs k d))
@@ -96,13 +97,13 @@ module _ (r r′ : RawSystem) (e : counted r ≡ counted r′) where
   back-counted (refuse n) = e
   back-counted (ok x) = ap counted (stored-same (x .0))
 
-  served : (q : Request) → _≡_ {A = Res (System × Result)} (need (systemAccepted r) 2 λ _. serve (systemOf r) q) (need (systemAccepted r′) 2 λ _. serve (systemOf r′) q)
+  served : (q : Request) → _≡_ {A = Res (System × Result)} (need (systemAccepted r) outOfRange λ _. serve (systemOf r) q) (need (systemAccepted r′) outOfRange λ _. serve (systemOf r′) q)
   served q = rw (accepted-same, means-same)
 
   pub outcome-same : (q : Request) → serveHanded r q .outcome ≡ serveHanded r′ q .outcome
   unfolding serveHanded
-  outcome-same q = ap (λ m. handBack r m .outcome) (served q) ∙ back-outcome (need (systemAccepted r′) 2 λ _. serve (systemOf r′) q)
+  outcome-same q = ap (λ m. handBack r m .outcome) (served q) ∙ back-outcome (need (systemAccepted r′) outOfRange λ _. serve (systemOf r′) q)
 
   pub counted-same : (q : Request) → counted (serveHanded r q .state) ≡ counted (serveHanded r′ q .state)
   unfolding serveHanded
-  counted-same q = ap (λ m. counted (handBack r m .state)) (served q) ∙ back-counted (need (systemAccepted r′) 2 λ _. serve (systemOf r′) q)
+  counted-same q = ap (λ m. counted (handBack r m .state)) (served q) ∙ back-counted (need (systemAccepted r′) outOfRange λ _. serve (systemOf r′) q)

@@ -12,16 +12,17 @@ use lib.IntN.{ℤ}
 use lib.ListN.{length, length-append}
 use lib.Seq.{getD-at}
 use Rattle.spec_model.specs.Basics.{Res, refuse, ok, try, need, names, named}
-use Rattle.spec_model.specs.Table.{Rep, ref, w32, w64, Table, Kind, typeAt, methodAt, argumentAt, answerAt, isRef, isAvail, isClass, sub, closed}
+use Rattle.spec_model.specs.Table.{Rep, ref, w32, w64, Table, Kind, typeAt, methodAt, argumentAt, answerAt, isRef, isAvail, isClass, sub, closed, maxTypes}
 use Rattle.spec_model.specs.Relations.{related, conforms, strict, free, loose, subtype}
 use Rattle.spec_model.specs.Restriction.{derive, derived}
 use Rattle.spec_model.specs.Crossing.{Place, object, adapter, placeAt, placeType, baseOf, baseOwner, maxPlaces, Reference, adapt, cross}
 use Rattle.spec_model.specs.Requests.{Cell, System, Request, new, move, call, answer, Result, pair, number, nothing, Outcome, got, refused, noCell, held, isSheetRef, addCell, newRequest}
 use Rattle.spec_model.specs.Requests.{moveRequest, layers, atLayer, renumber, crossLayers, within, passLayers, send, argumentsHeld, sendArguments, callRequest, withAnswer, give, answerRequest}
-use Rattle.spec_model.specs.Requests.{serve, leaving, cellAt, callAt, wayOf, maxCells, maxCalls}
+use Rattle.spec_model.specs.Requests.{serve, leaving, cellAt, callAt, callLayers, maxCells, maxCalls}
 use Rattle.spec_model.specs.Check.{RawSystem, systemOf, systemAccepted}
 use Rattle.spec_model.specs.Handed.{handBack, serveHanded}
 use Rattle.spec_model.proofs.Tests.{ltb-so}
+use Rattle.spec_model.specs.Refusals.{outOfRange, typesFull, tooWide}
 
 -- a refusal's number: never 0, which says that all went well
 abbrev pub Number : ℕ → Type 0
@@ -50,9 +51,9 @@ small-if Q false x y h g = g
 -- ---- Crossings.
 small-derived : (t : Table) (d : Kind) (l r : ℕ) → Small any (derived t d l r)
 unfolding derived
-small-derived t d l r = go (derive 128 t d l r)
+small-derived t d l r = go (derive maxTypes t d l r)
   where
-    go : (o : Option (Table × ℕ)) → Small {A = Table × ℕ} any (elim o [ none ↦ refuse 11 | some p ↦ ok p ])
+    go : (o : Option (Table × ℕ)) → Small {A = Table × ℕ} any (elim o [ none ↦ refuse typesFull | some p ↦ ok p ])
     go none = (omega arith, omega arith)
     go (some p) = tt
 
@@ -99,7 +100,7 @@ small-pass first t v (some a ∷ ts) = go (typeAt t a .rep) (small-pass false t 
   where
     go : (r : Rep) → Small any (passLayers false t v ts) → Small {A = Unit {0}} any (elim r [
       | ref ↦ refuse (atLayer first 8)
-      | w32 ↦ need (within 2147483648 v) 16 λ _. passLayers false t v ts
+      | w32 ↦ need (within 2147483648 v) tooWide λ _. passLayers false t v ts
       | w64 ↦ passLayers false t v ts
     ])
     go ref h = small-layer first 8 (omega arith, omega arith)
@@ -137,15 +138,15 @@ module _ (s₀ : System) where
   unfolding send
   small-send s r k ts = small-try any Q (crossLayers true (leaving s k) r ts) _ (small-layers true (leaving s k) r ts) λ f _. small-cell s r f
 
-  small-arguments : (s : System) (r : ℕ) (way : List ℕ) (m i : ℕ) (xs : List ℕ) (vs : List ℤ) → Small any (sendArguments s r way m i xs vs)
+  small-arguments : (s : System) (r : ℕ) (ls : List ℕ) (m i : ℕ) (xs : List ℕ) (vs : List ℤ) → Small any (sendArguments s r ls m i xs vs)
   unfolding sendArguments
-  small-arguments s r way m i [] vs = tt
-  small-arguments s r way m i (a ∷ xs) [] = tt
-  small-arguments s r way m i (a ∷ xs) (v ∷ vs) =
-      let ts : List (Option ℕ) = map (argumentAt (s .table) m i) way in
+  small-arguments s r ls m i [] vs = tt
+  small-arguments s r ls m i (a ∷ xs) [] = tt
+  small-arguments s r ls m i (a ∷ xs) (v ∷ vs) =
+      let ts : List (Option ℕ) = map (argumentAt (s .table) m i) ls in
       small-if any (isRef (typeAt (s .table) a .rep)) _ _
-      (small-try Q any (send s r (named v) ts) _ (small-send s r (named v) ts) λ x _. small-arguments (x .0) r way m (suc i) xs vs)
-      (small-try any any (passLayers true (s .table) v ts) _ (small-pass true (s .table) v ts) λ _ _. small-arguments s r way m (suc i) xs vs)
+      (small-try Q any (send s r (named v) ts) _ (small-send s r (named v) ts) λ x _. small-arguments (x .0) r ls m (suc i) xs vs)
+      (small-try any any (passLayers true (s .table) v ts) _ (small-pass true (s .table) v ts) λ _ _. small-arguments s r ls m (suc i) xs vs)
 
   answered-named : (s : System) (j : ℕ) (x : Result) → Named s₀ s x → Named s₀ (withAnswer s j) x
   answered-named s j (pair a b) h = h
@@ -181,8 +182,8 @@ module _ (s : System) where
       small-need (Q s) (names m (s .table .methods) && isAvail (methodAt (s .table) (c .type) (named m) .state)) 14 _ (omega arith, omega arith) λ _.
       small-need (Q s) (argumentsHeld s subject xs vs) 15 _ (omega arith, omega arith) λ _.
       small-need (Q s) (ltb (length (s .calls)) maxCalls) 18 _ (omega arith, omega arith) λ room.
-      small-try any (Q s) (sendArguments s (baseOwner (s .places) (c .place)) (wayOf s c) (named m) 0 xs vs) _
-      (small-arguments s s (baseOwner (s .places) (c .place)) (wayOf s c) (named m) 0 xs vs) λ x _.
+      small-try any (Q s) (sendArguments s (baseOwner (s .places) (c .place)) (callLayers s c) (named m) 0 xs vs) _
+      (small-arguments s s (baseOwner (s .places) (c .place)) (callLayers s c) (named m) 0 xs vs) λ x _.
       let few = layers-few (length (s .places)) (s .places) (c .place) in
       inr (ltb-so room, omega (arith, few))
 
@@ -192,7 +193,7 @@ module _ (s : System) where
   small-give subject j none (some v) = (omega arith, omega arith)
   small-give subject j (some a) none = (omega arith, omega arith)
   small-give subject j (some a) (some v) =
-      let ts : List (Option ℕ) = reverse (map (answerAt (s .table) (callAt s j .method)) (wayOf s (cellAt s (callAt s j .cell)))) in
+      let ts : List (Option ℕ) = reverse (map (answerAt (s .table) (callAt s j .method)) (callLayers s (cellAt s (callAt s j .cell)))) in
       small-if (Q s) (isRef (typeAt (s .table) a .rep)) _ _
       (small-need (Q s) (held s subject v) 15 _ (omega arith, omega arith) λ _.
       small-try (Q s) (Q s) (send s (callAt s j .caller) (named v) ts) _ (small-send s s (callAt s j .caller) (named v) ts) λ x h. answered-named s (x .0) j (x .1) h)
@@ -226,6 +227,6 @@ refusal-number r q e h = go (systemAccepted r) h
     of (refuse n) k p = subst Number (ap number-in p) k
     of (ok x) k p = let z : 1 ≡ e = ap number-in p in (omega arith, omega arith)
 
-    go : (b : Bool) → handBack r (need b 2 λ _. serve (systemOf r) q) .outcome ≡ refused e → Number e
+    go : (b : Bool) → handBack r (need b outOfRange λ _. serve (systemOf r) q) .outcome ≡ refused e → Number e
     go true p = of (serve (systemOf r) q) (small-serve (systemOf r) q) p
     go false p = subst Number (ap number-in p) (omega arith, omega arith)

@@ -6,7 +6,7 @@ use Prim.Native.Nat.{ℕ}
 use lib.IntN.{ℤ, pos, negsuc}
 use Rattle.spec_model.specs.Basics.{Res, refuse, ok}
 use Rattle.spec_model.specs.Table.{w32, w64, denied, optional, avail, unavail, Table, validSheet, bare}
-use Rattle.spec_model.specs.Relations.{Answers, compare}
+use Rattle.spec_model.specs.Relations.{Comparison, compare}
 use Rattle.spec_model.proofs.CasesWords.{typeIn, owned, numberIn, sheetIn}
 
 -- Categories 1 and 3 have none broader, 2 names 1. Types 0 to 3 differ in category alone, 4 and 5 are numbers, 6 to 8 have category 0 and another state, 9 is 0 with own.
@@ -28,10 +28,10 @@ pub kinds-valid : validSheet kinds ≡ true
 unfolding validSheet
 kinds-valid = refl
 
-abbrev says : Bool → Bool → Bool → Bool → Res Answers
+abbrev says : Bool → Bool → Bool → Bool → Res Comparison
 says a b c d = ok (record { subtype = a; strict = b; loose = c; free = d })
 
-abbrev asked : ℤ × ℤ → Res Answers
+abbrev asked : ℤ × ℤ → Res Comparison
 asked p = compare kinds (p .0) (p .1)
 
 abbrev pair : ℕ → ℕ → ℤ × ℤ

@@ -101,8 +101,8 @@ derived-by : (t : Table) (d : Kind) (l r n : ℕ) → size t ≡ n → withoutNe
 unfolding derived derive make
 derived-by t d l r n e w = ap (λ o. making t (size t) d l r o (ltb (size t) maxTypes) (derivedMethods t d l r)) w ∙ ap (λ k. making t k d l r none (ltb k maxTypes) (derivedMethods t d l r)) e
 
-pub full-refused : (t : Table) (d : Kind) (l r : ℕ) → size t ≡ 128 → withoutNew t d l r ≡ none → derived t d l r ≡ refuse 11
-full-refused t d l r e w = derived-by t d l r 128 e w
+pub full-refused : (t : Table) (d : Kind) (l r : ℕ) → size t ≡ maxTypes → withoutNew t d l r ≡ none → derived t d l r ≡ refuse 11
+full-refused t d l r e w = derived-by t d l r maxTypes e w
 
 pub last-made : (t : Table) (d : Kind) (l r : ℕ) → size t ≡ 127 → withoutNew t d l r ≡ none → (p : Table × List Method) → derivedMethods t d l r ≡ some p
     → derived t d l r ≡ ok (withTypes (p .0) (set (p .0 .types) 127 (entry t d l r (p .1))), 127)
@@ -110,7 +110,7 @@ last-made t d l r e w p m = derived-by t d l r 127 e w ∙ ap (making t 127 d l 
 
 -- a crossing that wants a new Sub in such a table is refused with 11 (X5)
 pub full-crossing : (f : Reference) (to r : ℕ) → typeAt (f .table) to .own ≡ false → So (related loose (f .table) to (f .type)) → related subtype (f .table) to (f .type) ≡ false
-    → size (f .table) ≡ 128 → withoutNew (f .table) sub to (f .type) ≡ none → cross f to r ≡ refuse 11
+    → size (f .table) ≡ maxTypes → withoutNew (f .table) sub to (f .type) ≡ none → cross f to r ≡ refuse 11
 unfolding cross
 full-crossing f to r own lo st e w = go (typeAt t to .own) own (related loose t to (f .type)) lo (related subtype t to (f .type)) st
     (derived t sub to (f .type)) (full-refused t sub to (f .type) e w) _ _

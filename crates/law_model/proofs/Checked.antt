@@ -16,6 +16,7 @@ use Rattle.spec_model.specs.Check.{cellFits, placeFits, callFits, systemFits}
 use Rattle.spec_model.proofs.Tests.{ltb-so, leb-so, so-leb}
 use Rattle.spec_model.proofs.Rules.{both, first, second}
 use Rattle.spec_model.proofs.Growth.{Grown}
+use Rattle.spec_model.specs.Refusals.{typesFull}
 use Rattle.law_model.proofs.Deriving.{IfSome}
 use Rattle.law_model.proofs.Good.{Sound, counted-of, sheet-within, derive-sound}
 use Rattle.law_model.proofs.Steps.{IfOk}
@@ -27,7 +28,7 @@ pub derived-of : (Q : Table × ℕ → Type 0) (t : Table) (d : Kind) (l r : ℕ
 unfolding derived
 derived-of Q t d l r h = go (derive maxTypes t d l r) h
   where
-    go : (o : Option (Table × ℕ)) → IfSome o Q → IfOk {A = Table × ℕ} (elim o [ none ↦ refuse 11 | some p ↦ ok p ]) Q
+    go : (o : Option (Table × ℕ)) → IfSome o Q → IfOk {A = Table × ℕ} (elim o [ none ↦ refuse typesFull | some p ↦ ok p ]) Q
     go none h = tt
     go (some p) h = h
 

@@ -22,6 +22,7 @@ use Rattle.spec_model.proofs.States.{each₂}
 use Rattle.spec_model.proofs.Derived.{ofNumber, AnswerBelow, Known, itself, made, ArgsFrom, AnswerFrom, DerivedMethod, past, here, isOpen}
 use Rattle.spec_model.proofs.ChainLaws.{sort-eq}
 use Rattle.spec_model.proofs.Growth.{Grown, grown-refl, grown-trans, method-same}
+use Rattle.spec_model.specs.Table.{maxTypes}
 use Rattle.law_model.proofs.Deriving.{IfSome, some-then, some-map, some-pick, some-room, pushed, stored, pushed-size, stored-size, pushed-grown}
 
 abbrev pub SignatureBelow : ℕ → Method → Type 0
@@ -417,7 +418,7 @@ module _ (t₀ : Table) where
     derive-ok (suc f) t p v d l r h =
         let q = keeps-related free t₀ l r h in
         look-ok t p v d l r h _
-        (some-room (Got t₀ t p d l r) (ltb (size t) 128) _ (λ _.
+        (some-room (Got t₀ t p d l r) (ltb (size t) maxTypes) _ (λ _.
         (some-then _ (Got t₀ t p d l r) (deriveMethods (derive f) d (pushed t (pending t d l r)) (typeAt t l .methods) (typeAt t r .methods)) _
         (methods-ok t₀ (derive f) (derive-ok f) d (λ j. p j ⊎ (j ≡ size t)) (typeAt t l .methods) (typeAt t r .methods) (pushed t (pending t d l r)) (pushed-inv t p (pending t d l r) v)
         (rw (v .ext .same l (q .low), v .ext .same r (q .high)) (even l r (q .low) (q .high) (sort-eq t₀ l r h)))

@@ -18,6 +18,7 @@ use Rattle.spec_model.specs.Requests.{System, Request, serve, after}
 use Rattle.spec_model.specs.Book.{Page, lastType, lastClosed, emptyPage, joins, addClosed, pageAdapt, pageCross}
 use Rattle.spec_model.proofs.Tests.{eqb-so}
 use Rattle.spec_model.proofs.Rules.{never}
+use Rattle.spec_model.specs.Refusals.{unrelated, notOwner}
 use Rattle.law_model.proofs.Deriving.{IfSome}
 use Rattle.law_model.proofs.Steps.{IfOk}
 
@@ -32,7 +33,7 @@ own-received f to r e =
     last (ok g) q = q
 
     go : (own : Bool) → own ≡ true → (fr ow : Bool) → eqb r (baseOwner (f .places) (f .place)) ≡ ow → (m n : Res Reference)
-        → IfOk {A = Reference} (elim own [ true ↦ need fr 8 λ _. need ow 9 λ _. m | false ↦ n ]) (λ g. r ≡ baseOwner (f .places) (f .place))
+        → IfOk {A = Reference} (elim own [ true ↦ need fr unrelated λ _. need ow notOwner λ _. m | false ↦ n ]) (λ g. r ≡ baseOwner (f .places) (f .place))
     go true e true true q m n = last m (eqb-so q)
     go true e true false q m n = tt
     go true e false ow q m n = tt

@@ -16,10 +16,10 @@ use Rattle.spec_model.specs.Table.{Method, Table, noMethod, size, typeAt, metho
 use Rattle.spec_model.specs.Relations.{conforms}
 use Rattle.spec_model.specs.Crossing.{Place, object, noPlace, maxPlaces, baseOf, baseOwner, Reference, cross}
 use Rattle.spec_model.specs.Requests.{Cell, Call, System, maxCells, maxCalls, loaded, Request, new, move, call, answer, Result, pair, number, noCell, noCall, cellAt, callAt, isSheetRef, held}
-use Rattle.spec_model.specs.Requests.{leaving, withCell, addCell, newRequest, moveRequest, adapterCount, wayOf, crossLayers, passLayers, send, argumentsHeld, sendArguments, withCall}
+use Rattle.spec_model.specs.Requests.{leaving, withCell, addCell, newRequest, moveRequest, adapterCount, callLayers, crossLayers, passLayers, send, argumentsHeld, sendArguments, withCall}
 use Rattle.spec_model.specs.Requests.{callRequest, flagged, withAnswer, give, answerRequest, serve, after}
 use Rattle.spec_model.specs.Chains.{permits, offered}
-use Rattle.spec_model.specs.Book.{Page, Note, Book, lastType, emptyPage, pageCross, pageCrossAll, addPage, pageWay, copyPage, copyArguments, addNote, copyAnswer, enter}
+use Rattle.spec_model.specs.Book.{Page, Note, Book, lastType, emptyPage, pageCross, pageCrossAll, addPage, pageLayers, copyPage, copyArguments, addNote, copyAnswer, enter}
 use Rattle.spec_model.specs.Claim.{accepted, feed, follow, reached, noteOf, Claim}
 use Rattle.spec_model.proofs.Tests.{ltb-so}
 use Rattle.spec_model.proofs.Rules.{never, both, first, second, applied}
@@ -27,6 +27,7 @@ use Rattle.spec_model.proofs.States.{each}
 use Rattle.spec_model.proofs.Lists.{prefix-refl, prefix-trans, prefix-add}
 use Rattle.spec_model.proofs.Order.{related-refl}
 use Rattle.spec_model.proofs.Growth.{Grown, grown-refl, grown-trans}
+use Rattle.spec_model.specs.Refusals.{unknownSubject, notHeld, unknownType, placesFull, cellsFull, notCallable, wrongValues, answeredAlready, callsFull}
 use Rattle.law_model.proofs.Completes.{all-below-more}
 use Rattle.law_model.proofs.Good.{Good}
 use Rattle.law_model.proofs.Steps.{IfOk, ok-try, ok-map, ok-need, Settled, whatever}
@@ -103,7 +104,7 @@ module _ (s : System) (gs : List Page) (j : Joined s gs) where
   addCell-ok : (r : ℕ) (b : Table × Page) (f₀ : Reference) → f₀ .table ≡ s .table → Kept (s .places) (f₀ .places) → (f : Reference) → Flown f₀ b f
       → IfOk (addCell s r f) (λ x. Sent s (addPage (bookOf s gs) b) (x .0))
   unfolding addCell cell
-  addCell-ok r b f₀ e k f h = ok-need _ (ltb (length (s .cells)) maxCells) 13 _ λ _.
+  addCell-ok r b f₀ e k f h = ok-need _ (ltb (length (s .cells)) maxCells) cellsFull _ λ _.
       added s gs j r f b (h .good) (subst (λ t. Grown t (f .table)) e (h .grow)) (prefix-trans noPlace k (h .kept)) (h .book) (h .track) (h .trailed)
 
   kept-self : Kept (s .places) (s .places)
@@ -152,9 +153,9 @@ held-more s s′ e l [] vs i h = tt
 held-more s s′ e l (a ∷ xs) [] i h = tt
 held-more s s′ e l (a ∷ xs) (v ∷ vs) i h = ((λ x. omega (arith, h .0 (rw (e .same a (i .0)) at x))), held-more s s′ e l xs vs (i .1) (h .1))
 
-module _ (r : ℕ) (way : List ℕ) (m : ℕ) where
+module _ (r : ℕ) (ls : List ℕ) (m : ℕ) where
   sendArguments-ok : (xs : List ℕ) (vs : List ℤ) (i : ℕ) (s : System) (gs : List Page) → Joined s gs → AllBelow (size (s .table)) xs → Held s xs vs
-      → IfOk (sendArguments s r way m i xs vs) (Sent s (copyArguments (bookOf s gs) way m i xs vs))
+      → IfOk (sendArguments s r ls m i xs vs) (Sent s (copyArguments (bookOf s gs) ls m i xs vs))
   unfolding sendArguments copyArguments
   sendArguments-ok [] vs i s gs j n h = record { pages = gs; book = refl; joined = j; more = omega arith; calls = refl; grow = grown-refl (s .table) }
   sendArguments-ok (a ∷ xs) [] i s gs j n h = record { pages = gs; book = refl; joined = j; more = omega arith; calls = refl; grow = grown-refl (s .table) }
@@ -162,24 +163,24 @@ module _ (r : ℕ) (way : List ℕ) (m : ℕ) where
       (λ s′ gs′ j′ n′ h′. sendArguments-ok xs vs (suc i) s′ gs′ j′ n′ h′)
     where
       ts : List (Option ℕ)
-      ts = map (argumentAt (s .table) m i) way
+      ts = map (argumentAt (s .table) m i) ls
 
       go : (b : Bool) → (So b → named v < length (s .cells))
           →
           ((s′ : System) (gs′ : List Page) → Joined s′ gs′ → AllBelow (size (s′ .table)) xs → Held s′ xs vs
-          → IfOk (sendArguments s′ r way m (suc i) xs vs) (Sent s′ (copyArguments (bookOf s′ gs′) way m (suc i) xs vs)))
+          → IfOk (sendArguments s′ r ls m (suc i) xs vs) (Sent s′ (copyArguments (bookOf s′ gs′) ls m (suc i) xs vs)))
           → IfOk (elim b [
-            | true ↦ try (send s r (named v) ts) λ x. sendArguments (x .0) r way m (suc i) xs vs
-            | false ↦ try (passLayers true (s .table) v ts) λ _. sendArguments s r way m (suc i) xs vs
+            | true ↦ try (send s r (named v) ts) λ x. sendArguments (x .0) r ls m (suc i) xs vs
+            | false ↦ try (passLayers true (s .table) v ts) λ _. sendArguments s r ls m (suc i) xs vs
           ])
-          (Sent s (elim b [ true ↦ copyArguments (copyPage (bookOf s gs) (named v) ts) way m (suc i) xs vs | false ↦ copyArguments (bookOf s gs) way m (suc i) xs vs ]))
-      go true l ih = ok-try (λ x. Sent s (copyPage (bookOf s gs) (named v) ts) (x .0)) (Sent s (copyArguments (copyPage (bookOf s gs) (named v) ts) way m (suc i) xs vs))
-          (send s r (named v) ts) (λ x. sendArguments (x .0) r way m (suc i) xs vs) (send-ok s gs j r (named v) ts (l refl)) λ x e.
-          ok-map (Sent (x .0) (copyArguments (bookOf (x .0) (e .pages)) way m (suc i) xs vs)) (Sent s (copyArguments (copyPage (bookOf s gs) (named v) ts) way m (suc i) xs vs))
-          (λ y d. subst (λ b. Sent s (copyArguments b way m (suc i) xs vs) y) (sym (e .book))
+          (Sent s (elim b [ true ↦ copyArguments (copyPage (bookOf s gs) (named v) ts) ls m (suc i) xs vs | false ↦ copyArguments (bookOf s gs) ls m (suc i) xs vs ]))
+      go true l ih = ok-try (λ x. Sent s (copyPage (bookOf s gs) (named v) ts) (x .0)) (Sent s (copyArguments (copyPage (bookOf s gs) (named v) ts) ls m (suc i) xs vs))
+          (send s r (named v) ts) (λ x. sendArguments (x .0) r ls m (suc i) xs vs) (send-ok s gs j r (named v) ts (l refl)) λ x e.
+          ok-map (Sent (x .0) (copyArguments (bookOf (x .0) (e .pages)) ls m (suc i) xs vs)) (Sent s (copyArguments (copyPage (bookOf s gs) (named v) ts) ls m (suc i) xs vs))
+          (λ y d. subst (λ b. Sent s (copyArguments b ls m (suc i) xs vs) y) (sym (e .book))
           (record { pages = d .pages; book = d .book; joined = d .joined; more = omega (arith, e .more, d .more); calls = d .calls ∙ e .calls; grow = grown-trans (e .grow) (d .grow) }))
-          (sendArguments (x .0) r way m (suc i) xs vs) (ih (x .0) (e .pages) (e .joined) (all-below-more (e .grow .more) xs (n .1)) (held-more s (x .0) (e .grow) (e .more) xs vs (n .1) (h .1)))
-      go false l ih = ok-try (λ _. Unit) (Sent s (copyArguments (bookOf s gs) way m (suc i) xs vs)) (passLayers true (s .table) v ts) (λ _. sendArguments s r way m (suc i) xs vs)
+          (sendArguments (x .0) r ls m (suc i) xs vs) (ih (x .0) (e .pages) (e .joined) (all-below-more (e .grow .more) xs (n .1)) (held-more s (x .0) (e .grow) (e .more) xs vs (n .1) (h .1)))
+      go false l ih = ok-try (λ _. Unit) (Sent s (copyArguments (bookOf s gs) ls m (suc i) xs vs)) (passLayers true (s .table) v ts) (λ _. sendArguments s r ls m (suc i) xs vs)
           (whatever (passLayers true (s .table) v ts))
           λ _ _. ih s gs j (n .1) (h .1)
 
@@ -196,10 +197,10 @@ module _ (s : System) (gs : List Page) (j : Joined s gs) where
   new-ok : (subject class to : ℤ) → IfOk (newRequest s subject class to) (λ x. Entered (enter (bookOf s gs) (new subject class to)) (x .0))
   unfolding newRequest enter
   new-ok subject class to =
-      ok-need _ (names subject (s .table .subjects)) 5 _ λ _.
-      ok-need _ (names class (s .table .sheet) && isClass (typeAt (s .table) (named class))) 7 _ λ c.
-      ok-need _ (isSheetRef (s .table) to) 7 _ λ _.
-      ok-need _ (ltb (length (s .places)) maxPlaces) 12 _ λ _. go c
+      ok-need _ (names subject (s .table .subjects)) unknownSubject _ λ _.
+      ok-need _ (names class (s .table .sheet) && isClass (typeAt (s .table) (named class))) unknownType _ λ c.
+      ok-need _ (isSheetRef (s .table) to) unknownType _ λ _.
+      ok-need _ (ltb (length (s .places)) maxPlaces) placesFull _ λ _. go c
     where
       t : Table
       t = s .table
@@ -237,9 +238,9 @@ module _ (s : System) (gs : List Page) (j : Joined s gs) where
   move-ok : (subject k receiver to : ℤ) → IfOk (moveRequest s subject k receiver to) (λ x. Entered (enter (bookOf s gs) (move subject k receiver to)) (x .0))
   unfolding moveRequest enter copyPage pageCrossAll
   move-ok subject k receiver to =
-      ok-need _ (names subject (s .table .subjects) && names receiver (s .table .subjects)) 5 _ λ _.
-      ok-need _ (held s subject k) 6 _ λ c.
-      ok-need _ (isSheetRef (s .table) to) 7 _ λ _.
+      ok-need _ (names subject (s .table .subjects) && names receiver (s .table .subjects)) unknownSubject _ λ _.
+      ok-need _ (held s subject k) notHeld _ λ c.
+      ok-need _ (isSheetRef (s .table) to) unknownType _ λ _.
       let l = held-in s subject k c in let g = getD gs (named k) noPage in let y = pageCross (s .table) g (named to) in
       ok-try (Flown (leaving s (named k)) y) _ (cross (leaving s (named k)) (named to) (named receiver)) _
       (cross-ok (leaving s (named k)) (j .good) g (j .track (named k) l) (named to) (named receiver)) λ f h.
@@ -266,18 +267,18 @@ module _ (x : System) (gs : List Page) (j : Joined x gs) (c : Call) (l : c .cell
 
 module _ (s : System) (gs : List Page) (j : Joined s gs) where
   -- a page's way is its cell's
-  way-same : (k : ℕ) → k < length (s .cells) → pageWay (getD gs k noPage) ≡ wayOf s (cellAt s k)
-  way-same k l = let g = getD gs k noPage in let tr = j .track k l in let u = tr .unwinds in
+  call-layers-same : (k : ℕ) → k < length (s .cells) → pageLayers (getD gs k noPage) ≡ callLayers s (cellAt s k)
+  call-layers-same k l = let g = getD gs k noPage in let tr = j .track k l in let u = tr .unwinds in
       rw (tr .last, layers-are (length (s .places)) (s .places) (cellAt s k .place) (g .class) (g .closed) (unwinds-in (s .places) (cellAt s k .place) (g .class) (g .closed) u) u)
 
   call-ok : (subject k m : ℤ) (vs : List ℤ) → IfOk (callRequest s subject k m vs) (λ x. Entered (enter (bookOf s gs) (call subject k m vs)) (x .0))
   unfolding callRequest enter
   call-ok subject k m vs =
-      ok-need _ (names subject (s .table .subjects)) 5 _ λ _.
-      ok-need _ (held s subject k) 6 _ λ h.
-      ok-need _ (names m (s .table .methods) && isAvail (methodAt (s .table) (cellAt s (named k) .type) (named m) .state)) 14 _ λ _.
-      ok-need _ (argumentsHeld s subject (methodAt (s .table) (cellAt s (named k) .type) (named m) .args) vs) 15 _ λ a.
-      ok-need _ (ltb (length (s .calls)) maxCalls) 18 _ λ _. go (held-in s subject k h) a
+      ok-need _ (names subject (s .table .subjects)) unknownSubject _ λ _.
+      ok-need _ (held s subject k) notHeld _ λ h.
+      ok-need _ (names m (s .table .methods) && isAvail (methodAt (s .table) (cellAt s (named k) .type) (named m) .state)) notCallable _ λ _.
+      ok-need _ (argumentsHeld s subject (methodAt (s .table) (cellAt s (named k) .type) (named m) .args) vs) wrongValues _ λ a.
+      ok-need _ (ltb (length (s .calls)) maxCalls) callsFull _ λ _. go (held-in s subject k h) a
     where
       t : Table
       t = s .table
@@ -288,8 +289,8 @@ module _ (s : System) (gs : List Page) (j : Joined s gs) where
       ty : ℕ
       ty = cellAt s (named k) .type
 
-      way : List ℕ
-      way = wayOf s (cellAt s (named k))
+      ls : List ℕ
+      ls = callLayers s (cellAt s (named k))
 
       r : ℕ
       r = baseOwner (s .places) (cellAt s (named k) .place)
@@ -305,16 +306,16 @@ module _ (s : System) (gs : List Page) (j : Joined s gs) where
 
       go : n < length (s .cells) → So (argumentsHeld s subject (methodAt t ty (named m) .args) vs)
           → IfOk {A = System × Result}
-          (try (sendArguments s r way (named m) 0 (methodAt t ty (named m) .args) vs) λ x. ok (withCall x c, pair (length (s .calls)) (adapterCount (s .places) (cellAt s (named k) .place))))
-          (λ x. Entered (addNote (copied (lastType g) (pageWay g)) (record { page = n; method = named m })) (x .0))
-      go l a = ok-try (Sent s (copied ty way)) _ (sendArguments s r way (named m) 0 (methodAt t ty (named m) .args) vs) _
-          (sendArguments-ok r way (named m) (methodAt t ty (named m) .args) vs 0 s gs j (j .good .sigs ty (named m) .0) (arguments-in s subject (methodAt t ty (named m) .args) vs a)) λ x d.
+          (try (sendArguments s r ls (named m) 0 (methodAt t ty (named m) .args) vs) λ x. ok (withCall x c, pair (length (s .calls)) (adapterCount (s .places) (cellAt s (named k) .place))))
+          (λ x. Entered (addNote (copied (lastType g) (pageLayers g)) (record { page = n; method = named m })) (x .0))
+      go l a = ok-try (Sent s (copied ty ls)) _ (sendArguments s r ls (named m) 0 (methodAt t ty (named m) .args) vs) _
+          (sendArguments-ok r ls (named m) (methodAt t ty (named m) .args) vs 0 s gs j (j .good .sigs ty (named m) .0) (arguments-in s subject (methodAt t ty (named m) .args) vs a)) λ x d.
           let i : n < length (x .cells) = omega (arith, d .more) in
           record {
             pages = d .pages;
             joined = call-joined x (d .pages) (d .joined) c i;
             book = ap (λ b. addNote b (record { page = n; method = named m }))
-                (subst (λ y. copied y (pageWay g) ≡ bookOf x (d .pages)) (sym (j .track n l .last)) (subst (λ w. copied ty w ≡ bookOf x (d .pages)) (sym (way-same n l)) (d .book)))
+                (subst (λ y. copied y (pageLayers g) ≡ bookOf x (d .pages)) (sym (j .track n l .last)) (subst (λ w. copied ty w ≡ bookOf x (d .pages)) (sym (call-layers-same n l)) (d .book)))
                 ∙ call-book x (d .pages) (d .joined) c i;
           }
 
@@ -353,22 +354,22 @@ module _ (s : System) (gs : List Page) (j : Joined s gs) where
       k = callAt s i .cell
 
       answers : List ℕ → List (Option ℕ)
-      answers way = reverse (map (answerAt (s .table) (callAt s i .method)) way)
+      answers ls = reverse (map (answerAt (s .table) (callAt s i .method)) ls)
 
       ts : List (Option ℕ)
-      ts = answers (wayOf s (cellAt s k))
+      ts = answers (callLayers s (cellAt s k))
 
       us : List (Option ℕ)
-      us = answers (pageWay (getD gs k noPage))
+      us = answers (pageLayers (getD gs k noPage))
 
       same : us ≡ ts
-      same = ap answers (way-same k (j .callsIn i l))
+      same = ap answers (call-layers-same k (j .callsIn i l))
 
       go : (b : Bool) → IfOk {A = System × Result} (elim b [
-        | true ↦ need (held s subject v) 15 λ _. try (send s (callAt s i .caller) (named v) ts) λ x. ok (withAnswer (x .0) i, x .1)
+        | true ↦ need (held s subject v) wrongValues λ _. try (send s (callAt s i .caller) (named v) ts) λ x. ok (withAnswer (x .0) i, x .1)
         | false ↦ try (passLayers true (s .table) v ts) λ _. ok (withAnswer s i, number v)
       ]) (λ x. Entered (elim b [ true ↦ copyPage (bookOf s gs) (named v) us | false ↦ bookOf s gs ]) (x .0))
-      go true = ok-need _ (held s subject v) 15 _ λ h.
+      go true = ok-need _ (held s subject v) wrongValues _ λ h.
           ok-try (λ x. Sent s (copyPage (bookOf s gs) (named v) ts) (x .0)) _ (send s (callAt s i .caller) (named v) ts) _
           (send-ok s gs j (callAt s i .caller) (named v) ts (held-in s subject v h)) λ x d.
           subst (λ y. Entered (copyPage (bookOf s gs) (named v) y) (withAnswer (x .0) i)) (sym same) (answer-entered (x .0) i (entered d))
@@ -377,9 +378,9 @@ module _ (s : System) (gs : List Page) (j : Joined s gs) where
   answer-ok : (subject i : ℤ) (v : Option ℤ) → IfOk (answerRequest s subject i v) (λ x. Entered (enter (bookOf s gs) (answer subject i v)) (x .0))
   unfolding answerRequest enter
   answer-ok subject i v =
-      ok-need _ (names subject (s .table .subjects)) 5 _ λ _.
-      ok-need _ (names i (length (s .calls)) && eqb (named subject) (baseOwner (s .places) (cellAt s (callAt s (named i) .cell) .place))) 6 _ λ h.
-      ok-need _ (not (callAt s (named i) .answered)) 17 _ λ _. go (names-below i _ (first (names i (length (s .calls))) _ h))
+      ok-need _ (names subject (s .table .subjects)) unknownSubject _ λ _.
+      ok-need _ (names i (length (s .calls)) && eqb (named subject) (baseOwner (s .places) (cellAt s (callAt s (named i) .cell) .place))) notHeld _ λ h.
+      ok-need _ (not (callAt s (named i) .answered)) answeredAlready _ λ _. go (names-below i _ (first (names i (length (s .calls))) _ h))
     where
       n : ℕ
       n = named i

@@ -11,7 +11,7 @@ use lib.Dec.{eqb, ltb, leb}
 use lib.ListN.{length, getD, List·getD-eq-default}
 use Rattle.spec_model.specs.Basics.{_⇒_, any, all, every, unlessMissing, AllBelow}
 use Rattle.spec_model.specs.Table.{Key, Method, Ty, Table, noMethod, noType, size, typeAt, methodAt, isRef, permit, maxArguments, maxTypes, between, countsFit, linksFit, standsIn, isNone, isNil}
-use Rattle.spec_model.specs.Table.{signatureFits, methodCount, keyFits, signatureBound, typeFits, tableFits}
+use Rattle.spec_model.specs.Table.{signatureFits, methodCount, keyFits, signatureBound, typeFits, tableFits, maxCategories}
 use Rattle.spec_model.specs.Relations.{reaches, broader, catLe}
 use Rattle.spec_model.proofs.Tests.{eqb-so, eqb-self, ltb-so, leb-so, so-ltb}
 use Rattle.spec_model.proofs.Rules.{never, both, first, second}
@@ -40,7 +40,7 @@ any-none f n [] i l h = never h
 any-none f n (x ∷ xs) i l h = absurd (omega (arith, i .0))
 
 -- links that fall: category k names only categories below k
-module _ (cs : List (List ℕ)) (falls : (k : ℕ) → AllBelow k (getD cs k [])) where
+module _ (cs : List (List ℕ)) (descends : (k : ℕ) → AllBelow k (getD cs k [])) where
   W : ℕ → ℕ → ℕ → Type 0
   W f a b = So (reaches f cs a b)
 
@@ -53,22 +53,22 @@ module _ (cs : List (List ℕ)) (falls : (k : ℕ) → AllBelow k (getD cs k [])
   unfolding W reaches
   far f a b h = or-right (eqb a 0) (or-right (eqb a b) h)
 
-  way-cases : {C : Type 0} (f a b : ℕ) → W (suc f) a b → (So (eqb a 0 || eqb a b) → C) → (So (any (λ c. reaches f cs a c) (getD cs b [])) → C) → C
+  reach-cases : {C : Type 0} (f a b : ℕ) → W (suc f) a b → (So (eqb a 0 || eqb a b) → C) → (So (any (λ c. reaches f cs a c) (getD cs b [])) → C) → C
   unfolding W reaches
-  way-cases f a b h u v = or-cases (eqb a 0) _ h (λ p. u (or-left (eqb a b) p)) (λ q. or-cases (eqb a b) _ q (λ p. u (or-right (eqb a 0) p)) v)
+  reach-cases f a b h u v = or-cases (eqb a 0) _ h (λ p. u (or-left (eqb a b) p)) (λ q. or-cases (eqb a b) _ q (λ p. u (or-right (eqb a 0) p)) v)
 
   -- as many steps as the number of the category are enough
   cut : (f g a b : ℕ) → b ≤ g → W f a b → W g a b
   unfolding W reaches
   cut zero g a b l h = near g a b h
-  cut (suc f) zero a b l h = way-cases f a b h (near zero a b) (λ k. any-none (λ c. reaches f cs a c) b (getD cs b []) (falls b) l k)
-  cut (suc f) (suc g) a b l h = way-cases f a b h (near (suc g) a b) (λ k. far g a b (any-in _ _ b (getD cs b []) (falls b) (λ c u. cut f g a c (omega arith)) k))
+  cut (suc f) zero a b l h = reach-cases f a b h (near zero a b) (λ k. any-none (λ c. reaches f cs a c) b (getD cs b []) (descends b) l k)
+  cut (suc f) (suc g) a b l h = reach-cases f a b h (near (suc g) a b) (λ k. far g a b (any-in _ _ b (getD cs b []) (descends b) (λ c u. cut f g a c (omega arith)) k))
 
   -- below none there is none
   zero-below : (a : ℕ) (f : ℕ) → W f a 0 → So (eqb a 0)
   unfolding W reaches
   zero-below a zero h = or-cases (eqb a 0) (eqb a 0) h (λ p. p) (λ p. p)
-  zero-below a (suc f) h = way-cases f a 0 h (λ h. or-cases (eqb a 0) (eqb a 0) h (λ p. p) (λ p. p)) (λ k. any-none (λ c. reaches f cs a c) 0 (getD cs 0 []) (falls 0) (omega arith) k)
+  zero-below a (suc f) h = reach-cases f a 0 h (λ h. or-cases (eqb a 0) (eqb a 0) h (λ p. p) (λ p. p)) (λ k. any-none (λ c. reaches f cs a c) 0 (getD cs 0 []) (descends 0) (omega arith) k)
 
   trans-near : (a b c : ℕ) → W b a b → So (eqb b 0 || eqb b c) → W c a c
   trans-near a b c h k = or-cases (eqb b 0) (eqb b c) k
@@ -78,9 +78,9 @@ module _ (cs : List (List ℕ)) (falls : (k : ℕ) → AllBelow k (getD cs k [])
   trans : (g a b c : ℕ) → W b a b → W g b c → W c a c
   unfolding W reaches
   trans zero a b c h k = trans-near a b c h k
-  trans (suc g) a b zero h k = way-cases g b zero k (trans-near a b zero h) (λ q. any-none (λ c. reaches g cs b c) 0 (getD cs 0 []) (falls 0) (omega arith) q)
-  trans (suc g) a b (suc c) h k = way-cases g b (suc c) k (trans-near a b (suc c) h)
-      (λ q. far c a (suc c) (any-in (λ d. reaches g cs b d) (λ d. reaches c cs a d) (suc c) (getD cs (suc c) []) (falls (suc c)) (λ d u p. cut d c a d (omega arith) (trans g a b d h p)) q))
+  trans (suc g) a b zero h k = reach-cases g b zero k (trans-near a b zero h) (λ q. any-none (λ c. reaches g cs b c) 0 (getD cs 0 []) (descends 0) (omega arith) q)
+  trans (suc g) a b (suc c) h k = reach-cases g b (suc c) k (trans-near a b (suc c) h)
+      (λ q. far c a (suc c) (any-in (λ d. reaches g cs b d) (λ d. reaches c cs a d) (suc c) (getD cs (suc c) []) (descends (suc c)) (λ d u p. cut d c a d (omega arith) (trans g a b d h p)) q))
 
   -- any fuel that is not below the number of categories will do
   enough : (n f a b : ℕ) → length cs ≤ n → W f a b → W n a b
@@ -88,14 +88,14 @@ module _ (cs : List (List ℕ)) (falls : (k : ℕ) → AllBelow k (getD cs k [])
     where
       go : Dec (n < b) → (f : ℕ) → W f a b → W n a b
       go (yes u) zero h = near n a b (unfold W reaches in h)
-      go (yes u) (suc f) h = way-cases f a b h (near n a b) (λ k. never (rw (List·getD-eq-default cs [] {n = b} (omega arith)) at k))
+      go (yes u) (suc f) h = reach-cases f a b h (near n a b) (λ k. never (rw (List·getD-eq-default cs [] {n = b} (omega arith)) at k))
       go (no u) f h = cut f n a b (omega arith) h
 
-category-order : (t : Table) → ((k : ℕ) → AllBelow k (getD (broader t) k [])) → length (broader t) ≤ 32 → CategoryOrder t
+category-order : (t : Table) → ((k : ℕ) → AllBelow k (getD (broader t) k [])) → length (broader t) ≤ suc maxCategories → CategoryOrder t
 unfolding W catLe
-category-order t falls l = let cs = broader t in record {
-  self = λ a. near cs falls 32 a a (or-right (eqb a 0) (eqb-self a));
-  through = λ a b c h k. enough cs falls 32 c a c l (trans cs falls 32 a b c (cut cs falls 32 b a b (omega arith) h) k);
+category-order t descends l = let cs = broader t in record {
+  self = λ a. near cs descends (suc maxCategories) a a (or-right (eqb a 0) (eqb-self a));
+  through = λ a b c h k. enough cs descends (suc maxCategories) c a c l (trans cs descends (suc maxCategories) a b c (cut cs descends (suc maxCategories) b a b (omega arith) h) k);
 }
 
 -- ---- tests over lists
@@ -218,9 +218,9 @@ pub record TableFitting (t : Table) : Type 0 where
   pub types : (i : ℕ) → i < size t → TypeFitting t i (typeAt t i)
   pub links : So (every linksFit 1 (t .cats))
 
-falls-of : (cs : List (List ℕ)) → So (every linksFit 1 cs) → (k : ℕ) → AllBelow k (getD ([] ∷ cs) k [])
-falls-of cs h zero = tt
-falls-of cs h (suc k) = go (decLt k (length cs))
+descends-of : (cs : List (List ℕ)) → So (every linksFit 1 cs) → (k : ℕ) → AllBelow k (getD ([] ∷ cs) k [])
+descends-of cs h zero = tt
+descends-of cs h (suc k) = go (decLt k (length cs))
   where
     go : Dec (k < length cs) → AllBelow (suc k) (getD cs k [])
     go (yes l) = all-below (suc k) (getD cs k []) (second (between 1 2 (length (getD cs k []))) _ (subst (λ n. So (linksFit n (getD cs k []))) (omega arith) (every-at linksFit [] 1 cs h k l)))
@@ -236,7 +236,7 @@ table-fitting t h =
       sheet = k .sheet;
       room = k .types;
       links = first (every linksFit 1 (t .cats)) _ r;
-      cats = category-order t (falls-of (t .cats) (first (every linksFit 1 (t .cats)) _ r)) (omega (arith, k .cats));
+      cats = category-order t (descends-of (t .cats) (first (every linksFit 1 (t .cats)) _ r)) (omega (arith, k .cats));
       types = λ i l.
           type-fitting t i (typeAt t i) (subst (λ n. So (typeFits t n (typeAt t i))) (omega arith) (every-at (typeFits t) noType 0 (t .types) (second (every linksFit 1 (t .cats)) _ r) i l));
     }

@@ -8,7 +8,7 @@ use native.Mathlib.Omega.{arith}
 use lib.Dec.{ltb}
 use lib.ListN.{set, length-append}
 use Rattle.spec_model.specs.Basics.{then}
-use Rattle.spec_model.specs.Table.{Kind, Method, Table, size, typeAt, permit, withTypes, signed, bare}
+use Rattle.spec_model.specs.Table.{Kind, Method, Table, size, typeAt, permit, withTypes, signed, bare, maxTypes}
 use Rattle.spec_model.specs.Restriction.{restricted, argKind, answerKind, withoutNew, entry, pending, Derivation, deriveArgs, deriveAnswer, deriveMethod, deriveMethods, make, derive}
 use Rattle.spec_model.proofs.Tests.{ltb-so}
 use Rattle.law_model.proofs.Deriving.{IfSome, Keeping, Larger, larger-once, larger-onward, larger-new, args-kept, method-kept, derive-larger}
@@ -72,21 +72,21 @@ make-agree f g grows t same d l r =
     (λ _. Option (Table × ℕ)) [
       | some i ↦ some (t, i)
       | none ↦ elim
-          (ltb (size t) 128) [ false ↦ none | true ↦ then m λ p. some (withTypes (p .0) (set (p .0 .types) (size t) (entry t d l r (p .1))), size t) ]
+          (ltb (size t) maxTypes) [ false ↦ none | true ↦ then m λ p. some (withTypes (p .0) (set (p .0 .types) (size t) (entry t d l r (p .1))), size t) ]
     ])
     (methods-agree (suc (size t)) f g grows same d (typeAt t l .methods) (typeAt t r .methods) _ (omega (arith, length-append (t .types) (pending t d l r ∷ []))))
 
-full : (f : Derivation) (t : Table) (d : Kind) (l r : ℕ) → 128 ≤ size t → derive zero t d l r ≡ make f t d l r
+full : (f : Derivation) (t : Table) (d : Kind) (l r : ℕ) → maxTypes ≤ size t → derive zero t d l r ≡ make f t d l r
 unfolding derive make
-full f t d l r h = go (ltb (size t) 128) refl _
+full f t d l r h = go (ltb (size t) maxTypes) refl _
   where
-    go : (b : Bool) → ltb (size t) 128 ≡ b → (m : Option (Table × ℕ)) → _≡_ {A = Option (Table × ℕ)} (elim (withoutNew t d l r) [ some i ↦ some (t, i) | none ↦ none ])
+    go : (b : Bool) → ltb (size t) maxTypes ≡ b → (m : Option (Table × ℕ)) → _≡_ {A = Option (Table × ℕ)} (elim (withoutNew t d l r) [ some i ↦ some (t, i) | none ↦ none ])
         (elim (withoutNew t d l r) [ some i ↦ some (t, i) | none ↦ elim b [ false ↦ none | true ↦ m ] ])
-    go true e m = let p : size t < 128 = ltb-so e in absurd (omega arith)
+    go true e m = let p : size t < maxTypes = ltb-so e in absurd (omega arith)
     go false e m = refl
 
 -- 128 is enough (D18): any two amounts that cover the free type numbers give the same
-pub derive-fuel : (f g : ℕ) (t : Table) (d : Kind) (l r : ℕ) → 128 ≤ f + size t → 128 ≤ g + size t → derive f t d l r ≡ derive g t d l r
+pub derive-fuel : (f g : ℕ) (t : Table) (d : Kind) (l r : ℕ) → maxTypes ≤ f + size t → maxTypes ≤ g + size t → derive f t d l r ≡ derive g t d l r
 unfolding derive
 derive-fuel zero zero t d l r p q = refl
 derive-fuel zero (suc g) t d l r p q = full (derive g) t d l r (omega arith)
@@ -94,6 +94,6 @@ derive-fuel (suc f) zero t d l r p q = sym (full (derive f) t d l r (omega arith
 derive-fuel (suc f) (suc g) t d l r p q = make-agree (derive f) (derive g) (derive-larger f) t (λ u e a b h. derive-fuel f g u e a b (omega arith) (omega arith)) d l r
 
 -- the equation that a function meets which calls itself
-pub derive-self : (t : Table) (d : Kind) (l r : ℕ) → derive 128 t d l r ≡ make (derive 128) t d l r
+pub derive-self : (t : Table) (d : Kind) (l r : ℕ) → derive maxTypes t d l r ≡ make (derive maxTypes) t d l r
 unfolding derive
-derive-self t d l r = make-agree (derive 127) (derive 128) (derive-larger 127) t (λ u e a b h. derive-fuel 127 128 u e a b (omega arith) (omega arith)) d l r
+derive-self t d l r = make-agree (derive 127) (derive maxTypes) (derive-larger 127) t (λ u e a b h. derive-fuel 127 maxTypes u e a b (omega arith) (omega arith)) d l r

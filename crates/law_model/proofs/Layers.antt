@@ -15,12 +15,13 @@ use Rattle.spec_model.specs.Table.{Rep, ref, w32, w64, Kind, sub, closed, Table
 use Rattle.spec_model.specs.Relations.{conforms, strict, loose, free, subtype, related}
 use Rattle.spec_model.specs.Restriction.{derive, derived}
 use Rattle.spec_model.specs.Crossing.{Place, adapter, maxPlaces, placeType, placeAt, baseOf, baseOwner, Reference, adapt, cross}
-use Rattle.spec_model.specs.Requests.{System, maxCells, maxCalls, Result, number, cellAt, callAt, held, leaving, addCell, wayOf, atLayer, renumber}
+use Rattle.spec_model.specs.Requests.{System, maxCells, maxCalls, Result, number, cellAt, callAt, held, leaving, addCell, callLayers, atLayer, renumber}
 use Rattle.spec_model.specs.Requests.{crossLayers, within, passLayers, send, argumentsHeld, sendArguments, callRequest, withAnswer, give, answerRequest}
 use Rattle.spec_model.specs.Check.{systemFits}
 use Rattle.spec_model.proofs.Rules.{never}
 use Rattle.spec_model.proofs.Derived.{AnswerBelow, SignaturesIn}
 use Rattle.spec_model.proofs.Growth.{Grown, grown-refl, grown-trans, method-same}
+use Rattle.spec_model.specs.Refusals.{unrelated, notOwner, notStrict, typesFull, placesFull, wrongValues, tooWide}
 use Rattle.law_model.proofs.Unowned.{AllUnowned, AnswerUnowned, UnownedSignatures}
 use Rattle.law_model.proofs.Deriving.{IfSome, derive-grown}
 use Rattle.law_model.proofs.Demand3.{held-in}
@@ -44,7 +45,7 @@ no-map : {A : Type 0} (P Q : A → Type 0) → ((a : A) → P a → Q a) → (m 
 no-map P Q f (refuse e) h = h
 no-map P Q f (ok a) h = f a h
 
-not-nine : {A : Type 0} (Q : A → Type 0) (m : Res A) → NoNine m Q → m ≢ refuse 9
+not-nine : {A : Type 0} (Q : A → Type 0) (m : Res A) → NoNine m Q → m ≢ refuse notOwner
 not-nine Q m h e = never (sym (subst (λ x. NoNine x Q) e h))
 
 -- a number at a layer is 9 only where it was
@@ -68,7 +69,7 @@ derived-no : (t : Table) (d : Kind) (l r : ℕ) → NoNine (derived t d l r) (λ
 unfolding derived
 derived-no t d l r = go (derive maxTypes t d l r) (derive-grown maxTypes t d l r)
   where
-    go : (o : Option (Table × ℕ)) → IfSome o (λ x. Grown t (x .0)) → NoNine {A = Table × ℕ} (elim o [ none ↦ refuse 11 | some p ↦ ok p ]) (λ x. Grown t (x .0))
+    go : (o : Option (Table × ℕ)) → IfSome o (λ x. Grown t (x .0)) → NoNine {A = Table × ℕ} (elim o [ none ↦ refuse typesFull | some p ↦ ok p ]) (λ x. Grown t (x .0))
     go none h = refl
     go (some p) h = h
 
@@ -81,7 +82,7 @@ adapt-no t ps to r p = go (related conforms t r v)
 
     go : (b : Bool) → NoNine (elim b [
       | true ↦ ok (record { table = t; places = ps; type = to; place = p })
-      | false ↦ need (related strict t r v) 10 λ _. try (derived t closed r v) λ x. need (ltb (length ps) maxPlaces) 12 λ _.
+      | false ↦ need (related strict t r v) notStrict λ _. try (derived t closed r v) λ x. need (ltb (length ps) maxPlaces) placesFull λ _.
           ok (record { table = x .0; places = ps ++ (adapter p (x .1) ∷ []); type = to; place = length ps })
     ]) (Onto t)
     go true = grown-refl t
@@ -99,8 +100,8 @@ cross-no f to r e = go (typeAt t to .own) e (related subtype t to (f .type))
     ps = f .places
 
     go : (own : Bool) → own ≡ false → (st : Bool) → NoNine (elim own [
-      | true ↦ need (related free t to (f .type)) 8 λ _. need (eqb r (baseOwner ps (f .place))) 9 λ _. adapt t ps to to (baseOf ps (f .place))
-      | false ↦ need (related loose t to (f .type)) 8 λ _. elim st [
+      | true ↦ need (related free t to (f .type)) unrelated λ _. need (eqb r (baseOwner ps (f .place))) notOwner λ _. adapt t ps to to (baseOf ps (f .place))
+      | false ↦ need (related loose t to (f .type)) unrelated λ _. elim st [
         | true ↦ ok (record { table = t; places = ps; type = to; place = f .place })
         | false ↦ try (derived t sub to (f .type)) λ x. adapt (x .0) ps to (x .1) (f .place)
       ]
@@ -147,7 +148,7 @@ pass-no (some a ∷ ts) b t v = go (typeAt t a .rep) (pass-no ts false t v)
   where
     go : (x : Rep) → NoNine (passLayers false t v ts) (λ _. Unit {0}) → NoNine {A = Unit {0}} (elim x [
       | ref ↦ refuse (atLayer b 8)
-      | w32 ↦ need (within 2147483648 v) 16 λ _. passLayers false t v ts
+      | w32 ↦ need (within 2147483648 v) tooWide λ _. passLayers false t v ts
       | w64 ↦ passLayers false t v ts
     ]) (λ _. Unit {0})
     go ref ih = at-no b 8 refl
@@ -169,32 +170,32 @@ answer-stands t none b u = tt
 answer-stands t (some a) b u = (b, u)
 
 module _ (t : Table) (sigs : SignaturesIn t) (plain : UnownedSignatures t) (m : ℕ) where
-  arguments-stand : (u : Table) → Grown t u → (i : ℕ) (way : List ℕ) → AllBelow (size t) way → AllStand u (map (argumentAt u m i) way)
+  arguments-stand : (u : Table) → Grown t u → (i : ℕ) (ls : List ℕ) → AllBelow (size t) ls → AllStand u (map (argumentAt u m i) ls)
   arguments-stand u g i [] l = tt
   arguments-stand u g i (x ∷ xs) l = (
     rw (method-same t u g x m (l .0)) (stands-grow g (getElem? (methodAt t x m .args) i) (at-stands t (methodAt t x m .args) i (sigs x m .0) (plain x m .0))),
     arguments-stand u g i xs (l .1),
   )
 
-  answers-stand : (way : List ℕ) → AllStand t (map (answerAt t m) way)
+  answers-stand : (ls : List ℕ) → AllStand t (map (answerAt t m) ls)
   answers-stand [] = tt
   answers-stand (x ∷ xs) = (answer-stands t (methodAt t x m .answer) (sigs x m .1) (plain x m .1), answers-stand xs)
 
-  arguments-no : (r : ℕ) (way : List ℕ) → AllBelow (size t) way → (xs : List ℕ) (vs : List ℤ) (i : ℕ) (s : System) → Grown t (s .table)
-      → NoNine (sendArguments s r way m i xs vs) (λ _. Unit {0})
+  arguments-no : (r : ℕ) (ls : List ℕ) → AllBelow (size t) ls → (xs : List ℕ) (vs : List ℤ) (i : ℕ) (s : System) → Grown t (s .table)
+      → NoNine (sendArguments s r ls m i xs vs) (λ _. Unit {0})
   unfolding sendArguments
-  arguments-no r way l [] vs i s g = tt
-  arguments-no r way l (a ∷ xs) [] i s g = tt
-  arguments-no r way l (a ∷ xs) (v ∷ vs) i s g = go (isRef (typeAt (s .table) a .rep)) (arguments-no r way l xs vs (suc i))
+  arguments-no r ls l [] vs i s g = tt
+  arguments-no r ls l (a ∷ xs) [] i s g = tt
+  arguments-no r ls l (a ∷ xs) (v ∷ vs) i s g = go (isRef (typeAt (s .table) a .rep)) (arguments-no r ls l xs vs (suc i))
     where
       ts : List (Option ℕ)
-      ts = map (argumentAt (s .table) m i) way
+      ts = map (argumentAt (s .table) m i) ls
 
-      go : (b : Bool) → ((u : System) → Grown t (u .table) → NoNine (sendArguments u r way m (suc i) xs vs) (λ _. Unit {0})) → NoNine {A = System} (elim b [
-        | true ↦ try (send s r (named v) ts) λ x. sendArguments (x .0) r way m (suc i) xs vs
-        | false ↦ try (passLayers true (s .table) v ts) λ _. sendArguments s r way m (suc i) xs vs
+      go : (b : Bool) → ((u : System) → Grown t (u .table) → NoNine (sendArguments u r ls m (suc i) xs vs) (λ _. Unit {0})) → NoNine {A = System} (elim b [
+        | true ↦ try (send s r (named v) ts) λ x. sendArguments (x .0) r ls m (suc i) xs vs
+        | false ↦ try (passLayers true (s .table) v ts) λ _. sendArguments s r ls m (suc i) xs vs
       ]) (λ _. Unit {0})
-      go true ih = no-try _ _ (send s r (named v) ts) _ (send-no s r (named v) ts (arguments-stand (s .table) g i way l)) λ x w. ih (x .0) (grown-trans g w)
+      go true ih = no-try _ _ (send s r (named v) ts) _ (send-no s r (named v) ts (arguments-stand (s .table) g i ls l)) λ x w. ih (x .0) (grown-trans g w)
       go false ih = no-try _ _ (passLayers true (s .table) v ts) _ (pass-no ts true (s .table) v) λ _ _. ih s g
 
 -- ---- a state that passes the check: the types on a value's way are in its table
@@ -205,11 +206,11 @@ module _ (s : System) (fits : So (systemFits s)) where
   t : TableFitting (s .table)
   t = table-fitting (s .table) (f .table)
 
-  way-in : (k : ℕ) → k < length (s .cells) → AllBelow (size (s .table)) (wayOf s (cellAt s k))
-  way-in k l = let c = fits-bounded s fits .cells k l in (omega (arith, c .sheet, t .sheet), bounded-layers s (fits-bounded s fits) (length (s .places)) (cellAt s k .place) (c .place))
+  call-layers-in : (k : ℕ) → k < length (s .cells) → AllBelow (size (s .table)) (callLayers s (cellAt s k))
+  call-layers-in k l = let c = fits-bounded s fits .cells k l in (omega (arith, c .sheet, t .sheet), bounded-layers s (fits-bounded s fits) (length (s .places)) (cellAt s k .place) (c .place))
 
   -- C13, of a call and of an answer
-  pub call-not-nine : (subject k m : ℤ) (vs : List ℤ) → callRequest s subject k m vs ≢ refuse 9
+  pub call-not-nine : (subject k m : ℤ) (vs : List ℤ) → callRequest s subject k m vs ≢ refuse notOwner
   unfolding callRequest
   call-not-nine subject k m vs = not-nine (λ _. Unit {0}) (callRequest s subject k m vs) (
       no-need _ (names subject (s .table .subjects)) 5 _ refl λ _.
@@ -219,9 +220,9 @@ module _ (s : System) (fits : So (systemFits s)) where
       let xs = methodAt (s .table) (c .type) (named m) .args in
       no-need _ (argumentsHeld s subject xs vs) 15 _ refl λ _.
       no-need _ (ltb (length (s .calls)) maxCalls) 18 _ refl λ _.
-      no-try (λ _. Unit {0}) _ (sendArguments s (baseOwner (s .places) (c .place)) (wayOf s c) (named m) 0 xs vs) _
-      (arguments-no (s .table) (fitting-sigs (s .table) t) (fitting-unowned (s .table) t) (named m) (baseOwner (s .places) (c .place)) (wayOf s c)
-      (way-in (named k) (held-in s subject k h)) xs vs 0 s (grown-refl (s .table)))
+      no-try (λ _. Unit {0}) _ (sendArguments s (baseOwner (s .places) (c .place)) (callLayers s c) (named m) 0 xs vs) _
+      (arguments-no (s .table) (fitting-sigs (s .table) t) (fitting-unowned (s .table) t) (named m) (baseOwner (s .places) (c .place)) (callLayers s c)
+      (call-layers-in (named k) (held-in s subject k h)) xs vs 0 s (grown-refl (s .table)))
       λ x _. tt)
 
   give-no : (subject : ℤ) (j : ℕ) (due : Option ℕ) (v : Option ℤ) → NoNine (give s subject j due v) (λ _. Unit {0})
@@ -231,26 +232,26 @@ module _ (s : System) (fits : So (systemFits s)) where
   give-no subject j (some a) none = refl
   give-no subject j (some a) (some v) = go (isRef (typeAt (s .table) a .rep))
     where
-      way : List ℕ
-      way = wayOf s (cellAt s (callAt s j .cell))
+      ls : List ℕ
+      ls = callLayers s (cellAt s (callAt s j .cell))
 
       m : ℕ
       m = callAt s j .method
 
       ts : List (Option ℕ)
-      ts = reverse (map (answerAt (s .table) m) way)
+      ts = reverse (map (answerAt (s .table) m) ls)
 
       stand : AllStand (s .table) ts
-      stand = reversed (s .table) (map (answerAt (s .table) m) way) [] (answers-stand (s .table) (fitting-sigs (s .table) t) (fitting-unowned (s .table) t) m way) tt
+      stand = reversed (s .table) (map (answerAt (s .table) m) ls) [] (answers-stand (s .table) (fitting-sigs (s .table) t) (fitting-unowned (s .table) t) m ls) tt
 
       go : (b : Bool) → NoNine {A = System × Result} (elim b [
-        | true ↦ need (held s subject v) 15 λ _. try (send s (callAt s j .caller) (named v) ts) λ x. ok (withAnswer (x .0) j, x .1)
+        | true ↦ need (held s subject v) wrongValues λ _. try (send s (callAt s j .caller) (named v) ts) λ x. ok (withAnswer (x .0) j, x .1)
         | false ↦ try (passLayers true (s .table) v ts) λ _. ok (withAnswer s j, number v)
       ]) (λ _. Unit {0})
       go true = no-need _ (held s subject v) 15 _ refl λ _. no-try _ _ (send s (callAt s j .caller) (named v) ts) _ (send-no s (callAt s j .caller) (named v) ts stand) λ x _. tt
       go false = no-try _ _ (passLayers true (s .table) v ts) _ (pass-no ts true (s .table) v) λ _ _. tt
 
-  pub answer-not-nine : (subject j : ℤ) (v : Option ℤ) → answerRequest s subject j v ≢ refuse 9
+  pub answer-not-nine : (subject j : ℤ) (v : Option ℤ) → answerRequest s subject j v ≢ refuse notOwner
   unfolding answerRequest
   answer-not-nine subject j v = not-nine (λ _. Unit {0}) (answerRequest s subject j v) (
       no-need _ (names subject (s .table .subjects)) 5 _ refl λ _.

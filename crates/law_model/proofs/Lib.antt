@@ -1,5 +1,6 @@
 pub mod CasesAnswers
 pub mod CasesRefused
+pub mod CasesFour
 pub mod Unowned
 pub mod Deriving
 pub mod Completes

@@ -27,6 +27,7 @@ use Rattle.spec_model.proofs.Tests.{ltb-so, so-ltb, ltb-no}
 use Rattle.spec_model.proofs.Rules.{both, first, second}
 use Rattle.spec_model.proofs.Lists.{length-from, from-first, is-from, from-same, all-from, every-from, first-all}
 use Rattle.spec_model.proofs.Growth.{Grown, grown-refl, grown-trans}
+use Rattle.spec_model.specs.Refusals.{outOfRange}
 use Rattle.law_model.proofs.Deriving.{IfSome}
 use Rattle.law_model.proofs.Completes.{Inv, Got, Fresh}
 use Rattle.law_model.proofs.Good.{Sound, counted-of, sheet-within, derive-inv, derive-sound}
@@ -188,7 +189,7 @@ request-added r h q = request-adds (systemOf r) (accepted-codes r h .2) q
 
 pub handed-is : (r : RawSystem) → So (systemAccepted r) → (q : Request) → serveHanded r q ≡ handBack r (serve (systemOf r) q)
 unfolding serveHanded
-handed-is r h q = ap (λ b. handBack r (need b 2 λ _. serve (systemOf r) q)) h
+handed-is r h q = ap (λ b. handBack r (need b outOfRange λ _. serve (systemOf r) q)) h
 
 pub accept : (r : RawSystem) → So (codesFit (r .table)) → So (stateCodesFit r) → So (systemFits (systemOf r)) → So (systemAccepted r)
 unfolding systemAccepted
@@ -266,7 +267,7 @@ returned-before r q = go (systemAccepted r) refl
     last h (refuse n) w = before-self r
     last h (ok x) w = stored-before r h (x .0) w
 
-    go : (b : Bool) → systemAccepted r ≡ b → Before r (handBack r (need b 2 λ _. serve (systemOf r) q) .state)
+    go : (b : Bool) → systemAccepted r ≡ b → Before r (handBack r (need b outOfRange λ _. serve (systemOf r) q) .state)
     go true e = last e (serve (systemOf r) q) (serve-onward (systemOf r) q)
     go false e = before-self r
 
@@ -283,7 +284,7 @@ stored-counted r s = rw (
 
 pub definition-returns : (r : RawSystem) (q : Request) → Returns r q (serveHanded r q .outcome) (serveHanded r q .state)
 unfolding serveHanded
-definition-returns r q = record { outcome = refl; records = refl; untouched = go (need (systemAccepted r) 2 λ _. serve (systemOf r) q) }
+definition-returns r q = record { outcome = refl; records = refl; untouched = go (need (systemAccepted r) outOfRange λ _. serve (systemOf r) q) }
   where
     go : (m : Res (System × Result)) (n : ℕ) → handBack r m .outcome ≡ refused n → handBack r m .state ≡ r
     go (refuse e) n p = refl

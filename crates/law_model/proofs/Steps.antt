@@ -7,7 +7,7 @@ use mathlib.Core.Option.{Option, none, some}
 use Prim.Native.Nat.{ℕ, _<_}
 use native.Mathlib.Omega.{arith}
 use Rattle.spec_model.specs.Basics.{_⇒_, Res, refuse, ok, try, need}
-use Rattle.spec_model.specs.Table.{Kind, sub, closed, Method, Table, size, typeAt, methodAt, permit, isAvail}
+use Rattle.spec_model.specs.Table.{Kind, sub, closed, Method, Table, size, typeAt, methodAt, permit, isAvail, maxTypes}
 use Rattle.spec_model.specs.Relations.{subtype, conforms, strict, loose, free, related}
 use Rattle.spec_model.specs.Restriction.{restricted, derive, derived}
 use Rattle.spec_model.specs.Chains.{Permits}
@@ -17,6 +17,7 @@ use Rattle.spec_model.proofs.Derived.{Known, itself, ofNumber, made, DerivedMet
 use Rattle.spec_model.proofs.Order.{subtype→conforms, strict→loose, loose→free, conforms-trans, sub-le, closed-le}
 use Rattle.spec_model.proofs.ChainLaws.{meet, meet-closed, permits-between}
 use Rattle.spec_model.proofs.Growth.{Grown, grown-refl, grown-trans, method-same, related-grow}
+use Rattle.spec_model.specs.Refusals.{unrelated, notOwner, notStrict, typesFull}
 use Rattle.law_model.proofs.Deriving.{IfSome}
 use Rattle.law_model.proofs.Completes.{grown-keys, known-keys}
 use Rattle.law_model.proofs.Good.{Good, Derived, derive-good}
@@ -46,7 +47,7 @@ unfoldable pub finish : Table → ℕ → ℕ → Res (Table × Option ℕ)
 unfolding related derived
 finish t r v = elim (related conforms t r v) [
   | true ↦ ok (t, none)
-  | false ↦ need (related strict t r v) 10 λ _. try (derived t closed r v) λ p. ok (p .0, some (p .1))
+  | false ↦ need (related strict t r v) notStrict λ _. try (derived t closed r v) λ p. ok (p .0, some (p .1))
 ]
 
 -- The whole: s and to are the types crossed, v the place's type, c the base's class, which the receiver owns or not
@@ -58,8 +59,8 @@ pub record Crossed : Type 0 where
 unfoldable pub typed : Table → ℕ → ℕ → ℕ → ℕ → Bool → Res Crossed
 unfolding related derived finish
 typed t s to v c owns = elim (typeAt t to .own) [
-  | true ↦ need (related free t to s) 8 λ _. need owns 9 λ _. try (finish t to c) λ p. ok (record { table = p .0; unwraps = true; adapter = p .1 })
-  | false ↦ need (related loose t to s) 8 λ _. elim (related subtype t to s) [
+  | true ↦ need (related free t to s) unrelated λ _. need owns notOwner λ _. try (finish t to c) λ p. ok (record { table = p .0; unwraps = true; adapter = p .1 })
+  | false ↦ need (related loose t to s) unrelated λ _. elim (related subtype t to s) [
     | true ↦ ok (record { table = t; unwraps = false; adapter = none })
     | false ↦ try (derived t sub to s) λ p. try (finish (p .0) (p .1) v) λ q. ok (record { table = q .0; unwraps = false; adapter = q .1 })
   ]
@@ -83,9 +84,9 @@ closed-settled t c l r i (made u e) m = go (methodAt t l m) (methodAt t r m) (me
 
 derived-ok : (t : Table) → Good t → (d : Kind) (l r : ℕ) → So (related free t l r) → IfOk (derived t d l r) (Derived t d l r)
 unfolding derived
-derived-ok t g d l r h = go (derive 128 t d l r) (derive-good t g 128 d l r h)
+derived-ok t g d l r h = go (derive maxTypes t d l r) (derive-good t g maxTypes d l r h)
   where
-    go : (o : Option (Table × ℕ)) → IfSome o (Derived t d l r) → IfOk (elim o [ none ↦ refuse 11 | some p ↦ ok p ]) (Derived t d l r)
+    go : (o : Option (Table × ℕ)) → IfSome o (Derived t d l r) → IfOk (elim o [ none ↦ refuse typesFull | some p ↦ ok p ]) (Derived t d l r)
     go none k = tt
     go (some p) k = k
 
@@ -107,10 +108,10 @@ finish-ok t g r v l s = go (related conforms t r v) refl
   where
     go : (b : Bool) → related conforms t r v ≡ b → IfOk (elim b [
       | true ↦ ok (t, none)
-      | false ↦ need (related strict t r v) 10 λ _. try (derived t closed r v) λ p. ok (p .0, some (p .1))
+      | false ↦ need (related strict t r v) notStrict λ _. try (derived t closed r v) λ p. ok (p .0, some (p .1))
     ]) (Finished t r v)
     go true e = record { good = g; grow = grown-refl t; inside = l; below = e; settled = s; chains = λ w. (λ h. h, λ h. h) }
-    go false e = ok-need (Finished t r v) (related strict t r v) 10 (λ _. try (derived t closed r v) λ p. ok (p .0, some (p .1))) λ h.
+    go false e = ok-need (Finished t r v) (related strict t r v) notStrict (λ _. try (derived t closed r v) λ p. ok (p .0, some (p .1))) λ h.
         let f = loose→free t r v (strict→loose t r v h) in
         ok-try (Derived t closed r v) (Finished t r v) (derived t closed r v) (λ p. ok (p .0, some (p .1))) (derived-ok t g closed r v f) λ p d.
         let u = p .0 in let c = d .good in
@@ -186,14 +187,14 @@ module _ (t : Table) (good : Good t) (s g v c : ℕ) (vIn : v < size t) (cIn : c
   typed-ok owns = go (typeAt t g .own) (related subtype t g s) refl
     where
       go : (b d : Bool) → related subtype t g s ≡ d → IfOk (elim b [
-        | true ↦ need (related free t g s) 8 λ _. need owns 9 λ _. try (finish t g c) λ p. ok (record { table = p .0; unwraps = true; adapter = p .1 })
-        | false ↦ need (related loose t g s) 8 λ _. elim d [
+        | true ↦ need (related free t g s) unrelated λ _. need owns notOwner λ _. try (finish t g c) λ p. ok (record { table = p .0; unwraps = true; adapter = p .1 })
+        | false ↦ need (related loose t g s) unrelated λ _. elim d [
           | true ↦ ok (record { table = t; unwraps = false; adapter = none })
           | false ↦ try (derived t sub g s) λ p. try (finish (p .0) (p .1) v) λ q. ok (record { table = q .0; unwraps = false; adapter = q .1 })
         ]
       ]) (Passed t s g v c)
-      go true d e = ok-need (Passed t s g v c) (related free t g s) 8 (λ _. need owns 9 λ _. try (finish t g c) λ p. ok (record { table = p .0; unwraps = true; adapter = p .1 })) λ h.
-          ok-need (Passed t s g v c) owns 9 (λ _. try (finish t g c) λ p. ok (record { table = p .0; unwraps = true; adapter = p .1 })) λ k. own-ok
-      go false true e = ok-need (Passed t s g v c) (related loose t g s) 8 (λ _. ok (record { table = t; unwraps = false; adapter = none })) λ h. pass-ok e
-      go false false e = ok-need (Passed t s g v c) (related loose t g s) 8
+      go true d e = ok-need (Passed t s g v c) (related free t g s) unrelated (λ _. need owns notOwner λ _. try (finish t g c) λ p. ok (record { table = p .0; unwraps = true; adapter = p .1 })) λ h.
+          ok-need (Passed t s g v c) owns notOwner (λ _. try (finish t g c) λ p. ok (record { table = p .0; unwraps = true; adapter = p .1 })) λ k. own-ok
+      go false true e = ok-need (Passed t s g v c) (related loose t g s) unrelated (λ _. ok (record { table = t; unwraps = false; adapter = none })) λ h. pass-ok e
+      go false false e = ok-need (Passed t s g v c) (related loose t g s) unrelated
           (λ _. try (derived t sub g s) λ p. try (finish (p .0) (p .1) v) λ q. ok (record { table = q .0; unwraps = false; adapter = q .1 })) λ h. sub-ok h

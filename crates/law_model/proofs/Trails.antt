@@ -21,6 +21,7 @@ use Rattle.spec_model.specs.Book.{Page, lastOr, lastType, lastClosed, emptyPage
 use Rattle.spec_model.proofs.Largest.{keeps-related}
 use Rattle.spec_model.proofs.Lists.{Prefix, prefix-refl, prefix-trans, prefix-add}
 use Rattle.spec_model.proofs.Growth.{Grown, grown-refl, grown-trans, related-grow, permits-grow}
+use Rattle.spec_model.specs.Refusals.{unrelated, notOwner, notStrict, typesFull, placesFull}
 use Rattle.law_model.proofs.Completes.{all-below-more}
 use Rattle.law_model.proofs.Good.{Good}
 use Rattle.law_model.proofs.Steps.{IfOk, ok-try, ok-map, ok-need, finish, Crossed, typed, typed-ok, Settled, settled-grow, orElse, Before, Passed}
@@ -111,7 +112,7 @@ track-grow f u x good qs e g k =
 unfoldable pub land : List Place → ℕ → ℕ → ℕ → Crossed → Res Reference
 land ps to p b x = elim (x .adapter) [
   | none ↦ ok (record { table = x .table; places = ps; type = to; place = cond (x .unwraps) b p })
-  | some c ↦ need (ltb (length ps) maxPlaces) 12 λ _.
+  | some c ↦ need (ltb (length ps) maxPlaces) placesFull λ _.
       ok (record { table = x .table; places = ps ++ (adapter (cond (x .unwraps) b p) c ∷ []); type = to; place = length ps })
 ]
 
@@ -129,10 +130,10 @@ adapt-is t ps to r p b w = go (related conforms t r v) (related strict t r v) (d
     go : (c s : Bool) (m : Res (Table × ℕ)) → _≡_ {A = Res Reference}
         (elim c [
           | true ↦ ok (record { table = t; places = ps; type = to; place = cond w b p })
-          | false ↦ need s 10 λ _. try m λ x. need (ltb (length ps) maxPlaces) 12 λ _.
+          | false ↦ need s notStrict λ _. try m λ x. need (ltb (length ps) maxPlaces) placesFull λ _.
               ok (record { table = x .0; places = ps ++ (adapter (cond w b p) (x .1) ∷ []); type = to; place = length ps })
         ])
-        (try (try (elim c as (λ _. Res (Table × Option ℕ)) [ true ↦ ok (t, none) | false ↦ need s 10 λ _. try m λ p. ok (p .0, some (p .1)) ]) (mark w)) (land ps to p b))
+        (try (try (elim c as (λ _. Res (Table × Option ℕ)) [ true ↦ ok (t, none) | false ↦ need s notStrict λ _. try m λ p. ok (p .0, some (p .1)) ]) (mark w)) (land ps to p b))
     go true s m = refl
     go false false m = refl
     go false true (refuse e) = refl
@@ -162,12 +163,12 @@ cross-is f to r = go (typeAt t to .own) (related free t to s) (eqb r (ownerOf (p
 
     go : (own fr ow lo st : Bool) (m : Res (Table × ℕ)) → _≡_ {A = Res Reference}
         (elim own [
-          | true ↦ need fr 8 λ _. need ow 9 λ _. adapt t ps to to b
-          | false ↦ need lo 8 λ _. elim st [ true ↦ ok (record { table = t; places = ps; type = to; place = p }) | false ↦ try m λ x. adapt (x .0) ps to (x .1) p ]
+          | true ↦ need fr unrelated λ _. need ow notOwner λ _. adapt t ps to to b
+          | false ↦ need lo unrelated λ _. elim st [ true ↦ ok (record { table = t; places = ps; type = to; place = p }) | false ↦ try m λ x. adapt (x .0) ps to (x .1) p ]
         ])
         (try (elim own as (λ _. Res Crossed) [
-          | true ↦ need fr 8 λ _. need ow 9 λ _. try (finish t to (placeType (placeAt ps b))) (mark true)
-          | false ↦ need lo 8 λ _.
+          | true ↦ need fr unrelated λ _. need ow notOwner λ _. try (finish t to (placeType (placeAt ps b))) (mark true)
+          | false ↦ need lo unrelated λ _.
               elim st [ true ↦ ok (record { table = t; unwraps = false; adapter = none }) | false ↦ try m λ x. try (finish (x .0) (x .1) (placeType (placeAt ps p))) (mark false) ]
         ]) (land ps to p b))
     go true true true lo st m = adapt-is t ps to to p b true
@@ -192,7 +193,7 @@ unfolding finish pageAdapt derived
 page-adapts t g to r = go (related conforms t r (lastClosed g)) (related strict t r (lastClosed g)) (derive maxTypes t closed r (lastClosed g))
   where
     go : (c s : Bool) (o : Option (Table × ℕ)) → IfOk {A = Table × Option ℕ} (elim c
-        [ true ↦ ok (t, none) | false ↦ need s 10 λ _. try {A = Table × ℕ} (elim o [ none ↦ refuse 11 | some p ↦ ok p ]) λ p. ok (p .0, some (p .1)) ])
+        [ true ↦ ok (t, none) | false ↦ need s notStrict λ _. try {A = Table × ℕ} (elim o [ none ↦ refuse typesFull | some p ↦ ok p ]) λ p. ok (p .0, some (p .1)) ])
         (λ q. _≡_ {A = Table × Page} (elim c [ true ↦ (t, joins to g) | false ↦ elim o [ none ↦ (t, g) | some x ↦ (x .0, joins to (addClosed (x .1) g)) ] ])
         (q .0, record { class = g .class; closed = add (q .1) (g .closed); trail = to ∷ g .trail }))
     go true s o = refl
@@ -206,10 +207,10 @@ unfolding typed pageCross derived
 page-crosses t g to owns = go (typeAt t to .own) (related free t to (lastType g)) owns (related loose t to (lastType g)) (related subtype t to (lastType g)) (derive maxTypes t sub to (lastType g))
   where
     go : (own fr ow lo st : Bool) (o : Option (Table × ℕ)) → IfOk (elim own as (λ _. Res Crossed) [
-      | true ↦ need fr 8 λ _. need ow 9 λ _. try (finish t to (g .class)) (mark true)
-      | false ↦ need lo 8 λ _. elim st [
+      | true ↦ need fr unrelated λ _. need ow notOwner λ _. try (finish t to (g .class)) (mark true)
+      | false ↦ need lo unrelated λ _. elim st [
         | true ↦ ok (record { table = t; unwraps = false; adapter = none })
-        | false ↦ try {A = Table × ℕ} (elim o [ none ↦ refuse 11 | some p ↦ ok p ]) λ x. try (finish (x .0) (x .1) (lastClosed g)) (mark false)
+        | false ↦ try {A = Table × ℕ} (elim o [ none ↦ refuse typesFull | some p ↦ ok p ]) λ x. try (finish (x .0) (x .1) (lastClosed g)) (mark false)
       ]
     ])
         (λ x. _≡_ {A = Table × Page} (elim own [
@@ -297,7 +298,7 @@ module _ (f : Reference) (good : Good (f .table)) (g : Page) (k : Track f g) (to
       → IfOk (land (f .places) to (f .place) b (record { table = u; unwraps = w; adapter = a })) (Flown f (u, crossedPage g to (record { table = u; unwraps = w; adapter = a })))
   unfolding land
   landed u w none h = settle u w none h (f .places) (prefix-refl noPlace (f .places)) (cond w b (f .place)) (behind w)
-  landed u w (some c) h = let ps = f .places in let q = cond w b (f .place) in ok-need _ (ltb (length ps) maxPlaces) 12 _ λ _.
+  landed u w (some c) h = let ps = f .places in let q = cond w b (f .place) in ok-need _ (ltb (length ps) maxPlaces) placesFull _ λ _.
       settle u w (some c) h (ps ++ (adapter q c ∷ [])) (prefix-add noPlace ps _) (length ps) (
         q,
         omega (arith, length-append ps (adapter q c ∷ [])),

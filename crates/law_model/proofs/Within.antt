@@ -17,7 +17,7 @@ use Rattle.spec_model.specs.Relations.{conforms, strict, loose, free, subtype, 
 use Rattle.spec_model.specs.Restriction.{mainSide, derived}
 use Rattle.spec_model.specs.Crossing.{Place, object, adapter, noPlace, maxPlaces, placeType, ownerOf, placeAt, base, baseOf, baseOwner, Reference, adapt, cross}
 use Rattle.spec_model.specs.Requests.{Cell, Call, System, maxCells, maxCalls, Request, new, move, call, answer, Result, pair, number, noCell, noCall, cellAt, callAt, isSheetRef, held, leaving}
-use Rattle.spec_model.specs.Requests.{withCell, addCell, newRequest, moveRequest, layers, layersOf, adapterCount, wayOf, renumber, crossLayers, passLayers, send, argumentsHeld, sendArguments}
+use Rattle.spec_model.specs.Requests.{withCell, addCell, newRequest, moveRequest, layers, layersOf, adapterCount, callLayers, renumber, crossLayers, passLayers, send, argumentsHeld, sendArguments}
 use Rattle.spec_model.specs.Requests.{withCall, callRequest, flagged, withAnswer, give, answerRequest, serve, after}
 use Rattle.spec_model.proofs.Tests.{ltb-so}
 use Rattle.spec_model.proofs.Rules.{first, second}
@@ -25,6 +25,8 @@ use Rattle.spec_model.proofs.Derived.{AnswerBelow, SignaturesIn}
 use Rattle.spec_model.proofs.Order.{strict→loose, loose→free}
 use Rattle.spec_model.proofs.ChainLaws.{sort-eq}
 use Rattle.spec_model.proofs.Growth.{Grown, grown-refl, grown-trans}
+use Rattle.spec_model.specs.Refusals.{unknownSubject, notHeld, unknownType, unrelated, notOwner, notStrict, placesFull, cellsFull, notCallable, wrongValues}
+use Rattle.spec_model.specs.Refusals.{answeredAlready, callsFull}
 use Rattle.law_model.proofs.Completes.{all-below-more}
 use Rattle.law_model.proofs.Steps.{IfOk, ok-try, ok-map, ok-need, whatever}
 use Rattle.law_model.proofs.Trails.{ok-renumber}
@@ -141,13 +143,13 @@ module _ (TP : Table → Type 0) (RF : Table → ℕ → Type 0)
 
       go : (c s : Bool) → related strict t r v ≡ s → IfOk (elim c [
         | true ↦ ok (record { table = t; places = ps; type = to; place = p })
-        | false ↦ need s 10 λ _. try (derived t closed r v) λ x. need (ltb (length ps) maxPlaces) 12 λ _.
+        | false ↦ need s notStrict λ _. try (derived t closed r v) λ x. need (ltb (length ps) maxPlaces) placesFull λ _.
             ok (record { table = x .0; places = ps ++ (adapter p (x .1) ∷ []); type = to; place = length ps })
       ]) (Arrived f to)
       go true s e = record { within = record { table = k; places = h; place = l; isref = isr }; grow = gf; more = omega arith; type = refl }
       go false false e = tt
       go false true e = ok-try _ (Arrived f to) (derived t closed r v) _ (deriving-ok t k closed r v (loose→free t r v (strict→loose t r v e))) λ x d.
-          ok-need (Arrived f to) (ltb (length ps) maxPlaces) 12 _ λ m.
+          ok-need (Arrived f to) (ltb (length ps) maxPlaces) placesFull _ λ m.
           let room : length ps < maxPlaces = ltb-so m in
           record {
             within = record {
@@ -178,11 +180,11 @@ module _ (TP : Table → Type 0) (RF : Table → ℕ → Type 0)
       ref-to h = rw (sort-eq t to s h) (k .isref)
 
       go : (own fr : Bool) → related free t to s ≡ fr → (lo : Bool) → related loose t to s ≡ lo → (st : Bool) → IfOk (elim own [
-        | true ↦ need fr 8 λ _. need (eqb r (baseOwner ps (f .place))) 9 λ _. adapt t ps to to (baseOf ps (f .place))
-        | false ↦ need lo 8 λ _.
+        | true ↦ need fr unrelated λ _. need (eqb r (baseOwner ps (f .place))) notOwner λ _. adapt t ps to to (baseOf ps (f .place))
+        | false ↦ need lo unrelated λ _.
             elim st [ true ↦ ok (record { table = t; places = ps; type = to; place = f .place }) | false ↦ try (derived t sub to s) λ x. adapt (x .0) ps to (x .1) (f .place) ]
       ]) (Arrived f to)
-      go true true e lo d st = ok-need (Arrived f to) (eqb r (baseOwner ps (f .place))) 9 _ λ _.
+      go true true e lo d st = ok-need (Arrived f to) (eqb r (baseOwner ps (f .place))) notOwner _ λ _.
           adapt-in f (k .table) t (grown-refl t) (k .table) (k .places) to to (baseOf ps (f .place)) (ref-to e) toIn (rf-ref t to (ref-to e))
           (base-in t ps (k .places) (length ps) (f .place) (k .place))
       go true false e lo d st = tt
@@ -274,7 +276,7 @@ module _ (TP : Table → Type 0) (RF : Table → ℕ → Type 0)
       → (f : Reference) → Landed f₀ f
       → IfOk (addCell s r f) (λ x. Left s (x .0))
   unfolding addCell
-  addCell-in s h r rIn f₀ e m f w = ok-need _ (ltb (length (s .cells)) maxCells) 13 _ λ room.
+  addCell-in s h r rIn f₀ e m f w = ok-need _ (ltb (length (s .cells)) maxCells) cellsFull _ λ room.
       let l : length (s .cells) < maxCells = ltb-so room in
       let g : Grown (s .table) (f .table) = subst (λ t. Grown t (f .table)) e (w .grow) in
       record {
@@ -332,7 +334,7 @@ module _ (TP : Table → Type 0) (RF : Table → ℕ → Type 0)
 
   -- what argument i, and the answer, of method m are on the way to the class or back
   module _ (s : System) (h : SystemIn s) (k : ℕ) (l : k < length (s .cells)) (m : ℕ) where
-    argument-last : (i : ℕ) → LastBelow (s .table .sheet) (map (argumentAt (s .table) m i) (wayOf s (cellAt s k)))
+    argument-last : (i : ℕ) → LastBelow (s .table .sheet) (map (argumentAt (s .table) m i) (callLayers s (cellAt s k)))
     argument-last i = go (layersOf (s .places) (cellAt s k .place))
         (layers-last (s .table) (s .places) (h .places) (argumentAt (s .table) m i) (s .table .sheet)
         (λ c q. at-below (s .table .sheet) (methodAt (s .table) c m .args) i (sheet-sigs (s .table) (h .table) c m q .0))
@@ -342,60 +344,60 @@ module _ (TP : Table → Type 0) (RF : Table → ℕ → Type 0)
         go [] q = absurd q
         go (x ∷ xs) q = q
 
-    answer-last : LastBelow (s .table .sheet) (reverse (map (answerAt (s .table) m) (wayOf s (cellAt s k))))
+    answer-last : LastBelow (s .table .sheet) (reverse (map (answerAt (s .table) m) (callLayers s (cellAt s k))))
     answer-last = aux-last (s .table .sheet) (map (answerAt (s .table) m) (layersOf (s .places) (cellAt s k .place))) (answerAt (s .table) m (cellAt s k .type)) []
         (sheet-sigs (s .table) (h .table) (cellAt s k .type) m (h .cells k l .sheet) .1)
 
-    answer-all : AllIn (size (s .table)) (reverse (map (answerAt (s .table) m) (wayOf s (cellAt s k))))
-    answer-all = aux-all (size (s .table)) (map (answerAt (s .table) m) (wayOf s (cellAt s k))) []
-        (all-in-map (size (s .table)) (answerAt (s .table) m) (λ c. sigs-in (s .table) (h .table) c m .1) (wayOf s (cellAt s k))) tt
+    answer-all : AllIn (size (s .table)) (reverse (map (answerAt (s .table) m) (callLayers s (cellAt s k))))
+    answer-all = aux-all (size (s .table)) (map (answerAt (s .table) m) (callLayers s (cellAt s k))) []
+        (all-in-map (size (s .table)) (answerAt (s .table) m) (λ c. sigs-in (s .table) (h .table) c m .1) (callLayers s (cellAt s k))) tt
 
   -- the list of types along a way is the same in a table that has grown, if the way lies in the old one
-  arguments-grow : (t u : Table) → Grown t u → (m i : ℕ) (way : List ℕ) → AllBelow (size t) way → map (argumentAt u m i) way ≡ map (argumentAt t m i) way
+  arguments-grow : (t u : Table) → Grown t u → (m i : ℕ) (ls : List ℕ) → AllBelow (size t) ls → map (argumentAt u m i) ls ≡ map (argumentAt t m i) ls
   arguments-grow t u g m i [] h = refl
   arguments-grow t u g m i (x ∷ xs) h = ap (λ (y : Option ℕ). y ∷ map (argumentAt u m i) xs) (ap (λ y. getElem? (getD (y .methods) m noMethod .args) i) (g .same x (h .0)))
       ∙ ap {B = List (Option ℕ)} (λ r. argumentAt t m i x ∷ r) (arguments-grow t u g m i xs (h .1))
 
   -- what the arguments still need: types on their way, and cells where references are due
-  pub record Sending (s : System) (way : List ℕ) (m : ℕ) : Type 0 where
-    pub in-table : AllBelow (size (s .table)) way
-    pub last : (i : ℕ) → LastBelow (s .table .sheet) (map (argumentAt (s .table) m i) way)
+  pub record Sending (s : System) (ls : List ℕ) (m : ℕ) : Type 0 where
+    pub in-table : AllBelow (size (s .table)) ls
+    pub last : (i : ℕ) → LastBelow (s .table .sheet) (map (argumentAt (s .table) m i) ls)
 
-  sending-on : (s s′ : System) (way : List ℕ) (m : ℕ) → Grown (s .table) (s′ .table) → Sending s way m → Sending s′ way m
-  sending-on s s′ way m g w = record {
-    in-table = all-below-more (g .more) way (w .in-table);
-    last = λ i. rw (arguments-grow (s .table) (s′ .table) g m i way (w .in-table), g .sheet) (w .last i);
+  sending-on : (s s′ : System) (ls : List ℕ) (m : ℕ) → Grown (s .table) (s′ .table) → Sending s ls m → Sending s′ ls m
+  sending-on s s′ ls m g w = record {
+    in-table = all-below-more (g .more) ls (w .in-table);
+    last = λ i. rw (arguments-grow (s .table) (s′ .table) g m i ls (w .in-table), g .sheet) (w .last i);
   }
 
   left-on : {s u v : System} → Left s u → Left u v → Left s v
   left-on p q = record { within = q .within; grow = grown-trans (p .grow) (q .grow); more = omega (arith, p .more, q .more); calls = q .calls ∙ p .calls }
 
-  module _ (r : ℕ) (way : List ℕ) (m : ℕ) where
-    sendArguments-in : (xs : List ℕ) (vs : List ℤ) (i : ℕ) (s : System) → SystemIn s → r < s .table .subjects → Sending s way m → AllBelow (size (s .table)) xs → Held s xs vs
-        → IfOk (sendArguments s r way m i xs vs) (Left s)
+  module _ (r : ℕ) (ls : List ℕ) (m : ℕ) where
+    sendArguments-in : (xs : List ℕ) (vs : List ℤ) (i : ℕ) (s : System) → SystemIn s → r < s .table .subjects → Sending s ls m → AllBelow (size (s .table)) xs → Held s xs vs
+        → IfOk (sendArguments s r ls m i xs vs) (Left s)
     unfolding sendArguments
     sendArguments-in [] vs i s h q w n e = record { within = h; grow = grown-refl (s .table); more = omega arith; calls = refl }
     sendArguments-in (a ∷ xs) [] i s h q w n e = record { within = h; grow = grown-refl (s .table); more = omega arith; calls = refl }
     sendArguments-in (a ∷ xs) (v ∷ vs) i s h q w n e = go (isRef (typeAt (s .table) a .rep)) (e .0) (λ s′ h′ q′ w′ n′ e′. sendArguments-in xs vs (suc i) s′ h′ q′ w′ n′ e′)
       where
         ts : List (Option ℕ)
-        ts = map (argumentAt (s .table) m i) way
+        ts = map (argumentAt (s .table) m i) ls
 
         go : (b : Bool) → (So b → named v < length (s .cells))
             →
-            ((s′ : System) → SystemIn s′ → r < s′ .table .subjects → Sending s′ way m → AllBelow (size (s′ .table)) xs → Held s′ xs vs
-            → IfOk (sendArguments s′ r way m (suc i) xs vs) (Left s′))
+            ((s′ : System) → SystemIn s′ → r < s′ .table .subjects → Sending s′ ls m → AllBelow (size (s′ .table)) xs → Held s′ xs vs
+            → IfOk (sendArguments s′ r ls m (suc i) xs vs) (Left s′))
             → IfOk (elim b [
-              | true ↦ try (send s r (named v) ts) λ x. sendArguments (x .0) r way m (suc i) xs vs
-              | false ↦ try (passLayers true (s .table) v ts) λ _. sendArguments s r way m (suc i) xs vs
+              | true ↦ try (send s r (named v) ts) λ x. sendArguments (x .0) r ls m (suc i) xs vs
+              | false ↦ try (passLayers true (s .table) v ts) λ _. sendArguments s r ls m (suc i) xs vs
             ]) (Left s)
-        go true l ih = ok-try (λ x. Left s (x .0)) (Left s) (send s r (named v) ts) (λ x. sendArguments (x .0) r way m (suc i) xs vs)
+        go true l ih = ok-try (λ x. Left s (x .0)) (Left s) (send s r (named v) ts) (λ x. sendArguments (x .0) r ls m (suc i) xs vs)
             (send-in s h r q (named v) (l refl) ts (w .last i)
-            (all-in-map (size (s .table)) (argumentAt (s .table) m i) (λ c. at-below (size (s .table)) (methodAt (s .table) c m .args) i (sigs-in (s .table) (h .table) c m .0)) way)) λ x d.
-            ok-map (Left (x .0)) (Left s) (λ y z. left-on d z) (sendArguments (x .0) r way m (suc i) xs vs)
-            (ih (x .0) (d .within) (rw (d .grow .subjects) q) (sending-on s (x .0) way m (d .grow) w) (all-below-more (d .grow .more) xs (n .1))
+            (all-in-map (size (s .table)) (argumentAt (s .table) m i) (λ c. at-below (size (s .table)) (methodAt (s .table) c m .args) i (sigs-in (s .table) (h .table) c m .0)) ls)) λ x d.
+            ok-map (Left (x .0)) (Left s) (λ y z. left-on d z) (sendArguments (x .0) r ls m (suc i) xs vs)
+            (ih (x .0) (d .within) (rw (d .grow .subjects) q) (sending-on s (x .0) ls m (d .grow) w) (all-below-more (d .grow .more) xs (n .1))
             (held-more s (x .0) (d .grow) (d .more) xs vs (n .1) (e .1)))
-        go false l ih = ok-try (λ _. Unit) (Left s) (passLayers true (s .table) v ts) (λ _. sendArguments s r way m (suc i) xs vs) (whatever (passLayers true (s .table) v ts)) λ _ _.
+        go false l ih = ok-try (λ _. Unit) (Left s) (passLayers true (s .table) v ts) (λ _. sendArguments s r ls m (suc i) xs vs) (whatever (passLayers true (s .table) v ts)) λ _ _.
             ih s h q w (n .1) (e .1)
 
   -- ---- the four requests
@@ -406,10 +408,10 @@ module _ (TP : Table → Type 0) (RF : Table → ℕ → Type 0)
     new-in : (subject class to : ℤ) → IfOk (newRequest s subject class to) (λ x. SystemIn (x .0))
     unfolding newRequest
     new-in subject class to =
-        ok-need _ (names subject (s .table .subjects)) 5 _ λ a.
-        ok-need _ (names class (s .table .sheet) && isClass (typeAt (s .table) (named class))) 7 _ λ c.
-        ok-need _ (isSheetRef (s .table) to) 7 _ λ d.
-        ok-need _ (ltb (length (s .places)) maxPlaces) 12 _ λ e.
+        ok-need _ (names subject (s .table .subjects)) unknownSubject _ λ a.
+        ok-need _ (names class (s .table .sheet) && isClass (typeAt (s .table) (named class))) unknownType _ λ c.
+        ok-need _ (isSheetRef (s .table) to) unknownType _ λ d.
+        ok-need _ (ltb (length (s .places)) maxPlaces) placesFull _ λ e.
         go (names-below subject _ a) (names-below class _ (first (names class (s .table .sheet)) _ c)) (second (names class (s .table .sheet)) _ c)
         (names-below to _ (first (names to (s .table .sheet)) _ d)) (ltb-so e)
       where
@@ -440,9 +442,9 @@ module _ (TP : Table → Type 0) (RF : Table → ℕ → Type 0)
     move-in : (subject k receiver to : ℤ) → IfOk (moveRequest s subject k receiver to) (λ x. SystemIn (x .0))
     unfolding moveRequest
     move-in subject k receiver to =
-        ok-need _ (names subject (s .table .subjects) && names receiver (s .table .subjects)) 5 _ λ a.
-        ok-need _ (held s subject k) 6 _ λ c.
-        ok-need _ (isSheetRef (s .table) to) 7 _ λ d.
+        ok-need _ (names subject (s .table .subjects) && names receiver (s .table .subjects)) unknownSubject _ λ a.
+        ok-need _ (held s subject k) notHeld _ λ c.
+        ok-need _ (isSheetRef (s .table) to) unknownType _ λ d.
         let l = held-in s subject k c in let q = sheet-in (s .table) (h .table) in let n = names-below to _ (first (names to (s .table .sheet)) _ d) in
         let r = names-below receiver _ (second (names subject (s .table .subjects)) _ a) in
         ok-try (Arrived (leaving s (named k)) (named to)) _ (cross (leaving s (named k)) (named to) (named receiver)) _
@@ -453,8 +455,8 @@ module _ (TP : Table → Type 0) (RF : Table → ℕ → Type 0)
     owner-of : (k : ℕ) → k < length (s .cells) → baseOwner (s .places) (cellAt s k .place) < s .table .subjects
     owner-of k l = owner-in (s .table) (s .places) (h .places) (length (s .places)) (cellAt s k .place) (h .cells k l .place) (h .cells k l .place)
 
-    way-in : (k m : ℕ) → k < length (s .cells) → Sending s (wayOf s (cellAt s k)) m
-    way-in k m l = let q = sheet-in (s .table) (h .table) in
+    call-layers-in : (k m : ℕ) → k < length (s .cells) → Sending s (callLayers s (cellAt s k)) m
+    call-layers-in k m l = let q = sheet-in (s .table) (h .table) in
         record {
           in-table = (omega (arith, h .cells k l .sheet), layers-below (s .table) (s .places) (h .places) (length (s .places)) (cellAt s k .place) q (h .cells k l .place));
           last = argument-last s h k l m;
@@ -508,17 +510,18 @@ module _ (TP : Table → Type 0) (RF : Table → ℕ → Type 0)
     call-in : (subject k m : ℤ) (vs : List ℤ) → IfOk (callRequest s subject k m vs) (λ x. SystemIn (x .0))
     unfolding callRequest
     call-in subject k m vs =
-        ok-need _ (names subject (s .table .subjects)) 5 _ λ a.
-        ok-need _ (held s subject k) 6 _ λ c.
-        ok-need _ (names m (s .table .methods) && isAvail (methodAt (s .table) (cellAt s (named k) .type) (named m) .state)) 14 _ λ d.
-        ok-need _ (argumentsHeld s subject (methodAt (s .table) (cellAt s (named k) .type) (named m) .args) vs) 15 _ λ e.
-        ok-need _ (ltb (length (s .calls)) maxCalls) 18 _ λ room. go (names-below subject _ a) (held-in s subject k c) (names-below m _ (first (names m (s .table .methods)) _ d)) e (ltb-so room)
+        ok-need _ (names subject (s .table .subjects)) unknownSubject _ λ a.
+        ok-need _ (held s subject k) notHeld _ λ c.
+        ok-need _ (names m (s .table .methods) && isAvail (methodAt (s .table) (cellAt s (named k) .type) (named m) .state)) notCallable _ λ d.
+        ok-need _ (argumentsHeld s subject (methodAt (s .table) (cellAt s (named k) .type) (named m) .args) vs) wrongValues _ λ e.
+        ok-need _ (ltb (length (s .calls)) maxCalls) callsFull _ λ room. go (names-below subject _ a) (held-in s subject k c) (names-below m _ (first (names m (s .table .methods)) _ d))
+        e (ltb-so room)
       where
         ty : ℕ
         ty = cellAt s (named k) .type
 
-        way : List ℕ
-        way = wayOf s (cellAt s (named k))
+        ls : List ℕ
+        ls = callLayers s (cellAt s (named k))
 
         r : ℕ
         r = baseOwner (s .places) (cellAt s (named k) .place)
@@ -530,10 +533,10 @@ module _ (TP : Table → Type 0) (RF : Table → ℕ → Type 0)
         c = record { caller = named subject; cell = named k; method = named m; answered = false }
 
         go : named subject < s .table .subjects → named k < length (s .cells) → named m < s .table .methods → So (argumentsHeld s subject xs vs) → length (s .calls) < maxCalls
-            → IfOk {A = System × Result} (try (sendArguments s r way (named m) 0 xs vs) λ x. ok (withCall x c, pair (length (s .calls)) (adapterCount (s .places) (cellAt s (named k) .place))))
+            → IfOk {A = System × Result} (try (sendArguments s r ls (named m) 0 xs vs) λ x. ok (withCall x c, pair (length (s .calls)) (adapterCount (s .places) (cellAt s (named k) .place))))
             (λ x. SystemIn (x .0))
-        go a l d e room = ok-try (Left s) _ (sendArguments s r way (named m) 0 xs vs) _
-            (sendArguments-in r way (named m) xs vs 0 s h (owner-of s h (named k) l) (way-in s h (named k) (named m) l) (sigs-in (s .table) (h .table) ty (named m) .0)
+        go a l d e room = ok-try (Left s) _ (sendArguments s r ls (named m) 0 xs vs) _
+            (sendArguments-in r ls (named m) xs vs 0 s h (owner-of s h (named k) l) (call-layers-in s h (named k) (named m) l) (sigs-in (s .table) (h .table) ty (named m) .0)
             (arguments-in s subject xs vs e)) λ x w.
             with-call-in x (w .within) (subst (λ cs. length cs < maxCalls) (sym (w .calls)) room) c
             (record { caller = rw (w .grow .subjects) a; cell = omega (arith, w .more); method = rw (w .grow .methods) d })
@@ -549,13 +552,13 @@ module _ (TP : Table → Type 0) (RF : Table → ℕ → Type 0)
         k = callAt s i .cell
 
         ts : List (Option ℕ)
-        ts = reverse (map (answerAt (s .table) (callAt s i .method)) (wayOf s (cellAt s k)))
+        ts = reverse (map (answerAt (s .table) (callAt s i .method)) (callLayers s (cellAt s k)))
 
         go : (b : Bool) → IfOk {A = System × Result} (elim b [
-          | true ↦ need (held s subject v) 15 λ _. try (send s (callAt s i .caller) (named v) ts) λ x. ok (withAnswer (x .0) i, x .1)
+          | true ↦ need (held s subject v) wrongValues λ _. try (send s (callAt s i .caller) (named v) ts) λ x. ok (withAnswer (x .0) i, x .1)
           | false ↦ try (passLayers true (s .table) v ts) λ _. ok (withAnswer s i, number v)
         ]) (λ x. SystemIn (x .0))
-        go true = ok-need _ (held s subject v) 15 _ λ e. let c = h .calls i l in
+        go true = ok-need _ (held s subject v) wrongValues _ λ e. let c = h .calls i l in
             ok-try (λ x. Left s (x .0)) _ (send s (callAt s i .caller) (named v) ts) _
             (send-in s h (callAt s i .caller) (c .caller) (named v) (held-in s subject v e) ts (answer-last s h k (c .cell) (callAt s i .method))
             (answer-all s h k (c .cell) (callAt s i .method))) λ x w.
@@ -565,9 +568,9 @@ module _ (TP : Table → Type 0) (RF : Table → ℕ → Type 0)
     answer-in : (subject i : ℤ) (v : Option ℤ) → IfOk (answerRequest s subject i v) (λ x. SystemIn (x .0))
     unfolding answerRequest
     answer-in subject i v =
-        ok-need _ (names subject (s .table .subjects)) 5 _ λ _.
-        ok-need _ (names i (length (s .calls)) && eqb (named subject) (baseOwner (s .places) (cellAt s (callAt s (named i) .cell) .place))) 6 _ λ e.
-        ok-need _ (not (callAt s (named i) .answered)) 17 _ λ _. give-in subject (named i) (answerAt (s .table) (callAt s (named i) .method) (cellAt s (callAt s (named i) .cell) .type)) v
+        ok-need _ (names subject (s .table .subjects)) unknownSubject _ λ _.
+        ok-need _ (names i (length (s .calls)) && eqb (named subject) (baseOwner (s .places) (cellAt s (callAt s (named i) .cell) .place))) notHeld _ λ e.
+        ok-need _ (not (callAt s (named i) .answered)) answeredAlready _ λ _. give-in subject (named i) (answerAt (s .table) (callAt s (named i) .method) (cellAt s (callAt s (named i) .cell) .type)) v
         (names-below i _ (first (names i (length (s .calls))) _ e))
 
     kept : (m : Res (System × Result)) → IfOk m (λ x. SystemIn (x .0)) → SystemIn (after s m)

@@ -12,11 +12,12 @@ use lib.ListN.{length, getElem?}
 use Rattle.spec_model.specs.Basics.{Res, ok, try, names, named, AllBelow}
 use Rattle.spec_model.specs.Table.{Table, size, typeAt, methodAt, argumentAt, isRef, isAvail}
 use Rattle.spec_model.specs.Crossing.{Place, object, adapter, noPlace, placeType, placeAt, base, baseOf, baseOwner}
-use Rattle.spec_model.specs.Requests.{Cell, System, maxCalls, Result, pair, cellAt, held, adapterCount, layers, wayOf, passLayers, send, argumentsHeld, sendArguments, withCall, callRequest}
+use Rattle.spec_model.specs.Requests.{Cell, System, maxCalls, Result, pair, cellAt, held, adapterCount, layers, callLayers, passLayers, send, argumentsHeld, sendArguments, withCall, callRequest}
 use Rattle.spec_model.specs.Check.{placeFits, systemFits}
 use Rattle.spec_model.proofs.Tests.{ltb-so}
 use Rattle.spec_model.proofs.Rules.{first, second}
 use Rattle.spec_model.proofs.Growth.{Grown, grown-refl, grown-trans, method-same}
+use Rattle.spec_model.specs.Refusals.{unknownSubject, notHeld, notCallable, wrongValues, callsFull}
 use Rattle.law_model.proofs.Steps.{IfOk, ok-try, ok-map, ok-need, whatever}
 use Rattle.law_model.proofs.Good.{Sound, sheet-within}
 use Rattle.law_model.proofs.Demand3.{held-in}
@@ -39,21 +40,21 @@ Arrived t r class m i (a ∷ xs) (v ∷ vs) cs = First (isRef (typeAt t a .rep))
 
 -- through layers that end with the class, from a table whose types are those of t
 module _ (t : Table) (r : ℕ) (outer : List ℕ) (class : ℕ) (classIn : class < size t) (m : ℕ) where
-  abbrev way : List ℕ
-  way = outer ++ (class ∷ [])
+  abbrev ls : List ℕ
+  ls = outer ++ (class ∷ [])
 
   abbrev Arrives : ℕ → List ℕ → List ℤ → System → System → Type 0
   Arrives i xs vs s x = (cs : List Cell) × (x .cells ≡ s .cells ++ cs) × Arrived t r class m i xs vs cs
 
   one-sent : (s : System) → Grown t (s .table) → (i k : ℕ)
-      → IfOk (send s r k (map (argumentAt (s .table) m i) way)) (λ x. (type : ℕ) × (argumentAt t m i class ≡ some type) × Sent s r type x)
+      → IfOk (send s r k (map (argumentAt (s .table) m i) ls)) (λ x. (type : ℕ) × (argumentAt t m i class ≡ some type) × Sent s r type x)
   one-sent s g i k =
       let f = argumentAt (s .table) m i in
       let e : f class ≡ argumentAt t m i class = ap (λ y. getElem? (y .args) i) (method-same t (s .table) g class m classIn) in
       subst (λ us. IfOk (send s r k us) (λ x. (type : ℕ) × (argumentAt t m i class ≡ some type) × Sent s r type x)) (sym (map-append f outer (class ∷ [])))
       (ok-map _ _ (λ x w. (w .0, sym e ∙ w .1, w .2)) (send s r k (map f outer ++ (f class ∷ []))) (sent-last s r k (map f outer) (f class)))
 
-  arguments-sent : (xs : List ℕ) (vs : List ℤ) (i : ℕ) (s : System) → Grown t (s .table) → AllBelow (size t) xs → IfOk (sendArguments s r way m i xs vs) (Arrives i xs vs s)
+  arguments-sent : (xs : List ℕ) (vs : List ℤ) (i : ℕ) (s : System) → Grown t (s .table) → AllBelow (size t) xs → IfOk (sendArguments s r ls m i xs vs) (Arrives i xs vs s)
   unfolding sendArguments
   arguments-sent [] vs i s g l = ([], sym (append-nil (s .cells)), refl)
   arguments-sent (a ∷ xs) [] i s g l = ([], sym (append-nil (s .cells)), refl)
@@ -63,21 +64,21 @@ module _ (t : Table) (r : ℕ) (outer : List ℕ) (class : ℕ) (classIn : class
       (go (isRef (typeAt t a .rep)) (λ u h. arguments-sent xs vs (suc i) u h (l .1)))
     where
       ts : List (Option ℕ)
-      ts = map (argumentAt (s .table) m i) way
+      ts = map (argumentAt (s .table) m i) ls
 
       next : Bool → Res System
       next b = elim b [
-        | true ↦ try (send s r (named v) ts) λ x. sendArguments (x .0) r way m (suc i) xs vs
-        | false ↦ try (passLayers true (s .table) v ts) λ _. sendArguments s r way m (suc i) xs vs
+        | true ↦ try (send s r (named v) ts) λ x. sendArguments (x .0) r ls m (suc i) xs vs
+        | false ↦ try (passLayers true (s .table) v ts) λ _. sendArguments s r ls m (suc i) xs vs
       ]
 
-      go : (b : Bool) → ((u : System) → Grown t (u .table) → IfOk (sendArguments u r way m (suc i) xs vs) (Arrives (suc i) xs vs u))
+      go : (b : Bool) → ((u : System) → Grown t (u .table) → IfOk (sendArguments u r ls m (suc i) xs vs) (Arrives (suc i) xs vs u))
           → IfOk (next b) (λ x. (cs : List Cell) × (x .cells ≡ s .cells ++ cs) × First b r (argumentAt t m i class) (Arrived t r class m (suc i) xs vs) cs)
       go true ih = ok-try _ _ (send s r (named v) ts) _ (one-sent s g i (named v)) λ x w.
           ok-map _ _ (λ u d.
           let c : Cell = record { holder = r; type = w .0; place = w .2 .next .place } in
           (c ∷ d .0, d .1 ∙ ap (λ cs. cs ++ d .0) (w .2 .next .cells) ∙ append-assoc (s .cells) (c ∷ []) (d .0), (refl, w .1, d .2)))
-          (sendArguments (x .0) r way m (suc i) xs vs) (ih (x .0) (grown-trans g (w .2 .table)))
+          (sendArguments (x .0) r ls m (suc i) xs vs) (ih (x .0) (grown-trans g (w .2 .table)))
       go false ih = ok-try _ _ (passLayers true (s .table) v ts) _ (whatever (passLayers true (s .table) v ts)) λ _ _. ih s g
 
 -- ---- the last layer is the class of the base (C9)
@@ -128,9 +129,9 @@ module _ (s : System) (fits : So (systemFits s)) where
       (cs : List Cell) × (x .0 .cells ≡ s .cells ++ cs) × Arrived (s .table) (baseOwner (s .places) (c .place)) (classOf s c) (named m) 0 (methodAt (s .table) (c .type) (named m) .args) vs cs)
   unfolding callRequest
   arguments-arrive subject k m vs =
-      ok-need _ (names subject (t .subjects)) 5 _ λ _. ok-need _ (held s subject k) 6 _ λ h.
-      ok-need _ (names m (t .methods) && isAvail (methodAt t (c .type) (named m) .state)) 14 _ λ _.
-      ok-need _ (argumentsHeld s subject xs vs) 15 _ λ _. ok-need _ (ltb (length (s .calls)) maxCalls) 18 _ λ _. go (held-in s subject k h)
+      ok-need _ (names subject (t .subjects)) unknownSubject _ λ _. ok-need _ (held s subject k) notHeld _ λ h.
+      ok-need _ (names m (t .methods) && isAvail (methodAt t (c .type) (named m) .state)) notCallable _ λ _.
+      ok-need _ (argumentsHeld s subject xs vs) wrongValues _ λ _. ok-need _ (ltb (length (s .calls)) maxCalls) callsFull _ λ _. go (held-in s subject k h)
     where
       t : Table
       t = s .table
@@ -145,7 +146,7 @@ module _ (s : System) (fits : So (systemFits s)) where
       r = baseOwner (s .places) (c .place)
 
       go : named k < length (s .cells) → IfOk {A = System × Result}
-          (try (sendArguments s r (wayOf s c) (named m) 0 xs vs) λ x.
+          (try (sendArguments s r (callLayers s c) (named m) 0 xs vs) λ x.
           ok (withCall x (record { caller = named subject; cell = named k; method = named m; answered = false }), pair (length (s .calls)) (adapterCount (s .places) (c .place))))
           (λ x. (cs : List Cell) × (x .0 .cells ≡ s .cells ++ cs) × Arrived t r (classOf s c) (named m) 0 xs vs cs)
       go l =
@@ -153,6 +154,6 @@ module _ (s : System) (fits : So (systemFits s)) where
           let e = layers-ends (s .places) downward (length (s .places)) (c .place) place-in place-in in
           let class-in = type-in (baseOf (s .places) (c .place)) (placeAt (s .places) (baseOf (s .places) (c .place))) (place-fits (baseOf (s .places) (c .place)) (e .2)) in
           let w = arguments-sent t r (c .type ∷ e .0) (classOf s c) class-in (named m) xs vs 0 s (grown-refl t) (sound .sigs (c .type) (named m) .0) in
-          ok-try _ _ (sendArguments s r (wayOf s c) (named m) 0 xs vs) _
+          ok-try _ _ (sendArguments s r (callLayers s c) (named m) 0 xs vs) _
           (subst (λ ls. IfOk (sendArguments s r (c .type ∷ ls) (named m) 0 xs vs) (λ x. (cs : List Cell) × (x .cells ≡ s .cells ++ cs) × Arrived t r (classOf s c) (named m) 0 xs vs cs))
           (sym (e .1)) w) λ x d. d

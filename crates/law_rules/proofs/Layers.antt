@@ -13,6 +13,7 @@ use Rattle.spec_model.specs.Table.{Rep, ref, w32, w64, Table, typeAt}
 use Rattle.spec_model.specs.Crossing.{Reference, cross}
 use Rattle.spec_model.specs.Requests.{atLayer, renumber, crossLayers, within, passLayers}
 use Rattle.spec_model.proofs.Tests.{eqb-no}
+use Rattle.spec_model.specs.Refusals.{tooWide}
 use Rattle.law_model.proofs.Steps.{IfOk, whatever}
 
 -- P holds of the number of a refusal, if it is one
@@ -78,7 +79,7 @@ number-refusals (some a ∷ ts) b t v = go (typeAt t a .rep) (refused-map (Numbe
   where
     go : (r : Rep) → IfRefused (passLayers false t v ts) (NumberRefusal b) → IfRefused {A = Unit {0}} (elim r [
       | ref ↦ refuse (atLayer b 8)
-      | w32 ↦ need (within 2147483648 v) 16 λ _. passLayers false t v ts
+      | w32 ↦ need (within 2147483648 v) tooWide λ _. passLayers false t v ts
       | w64 ↦ passLayers false t v ts
     ]) (NumberRefusal b)
     go ref h = inr (inl refl)

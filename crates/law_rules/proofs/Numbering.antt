@@ -15,6 +15,7 @@ use Rattle.spec_model.specs.Restriction.{derived}
 use Rattle.spec_model.specs.Crossing.{Place, adapter, maxPlaces, placeType, placeAt, baseOf, baseOwner, Reference, adapt, cross}
 use Rattle.spec_model.specs.Requests.{System, maxCells, Result, pair, number, leaving, addCell, renumber, crossLayers, send}
 use Rattle.spec_model.proofs.Growth.{Grown, grown-refl, grown-trans}
+use Rattle.spec_model.specs.Refusals.{unrelated, notOwner, notStrict, placesFull, cellsFull}
 use Rattle.law_model.proofs.Steps.{IfOk, ok-try, ok-map, ok-need, whatever}
 use Rattle.law_model.proofs.Trails.{ok-renumber}
 use Rattle.law_model.proofs.Onward.{derived-grown}
@@ -41,12 +42,13 @@ adapt-passes f t g to r p = go (related conforms t r v)
 
     go : (b : Bool) → IfOk (elim b [
       | true ↦ ok (record { table = t; places = f .places; type = to; place = p })
-      | false ↦ need (related strict t r v) 10 λ _. try (derived t closed r v) λ x. need (ltb (length (f .places)) maxPlaces) 12 λ _.
+      | false ↦ need (related strict t r v) notStrict λ _. try (derived t closed r v) λ x. need (ltb (length (f .places)) maxPlaces) placesFull λ _.
           ok (record { table = x .0; places = f .places ++ (adapter p (x .1) ∷ []); type = to; place = length (f .places) })
     ]) (Passed f to)
     go true = record { type = refl; table = g; places = inl refl }
-    go false = ok-need _ (related strict t r v) 10 _ λ _. ok-try _ _ (derived t closed r v) _ (derived-grown t closed r v) λ x h.
-        ok-need _ (ltb (length (f .places)) maxPlaces) 12 _ λ _. record { type = refl; table = grown-trans g h; places = inr (record { place = adapter p (x .1); places = refl; number = refl }) }
+    go false = ok-need _ (related strict t r v) notStrict _ λ _. ok-try _ _ (derived t closed r v) _ (derived-grown t closed r v) λ x h.
+        ok-need _ (ltb (length (f .places)) maxPlaces) placesFull _ λ _. record
+        { type = refl; table = grown-trans g h; places = inr (record { place = adapter p (x .1); places = refl; number = refl }) }
 
 -- Q6 of places, X10
 pub crossed : (f : Reference) (to r : ℕ) → IfOk (cross f to r) (Passed f to)
@@ -57,15 +59,16 @@ crossed f to r = go (typeAt t to .own) (related subtype t to (f .type))
     t = f .table
 
     go : (own st : Bool) → IfOk (elim own [
-      | true ↦ need (related free t to (f .type)) 8 λ _. need (eqb r (baseOwner (f .places) (f .place))) 9 λ _. adapt t (f .places) to to (baseOf (f .places) (f .place))
-      | false ↦ need (related loose t to (f .type)) 8 λ _. elim st [
+      | true ↦ need (related free t to (f .type)) unrelated λ _. need (eqb r (baseOwner (f .places) (f .place))) notOwner λ _. adapt t (f .places) to to (baseOf (f .places) (f .place))
+      | false ↦ need (related loose t to (f .type)) unrelated λ _. elim st [
         | true ↦ ok (record { table = t; places = f .places; type = to; place = f .place })
         | false ↦ try (derived t sub to (f .type)) λ x. adapt (x .0) (f .places) to (x .1) (f .place)
       ]
     ]) (Passed f to)
-    go true st = ok-need _ (related free t to (f .type)) 8 _ λ _. ok-need _ (eqb r (baseOwner (f .places) (f .place))) 9 _ λ _. adapt-passes f t (grown-refl t) to to (baseOf (f .places) (f .place))
-    go false true = ok-need _ (related loose t to (f .type)) 8 _ λ _. record { type = refl; table = grown-refl t; places = inl refl }
-    go false false = ok-need _ (related loose t to (f .type)) 8 _ λ _. ok-try _ _ (derived t sub to (f .type)) _ (derived-grown t sub to (f .type)) λ x h.
+    go true st = ok-need _ (related free t to (f .type)) unrelated _ λ _. ok-need _ (eqb r (baseOwner (f .places) (f .place))) notOwner _ λ _. adapt-passes f t (grown-refl t) to to
+        (baseOf (f .places) (f .place))
+    go false true = ok-need _ (related loose t to (f .type)) unrelated _ λ _. record { type = refl; table = grown-refl t; places = inl refl }
+    go false false = ok-need _ (related loose t to (f .type)) unrelated _ λ _. ok-try _ _ (derived t sub to (f .type)) _ (derived-grown t sub to (f .type)) λ x h.
         adapt-passes f (x .0) h to (x .1) (f .place)
 
 -- several in turn: the last layer has a type at that position, and it is the reference's
@@ -92,7 +95,7 @@ pub record Sent (s : System) (r type : ℕ) (x : System × Result) : Type 0 wher
 
 pub cell-sent : (s : System) (r type : ℕ) (f : Reference) → f .type ≡ type → Grown (s .table) (f .table) → IfOk (addCell s r f) (Sent s r type)
 unfolding addCell
-cell-sent s r type f e g = ok-need _ (ltb (length (s .cells)) maxCells) 13 _ λ _.
+cell-sent s r type f e g = ok-need _ (ltb (length (s .cells)) maxCells) cellsFull _ λ _.
     record { next = record { place = f .place; cells = ap (λ n. s .cells ++ (record { holder = r; type = n; place = f .place } ∷ [])) e; result = refl }; table = g; calls = refl }
 
 -- a reference sent through layers is of the type that the last of them has there
@@ -104,4 +107,4 @@ sent-last s r k ts o = ok-try _ _ (crossLayers true (leaving s k) r (ts ++ (o �
 -- sending a reference makes no call
 pub send-calls : (s : System) (r k : ℕ) (ts : List (Option ℕ)) → IfOk (send s r k ts) (λ x. x .0 .calls ≡ s .calls)
 unfolding send addCell
-send-calls s r k ts = ok-try _ _ (crossLayers true (leaving s k) r ts) _ (whatever (crossLayers true (leaving s k) r ts)) λ f _. ok-need _ (ltb (length (s .cells)) maxCells) 13 _ λ _. refl
+send-calls s r k ts = ok-try _ _ (crossLayers true (leaving s k) r ts) _ (whatever (crossLayers true (leaving s k) r ts)) λ f _. ok-need _ (ltb (length (s .cells)) maxCells) cellsFull _ λ _. refl

@@ -12,10 +12,10 @@ use borrow.Author.Tests.{lt-ltb, le-ltb}
 use lib.ListN.{length, getD, take, drop, replicate, length-append, length-replicate, List·getD-eq-default}
 use lib.Seq.{sets, sets-eq, getD-take, length-take-le, take-append-seam, drop-append-add}
 use Rattle.spec_model.specs.Basics.{from}
-use Rattle.spec_model.specs.Table.{permit, Method, noMethod}
+use Rattle.spec_model.specs.Table.{permit, Method, noMethod, maxMethods}
 use Rattle.spec_model.specs.Check.{RawMethod, RawType, noRawMethod, stateOf, repOf, kindOf, methodOf}
 use Rattle.spec_model.specs.Relations.{bit}
-use Rattle.spec_model.specs.Records.{repCode, kindCode, keyCodes, methodRecord}
+use Rattle.spec_model.specs.Records.{repCode, kindCode, keyCodes, methodRecord, argumentSlots}
 use Rattle.spec_model.proofs.Largest.{getD-from-out}
 use Rattle.spec_model.proofs.Codes.{code-back}
 use Rattle.table_record.specs.Records.{padded}
@@ -60,7 +60,7 @@ pub unsigned-exact : (s : ℕ) → s < 4 → permit (stateOf s) ≡ false → Me
 unfolding mk from
 unsigned-exact s h p = rw p (mk-eq (state-back s h) refl refl refl)
 
-pub signed-exact : (m : RawMethod) → m .state < 4 → permit (stateOf (m .state)) ≡ true → m .count ≤ 4 → length (m .args) ≡ 4
+pub signed-exact : (m : RawMethod) → m .state < 4 → permit (stateOf (m .state)) ≡ true → m .count ≤ argumentSlots → length (m .args) ≡ argumentSlots
     → ((k : ℕ) → m .count ≤ k → getD (m .args) k 0 ≡ 0) → MethodExact m
 unfolding mk from
 signed-exact m h p n l z =
@@ -96,14 +96,14 @@ mkT-eq : {r o r′ o′ : ℕ} (c : ℕ) {k k′ : ℕ × ℕ × ℕ} {m m′ : 
     → mkT r c o k m ≡ mkT r′ c o′ k′ m′
 mkT-eq c p q s t = cc
 
-module _ (ms sh i : ℕ) (x : RawType) (l : length (x .methods) ≡ 16) (key : KeyExact sh i x) where
-  stored-methods : (ys : List Method) → ((j : ℕ) → j < 16 → getD (x .methods) j noRawMethod ≡ methodRecord (getD ys j noMethod))
-      → from 16 0 (λ j. methodRecord (getD ys j noMethod)) ≡ x .methods
-  stored-methods ys h = is-from (λ j. methodRecord (getD ys j noMethod)) 16 noRawMethod (x .methods) l h
+module _ (ms sh i : ℕ) (x : RawType) (l : length (x .methods) ≡ maxMethods) (key : KeyExact sh i x) where
+  stored-methods : (ys : List Method) → ((j : ℕ) → j < maxMethods → getD (x .methods) j noRawMethod ≡ methodRecord (getD ys j noMethod))
+      → from maxMethods 0 (λ j. methodRecord (getD ys j noMethod)) ≡ x .methods
+  stored-methods ys h = is-from (λ j. methodRecord (getD ys j noMethod)) maxMethods noRawMethod (x .methods) l h
 
   -- A reference type whose methods are exact, and blank behind the last.
   pub ref-exact : x .rep ≡ 0 → x .own < 2 → ((j : ℕ) → j < ms → MethodExact (getD (x .methods) j noRawMethod))
-      → ((j : ℕ) → ms ≤ j → j < 16 → getD (x .methods) j noRawMethod ≡ blank) → TypeExact ms sh i x
+      → ((j : ℕ) → ms ≤ j → j < maxMethods → getD (x .methods) j noRawMethod ≡ blank) → TypeExact ms sh i x
   unfolding TypeExact mkT from
   ref-exact r o e z =
       let f : ℕ → Method = λ j. methodOf (getD (x .methods) j noRawMethod) in
@@ -116,7 +116,7 @@ module _ (ms sh i : ℕ) (x : RawType) (l : length (x .methods) ≡ 16) (key : K
       (lt-or-ge j ms))))
 
   -- A number type, which has neither own nor methods.
-  pub number-exact : (x .rep ≡ 0 → ⊥) → x .rep < 3 → x .own ≡ 0 → ((j : ℕ) → j < 16 → getD (x .methods) j noRawMethod ≡ blank) → TypeExact ms sh i x
+  pub number-exact : (x .rep ≡ 0 → ⊥) → x .rep < 3 → x .own ≡ 0 → ((j : ℕ) → j < maxMethods → getD (x .methods) j noRawMethod ≡ blank) → TypeExact ms sh i x
   unfolding TypeExact mkT from
   number-exact n r o z =
       rw (number-rep (x .rep) n)

@@ -9,7 +9,7 @@ use lib.Dec.{leb}
 use lib.ListN.{length, getD, replicate, length-append, List·getD-append}
 use lib.Seq.{getD-append-add}
 use Rattle.spec_model.specs.Basics.{from}
-use Rattle.spec_model.specs.Table.{Ty, Table, noType, noMethod, size, between, tableFits}
+use Rattle.spec_model.specs.Table.{Ty, Table, noType, noMethod, size, between, tableFits, maxMethods, maxCategories, maxTypes}
 use Rattle.spec_model.specs.Check.{RawMethod, RawType, RawLinks, RawTable, noRawType, noRawMethod, noRawLinks, typeOf, linksOf, tableOf, codesFit}
 use Rattle.spec_model.specs.Records.{methodRecord, typeRecord, linksRecord}
 use Rattle.spec_model.proofs.Codes.{rawTableOf}
@@ -22,6 +22,7 @@ use Rattle.table_record.specs.Store.{typesIn, linksIn, rawTable, tableIn, Shape
 use Rattle.table_record.specs.Records.{padded, bytesOf, linkBytesOf, typeBytes, linkBytes, countsOf}
 use Rattle.table_record.proofs.Lists.{from-first, from-same}
 use Rattle.table_record.proofs.Laws.{Agree, type-agree, type-in, links-in, record-length, record-own}
+use Rattle.table_record.specs.Layout.{typeSize, linkSize, typesSize, linksSize}
 
 -- Pieces of n bytes each, one behind the other: byte p of piece i.
 module _ {A : Type 0} (f : A → List ℕ) (n : ℕ) (long : (x : A) → length (f x) ≡ n) where
@@ -51,30 +52,30 @@ pub record-shaped : (x : Ty) → Shaped (typeRecord x)
 unfolding from
 record-shaped x = record {
   methods = refl;
-  slots = λ j l. ap (λ (m : RawMethod). length (m .args)) (from-first (λ j. methodRecord (getD (x .methods) j noMethod)) 16 j noRawMethod l);
+  slots = λ j l. ap (λ (m : RawMethod). length (m .args)) (from-first (λ j. methodRecord (getD (x .methods) j noMethod)) maxMethods j noRawMethod l);
 }
 
-pub bytes-long : (x : Ty) → length (bytesOf x) ≡ 128
+pub bytes-long : (x : Ty) → length (bytesOf x) ≡ typeSize
 bytes-long x = record-length (typeRecord x) (record-shaped x)
 
 -- type i of the bytes
-pub types-back : (xs : List Ty) (i : ℕ) → length xs ≤ 128 → i < length xs → getD (typesIn (typeBytes xs)) i noRawType ≡ typeRecord (getD xs i noType)
+pub types-back : (xs : List Ty) (i : ℕ) → length xs ≤ maxTypes → i < length xs → getD (typesIn (typeBytes xs)) i noRawType ≡ typeRecord (getD xs i noType)
 unfolding typeBytes padded Agree
 types-back xs i m l = let x = getD xs i noType in
     type-in (typeBytes xs) i noRawType (omega arith)
-    ∙ type-agree (typeBytes xs) (i * 128) (bytesOf x) 0
+    ∙ type-agree (typeBytes xs) (i * typeSize) (bytesOf x) 0
     (λ p h. let z : 0 + p ≡ p = omega arith in
-    flat-at bytesOf 128 bytes-long xs (replicate (16384 - length (flatten (map bytesOf xs))) 0) noType i p l h ∙ ap (λ (k : ℕ). getD (bytesOf x) k 0) (sym z))
+    flat-at bytesOf typeSize bytes-long xs (replicate (typesSize - length (flatten (map bytesOf xs))) 0) noType i p l h ∙ ap (λ (k : ℕ). getD (bytesOf x) k 0) (sym z))
     ∙ record-own (typeRecord x) (record-shaped x)
 
 -- the links of category k; category 0 has none
-pub links-back-at : (cs : List (List ℕ)) (k : ℕ) → length cs ≤ 31 → k < suc (length cs) → getD (linksIn (linkBytes cs)) k noRawLinks ≡ linksRecord (getD ([] ∷ cs) k [])
+pub links-back-at : (cs : List (List ℕ)) (k : ℕ) → length cs ≤ maxCategories → k < suc (length cs) → getD (linksIn (linkBytes cs)) k noRawLinks ≡ linksRecord (getD ([] ∷ cs) k [])
 unfolding linkBytes padded
 links-back-at cs k m l =
     let xs : List (List ℕ) = [] ∷ cs in
-    let at : (p : ℕ) → p < 3 → getD (linkBytes cs) (k * 3 + p) 0 ≡ getD (linkBytesOf (getD xs k [])) p 0 =
-    λ p h. flat-at linkBytesOf 3 (λ x. refl) xs (replicate (96 - length (flatten (map linkBytesOf xs))) 0) [] k p l h in
-    let z : k * 3 ≡ k * 3 + 0 = omega arith in
+    let at : (p : ℕ) → p < 3 → getD (linkBytes cs) (k * linkSize + p) 0 ≡ getD (linkBytesOf (getD xs k [])) p 0 =
+    λ p h. flat-at linkBytesOf linkSize (λ x. refl) xs (replicate (linksSize - length (flatten (map linkBytesOf xs))) 0) [] k p l h in
+    let z : k * linkSize ≡ k * linkSize + 0 = omega arith in
     links-in (linkBytes cs) k noRawLinks (omega arith)
     ∙ links-eq (ap (λ (n : ℕ). getD (linkBytes cs) n 0) z ∙ at 0 (omega arith)) (at 1 (omega arith)) (at 2 (omega arith))
   where
@@ -87,11 +88,11 @@ module _ (t : Table) (fits : So (tableFits t)) where
   abbrev whole : RawTable
   whole = rawTable (typeBytes (t .types)) (linkBytes (t .cats)) (countsOf t)
 
-  few : (length (t .cats) ≤ 31) × (size t ≤ 128)
+  few : (length (t .cats) ≤ maxCategories) × (size t ≤ maxTypes)
   few =
       let f = table-fitting t fits in
       let c = second (between 1 16 (t .methods)) _ (second (between 1 16 (t .subjects)) _ (f .counts)) in
-      (leb-so (first (leb (length (t .cats)) 31) _ c), f .room)
+      (leb-so (first (leb (length (t .cats)) maxCategories) _ c), f .room)
 
   type-agrees : (i : ℕ) → i < size t → getD (typesIn (typeBytes (t .types))) i noRawType ≡ getD (map typeRecord (t .types)) i noRawType
   type-agrees i h = types-back (t .types) i (few .1) h ∙ sym (getD-map-in typeRecord (t .types) i noType noRawType h)

@@ -8,14 +8,14 @@ use lib.ListN.{length, getD, take, drop}
 use lib.Seq.{take-append-seam, length-take-le}
 use borrow.Author.Tests.{lt-ltb, le-ltb}
 use Rattle.spec_model.specs.Basics.{from}
-use Rattle.spec_model.specs.Table.{Table}
-use Rattle.spec_model.specs.Relations.{Answers, bit}
+use Rattle.spec_model.specs.Table.{Table, maxSheetTypes}
+use Rattle.spec_model.specs.Relations.{Comparison, bit}
 use Rattle.spec_model.specs.Check.{tableOf}
 use Rattle.table_record.specs.Store.{tableIn}
 use Rattle.table_record.proofs.Lists.{from-same}
 use Rattle.table_record.specs.Limits.{Checked}
 use Rattle.table_check.proofs.Accepted.{accepted-checked}
-use Rattle.relation_search.specs.Answered.{answersAt}
+use Rattle.relation_search.specs.Answered.{comparisonAt}
 use Rattle.relation_compare.specs.Pairs.{pairCode, pairTable}
 use Rattle.relation_compare.proofs.Laws.{pair-at}
 use Rattle.spec_sheet.specs.Lines.{bytes, join}
@@ -25,9 +25,9 @@ use Rattle.sheet_read.specs.declared.Sheet.{Sheet}
 use Rattle.sheet_read.specs.View.{answered}
 use Rattle.sheet_read.proofs.Accepted.{read-loaded, read-malformed, read-accepted}
 use Rattle.text_write.specs.Fill.{Filled}
-use Rattle.pairs_output.specs.Output.{maxInput, answerBits, pairLine, pairLines, answerLines, pairsOutput}
+use Rattle.pairs_output.specs.Output.{maxInput, comparisonBits, pairLine, pairLines, answerLines, pairsOutput}
 use Rattle.pairs_write_lines.specs.Spaced.{spaced}
-use Rattle.pairs_write_lines.specs.Parts.{answersIn, codeLine, rowLines, codeLines}
+use Rattle.pairs_write_lines.specs.Parts.{comparisonIn, codeLine, rowLines, codeLines}
 
 -- ---- the pairs
 bit-low : (b : Bool) → bit b ≤ 1
@@ -37,10 +37,10 @@ bit-low false = omega arith
 low-bit : (b n : ℕ) → b ≤ 1 → (b + 2 * n) % 2 ≡ b
 low-bit b n h = omega arith
 
-answers-of : (a : Answers) → answersIn (pairCode a) ≡ answerBits a
+answers-of : (a : Comparison) → comparisonIn (pairCode a) ≡ comparisonBits a
 answers-of a = go (a .subtype) (a .strict) (a .loose) (a .free)
   where
-    go : (w x y z : Bool) → answersIn (bit w + 2 * bit x + 4 * bit y + 8 * bit z) ≡ bit w ∷ bit x ∷ bit y ∷ bit z ∷ []
+    go : (w x y z : Bool) → comparisonIn (bit w + 2 * bit x + 4 * bit y + 8 * bit z) ≡ bit w ∷ bit x ∷ bit y ∷ bit z ∷ []
     go w x y z =
         let p = bit-low w in
         let q = bit-low x in
@@ -56,18 +56,18 @@ answers-of a = go (a .subtype) (a .strict) (a .loose) (a .free)
         ∙ ap (λ i. bit w ∷ bit x ∷ i ∷ k / 8 % 2 ∷ []) (ap (λ i. i % 2) k₂ ∙ low-bit (bit y) (bit z) r)
         ∙ ap (λ i. bit w ∷ bit x ∷ bit y ∷ i ∷ []) (ap (λ i. i % 2) k₃ ∙ low-bit (bit z) 0 s)
 
-module _ (T : Table) (h : T .sheet ≤ 48) where
-  entry-is : (t s : ℕ) → t < T .sheet → s < T .sheet → getD (pairTable T) (t * 48 + s) 0 ≡ pairCode (answersAt T t s)
+module _ (T : Table) (h : T .sheet ≤ maxSheetTypes) where
+  entry-is : (t s : ℕ) → t < T .sheet → s < T .sheet → getD (pairTable T) (t * maxSheetTypes + s) 0 ≡ pairCode (comparisonAt T t s)
   entry-is t s p q = pair-at T t s (omega arith) (omega arith) ∙ rw (lt-ltb t (T .sheet) p, lt-ltb s (T .sheet) q)
 
-  pair-is : (t s : ℕ) → t < T .sheet → s < T .sheet → codeLine t s (getD (pairTable T) (t * 48 + s) 0) ≡ pairLine T t s
+  pair-is : (t s : ℕ) → t < T .sheet → s < T .sheet → codeLine t s (getD (pairTable T) (t * maxSheetTypes + s) 0) ≡ pairLine T t s
   unfolding codeLine pairLine
-  pair-is t s p q = ap (codeLine t s) (entry-is t s p q) ∙ ap (λ z. spaced (t ∷ s ∷ z)) (answers-of (answersAt T t s))
+  pair-is t s p q = ap (codeLine t s) (entry-is t s p q) ∙ ap (λ z. spaced (t ∷ s ∷ z)) (answers-of (comparisonAt T t s))
 
   pub pairs-are : codeLines (pairTable T) (T .sheet) (T .sheet) ≡ pairLines T
   unfolding codeLines rowLines pairLines
   pairs-are = ap flatten (from-same (λ t. rowLines (pairTable T) t (T .sheet)) (λ t. from (T .sheet) 0 (pairLine T t)) (T .sheet) 0
-      (λ t _ p. from-same (λ s. codeLine t s (getD (pairTable T) (t * 48 + s) 0)) (pairLine T t) (T .sheet) 0 (λ s _ q. pair-is t s (omega arith) (omega arith))))
+      (λ t _ p. from-same (λ s. codeLine t s (getD (pairTable T) (t * maxSheetTypes + s) 0)) (pairLine T t) (T .sheet) 0 (λ s _ q. pair-is t s (omega arith) (omega arith))))
 
 -- ---- an accepted sheet
 module _ (bs : List ℕ) (x : Sheet) (h : x ≡ answered (read bs)) (z : x .refusal ≡ 0) where
@@ -77,7 +77,7 @@ module _ (bs : List ℕ) (x : Sheet) (h : x ≡ answered (read bs)) (z : x .refu
   pub sheet-checked : Checked (x .links) (x .counts)
   sheet-checked = accepted-checked (x .types) (x .links) (x .counts) (read-accepted bs x h z)
 
-  pub sheet-few : x .counts .sheet ≤ 48
+  pub sheet-few : x .counts .sheet ≤ maxSheetTypes
   sheet-few = sheet-checked .limits .sheet
 
   pub accepted-prints : length bs ≤ maxInput → join (codeLines (pairTable tableOfSheet) (x .counts .sheet) (x .counts .sheet)) ≡ pairsOutput bs

@@ -6,8 +6,8 @@ use lib.Dec.{ltb}
 use lib.ListN.{length}
 use Rattle.spec_model.specs.Basics.{from}
 use Rattle.spec_model.specs.Table.{Table}
-use Rattle.spec_model.specs.Relations.{Answers, bit, related}
-use Rattle.relation_search.specs.Answered.{answersAt}
+use Rattle.spec_model.specs.Relations.{Comparison, bit, related}
+use Rattle.relation_search.specs.Answered.{comparisonAt}
 use Rattle.spec_sheet.specs.Lines.{bytes, join}
 use Rattle.spec_sheet.specs.Numbers.{decimalIn}
 use Rattle.spec_sheet.specs.Text.{numberText}
@@ -19,12 +19,12 @@ abbrev pub maxInput : ℕ
 maxInput = 32768
 
 -- the answers of Compare, 1 or 0, in the order in which they are printed
-abbrev pub answerBits : Answers → List ℕ
-answerBits a = bit (a .subtype) ∷ bit (a .strict) ∷ bit (a .loose) ∷ bit (a .free) ∷ []
+abbrev pub comparisonBits : Comparison → List ℕ
+comparisonBits a = bit (a .subtype) ∷ bit (a .strict) ∷ bit (a .loose) ∷ bit (a .free) ∷ []
 
 unfoldable pub pairLine : Table → ℕ → ℕ → List ℕ
 unfolding related numberText decimalIn
-pairLine x t s = spaced (t ∷ s ∷ answerBits (answersAt x t s))
+pairLine x t s = spaced (t ∷ s ∷ comparisonBits (comparisonAt x t s))
 
 -- a line for every pair of sheet types, T rising and within it S rising (P17)
 unfoldable pub pairLines : Table → List (List ℕ)

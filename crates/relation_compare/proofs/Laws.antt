@@ -9,21 +9,21 @@ use lib.IntN.{ℤ}
 use lib.ListN.{length, getD}
 use borrow.Author.Tests.{lt-ltb, le-ltb}
 use Rattle.spec_model.specs.Basics.{ok}
-use Rattle.spec_model.specs.Table.{Table, size}
+use Rattle.spec_model.specs.Table.{Table, size, maxSheetTypes}
 use Rattle.spec_model.specs.Relations.{compare}
 use Rattle.spec_model.specs.Check.{tableOf, tableAccepted, compareHanded}
 use Rattle.table_record.specs.declared.Counts.{Counts}
 use Rattle.table_record.specs.Store.{rawTable, tableIn}
 use Rattle.table_record.proofs.Lists.{is-from, from-first}
-use Rattle.relation_search.specs.declared.Answers.{Answers}
-use Rattle.relation_search.specs.Answered.{answersOf, answersAt}
+use Rattle.relation_search.specs.declared.Comparison.{Comparison}
+use Rattle.relation_search.specs.Answered.{comparisonOf, comparisonAt}
 use Rattle.base_numbers.specs.Index.{indexOf}
 use Rattle.base_numbers.proofs.Laws.{index-unknown, index-known}
 use Rattle.relation_compare.specs.declared.Compared.{Compared}
-use Rattle.relation_compare.specs.declared.Compared.the-variants.{Unfit, Unknown, Answers as Given}
+use Rattle.relation_compare.specs.declared.Compared.the-variants.{Unfit, Unknown, Comparison as Given}
 use Rattle.relation_compare.specs.declared.Pairs.{Pairs}
 use Rattle.relation_compare.specs.Answered.{comparedOf, pairsGiven}
-use Rattle.relation_compare.specs.Pairs.{pairCode, pairEntry, pairTable, noPairs, pairsHanded}
+use Rattle.relation_compare.specs.Pairs.{pairCode, pairEntry, pairTable, noPairs, pairsHanded, pairsSize}
 
 -- Compare, where x and y are the indices of the numbers handed in.
 module _ (T : Table) (a b : ℤ) (x : ℕ) (ex : x ≡ indexOf a (size T)) where
@@ -36,7 +36,7 @@ module _ (T : Table) (a b : ℤ) (x : ℕ) (ex : x ≡ indexOf a (size T)) where
     unfolding compare
     compare-right l = rw (index-known a (size T) x ex p .0, index-unknown b (size T) y ey l)
 
-    pub compare-all : y < size T → (r : Answers) → answersOf r ≡ answersAt T x y → comparedOf (Given r) ≡ compare T a b
+    pub compare-all : y < size T → (r : Comparison) → comparisonOf r ≡ comparisonAt T x y → comparedOf (Given r) ≡ compare T a b
     unfolding compare
     compare-all q r h =
         let k = index-known a (size T) x ex p in
@@ -57,21 +57,21 @@ module _ (b l : List ℕ) (c : Counts) (t s : ℕ) where
   unfolding tableIn tableOf
   both-sheet p q = rw (lt-ltb t (c .sheet) p, lt-ltb s (c .sheet) q)
 
-  pub entry-all : (a : Answers) (r : ℕ) → t < c .sheet → s < c .sheet → answersOf a ≡ answersAt (tableIn b l c) t s → r ≡ pairCode (answersOf a) → r ≡ pairEntry (tableIn b l c) t s
+  pub entry-all : (a : Comparison) (r : ℕ) → t < c .sheet → s < c .sheet → comparisonOf a ≡ comparisonAt (tableIn b l c) t s → r ≡ pairCode (comparisonOf a) → r ≡ pairEntry (tableIn b l c) t s
   entry-all a r p q h e = e ∙ ap pairCode h ∙ rw (both-sheet p q)
 
 -- The table, entry by entry.
-pub pairs-all : (T : Table) (out : List ℕ) → length out ≡ 2304 → ((k : ℕ) → k < 2304 → getD out k 0 ≡ pairEntry T (k / 48) (k % 48)) → out ≡ pairTable T
+pub pairs-all : (T : Table) (out : List ℕ) → length out ≡ pairsSize → ((k : ℕ) → k < pairsSize → getD out k 0 ≡ pairEntry T (k / maxSheetTypes) (k % maxSheetTypes)) → out ≡ pairTable T
 unfolding pairTable
-pairs-all T out e h = sym (is-from (λ p. pairEntry T (p / 48) (p % 48)) 2304 0 out e h)
+pairs-all T out e h = sym (is-from (λ p. pairEntry T (p / maxSheetTypes) (p % maxSheetTypes)) pairsSize 0 out e h)
 
 -- Where the pair (T, S) stands.
-pub pair-at : (T : Table) (t s : ℕ) → t < 48 → s < 48 → getD (pairTable T) (t * 48 + s) 0 ≡ pairEntry T t s
+pub pair-at : (T : Table) (t s : ℕ) → t < maxSheetTypes → s < maxSheetTypes → getD (pairTable T) (t * maxSheetTypes + s) 0 ≡ pairEntry T t s
 unfolding pairTable
 pair-at T t s p q =
-    let d : (t * 48 + s) / 48 ≡ t = omega arith in
-    let m : (t * 48 + s) % 48 ≡ s = omega arith in
-    from-first (λ p. pairEntry T (p / 48) (p % 48)) 2304 (t * 48 + s) 0 (omega arith) ∙ rw (d, m)
+    let d : (t * maxSheetTypes + s) / maxSheetTypes ≡ t = omega arith in
+    let m : (t * maxSheetTypes + s) % maxSheetTypes ≡ s = omega arith in
+    from-first (λ p. pairEntry T (p / maxSheetTypes) (p % maxSheetTypes)) pairsSize (t * maxSheetTypes + s) 0 (omega arith) ∙ rw (d, m)
 
 -- Compare on a table handed in: by whether it is accepted.
 module _ (b l : List ℕ) (c : Counts) (t s : ℤ) where

@@ -1,26 +1,27 @@
 // Compare at two numbers that are handed in, and the pair table of a sheet: the same answers for every pair of its types.
 ghost use mathlib.Core.Path.{_≡_};
 ghost use Prim.Native.Nat.{_+_, _*_, _≤_};
-ghost use Rattle.spec_model.specs.Relations.{bit, compare};
+ghost use Rattle.spec_model.specs.Relations.{compare};
 ghost use Rattle.spec_model.specs.Check.{compareHanded};
 ghost use Rattle.table_record.specs.Store.{rawTable, tableIn};
 ghost use Rattle.table_record.specs.Limits.{Checked};
-ghost use Rattle.relation_search.specs.Answered.{answersOf};
+ghost use Rattle.relation_search.specs.Answered.{comparisonOf};
 ghost use Rattle.relation_compare.specs.Answered.{comparedOf, pairsGiven};
 ghost use Rattle.relation_compare.specs.Pairs.{pairCode, pairEntry, pairTable, noPairs, pairsHanded};
-use relation_search::Answers;
+use base_numbers::bit_of;
+use relation_search::Comparison;
 use table_record::Counts;
 use table_record::LINK_BYTES;
 use table_record::TYPE_BYTES;
 
 // The bytes of a pair table (B24).
-pub const PAIR_BYTES: usize = 2304;
+pub const PAIR_BYTES: usize = Counts::SHEET_TYPES * Counts::SHEET_TYPES;
 
 // What Compare answers (R14): 2 for a table that is not fit, 7 for a number that names no type, or the answers.
 pub enum Compared {
     Unfit,
     Unknown,
-    Answers(Answers),
+    Comparison(Comparison),
 }
 
 // Compare, in a table that is checked.
@@ -42,8 +43,8 @@ fn compare_checked(
     if c.types <= y {
         return Compared::Unknown;
     }
-    let a = relation_search::answers_at(b, l, c, x, y);
-    Compared::Answers(a)
+    let a = relation_search::comparison_at(b, l, c, x, y);
+    Compared::Comparison(a)
 }
 
 // Compare, on any table handed in: 2 before all else.
@@ -62,18 +63,9 @@ pub fn compare_types(
     Compared::Unfit
 }
 
-fn bit_of(x: bool) -> u8
-    ensures { λ r. ⌜ (r ≡ bit x) × (r ≤ 1) ⌝ }
-{
-    if x {
-        return 1;
-    }
-    0
-}
-
 // The answers in one byte.
-pub fn pair_code(a: Answers) -> u8
-    ensures { λ r. ⌜ r ≡ pairCode (answersOf a) ⌝ }
+pub fn pair_code(a: Comparison) -> u8
+    ensures { λ r. ⌜ r ≡ pairCode (comparisonOf a) ⌝ }
 {
     let w = bit_of(a.subtype);
     let x = bit_of(a.strict);
@@ -93,7 +85,7 @@ fn pair_entry(b: &[u8; TYPE_BYTES], l: &[u8; LINK_BYTES], c: Counts, t: usize, s
     if c.sheet <= s {
         return 0;
     }
-    let a = relation_search::answers_at(b, l, c, t, s);
+    let a = relation_search::comparison_at(b, l, c, t, s);
     pair_code(a)
 }
 
@@ -104,8 +96,8 @@ pub fn pair_table(b: &[u8; TYPE_BYTES], l: &[u8; LINK_BYTES], c: Counts) -> [u8;
 {
     let mut out = [0u8; PAIR_BYTES];
     let mut p: usize = 0;
-    while p < 2304 {
-        let e = pair_entry(b, l, c, p / 48, p % 48);
+    while p < PAIR_BYTES {
+        let e = pair_entry(b, l, c, p / Counts::SHEET_TYPES, p % Counts::SHEET_TYPES);
         out[p] = e;
         p += 1;
     }

@@ -13,6 +13,7 @@ use Rattle.spec_model.specs.Basics.{any, AllBelow}
 use Rattle.spec_model.specs.Relations.{reaches, catLe}
 use Rattle.spec_model.specs.Check.{RawLinks, noRawLinks, linksOf, tableOf}
 use Rattle.spec_model.proofs.Largest.{getD-from, getD-from-out}
+use Rattle.spec_model.specs.Table.{maxCategories}
 use Rattle.table_record.specs.declared.Counts.{Counts}
 use Rattle.table_record.specs.Store.{linksIn, tableIn, broaderOf}
 use Rattle.table_record.proofs.Lists.{lt-or-ge}
@@ -20,7 +21,7 @@ use Rattle.table_record.specs.Limits.{Checked}
 use Rattle.relation_rule.specs.Parts.{broaderIn, catNext}
 
 -- the order of the table is that of these links, whatever its types
-pub order-is : (b l : List ℕ) (c : Counts) (x y : ℕ) → reaches 32 (broaderIn l c) x y ≡ catLe (tableIn b l c) x y
+pub order-is : (b l : List ℕ) (c : Counts) (x y : ℕ) → reaches (suc maxCategories) (broaderIn l c) x y ≡ catLe (tableIn b l c) x y
 unfolding catLe tableIn tableOf broaderIn
 order-is b l c x y = refl
 
@@ -52,7 +53,7 @@ module _ (l : List ℕ) (c : Counts) (h : Checked l c) where
   links-below : (x : ℕ) → AllBelow x (getD (broaderIn l c) x [])
   links-below zero = rw (links-zero l c) tt
   links-below (suc x) = ⊎-elim (λ (p : c .cats < suc x). rw (links-out l c (suc x) p) tt)
-      (λ (p : suc x ≤ c .cats). rw (links-in l c (suc x) (omega arith) p) (h .falls (suc x) (omega arith) p)) (lt-or-ge (c .cats) (suc x))
+      (λ (p : suc x ≤ c .cats). rw (links-in l c (suc x) (omega arith) p) (h .descends (suc x) (omega arith) p)) (lt-or-ge (c .cats) (suc x))
 
   -- as many steps as the category's number are enough
   more-fuel : (f a x : ℕ) → x ≤ f → reaches f (broaderIn l c) a x ≡ reaches (suc f) (broaderIn l c) a x
@@ -63,14 +64,15 @@ module _ (l : List ℕ) (c : Counts) (h : Checked l c) where
       (any-same (λ k. reaches f (broaderIn l c) a k) (λ k. reaches (suc f) (broaderIn l c) a k) x (getD (broaderIn l c) x []) (links-below x) (λ k q. more-fuel f a k (omega arith)))
 
   -- from the answers below x, that of x
-  pub next-order : (done : List Bool) (a x : ℕ) → x < 32 → ((k : ℕ) → k < x → getD done k false ≡ reaches 32 (broaderIn l c) a k)
-      → catNext (broaderIn l c) done a x ≡ reaches 32 (broaderIn l c) a x
+  pub next-order : (done : List Bool) (a x : ℕ) → x < suc maxCategories → ((k : ℕ) → k < x → getD done k false ≡ reaches (suc maxCategories) (broaderIn l c) a k)
+      → catNext (broaderIn l c) done a x ≡ reaches (suc maxCategories) (broaderIn l c) a x
   unfolding catNext reaches
   next-order done a x p e = ap (λ (b : Bool). eqb a 0 || (eqb a x || b))
-      (any-same (λ k. getD done k false) (λ k. reaches 31 (broaderIn l c) a k) x (getD (broaderIn l c) x []) (links-below x) (λ k q. e k q ∙ sym (more-fuel 31 a k (omega arith))))
+      (any-same (λ k. getD done k false) (λ k. reaches maxCategories (broaderIn l c) a k) x (getD (broaderIn l c) x []) (links-below x)
+      (λ k q. e k q ∙ sym (more-fuel maxCategories a k (omega arith))))
 
 -- a category above the last has no links
-pub far-order : (l : List ℕ) (c : Counts) (a x : ℕ) → c .cats < x → (eqb a 0 || eqb a x) ≡ reaches 32 (broaderIn l c) a x
+pub far-order : (l : List ℕ) (c : Counts) (a x : ℕ) → c .cats < x → (eqb a 0 || eqb a x) ≡ reaches (suc maxCategories) (broaderIn l c) a x
 unfolding reaches
 far-order l c a x p = rw (links-out l c x p) (or-none (eqb a 0) (eqb a x))
 
@@ -122,15 +124,15 @@ module _ (l : List ℕ) (c : Counts) (done : List Bool) (a x : ℕ) where
 
 -- the links name categories below, of which there are 32 at most
 module _ (l : List ℕ) (c : Counts) (x u : ℕ) (h : Checked l c) (z : x ≡ 0 → ⊥) (i : x ≤ c .cats) (r : RawLinks) (e : r ≡ getD (linksIn l) x noRawLinks) where
-  falls : AllBelow x (linksOf r)
-  falls = rw e (h .falls x (omega arith) i)
+  descends : AllBelow x (linksOf r)
+  descends = rw e (h .descends x (omega arith) i)
 
-  pub first-below : u ≡ r .first → u < 32
-  first-below f = let g : r .first < x = go (eqb (r .count) 2) falls in omega (arith, h .limits .cats)
+  pub first-below : u ≡ r .first → u < suc maxCategories
+  first-below f = let g : r .first < x = go (eqb (r .count) 2) descends in omega (arith, h .limits .cats)
     where
       go : (b : Bool) → AllBelow x (cond b (r .first ∷ r .second ∷ []) (r .first ∷ [])) → r .first < x
       go true w = w .0
       go false w = w .0
 
-  pub second-below : u ≡ r .second → r .count ≡ 2 → u < 32
-  second-below f n = let w : AllBelow x (r .first ∷ r .second ∷ []) = rw (eq-eqb (r .count) 2 n) at falls in let g = w .1 .0 in omega (arith, h .limits .cats)
+  pub second-below : u ≡ r .second → r .count ≡ 2 → u < suc maxCategories
+  second-below f n = let w : AllBelow x (r .first ∷ r .second ∷ []) = rw (eq-eqb (r .count) 2 n) at descends in let g = w .1 .0 in omega (arith, h .limits .cats)

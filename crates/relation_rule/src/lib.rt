@@ -3,10 +3,10 @@
 ghost use mathlib.Core.Path.{_≡_};
 ghost use mathlib.Core.Bool.{false, _&&_};
 ghost use mathlib.Core.List.{List, []};
-ghost use Prim.Native.Nat.{ℕ, _<_};
+ghost use Prim.Native.Nat.{ℕ, suc, _<_};
 ghost use lib.ListN.{getD};
 ghost use Rattle.spec_model.specs.Basics.{_⇒_};
-ghost use Rattle.spec_model.specs.Table.{permit};
+ghost use Rattle.spec_model.specs.Table.{permit, maxCategories};
 ghost use Rattle.spec_model.specs.Relations.{stateRule, sameRep, sameSort, catLe};
 ghost use Rattle.spec_model.specs.Check.{stateOf, repOf};
 ghost use Rattle.table_record.specs.Store.{tableIn};
@@ -121,7 +121,7 @@ fn category_next(
     a: usize,
     x: usize,
 ) -> bool
-    requires { ⌜ Checked (now l) c × (x < 32) ⌝ }
+    requires { ⌜ Checked (now l) c × (x < suc maxCategories) ⌝ }
     ensures { λ r. ⌜ r ≡ catNext (broaderIn (now (l .entry)) c) (now (done .entry)) a x ⌝ }
 {
     if a == 0 {

@@ -13,6 +13,7 @@ use Rattle.table_record.proofs.Lists.{lt-or-ge}
 use Rattle.relation_search.specs.declared.Step.the-variants.{Tail}
 use Rattle.relation_search.specs.Found.{marksIn, queueIn, Added, ListedIn, MetIn}
 use Rattle.relation_search.proofs.Pairs.{pair-new}
+use Rattle.spec_model.specs.Table.{maxTypes}
 
 map-set : {A B : Type 0} (f : A → B) (l : List A) (i : ℕ) (y : A) → map f (set l i y) ≡ set (map f l) i (f y)
 map-set f [] i y = refl
@@ -81,6 +82,6 @@ module _ (b : List ℕ) (t p : ℕ) (l : p < 32768) where
     pub added : Added b t p (set marked t placed)
     added = (added-marks, added-queue)
 
-pub pair-added : (n : ℕ) (b : List ℕ) (t x y : ℕ) → ListedIn n b t → x < n → y < n → getD (marksIn b) (x * 128 + y) false ≡ false
-    → (b′ : List ℕ) (r : ℕ) → (r ≡ t + 1) × Added b t (x * 128 + y) b′ → MetIn n (λ M. M x y) b t b′ (Tail r)
+pub pair-added : (n : ℕ) (b : List ℕ) (t x y : ℕ) → ListedIn n b t → x < n → y < n → getD (marksIn b) (x * maxTypes + y) false ≡ false
+    → (b′ : List ℕ) (r : ℕ) → (r ≡ t + 1) × Added b t (x * maxTypes + y) b′ → MetIn n (λ M. M x y) b t b′ (Tail r)
 pair-added n b t x y h p q e b′ r k = rw (k .0, k .1 .0, k .1 .1) (pair-new n (marksIn b) (queueIn b) t x y h p q e)

@@ -9,13 +9,13 @@ use native.Mathlib.Omega.{arith}
 use lib.Dec.{ltb}
 use lib.ListN.{length, getD, set, length-set, replicate, length-replicate}
 use lib.Seq.{getD-set-same, getD-set-other}
-use Rattle.spec_model.specs.Table.{Table, size}
+use Rattle.spec_model.specs.Table.{Table, size, maxTypes}
 use Rattle.spec_model.specs.Relations.{Relation, Keeps, yeses, rule, related}
 use Rattle.spec_model.proofs.Tests.{so-ltb}
 use Rattle.spec_model.proofs.Rules.{never, both, rule-test, rule-says}
 use Rattle.spec_model.proofs.Largest.{largest, keeps-related}
 use Rattle.table_record.proofs.Lists.{same-or}
-use Rattle.relation_search.specs.Found.{found, Within, Pair, Listed, Grew, Broke, marksIn, queueIn, Added, Clear}
+use Rattle.relation_search.specs.Found.{found, Within, Pair, Listed, Grew, Broke, marksIn, queueIn, Added, Clear, maxPairs}
 use Rattle.relation_search.proofs.Pairs.{found-says, found-test, pair-as, yeses-set}
 use Rattle.relation_search.proofs.Buffer.{none-found, none-queued}
 
@@ -30,40 +30,40 @@ none-marked zero p h = never h
 none-marked (suc n) zero h = never h
 none-marked (suc n) (suc p) h = none-marked n p h
 
-module _ (m n t s : ℕ) (l : n ≤ 128) (lo : n * 128 ≤ m) (hi : m ≤ 16384) (p : t < n) (q : s < n) where
+module _ (m n t s : ℕ) (l : n ≤ maxTypes) (lo : n * maxTypes ≤ m) (hi : m ≤ maxPairs) (p : t < n) (q : s < n) where
   abbrev marks₀ : List Bool
-  marks₀ = set (replicate m false) (t * 128 + s) true
+  marks₀ = set (replicate m false) (t * maxTypes + s) true
 
   abbrev queue₀ : List ℕ
-  queue₀ = set (replicate m 0) 0 (t * 128 + s)
+  queue₀ = set (replicate m 0) 0 (t * maxTypes + s)
 
-  slot : t * 128 + s < length (replicate m false)
+  slot : t * maxTypes + s < length (replicate m false)
   slot = rw length-replicate (omega arith)
 
-  root-marked : So (getD marks₀ (t * 128 + s) false)
-  root-marked = getD-set-same (replicate m false) (t * 128 + s) true false slot
+  root-marked : So (getD marks₀ (t * maxTypes + s) false)
+  root-marked = getD-set-same (replicate m false) (t * maxTypes + s) true false slot
 
-  root-queued : getD queue₀ 0 0 ≡ t * 128 + s
-  root-queued = getD-set-same (replicate m 0) 0 (t * 128 + s) 0 (rw length-replicate (omega arith))
+  root-queued : getD queue₀ 0 0 ≡ t * maxTypes + s
+  root-queued = getD-set-same (replicate m 0) 0 (t * maxTypes + s) 0 (rw length-replicate (omega arith))
 
-  only-root : (u : ℕ) → So (getD marks₀ u false) → u ≡ t * 128 + s
-  only-root u h = ⊎-elim (λ (e : u ≡ t * 128 + s). e) (λ (e : u ≡ t * 128 + s → ⊥). absurd
-      (none-marked m u (sym (getD-set-other (replicate m false) (t * 128 + s) u true false e) ∙ h))) (same-or u (t * 128 + s))
+  only-root : (u : ℕ) → So (getD marks₀ u false) → u ≡ t * maxTypes + s
+  only-root u h = ⊎-elim (λ (e : u ≡ t * maxTypes + s). e) (λ (e : u ≡ t * maxTypes + s → ⊥). absurd
+      (none-marked m u (sym (getD-set-other (replicate m false) (t * maxTypes + s) u true false e) ∙ h))) (same-or u (t * maxTypes + s))
 
   root-listed : Listed n marks₀ queue₀ 1
   root-listed = record {
     small = l;
     slots = let z : length marks₀ ≡ m = marks-length in omega arith;
     few = let z : length marks₀ ≡ m = marks-length in omega arith;
-    room = length-set (replicate m 0) 0 (t * 128 + s) ∙ length-replicate {A = ℕ} m 0 ∙ sym marks-length;
+    room = length-set (replicate m 0) 0 (t * maxTypes + s) ∙ length-replicate {A = ℕ} m 0 ∙ sym marks-length;
     first = omega arith;
-    tally = yeses-set (replicate m false) (t * 128 + s) slot (getD-none (t * 128 + s)) ∙ ap suc (yeses-none m);
-    back = λ i k. (let e : i ≡ 0 = omega arith in rw (e, root-queued) (let o : Pair n marks₀ (t * 128 + s) = record { low = omega arith; high = omega arith; known = root-marked } in o));
-    forth = λ x y h. (let g = found-says n marks₀ x y h in record { place = 0; below = omega arith; there = root-queued ∙ sym (only-root (x * 128 + y) (g .2)) });
+    tally = yeses-set (replicate m false) (t * maxTypes + s) slot (getD-none (t * maxTypes + s)) ∙ ap suc (yeses-none m);
+    back = λ i k. (let e : i ≡ 0 = omega arith in rw (e, root-queued) (let o : Pair n marks₀ (t * maxTypes + s) = record { low = omega arith; high = omega arith; known = root-marked } in o));
+    forth = λ x y h. (let g = found-says n marks₀ x y h in record { place = 0; below = omega arith; there = root-queued ∙ sym (only-root (x * maxTypes + y) (g .2)) });
   }
     where
       marks-length : length marks₀ ≡ m
-      marks-length = length-set (replicate m false) (t * 128 + s) true ∙ length-replicate m false
+      marks-length = length-set (replicate m false) (t * maxTypes + s) true ∙ length-replicate m false
 
       getD-none : (u : ℕ) → getD (replicate m false) u false ≡ false
       getD-none u = go (getD (replicate m false) u false) refl
@@ -77,7 +77,7 @@ pub record Going (k : Relation) (T : Table) (n t s : ℕ) (marks : List Bool) (q
   pub listed : Listed n marks queue tail
   pub within : head ≤ tail
   pub root : So (found n marks t s)
-  pub done : (i : ℕ) → i < head → So (rule k T (found n marks) (getD queue i 0 / 128) (getD queue i 0 % 128))
+  pub done : (i : ℕ) → i < head → So (rule k T (found n marks) (getD queue i 0 / maxTypes) (getD queue i 0 % maxTypes))
   pub only : So (related k T t s) → Within (found n marks) (related k T)
 
 -- the rule is monotone
@@ -86,20 +86,21 @@ unfolding Within
 rule-up k T M N a b p q i w = rule-test k T (λ x y. So (M x y)) N i a b (rule-says k T M a b p q w)
 
 module _ (k : Relation) (T : Table) (n t s : ℕ) (e : size T ≡ n) where
-  pub start : (m : ℕ) → n ≤ 128 → n * 128 ≤ m → m ≤ 16384 → t < n → s < n → Going k T n t s (set (replicate m false) (t * 128 + s) true) (set (replicate m 0) 0 (t * 128 + s)) 1 0
+  pub start : (m : ℕ) → n ≤ maxTypes → n * maxTypes ≤ m → m ≤ maxPairs → t < n → s < n → Going k T n t s (set (replicate m false) (t * maxTypes + s) true)
+      (set (replicate m 0) 0 (t * maxTypes + s)) 1 0
   unfolding Within
   start m l lo hi p q = record {
     listed = root-listed m n t s l lo hi p q;
     within = omega arith;
-    root = found-test n (set (replicate m false) (t * 128 + s) true) t s p q (root-marked m n t s l lo hi p q);
+    root = found-test n (set (replicate m false) (t * maxTypes + s) true) t s p q (root-marked m n t s l lo hi p q);
     done = λ i h. (let z : ⊥ = omega arith in absurd z);
-    only = λ r x y h. (let g = found-says n (set (replicate m false) (t * 128 + s) true) x y h in
-        let d : x * 128 + y ≡ t * 128 + s = only-root m n t s l lo hi p q (x * 128 + y) (g .2) in
+    only = λ r x y h. (let g = found-says n (set (replicate m false) (t * maxTypes + s) true) x y h in
+        let d : x * maxTypes + y ≡ t * maxTypes + s = only-root m n t s l lo hi p q (x * maxTypes + y) (g .2) in
         let a : t ≡ x = omega (arith, g .1) in let b : s ≡ y = omega (arith, g .1) in rw (← a, ← b) r);
   }
 
   -- the first pair is added to an array that says nothing
-  pub start-at : (a b : List ℕ) (r : ℕ) → Clear n a → (r ≡ 1) × Added a 0 (t * 128 + s) b → n ≤ 128 → t < n → s < n → Going k T n t s (marksIn b) (queueIn b) r 0
+  pub start-at : (a b : List ℕ) (r : ℕ) → Clear n a → (r ≡ 1) × Added a 0 (t * maxTypes + s) b → n ≤ maxTypes → t < n → s < n → Going k T n t s (marksIn b) (queueIn b) r 0
   start-at a b r z h l p q = rw (h .0, h .1 .0, h .1 .1, ap marksIn (z .none) ∙ none-found (length a), ap queueIn (z .none) ∙ none-queued (length a)) (start (length a) l (z .long) (z .few) p q)
 
   -- what is related keeps its rule, and is of the table
@@ -116,7 +117,7 @@ module _ (k : Relation) (T : Table) (n t s : ℕ) (e : size T ≡ n) where
 
     module _ (l : head < tail) where
       abbrev Turn : (ℕ → ℕ → Bool) → Bool
-      Turn M = rule k T M (getD queue head 0 / 128) (getD queue head 0 % 128)
+      Turn M = rule k T M (getD queue head 0 / maxTypes) (getD queue head 0 % maxTypes)
 
       pub again : (marks′ : List Bool) (queue′ : List ℕ) (r : ℕ) → Grew n Turn marks queue tail marks′ queue′ r → Going k T n t s marks′ queue′ r (head + 1)
       unfolding Within
@@ -128,11 +129,11 @@ module _ (k : Relation) (T : Table) (n t s : ℕ) (e : size T ≡ n) where
             done = λ i h. ⊎-elim
                 (λ (d : i ≡ head). rw (d, w .kept head l) (w .has))
                 (λ (d : i ≡ head → ⊥). let o = g .listed .back i (omega arith) in rw (w .kept i (omega arith))
-                (rule-up k T (found n marks) (found n marks′) (getD queue i 0 / 128) (getD queue i 0 % 128) (rw e (o .low)) (rw e (o .high)) (w .more)
+                (rule-up k T (found n marks) (found n marks′) (getD queue i 0 / maxTypes) (getD queue i 0 % maxTypes) (rw e (o .low)) (rw e (o .high)) (w .more)
                 (g .done i (omega arith))))
                 (same-or i head);
-            only = λ q. w .only (related k T) (kept (getD queue head 0 / 128) (getD queue head 0 % 128)
-                (g .only q (getD queue head 0 / 128) (getD queue head 0 % 128) (pair-as n marks (getD queue head 0) (next l)))) (g .only q);
+            only = λ q. w .only (related k T) (kept (getD queue head 0 / maxTypes) (getD queue head 0 % maxTypes)
+                (g .only q (getD queue head 0 / maxTypes) (getD queue head 0 % maxTypes) (pair-as n marks (getD queue head 0) (next l)))) (g .only q);
           }
 
       pub broken : Broke n Turn → false ≡ related k T t s
@@ -140,8 +141,8 @@ module _ (k : Relation) (T : Table) (n t s : ℕ) (e : size T ≡ n) where
       broken w = go (related k T t s) refl
         where
           go : (b : Bool) → related k T t s ≡ b → false ≡ b
-          go true q = absurd (w .none (related k T) of-table (kept (getD queue head 0 / 128) (getD queue head 0 % 128)
-              (unfold Within in (g .only q) (getD queue head 0 / 128) (getD queue head 0 % 128) (pair-as n marks (getD queue head 0) (next l)))))
+          go true q = absurd (w .none (related k T) of-table (kept (getD queue head 0 / maxTypes) (getD queue head 0 % maxTypes)
+              (unfold Within in (g .only q) (getD queue head 0 / maxTypes) (getD queue head 0 % maxTypes) (pair-as n marks (getD queue head 0) (next l)))))
           go false q = refl
 
     pub ended : tail ≤ head → true ≡ related k T t s
@@ -153,8 +154,8 @@ module _ (k : Relation) (T : Table) (n t s : ℕ) (e : size T ≡ n) where
             let w = g .listed .forth x y h in
             let b = w .below in
             let f = w .there in
-            let a : getD queue (w .place) 0 / 128 ≡ x = omega (arith, i .1, g .listed .small) in
-            let c : getD queue (w .place) 0 % 128 ≡ y = omega (arith, i .1, g .listed .small) in
+            let a : getD queue (w .place) 0 / maxTypes ≡ x = omega (arith, i .1, g .listed .small) in
+            let c : getD queue (w .place) 0 % maxTypes ≡ y = omega (arith, i .1, g .listed .small) in
             rule-says k T (found n marks) x y (rw e (i .0)) (rw e (i .1)) (rw (a, c) at (g .done (w .place) (omega arith)))
 
   pub out-left : n ≤ t → false ≡ related k T t s

@@ -12,29 +12,30 @@ use lib.Seq.{getD-set-same, getD-set-other}
 use Rattle.spec_model.proofs.Tests.{ltb-so, so-ltb}
 use Rattle.spec_model.proofs.Rules.{never, both, first, second}
 use Rattle.spec_model.specs.Relations.{bit, yeses}
+use Rattle.spec_model.specs.Table.{maxTypes}
 use Rattle.table_record.proofs.Lists.{same-or}
 use Rattle.relation_search.specs.declared.Step.{Step}
 use Rattle.relation_search.specs.declared.Step.the-variants.{Broken, Tail}
-use Rattle.relation_search.specs.Found.{found, Within, Queued, Pair, Listed, Grew, Broke, Met}
+use Rattle.relation_search.specs.Found.{found, Within, Queued, Pair, Listed, Grew, Broke, Met, maxPairs}
 
 pub clash : {A : Type 0} → {b : Bool} → b ≡ true → b ≡ false → A
 clash p q = never (sym q ∙ p)
 
 -- ---- pairs as numbers
-pub found-says : (n : ℕ) (s : List Bool) (x y : ℕ) → So (found n s x y) → (x < n) × (y < n) × So (getD s (x * 128 + y) false)
+pub found-says : (n : ℕ) (s : List Bool) (x y : ℕ) → So (found n s x y) → (x < n) × (y < n) × So (getD s (x * maxTypes + y) false)
 found-says n s x y h =
     let g = second (ltb x n) _ h in
     (ltb-so (first (ltb x n) _ h), ltb-so (first (ltb y n) _ g), second (ltb y n) _ g)
 
-pub found-test : (n : ℕ) (s : List Bool) (x y : ℕ) → x < n → y < n → So (getD s (x * 128 + y) false) → So (found n s x y)
+pub found-test : (n : ℕ) (s : List Bool) (x y : ℕ) → x < n → y < n → So (getD s (x * maxTypes + y) false) → So (found n s x y)
 found-test n s x y p q h = both (so-ltb p) (both (so-ltb q) h)
 
-pub pair-as : (n : ℕ) (s : List Bool) (p : ℕ) → Pair n s p → So (found n s (p / 128) (p % 128))
+pub pair-as : (n : ℕ) (s : List Bool) (p : ℕ) → Pair n s p → So (found n s (p / maxTypes) (p % maxTypes))
 pair-as n s p h =
-    let e : p / 128 * 128 + p % 128 ≡ p = omega arith in
-    found-test n s (p / 128) (p % 128) (h .low) (h .high) (rw e (h .known))
+    let e : p / maxTypes * maxTypes + p % maxTypes ≡ p = omega arith in
+    found-test n s (p / maxTypes) (p % maxTypes) (h .low) (h .high) (rw e (h .known))
 
-pair-of : (n : ℕ) (s : List Bool) (x y : ℕ) → n ≤ 128 → x < n → y < n → So (getD s (x * 128 + y) false) → Pair n s (x * 128 + y)
+pair-of : (n : ℕ) (s : List Bool) (x y : ℕ) → n ≤ maxTypes → x < n → y < n → So (getD s (x * maxTypes + y) false) → Pair n s (x * maxTypes + y)
 pair-of n s x y l p q h = record { low = omega arith; high = omega arith; known = h }
 
 -- ---- counting
@@ -53,7 +54,7 @@ yeses-set (b ∷ s) (suc p) l h = let e : yeses (set s p true) ≡ suc (yeses s)
 pub counted : (n : ℕ) (s : List Bool) (l : List ℕ) (t : ℕ) → Listed n s l t → t ≤ length s
 counted n s l t h = let e = yeses-le s in omega (arith, h .tally)
 
-pub fits : (n : ℕ) (s : List Bool) (l : List ℕ) (t : ℕ) → Listed n s l t → t ≤ 16384
+pub fits : (n : ℕ) (s : List Bool) (l : List ℕ) (t : ℕ) → Listed n s l t → t ≤ maxPairs
 fits n s l t h = let e = counted n s l t h in omega (arith, h .few)
 
 pub room : (n : ℕ) (s : List Bool) (l : List ℕ) (t p : ℕ) → Listed n s l t → p < length s → getD s p false ≡ false → t < length s
@@ -68,7 +69,7 @@ pub stay : (n : ℕ) (W : (ℕ → ℕ → Bool) → Bool) (s : List Bool) (l : 
 unfolding Within
 stay n W s l t h w = record { listed = h; more = λ x y k. k; kept = λ i k. refl; longer = omega arith; has = w; only = λ M k i. i }
 
-pub pair-known : (n : ℕ) (s : List Bool) (l : List ℕ) (t x y : ℕ) → Listed n s l t → x < n → y < n → So (getD s (x * 128 + y) false) → Grew n (λ M. M x y) s l t s l t
+pub pair-known : (n : ℕ) (s : List Bool) (l : List ℕ) (t x y : ℕ) → Listed n s l t → x < n → y < n → So (getD s (x * maxTypes + y) false) → Grew n (λ M. M x y) s l t s l t
 pair-known n s l t x y h p q k = stay n (λ M. M x y) s l t h (found-test n s x y p q k)
 
 set-more : (s : List Bool) (p q : ℕ) → So (getD s q false) → p < length s → So (getD (set s p true) q false)
@@ -85,66 +86,66 @@ set-less s p q h =
     (λ (e : q ≡ p → ⊥). inr (sym (getD-set-other s p q true false e) ∙ h))
     (same-or q p)
 
-module _ (n : ℕ) (s : List Bool) (l : List ℕ) (t x y : ℕ) (h : Listed n s l t) (p : x < n) (q : y < n) (e : getD s (x * 128 + y) false ≡ false) where
-  at-slot : x * 128 + y < length s
+module _ (n : ℕ) (s : List Bool) (l : List ℕ) (t x y : ℕ) (h : Listed n s l t) (p : x < n) (q : y < n) (e : getD s (x * maxTypes + y) false ≡ false) where
+  at-slot : x * maxTypes + y < length s
   at-slot = omega (arith, h .slots, h .small)
 
   at-room : t < length l
-  at-room = let a : t < length s = room n s l t (x * 128 + y) h at-slot e in omega (arith, h .room)
+  at-room = let a : t < length s = room n s l t (x * maxTypes + y) h at-slot e in omega (arith, h .room)
 
-  new-back : (i : ℕ) → i < t + 1 → Pair n (set s (x * 128 + y) true) (getD (set l t (x * 128 + y)) i 0)
+  new-back : (i : ℕ) → i < t + 1 → Pair n (set s (x * maxTypes + y) true) (getD (set l t (x * maxTypes + y)) i 0)
   new-back i k =
       ⊎-elim
-      (λ (a : i ≡ t). let b : getD (set l t (x * 128 + y)) i 0 ≡ x * 128 + y = ap (λ (m : ℕ). getD (set l t (x * 128 + y)) m 0) a ∙ getD-set-same l t (x * 128 + y) 0 at-room in
-      rw b (pair-of n (set s (x * 128 + y) true) x y (h .small) p q (getD-set-same s (x * 128 + y) true false at-slot)))
-      (λ (a : i ≡ t → ⊥). let b : getD (set l t (x * 128 + y)) i 0 ≡ getD l i 0 = getD-set-other l t i (x * 128 + y) 0 a in
+      (λ (a : i ≡ t). let b : getD (set l t (x * maxTypes + y)) i 0 ≡ x * maxTypes + y = ap (λ (m : ℕ). getD (set l t (x * maxTypes + y)) m 0) a ∙ getD-set-same l t (x * maxTypes + y) 0 at-room in
+      rw b (pair-of n (set s (x * maxTypes + y) true) x y (h .small) p q (getD-set-same s (x * maxTypes + y) true false at-slot)))
+      (λ (a : i ≡ t → ⊥). let b : getD (set l t (x * maxTypes + y)) i 0 ≡ getD l i 0 = getD-set-other l t i (x * maxTypes + y) 0 a in
       let o = h .back i (omega arith) in
-      rw b (record { low = o .low; high = o .high; known = set-more s (x * 128 + y) (getD l i 0) (o .known) at-slot }))
+      rw b (record { low = o .low; high = o .high; known = set-more s (x * maxTypes + y) (getD l i 0) (o .known) at-slot }))
       (same-or i t)
 
-  new-forth : (u v : ℕ) → So (found n (set s (x * 128 + y) true) u v) → Queued (set l t (x * 128 + y)) (t + 1) (u * 128 + v)
+  new-forth : (u v : ℕ) → So (found n (set s (x * maxTypes + y) true) u v) → Queued (set l t (x * maxTypes + y)) (t + 1) (u * maxTypes + v)
   new-forth u v k =
-      let g = found-says n (set s (x * 128 + y) true) u v k in
+      let g = found-says n (set s (x * maxTypes + y) true) u v k in
       ⊎-elim
-      (λ (a : u * 128 + v ≡ x * 128 + y). let o : Queued (set l t (x * 128 + y)) (t + 1) (u * 128 + v) = record
-      { place = t; below = omega arith; there = getD-set-same l t (x * 128 + y) 0 at-room ∙ sym a } in o)
-      (λ (a : So (getD s (u * 128 + v) false)). let w = h .forth u v (found-test n s u v (g .0) (g .1) a) in
-      let o : Queued (set l t (x * 128 + y)) (t + 1) (u * 128 + v) = record {
+      (λ (a : u * maxTypes + v ≡ x * maxTypes + y). let o : Queued (set l t (x * maxTypes + y)) (t + 1) (u * maxTypes + v) = record
+      { place = t; below = omega arith; there = getD-set-same l t (x * maxTypes + y) 0 at-room ∙ sym a } in o)
+      (λ (a : So (getD s (u * maxTypes + v) false)). let w = h .forth u v (found-test n s u v (g .0) (g .1) a) in
+      let o : Queued (set l t (x * maxTypes + y)) (t + 1) (u * maxTypes + v) = record {
         place = w .place;
         below = omega (arith, w .below);
-        there = getD-set-other l t (w .place) (x * 128 + y) 0
+        there = getD-set-other l t (w .place) (x * maxTypes + y) 0
             (λ z. let f = w .below in let d : w .place ≡ t = z in omega arith) ∙ w .there;
       } in o)
-      (set-less s (x * 128 + y) (u * 128 + v) (g .2))
+      (set-less s (x * maxTypes + y) (u * maxTypes + v) (g .2))
 
-  new-listed : Listed n (set s (x * 128 + y) true) (set l t (x * 128 + y)) (t + 1)
+  new-listed : Listed n (set s (x * maxTypes + y) true) (set l t (x * maxTypes + y)) (t + 1)
   new-listed = record {
     small = h .small;
-    slots = let z : length (set s (x * 128 + y) true) ≡ length s = length-set s (x * 128 + y) true in omega (arith, h .slots);
-    few = let z : length (set s (x * 128 + y) true) ≡ length s = length-set s (x * 128 + y) true in omega (arith, h .few);
-    room = length-set l t (x * 128 + y) ∙ h .room ∙ sym (length-set s (x * 128 + y) true);
+    slots = let z : length (set s (x * maxTypes + y) true) ≡ length s = length-set s (x * maxTypes + y) true in omega (arith, h .slots);
+    few = let z : length (set s (x * maxTypes + y) true) ≡ length s = length-set s (x * maxTypes + y) true in omega (arith, h .few);
+    room = length-set l t (x * maxTypes + y) ∙ h .room ∙ sym (length-set s (x * maxTypes + y) true);
     first = omega arith;
-    tally = (let a = yeses-set s (x * 128 + y) at-slot e in omega (arith, h .tally));
+    tally = (let a = yeses-set s (x * maxTypes + y) at-slot e in omega (arith, h .tally));
     back = new-back;
     forth = new-forth;
   }
 
-  only-one : (M : ℕ → ℕ → Bool) → So (M x y) → ((u v : ℕ) → So (found n s u v) → So (M u v)) → (u v : ℕ) → So (found n (set s (x * 128 + y) true) u v) → So (M u v)
+  only-one : (M : ℕ → ℕ → Bool) → So (M x y) → ((u v : ℕ) → So (found n s u v) → So (M u v)) → (u v : ℕ) → So (found n (set s (x * maxTypes + y) true) u v) → So (M u v)
   only-one M w i u v k =
-      let g = found-says n (set s (x * 128 + y) true) u v k in
+      let g = found-says n (set s (x * maxTypes + y) true) u v k in
       ⊎-elim
-      (λ (a : u * 128 + v ≡ x * 128 + y). let b : x ≡ u = omega (arith, h .small, g .1) in let c : y ≡ v = omega (arith, h .small, g .1) in rw (← b, ← c) w)
-      (λ (a : So (getD s (u * 128 + v) false)). i u v (found-test n s u v (g .0) (g .1) a))
-      (set-less s (x * 128 + y) (u * 128 + v) (g .2))
+      (λ (a : u * maxTypes + v ≡ x * maxTypes + y). let b : x ≡ u = omega (arith, h .small, g .1) in let c : y ≡ v = omega (arith, h .small, g .1) in rw (← b, ← c) w)
+      (λ (a : So (getD s (u * maxTypes + v) false)). i u v (found-test n s u v (g .0) (g .1) a))
+      (set-less s (x * maxTypes + y) (u * maxTypes + v) (g .2))
 
-  pub pair-new : Grew n (λ M. M x y) s l t (set s (x * 128 + y) true) (set l t (x * 128 + y)) (t + 1)
+  pub pair-new : Grew n (λ M. M x y) s l t (set s (x * maxTypes + y) true) (set l t (x * maxTypes + y)) (t + 1)
   unfolding Within
   pair-new = record {
     listed = new-listed;
-    more = λ u v k. (let g = found-says n s u v k in found-test n (set s (x * 128 + y) true) u v (g .0) (g .1) (set-more s (x * 128 + y) (u * 128 + v) (g .2) at-slot));
-    kept = λ i k. getD-set-other l t i (x * 128 + y) 0 (λ z. let d : i ≡ t = z in omega arith);
+    more = λ u v k. (let g = found-says n s u v k in found-test n (set s (x * maxTypes + y) true) u v (g .0) (g .1) (set-more s (x * maxTypes + y) (u * maxTypes + v) (g .2) at-slot));
+    kept = λ i k. getD-set-other l t i (x * maxTypes + y) 0 (λ z. let d : i ≡ t = z in omega arith);
     longer = omega arith;
-    has = found-test n (set s (x * 128 + y) true) x y p q (getD-set-same s (x * 128 + y) true false at-slot);
+    has = found-test n (set s (x * maxTypes + y) true) x y p q (getD-set-same s (x * maxTypes + y) true false at-slot);
     only = only-one;
   }
 

@@ -12,16 +12,17 @@ use Rattle.spec_model.specs.Table.{Method, permit}
 use Rattle.spec_model.specs.Relations.{Relation, stateRule, argsRule, answerRule, methodRule}
 use Rattle.spec_model.specs.Check.{RawMethod, stateOf, answerOf, methodOf}
 use Rattle.spec_model.proofs.Rules.{never, both, first, second, args-mono, signature-mono, args-test, args-says, method-test, method-says}
+use Rattle.spec_model.specs.Records.{argumentSlots}
 use Rattle.table_record.proofs.Lists.{lt-or-ge, same-or}
 use Rattle.table_record.proofs.Codes.{answer-is}
 use Rattle.relation_search.specs.Found.{Within, eachBelow}
 use Rattle.relation_search.proofs.Pairs.{Mono, clash}
 
 -- Arguments. A count above the four slots uses all of them.
-pub slots-are : (n r : ℕ) → r ≡ min n 4 → (xs : List ℕ) → length xs ≡ 4 → take n xs ≡ take r xs
+pub slots-are : (n r : ℕ) → r ≡ min n argumentSlots → (xs : List ℕ) → length xs ≡ argumentSlots → take n xs ≡ take r xs
 slots-are n r e xs k = ⊎-elim
-    (λ (l : n < 4). ap (λ (m : ℕ). take m xs) (sym (e ∙ min-eq-left {n = n} {m = 4} (omega arith))))
-    (λ (l : 4 ≤ n). take-all n xs (omega arith) ∙ sym (take-all r xs (let d : r ≡ 4 = e ∙ min-eq-right {n = 4} {m = n} l in omega arith)))
+    (λ (l : n < argumentSlots). ap (λ (m : ℕ). take m xs) (sym (e ∙ min-eq-left {n = n} {m = argumentSlots} (omega arith))))
+    (λ (l : argumentSlots ≤ n). take-all n xs (omega arith) ∙ sym (take-all r xs (let d : r ≡ argumentSlots = e ∙ min-eq-right {n = argumentSlots} {m = n} l in omega arith)))
     (lt-or-ge n 4)
 
 args-length : (M : ℕ → ℕ → Bool) (xs ys : List ℕ) → So (argsRule M xs ys) → length xs ≡ length ys

@@ -10,6 +10,7 @@ use Rattle.spec_model.specs.Table.{Method, permit}
 use Rattle.spec_model.specs.Relations.{Relation, stateRule, argsRule, answerRule, methodRule}
 use Rattle.spec_model.specs.Check.{RawMethod, stateOf, answerOf, methodOf}
 use Rattle.spec_model.proofs.Rules.{first}
+use Rattle.spec_model.specs.Records.{argumentSlots}
 use Rattle.relation_search.specs.declared.Step.{Step}
 use Rattle.relation_search.specs.declared.Step.the-variants.{Tail}
 use Rattle.relation_search.specs.Found.{found, Listed, Grew, Broke, Met, eachBelow}
@@ -43,7 +44,8 @@ module _ (n x y a b : ℕ) (p : a ≡ x) (q : b ≡ y) where
     answers-both s′ l′ r u v m = met-same n (λ M. M (a - 1) (b - 1)) Answer (λ M. answer-both M x y (λ e. u (p ∙ e)) (λ e. v (q ∙ e)) ∙ rw (p, q)) s l t s′ l′ r m
 
 -- The arguments: xs and ys are the slots, i and j the counts, u and v how many slots these use.
-module _ (n : ℕ) (xs ys : List ℕ) (lx : length xs ≡ 4) (ly : length ys ≡ 4) (i j u v : ℕ) (pu : u ≤ 4) (pv : v ≤ 4) (eu : take i xs ≡ take u xs) (ev : take j ys ≡ take v ys) where
+module _ (n : ℕ) (xs ys : List ℕ) (lx : length xs ≡ argumentSlots) (ly : length ys ≡ argumentSlots) (i j u v : ℕ) (pu : u ≤ argumentSlots) (pv : v ≤ argumentSlots)
+    (eu : take i xs ≡ take u xs) (ev : take j ys ≡ take v ys) where
   abbrev Args : (ℕ → ℕ → Bool) → Bool
   Args M = argsRule M (take i xs) (take j ys)
 

@@ -2,10 +2,10 @@
 use Prim.Native.Nat.{ℕ}
 use Rattle.spec_model.specs.Table.{Table}
 use Rattle.spec_model.specs.Relations as Model
-use Rattle.relation_search.specs.declared.Answers.{Answers}
+use Rattle.relation_search.specs.declared.Comparison.{Comparison}
 
-abbrev pub answersAt : Table → ℕ → ℕ → Model.Answers
-answersAt x t s = record {
+abbrev pub comparisonAt : Table → ℕ → ℕ → Model.Comparison
+comparisonAt x t s = record {
   subtype = Model.related Model.subtype x t s;
   strict = Model.related Model.strict x t s;
   loose = Model.related Model.loose x t s;
@@ -13,5 +13,5 @@ answersAt x t s = record {
 }
 
 -- the code's record as the model's
-abbrev pub answersOf : Answers → Model.Answers
-answersOf a = record { subtype = a .subtype; strict = a .strict; loose = a .loose; free = a .free }
+abbrev pub comparisonOf : Comparison → Model.Comparison
+comparisonOf a = record { subtype = a .subtype; strict = a .strict; loose = a .loose; free = a .free }

@@ -7,12 +7,17 @@ use Prim.Native.Nat.{ℕ, zero, suc, _+_, _*_, _/_, _%_, _≤_, _<_}
 use lib.Dec.{leb, ltb}
 use lib.ListN.{length, getD, set, replicate}
 use Rattle.spec_model.specs.Relations.{yeses}
+use Rattle.spec_model.specs.Table.{maxTypes}
 use Rattle.relation_search.specs.declared.Step.{Step}
 use Rattle.relation_search.specs.declared.Step.the-variants.{Broken, Tail}
 
--- The pair (x, y) has the number x * 128 + y. `marks` says of each number whether its pair is found: a relation of the n types, as the model has them.
+-- how many pairs of types there can be
+abbrev pub maxPairs : ℕ
+maxPairs = maxTypes * maxTypes
+
+-- The pair (x, y) has the number x * maxTypes + y. `marks` says of each number whether its pair is found: a relation of the n types, as the model has them.
 abbrev pub found : ℕ → List Bool → ℕ → ℕ → Bool
-found n marks x y = ltb x n && (ltb y n && getD marks (x * 128 + y) false)
+found n marks x y = ltb x n && (ltb y n && getD marks (x * maxTypes + y) false)
 
 unfoldable pub Within : (ℕ → ℕ → Bool) → (ℕ → ℕ → Bool) → Type 0
 Within M N = (x y : ℕ) → So (M x y) → So (N x y)
@@ -25,20 +30,20 @@ pub record Queued (queue : List ℕ) (t p : ℕ) : Type 0 where
 
 -- p is the number of a pair that is found
 pub record Pair (n : ℕ) (marks : List Bool) (p : ℕ) : Type 0 where
-  pub low : p / 128 < n
-  pub high : p % 128 < n
+  pub low : p / maxTypes < n
+  pub high : p % maxTypes < n
   pub known : So (getD marks p false)
 
 -- t pairs are found, at least one, and the first t numbers in the queue are theirs
 pub record Listed (n : ℕ) (marks : List Bool) (queue : List ℕ) (t : ℕ) : Type 0 where
-  pub small : n ≤ 128
-  pub slots : n * 128 ≤ length marks
-  pub few : length marks ≤ 16384
+  pub small : n ≤ maxTypes
+  pub slots : n * maxTypes ≤ length marks
+  pub few : length marks ≤ maxPairs
   pub room : length queue ≡ length marks
   pub first : 0 < t
   pub tally : yeses marks ≡ t
   pub back : (i : ℕ) → i < t → Pair n marks (getD queue i 0)
-  pub forth : (x y : ℕ) → So (found n marks x y) → Queued queue t (x * 128 + y)
+  pub forth : (x y : ℕ) → So (found n marks x y) → Queued queue t (x * maxTypes + y)
 
 -- A step looks at a piece W of a pair's rule: a test over the relation that says which pairs of types in signatures are related.
 -- It may have found more pairs. Then what is found now passes W, and is within every relation that passes W and has what was found before.
@@ -64,7 +69,7 @@ unfoldable pub eachBelow : ℕ → (ℕ → Bool) → Bool
 eachBelow zero f = true
 eachBelow (suc m) f = eachBelow m f && f m
 
--- The search has `marks` and the queue in one array of 16-bit entries, since a pair's number is below 16384: entry i has the i-th number of the queue in its low
+-- The search has `marks` and the queue in one array of 16-bit entries, since a pair's number is below `maxPairs`: entry i has the i-th number of the queue in its low
 -- 15 bits, and its top bit says whether the pair of number i is found.
 unfoldable pub marksIn : List ℕ → List Bool
 marksIn b = map (λ v. leb 32768 v) b
@@ -86,5 +91,5 @@ MetIn n W b t b′ r = Met n W (marksIn b) (queueIn b) t (marksIn b′) (queueIn
 -- an array that says nothing yet, with an entry for each pair of n types
 pub record Clear (n : ℕ) (b : List ℕ) : Type 0 where
   pub none : b ≡ replicate (length b) 0
-  pub long : n * 128 ≤ length b
-  pub few : length b ≤ 16384
+  pub long : n * maxTypes ≤ length b
+  pub few : length b ≤ maxPairs

@@ -1,6 +1,6 @@
-// A relation at a pair of types (R3). The pair is related unless a pair that breaks its rule can be reached from it through signatures that both sides permit, so
-// pairs are found in a queue, each once, and the rule of each is asked (specs/Found.antt). One array has the queue and says which pairs are found, so a relation
-// at a pair takes time linear in the pairs that can be reached, no heap, and never visits a pair twice.
+// A relation at a pair of types (R3). The pair is related unless a pair that breaks its rule can be reached from it through signatures that both sides permit,
+// so pairs are found in a queue, each once, and the rule of each is asked (specs/Found.antt). One array has the queue and says which pairs are found, so a
+// relation at a pair takes time linear in the pairs that can be reached, no heap, and never visits a pair twice.
 ghost use mathlib.Core.Path.{_≡_};
 ghost use mathlib.Core.List.{List};
 ghost use Prim.Native.Nat.{ℕ, _+_, _/_, _%_, _≤_, _<_};
@@ -8,12 +8,14 @@ ghost use lib.Dec.{leb};
 ghost use lib.ListN.{length, getD, take};
 ghost use Rattle.spec_model.specs.Relations.{argsRule, answerRule, methodRule, rule, related};
 ghost use Rattle.spec_model.specs.Check.{answerOf, methodOf};
+ghost use Rattle.spec_model.specs.Table.{maxMethods, maxTypes};
+ghost use Rattle.spec_model.specs.Records.{argumentSlots};
 ghost use Rattle.table_record.specs.Store.{rawMethod, tableIn, methodIn};
 ghost use Rattle.table_record.specs.Limits.{Checked};
 ghost use Rattle.relation_rule.specs.Asked.{relationOf};
 ghost use Rattle.relation_rule.specs.Parts.{Says};
-ghost use Rattle.relation_search.specs.Answered.{answersOf, answersAt};
-ghost use Rattle.relation_search.specs.Found.{eachBelow, queueIn, Added, ListedIn, MetIn, Clear};
+ghost use Rattle.relation_search.specs.Answered.{comparisonOf, comparisonAt};
+ghost use Rattle.relation_search.specs.Found.{eachBelow, queueIn, Added, ListedIn, MetIn, Clear, maxPairs};
 use base_numbers::least;
 use base_numbers::wide;
 use base_numbers::wide16;
@@ -33,13 +35,13 @@ enum Step {
 // The types that few and some are, and the entries of the array for a search among so many: 128 for each type, so that a pair's number says both.
 const FEW: usize = 16;
 
-const FEW_PAIRS: usize = 2048;
+const FEW_PAIRS: usize = FEW * Counts::TYPES;
 
 const SOME: usize = 72;
 
-const SOME_PAIRS: usize = 9216;
+const SOME_PAIRS: usize = SOME * Counts::TYPES;
 
-const PAIRS: usize = 16384;
+const PAIRS: usize = Counts::TYPES * Counts::TYPES;
 
 // Whether an entry of the array says that the pair of its number is found: its top bit.
 fn is_found(entry: u16) -> bool
@@ -50,7 +52,7 @@ fn is_found(entry: u16) -> bool
 
 // The pair of number p is found, and joins the queue behind the `tail` pairs in it: the top bit of entry p, and the rest of entry `tail`.
 fn add_pair(found: &mut [u16], tail: usize, p: usize) -> usize
-    requires { ⌜ (tail < length (now found)) × (p < length (now found)) × (length (now found) ≤ 16384) ⌝ }
+    requires { ⌜ (tail < length (now found)) × (p < length (now found)) × (length (now found) ≤ maxPairs) ⌝ }
     ensures { λ r. ⌜ (r ≡ tail + 1) × Added (now (found .entry)) tail p (now (found .exit)) ⌝ }
 {
     found[p] = found[p] % 32768 + 32768;
@@ -70,7 +72,7 @@ fn find_pair(found: &mut [u16], tail: usize, n: usize, x: usize, y: usize) -> St
     if n <= y {
         return Step::Broken;
     }
-    let p = x * 128 + y;
+    let p = x * Counts::TYPES + y;
     if is_found(found[p]) {
         return Step::Tail(tail);
     }
@@ -80,9 +82,9 @@ fn find_pair(found: &mut [u16], tail: usize, n: usize, x: usize, y: usize) -> St
 
 // How many of the four slots a count of arguments uses. A table that is checked has no count above them.
 fn slots_used(count: u8) -> usize
-    ensures { λ r. ⌜ (r ≤ 4) × ((xs : List ℕ) → length xs ≡ 4 → take count xs ≡ take r xs) ⌝ }
+    ensures { λ r. ⌜ (r ≤ argumentSlots) × ((xs : List ℕ) → length xs ≡ argumentSlots → take count xs ≡ take r xs) ⌝ }
 {
-    least(wide(count), 4)
+    least(wide(count), Method::SLOTS)
 }
 
 // R4 and R6: as many arguments, and each related with the sides exchanged.
@@ -139,7 +141,8 @@ fn find_method(
     y: Method,
 ) -> Step
     requires { ⌜ ListedIn n (now found) tail × Says (relationOf k) square ⌝ }
-    ensures { λ r. ⌜ MetIn n (λ M. methodRule (relationOf k) M (methodOf (rawMethod x)) (methodOf (rawMethod y))) (now (found .entry)) tail (now (found .exit)) r ⌝ }
+    ensures { λ r. ⌜ MetIn n (λ M. methodRule (relationOf k) M (methodOf (rawMethod x)) (methodOf (rawMethod y))) (now (found .entry)) tail
+        (now (found .exit)) r ⌝ }
 {
     let fine = relation_rule::state_rule(square, k, x.state, y.state);
     if !fine {
@@ -167,8 +170,9 @@ fn find_methods(
     a: usize,
     d: usize,
 ) -> Step
-    requires { ⌜ ListedIn n (now found) tail × Says (relationOf k) square × (a < 128) × (d < 128) × (methods ≤ 16) ⌝ }
-    ensures { λ r. ⌜ MetIn n (λ M. eachBelow methods (λ j. methodRule (relationOf k) M (methodIn (now (b .entry)) a j) (methodIn (now (b .entry)) d j))) (now (found .entry)) tail (now (found .exit)) r ⌝ }
+    requires { ⌜ ListedIn n (now found) tail × Says (relationOf k) square × (a < maxTypes) × (d < maxTypes) × (methods ≤ maxMethods) ⌝ }
+    ensures { λ r. ⌜ MetIn n (λ M. eachBelow methods (λ j. methodRule (relationOf k) M (methodIn (now (b .entry)) a j) (methodIn (now (b .entry)) d j)))
+        (now (found .entry)) tail (now (found .exit)) r ⌝ }
 {
     let mut t = tail;
     let mut j: usize = 0;
@@ -197,7 +201,8 @@ fn find_types(
     d: usize,
 ) -> Step
     requires { ⌜ ListedIn (c .types) (now found) tail × Says (relationOf k) square × Checked (now l) c × (a < c .types) × (d < c .types) ⌝ }
-    ensures { λ r. ⌜ MetIn (c .types) (λ M. rule (relationOf k) (tableIn (now (b .entry)) (now (l .entry)) c) M a d) (now (found .entry)) tail (now (found .exit)) r ⌝ }
+    ensures { λ r. ⌜ MetIn (c .types) (λ M. rule (relationOf k) (tableIn (now (b .entry)) (now (l .entry)) c) M a d) (now (found .entry)) tail
+        (now (found .exit)) r ⌝ }
 {
     let x = table_record::get_head(b, a);
     let y = table_record::get_head(b, d);
@@ -223,10 +228,23 @@ fn find_next(
     square: [[bool; 4]; 4],
 ) -> Step
     requires { ⌜ ListedIn (c .types) (now found) tail × Says (relationOf k) square × Checked (now l) c × (head < tail) ⌝ }
-    ensures { λ r. ⌜ MetIn (c .types) (λ M. rule (relationOf k) (tableIn (now (b .entry)) (now (l .entry)) c) M (getD (queueIn (now (found .entry))) head 0 / 128) (getD (queueIn (now (found .entry))) head 0 % 128)) (now (found .entry)) tail (now (found .exit)) r ⌝ }
+    ensures { λ r. ⌜ MetIn (c .types)
+        (λ M. rule (relationOf k) (tableIn (now (b .entry)) (now (l .entry)) c) M (getD (queueIn (now (found .entry))) head 0 / maxTypes)
+        (getD (queueIn (now (found .entry))) head 0 % maxTypes))
+        (now (found .entry)) tail (now (found .exit)) r ⌝ }
 {
     let p = wide16(found[head]) % 32768;
-    find_types(b, l, found, tail, c, k, square, p / 128, p % 128)
+    find_types(
+        b,
+        l,
+        found,
+        tail,
+        c,
+        k,
+        square,
+        p / Counts::TYPES,
+        p % Counts::TYPES,
+    )
 }
 
 // The search from (t, s) for a pair that breaks its rule, in an array that says nothing yet and has an entry for each pair.
@@ -243,7 +261,7 @@ fn search_in(
     requires { ⌜ Says (relationOf k) square × Checked (now l) c × (t < c .types) × (s < c .types) × Clear (c .types) (now found) ⌝ }
     ensures { λ r. ⌜ r ≡ related (relationOf k) (tableIn (now (b .entry)) (now (l .entry)) c) t s ⌝ }
 {
-    let mut tail = add_pair(found, 0, t * 128 + s);
+    let mut tail = add_pair(found, 0, t * Counts::TYPES + s);
     let mut head: usize = 0;
     while head < tail {
         let Step::Tail(r) = find_next(b, l, found, tail, head, c, k, square) else {
@@ -303,28 +321,28 @@ pub fn related_at(
 }
 
 // What Compare answers at a pair of types (R14).
-pub struct Answers {
+pub struct Comparison {
     pub subtype: bool,
     pub strict: bool,
     pub loose: bool,
     pub free: bool,
 }
 
-pub fn answers_at(
+pub fn comparison_at(
     b: &[u8; TYPE_BYTES],
     l: &[u8; LINK_BYTES],
     c: Counts,
     t: usize,
     s: usize,
-) -> Answers
+) -> Comparison
     requires { ⌜ Checked (now l) c ⌝ }
-    ensures { λ r. ⌜ answersOf r ≡ answersAt (tableIn (now (b .entry)) (now (l .entry)) c) t s ⌝ }
+    ensures { λ r. ⌜ comparisonOf r ≡ comparisonAt (tableIn (now (b .entry)) (now (l .entry)) c) t s ⌝ }
 {
     let subtype = related_at(b, l, c, Relation::Subtype, t, s);
     let strict = related_at(b, l, c, Relation::Strict, t, s);
     let loose = related_at(b, l, c, Relation::Loose, t, s);
     let free = related_at(b, l, c, Relation::Free, t, s);
-    Answers {
+    Comparison {
         subtype,
         strict,
         loose,

@@ -21,6 +21,7 @@ use Rattle.spec_model.specs.Check.{answerOf}
 use Rattle.spec_model.proofs.Rules.{never}
 use Rattle.spec_model.proofs.Codes.{answer-back}
 use Rattle.spec_model.specs.Records.{answerCode}
+use Rattle.spec_model.specs.Refusals.{unknownSubject, notHeld, wrongValues, answeredAlready}
 use Rattle.table_record.specs.Store.{tableIn}
 use Rattle.table_record.proofs.Codes.{answer-is}
 use Rattle.base_numbers.specs.Index.{indexOf}
@@ -33,8 +34,8 @@ use Rattle.state_record.specs.View.{cellOf, callOf, cellsIn, placesIn, callsIn,
 use Rattle.state_record.specs.Sound.{CallIn, Sound}
 use Rattle.state_record.proofs.Laws.{calls-length}
 use Rattle.crossing_layers.specs.Carried.{passedOf}
-use Rattle.request_common.specs.declared.Answer.{Answer}
-use Rattle.request_common.specs.declared.Answer.the-variants.{Refused, Pair, Number, Nothing}
+use Rattle.request_common.specs.declared.Outcome.{Outcome}
+use Rattle.request_common.specs.declared.Outcome.the-variants.{Refused, Pair, Number, Nothing}
 use Rattle.request_common.specs.Served.{Done as Served, refusalOf as refusal}
 use Rattle.request_common.specs.Served.{outcomeOf, servedWith, Step}
 use Rattle.request_common.proofs.Laws.{refuses, step-as, table-is, cells-are, places-are, calls-are, subject-at}
@@ -44,7 +45,7 @@ use Rattle.request_value.proofs.OtherCalls.{callsLeft, calls-step}
 use Rattle.request_answer.specs.declared.Given.{Given}
 use Rattle.request_answer.specs.declared.Given.the-variants as given
 use Rattle.request_answer.specs.declared.Given.the-variants.{Value}
-use Rattle.request_answer.specs.Given.{givenAs}
+use Rattle.request_answer.specs.Given.{givenAs, Keeps}
 use Rattle.request_answer.specs.Parts.{answersMet, dueFor, giveReference, giveValue, answerCall, Called}
 
 -- ---- The flag.
@@ -69,7 +70,7 @@ module _ (s : State) (h : Sound s) (j : ℕ) (low : j < s .calls .count) (calls 
           (subst (CallIn s) (sym (getD-set-same (callsIn (s .calls)) j new noCall (omega (arith, low, counted)))) (record { cell = y .cell; method = y .method }))
       go (no q) = subst (CallIn s) (sym (getD-set-other (callsIn (s .calls)) j i new noCall q)) (h .calls i (omega (arith, l, same)))
 
-  pub answered-step : (a : Answer) → isAccepted a ≡ true → (x : Result) → outcomeOf a ≡ got x
+  pub answered-step : (a : Outcome) → isAccepted a ≡ true → (x : Result) → outcomeOf a ≡ got x
       → Step s (ok (withAnswer (systemIn s) j, x)) (record { answer = a; state = callsLeft s calls })
   answered-step a k x z = step-as
       (ap (λ (xs : List Callᵐ). ok (withCalls (systemIn s) (set xs j (flagged (getD xs j noCall) true)), x)) (calls-are s)
@@ -88,7 +89,7 @@ module _ (s : State) (h : Sound s) (j : ℕ) (low : j < s .calls .count) (x : Ca
     cell = e ∙ ap (λ (n : ℕ). getD (cellsIn (s .cells)) n noCell) (at ∙ ap (λ (y : Callᵐ). y .cell) here)
         ∙ ap (λ (xs : List Cellᵐ). getD xs (callAt (systemIn s) j .cell) noCell) (sym (cells-are s));
     method = subst (λ (y : Callᵐ). y .method < s .counts .methods) (sym is) (h .calls j low .method);
-    sort = subst (λ (y : Cellᵐ). y .type < s .counts .types) (sym e) (h .cells k cell-low .type);
+    ty = subst (λ (y : Cellᵐ). y .type < s .counts .types) (sym e) (h .cells k cell-low .type);
     place = subst (λ (y : Cellᵐ). y .place < s .places .count) (sym e) (h .cells k cell-low .place);
   }
     where
@@ -100,28 +101,28 @@ module _ (s : State) (j : ℕ) (x : Call) (c : Cell) (k : Called s j x c) where
   T = tableIn (s .types) (s .links) (s .counts)
 
   -- the answer types of its layers, outward
-  pub answers-are : (p m : ℕ) → p ≡ c .place → m ≡ x .method → (layers way : List ℕ) → layers ≡ layersOf (placesIn (s .places)) p → way ≡ c .sort ∷ layers →
-      (ts us : List (Option ℕ)) → ((l : List ℕ) → ts ≡ map (answerAt (tableIn (s .types) l (s .counts)) m) way) → us ≡ reverse ts → us ≡ answersMet (systemIn s) j
-  answers-are p m pe me layers way le we ts us te ue =
-      ue ∙ ap reverse (te (s .links)) ∙ ap (λ (n : ℕ). reverse (map (answerAt T n) way)) (me ∙ ap (λ (y : Callᵐ). y .method) (k .call))
-      ∙ ap (λ (t : Table). reverse (map (answerAt t (callAt (systemIn s) j .method)) way)) (sym (table-is s))
-      ∙ ap (λ (w : List ℕ). reverse (map (answerAt (systemIn s .table) (callAt (systemIn s) j .method)) w)) way-is
+  pub answers-are : (p m : ℕ) → p ≡ c .place → m ≡ x .method → (layers ls : List ℕ) → layers ≡ layersOf (placesIn (s .places)) p → ls ≡ c .ty ∷ layers →
+      (ts us : List (Option ℕ)) → ((l : List ℕ) → ts ≡ map (answerAt (tableIn (s .types) l (s .counts)) m) ls) → us ≡ reverse ts → us ≡ answersMet (systemIn s) j
+  answers-are p m pe me layers ls le we ts us te ue =
+      ue ∙ ap reverse (te (s .links)) ∙ ap (λ (n : ℕ). reverse (map (answerAt T n) ls)) (me ∙ ap (λ (y : Callᵐ). y .method) (k .call))
+      ∙ ap (λ (t : Table). reverse (map (answerAt t (callAt (systemIn s) j .method)) ls)) (sym (table-is s))
+      ∙ ap (λ (w : List ℕ). reverse (map (answerAt (systemIn s .table) (callAt (systemIn s) j .method)) w)) call-layers-are
     where
-      way-is : way ≡ cellAt (systemIn s) (callAt (systemIn s) j .cell) .type ∷ layersOf (systemIn s .places) (cellAt (systemIn s) (callAt (systemIn s) j .cell) .place)
-      way-is =
-          we ∙ ap (λ (xs : List ℕ). c .sort ∷ xs) (le ∙ ap (layersOf (placesIn (s .places))) pe)
+      call-layers-are : ls ≡ cellAt (systemIn s) (callAt (systemIn s) j .cell) .type ∷ layersOf (systemIn s .places) (cellAt (systemIn s) (callAt (systemIn s) j .cell) .place)
+      call-layers-are =
+          we ∙ ap (λ (xs : List ℕ). c .ty ∷ xs) (le ∙ ap (layersOf (placesIn (s .places))) pe)
           ∙ ap (λ (y : Cellᵐ). y .type ∷ layersOf (placesIn (s .places)) (y .place)) (k .cell)
           ∙ ap (λ (ps : List Placeᵐ). cellAt (systemIn s) (callAt (systemIn s) j .cell) .type ∷ layersOf ps (cellAt (systemIn s) (callAt (systemIn s) j .cell) .place)) (sym (places-are s))
 
   -- what is due, as it is coded
-  pub due-is : (m t n : ℕ) → m ≡ x .method → t ≡ c .sort → ((l : List ℕ) → n ≡ answerCode (answerAt (tableIn (s .types) l (s .counts)) m t)) → dueFor (systemIn s) j ≡ answerOf n
+  pub due-is : (m t n : ℕ) → m ≡ x .method → t ≡ c .ty → ((l : List ℕ) → n ≡ answerCode (answerAt (tableIn (s .types) l (s .counts)) m t)) → dueFor (systemIn s) j ≡ answerOf n
   due-is m t n me te e = sym (
       ap answerOf (e (s .links)) ∙ answer-back (answerAt T m t) ∙ ap (λ (y : ℕ). answerAt T y t) (me ∙ ap (λ (y : Callᵐ). y .method) (k .call))
       ∙ ap (answerAt T (callAt (systemIn s) j .method)) (te ∙ ap (λ (y : Cellᵐ). y .type) (k .cell))
       ∙ ap (λ (y : Table). answerAt y (callAt (systemIn s) j .method) (cellAt (systemIn s) (callAt (systemIn s) j .cell) .type)) (sym (table-is s)))
 
 -- ---- A reference on its way back.
-goes-answered : (P : Res (System × Result) → Type 0) (a : Answer) (s : System) (k : System × Result → Res (System × Result)) → isAccepted a ≡ true →
+goes-answered : (P : Res (System × Result) → Type 0) (a : Outcome) (s : System) (k : System × Result → Res (System × Result)) → isAccepted a ≡ true →
     ((x : Result) → outcomeOf a ≡ got x → P (k (s, x))) → P (try (servedWith s (outcomeOf a)) k)
 goes-answered P (Refused e) s k h f = never h
 goes-answered P (Pair a b) s k h f = f (pair a b) refl
@@ -145,7 +146,7 @@ module _ (s : State) (h : Sound s) (subject : ℤ) (j : ℕ) (x : Call) (c : Cel
     (q : Bool) (kind : (l : List ℕ) → q ≡ isRef (typeAt (tableIn (s .types) l (s .counts)) a .rep)) where
   abbrev Either : Bool → Bool → ℕ → List (Option ℕ) → Table → Res (System × Result)
   Either y b r os t = elim y [
-    | true ↦ need b 15 λ _. giveReference (systemIn s) j r v os
+    | true ↦ need b wrongValues λ _. giveReference (systemIn s) j r v os
     | false ↦ try (passLayers true t v os) λ _. ok (withAnswer (systemIn s) j, number v)
   ]
 
@@ -163,7 +164,7 @@ module _ (s : State) (h : Sound s) (subject : ℤ) (j : ℕ) (x : Call) (c : Cel
     asks : giveValue (systemIn s) subject j a v ≡ Either true (held (systemIn s) subject v) (x .caller) ts (tableIn (s .types) (s .links) (s .counts))
     asks = value-is ∙ ap (λ (y : Bool). Either y (held (systemIn s) subject v) (x .caller) ts (tableIn (s .types) (s .links) (s .counts))) z
 
-    pub value-15 : held (systemIn s) subject v ≡ false → (y : Served) → y ≡ refusal s 15 → Gives y
+    pub value-15 : held (systemIn s) subject v ≡ false → (y : Served) → y ≡ refusal s wrongValues → Gives y
     value-15 w y e = refuses h (asks ∙ ap (λ (b : Bool). Either true b (x .caller) ts (tableIn (s .types) (s .links) (s .counts))) w) e
 
     pub value-reference : held (systemIn s) subject v ≡ true → (r : ℕ) → r ≡ x .caller → (y : Served) → Step s (giveReference (systemIn s) j r v ts) y → Gives y
@@ -184,12 +185,20 @@ module _ (s : State) (h : Sound s) (subject : ℤ) (j : ℕ) (x : Call) (c : Cel
     pub number-answers : e ≡ 0 → (y : Served) → Step s (ok (withAnswer (systemIn s) j, number v)) y → Gives y
     number-answers w y g = step-as (number-is ∙ ap Passed (eq-eqb e 0 w)) g
 
+-- ---- What is left of the types.
+pub keeps-same : (g : Given) (b : List ℕ) → Keeps g b b
+keeps-same (Value v) b = tt
+keeps-same given.Nothing b = refl
+
+pub keeps-any : (g : Given) (v : ℤ) → g ≡ Value v → (b t : List ℕ) → Keeps g b t
+keeps-any g v e b t = subst (λ (x : Given). Keeps x b t) (sym e) tt
+
 -- ---- What is due, coded as n, and what is given.
-give-idle : (s : System) (subject : ℤ) (j : ℕ) (v : ℤ) → give s subject j none (some v) ≡ refuse 15
+give-idle : (s : System) (subject : ℤ) (j : ℕ) (v : ℤ) → give s subject j none (some v) ≡ refuse wrongValues
 unfolding give
 give-idle s subject j v = refl
 
-give-lacks : (s : System) (subject : ℤ) (j a : ℕ) → give s subject j (some a) none ≡ refuse 15
+give-lacks : (s : System) (subject : ℤ) (j a : ℕ) → give s subject j (some a) none ≡ refuse wrongValues
 unfolding give
 give-lacks s subject j a = refl
 
@@ -212,7 +221,7 @@ module _ (s : State) (h : Sound s) (subject : ℤ) (j n : ℕ) (due : dueFor (sy
     is-none : dueFor (systemIn s) j ≡ none
     is-none = due ∙ ap answerOf z
 
-    pub given-idle : (v : ℤ) → g ≡ Value v → y ≡ refusal s 15 → Answers
+    pub given-idle : (v : ℤ) → g ≡ Value v → y ≡ refusal s wrongValues → Answers
     given-idle v w e = refuses h (give-is none (Value v) is-none w ∙ give-idle (systemIn s) subject j v) e
 
     pub given-nothing : g ≡ given.Nothing → Step s (ok (withAnswer (systemIn s) j, nothing)) y → Answers
@@ -222,7 +231,7 @@ module _ (s : State) (h : Sound s) (subject : ℤ) (j n : ℕ) (due : dueFor (sy
     is-some : dueFor (systemIn s) j ≡ some (n - 1)
     is-some = due ∙ answer-is n z
 
-    pub given-lacks : g ≡ given.Nothing → y ≡ refusal s 15 → Answers
+    pub given-lacks : g ≡ given.Nothing → y ≡ refusal s wrongValues → Answers
     given-lacks w e = refuses h (give-is (some (n - 1)) given.Nothing is-some w ∙ give-lacks (systemIn s) subject j (n - 1)) e
 
     pub given-value : (v : ℤ) → g ≡ Value v → Step s (giveValue (systemIn s) subject j (n - 1) v) y → Answers
@@ -232,7 +241,7 @@ module _ (s : State) (h : Sound s) (subject : ℤ) (j n : ℕ) (due : dueFor (sy
 module _ (s : State) (h : Sound s) (subject : ℤ) (j : ℕ) (o : Option ℤ) (x : Call) (c : Cell) (k : Called s j x c)
     (p owner who : ℕ) (pe : p ≡ c .place) (oe : owner ≡ baseOwner (placesIn (s .places)) p) (we : named subject ≡ who) where
   abbrev Tests : Bool → Bool → Res (System × Result)
-  Tests a b = need a 6 λ _. need (not b) 17 λ _. give (systemIn s) subject j (dueFor (systemIn s) j) o
+  Tests a b = need a notHeld λ _. need (not b) answeredAlready λ _. give (systemIn s) subject j (dueFor (systemIn s) j) o
 
   tests-are : answerCall (systemIn s) subject j o ≡ Tests (eqb who owner) (x .answered)
   tests-are =
@@ -247,14 +256,14 @@ module _ (s : State) (h : Sound s) (subject : ℤ) (j : ℕ) (o : Option ℤ) (x
   abbrev Answered : Served → Type 0
   Answered y = Step s (answerCall (systemIn s) subject j o) y
 
-  pub owner-6 : (owner ≡ who → ⊥) → (y : Served) → y ≡ refusal s 6 → Answered y
+  pub owner-6 : (owner ≡ who → ⊥) → (y : Served) → y ≡ refusal s notHeld → Answered y
   owner-6 z y e = refuses h (tests-are ∙ ap (λ (b : Bool). Tests b (x .answered)) (ne-eqb who owner (λ w. z (sym w)))) e
 
   module _ (z : owner ≡ who) where
     mine : answerCall (systemIn s) subject j o ≡ Tests true (x .answered)
     mine = tests-are ∙ ap (λ (b : Bool). Tests b (x .answered)) (eq-eqb who owner (sym z))
 
-    pub answered-17 : x .answered ≡ true → (y : Served) → y ≡ refusal s 17 → Answered y
+    pub answered-17 : x .answered ≡ true → (y : Served) → y ≡ refusal s answeredAlready → Answered y
     answered-17 w y e = refuses h (mine ∙ ap (Tests true) w) e
 
     pub call-gives : x .answered ≡ false → (y : Served) → Step s (give (systemIn s) subject j (dueFor (systemIn s) j) o) y → Answered y
@@ -262,12 +271,12 @@ module _ (s : State) (h : Sound s) (subject : ℤ) (j : ℕ) (o : Option ℤ) (x
 
 -- ---- The operands.
 module _ (s : System) (subject j : ℤ) (o : Option ℤ) where
-  answer-5 : names subject (s .table .subjects) ≡ false → answerRequest s subject j o ≡ refuse 5
+  answer-5 : names subject (s .table .subjects) ≡ false → answerRequest s subject j o ≡ refuse unknownSubject
   unfolding answerRequest
   answer-5 e = rw e
 
   module _ (known : names subject (s .table .subjects) ≡ true) where
-    answer-6 : names j (length (s .calls)) ≡ false → answerRequest s subject j o ≡ refuse 6
+    answer-6 : names j (length (s .calls)) ≡ false → answerRequest s subject j o ≡ refuse notHeld
     unfolding answerRequest
     answer-6 e = rw (known, e)
 
@@ -279,14 +288,14 @@ module _ (s : State) (h : Sound s) (subject call : ℤ) (o : Option ℤ) where
   abbrev Replies : Served → Type 0
   Replies y = Step s (answerRequest (systemIn s) subject call o) y
 
-  pub step-5 : names subject (systemIn s .table .subjects) ≡ false → (y : Served) → y ≡ refusal s 5 → Replies y
+  pub step-5 : names subject (systemIn s .table .subjects) ≡ false → (y : Served) → y ≡ refusal s unknownSubject → Replies y
   step-5 z y e = refuses h (answer-5 (systemIn s) subject call o z) e
 
   module _ (known : names subject (systemIn s .table .subjects) ≡ true) (j : ℕ) (j-is : j ≡ indexOf call (s .calls .count)) where
     calls-are-counted : length (systemIn s .calls) ≡ s .calls .count
     calls-are-counted = ap length (calls-are s) ∙ calls-length (s .calls)
 
-    pub step-6 : s .calls .count ≤ j → (y : Served) → y ≡ refusal s 6 → Replies y
+    pub step-6 : s .calls .count ≤ j → (y : Served) → y ≡ refusal s notHeld → Replies y
     step-6 l y e = refuses h (answer-6 (systemIn s) subject call o known (ap (names call) calls-are-counted ∙ index-unknown call (s .calls .count) j j-is l)) e
 
     pub step-goes : j < s .calls .count → (who : ℕ) → who ≡ indexOf subject (s .counts .subjects) → (y : Served)

@@ -9,7 +9,8 @@ use lib.IntN.{ℤ}
 use Rattle.spec_model.specs.Basics.{Res, ok, try, need, named}
 use Rattle.spec_model.specs.Table.{typeAt, answerAt, isRef}
 use Rattle.spec_model.specs.Crossing.{baseOwner}
-use Rattle.spec_model.specs.Requests.{System, Result, number, cellAt, callAt, held, wayOf, send, passLayers, withAnswer, give}
+use Rattle.spec_model.specs.Requests.{System, Result, number, cellAt, callAt, held, callLayers, send, passLayers, withAnswer, give}
+use Rattle.spec_model.specs.Refusals.{notHeld, wrongValues, answeredAlready}
 use Rattle.state_record.specs.declared.Cell.{Cell}
 use Rattle.state_record.specs.declared.Call.{Call}
 use Rattle.state_record.specs.Whole.{Whole as State}
@@ -17,7 +18,7 @@ use Rattle.state_record.specs.View.{cellOf, callOf, systemIn}
 
 -- the answer types that a value meets: the class's first
 abbrev pub answersMet : System → ℕ → List (Option ℕ)
-answersMet s j = reverse (map (answerAt (s .table) (callAt s j .method)) (wayOf s (cellAt s (callAt s j .cell))))
+answersMet s j = reverse (map (answerAt (s .table) (callAt s j .method)) (callLayers s (cellAt s (callAt s j .cell))))
 
 -- the answer type that is due for call j
 abbrev pub dueFor : System → ℕ → Option ℕ
@@ -29,15 +30,15 @@ giveReference s j r v ts = try (send s r (named v) ts) λ x. ok (withAnswer (x .
 
 abbrev pub giveValue : System → ℤ → ℕ → ℕ → ℤ → Res (System × Result)
 giveValue s subject j a v = elim (isRef (typeAt (s .table) a .rep)) [
-  | true ↦ need (held s subject v) 15 λ _. giveReference s j (callAt s j .caller) v (answersMet s j)
+  | true ↦ need (held s subject v) wrongValues λ _. giveReference s j (callAt s j .caller) v (answersMet s j)
   | false ↦ try (passLayers true (s .table) v (answersMet s j)) λ _. ok (withAnswer s j, number v)
 ]
 
 -- What is left once the subject is known and j is the number of a call.
 abbrev pub answerCall : System → ℤ → ℕ → Option ℤ → Res (System × Result)
 answerCall s subject j v =
-    need (eqb (named subject) (baseOwner (s .places) (cellAt s (callAt s j .cell) .place))) 6 λ _.
-    need (not (callAt s j .answered)) 17 λ _.
+    need (eqb (named subject) (baseOwner (s .places) (cellAt s (callAt s j .cell) .place))) notHeld λ _.
+    need (not (callAt s j .answered)) answeredAlready λ _.
     give s subject j (dueFor s j) v
 
 -- x is the record of call j, and c that of the cell it was made through.
@@ -46,5 +47,5 @@ pub record Called (s : State) (j : ℕ) (x : Call) (c : Cell) : Type 0 where
   pub call : callOf x ≡ callAt (systemIn s) j
   pub cell : cellOf c ≡ cellAt (systemIn s) (callAt (systemIn s) j .cell)
   pub method : x .method < s .counts .methods
-  pub sort : c .sort < s .counts .types
+  pub ty : c .ty < s .counts .types
   pub place : c .place < s .places .count

@@ -5,20 +5,21 @@ ghost use mathlib.Core.Bool.{true};
 ghost use Prim.Native.Nat.{ℕ, _≤_, _<_};
 ghost use lib.IntN.{ℤ};
 ghost use Rattle.spec_model.specs.Basics.{ok, named};
-ghost use Rattle.spec_model.specs.Requests.{Result, got, give, withAnswer, answerRequest};
+ghost use Rattle.spec_model.specs.Requests.{Result, got, give, withAnswer, answerRequest, maxCalls};
 ghost use Rattle.state_record.specs.Whole.{whole};
 ghost use Rattle.state_record.specs.View.{systemIn};
 ghost use Rattle.state_record.specs.Sound.{Sound};
-ghost use Rattle.crossing_layers.specs.Carried.{targetsIn};
+ghost use Rattle.crossing_layers.specs.Carried.{targetsIn, maxLayers};
 ghost use Rattle.request_common.specs.Served.{outcomeOf, Step, done};
 ghost use Rattle.request_value.specs.Sent.{isAccepted};
-ghost use Rattle.request_answer.specs.Given.{givenAs};
+ghost use Rattle.request_answer.specs.Given.{givenAs, Keeps};
 ghost use Rattle.request_answer.specs.Parts.{answersMet, dueFor, giveReference, giveValue, answerCall, Called};
 use base_numbers::index_of;
+use base_numbers::refusal;
 use base_numbers::wide;
 use crossing_layers::Slot;
 use crossing_layers::Targets;
-use request_common::Answer;
+use request_common::Outcome;
 use request_common::Served;
 use state_record::Call;
 use state_record::Cell;
@@ -32,40 +33,31 @@ pub enum Given {
 }
 
 // Call j is answered (A11), and the request with it (A12).
-fn answered(s: State, j: usize, answer: Answer) -> Served
-    requires { ⌜ (j < s .calls .count) × (s .calls .count ≤ 256) × (isAccepted answer ≡ true) ⌝ }
-    ensures { λ r. ⌜ ((b : List ℕ) → Sound (whole b s) → (x : Result) → outcomeOf answer ≡ got x → Step (whole b s) (ok (withAnswer (systemIn (whole b s)) j, x)) (done b r)) ⌝ }
+fn answered(s: State, j: usize, answer: Outcome) -> Served
+    requires { ⌜ (j < s .calls .count) × (s .calls .count ≤ maxCalls) × (isAccepted answer ≡ true) ⌝ }
+    ensures { λ r. ⌜ ((b : List ℕ) → Sound (whole b s) → (x : Result) → outcomeOf answer ≡ got x
+        → Step (whole b s) (ok (withAnswer (systemIn (whole b s)) j, x)) (done b r)) ⌝ }
 {
     let calls = s.calls.answered(j);
-    let links = s.links;
-    let counts = s.counts;
-    let cells = s.cells;
-    let places = s.places;
-    let state = State {
-        links,
-        counts,
-        cells,
-        places,
-        calls,
-    };
+    let state = s.with_calls(calls);
     Served { answer, state }
 }
 
 // The answer types of the layers, from the class's outward (A7).
 fn answers_met(types: &[u8; TYPE_BYTES], s: State, j: usize, x: Call, c: Cell) -> Targets
     requires { ⌜ Sound (whole (now types) s) × Called (whole (now types) s) j x c ⌝ }
-    ensures { λ r. ⌜ (targetsIn r ≡ answersMet (systemIn (whole (now (types .entry)) s)) j) × (r .count ≤ 129) ⌝ }
+    ensures { λ r. ⌜ (targetsIn r ≡ answersMet (systemIn (whole (now (types .entry)) s)) j) × (r .count ≤ maxLayers) ⌝ }
 {
     let ps = s.places;
     let counts = s.counts;
     let layers = state_record::layers_of(ps, wide(c.place));
-    let way = crossing_layers::way_of(c.sort, layers);
+    let ls = crossing_layers::call_layers(c.ty, layers);
     crossing_layers::reversed(crossing_layers::targets_of(
         types,
         counts,
         wide(x.method),
         Slot::Answer,
-        way,
+        ls,
     ))
 }
 
@@ -78,8 +70,10 @@ fn give_reference(
     v: i64,
     targets: Targets,
 ) -> Served
-    requires { ⌜ Sound (whole (now types) s) × (j < s .calls .count) × (0 < s .places .count) × (0 < s .counts .types) × (r < 256) × (targets .count ≤ 129) ⌝ }
-    ensures { λ q. ⌜ Step (whole (now (types .entry)) s) (giveReference (systemIn (whole (now (types .entry)) s)) j r v (targetsIn targets)) (done (now (types .exit)) q) ⌝ }
+    requires { ⌜ Sound (whole (now types) s) × (j < s .calls .count) × (0 < s .places .count) × (0 < s .counts .types) × (r < 256)
+        × (targets .count ≤ maxLayers) ⌝ }
+    ensures { λ q. ⌜ Step (whole (now (types .entry)) s) (giveReference (systemIn (whole (now (types .entry)) s)) j r v (targetsIn targets))
+        (done (now (types .exit)) q) ⌝ }
 {
     let q = request_value::send(types, s, r, v, targets);
     let answer = q.answer;
@@ -101,7 +95,8 @@ fn give_value(
     v: i64,
 ) -> Served
     requires { ⌜ Sound (whole (now types) s) × Called (whole (now types) s) j x c ⌝ }
-    ensures { λ r. ⌜ ((subject : ℤ) → named subject ≡ who → Step (whole (now (types .entry)) s) (giveValue (systemIn (whole (now (types .entry)) s)) subject j a v) (done (now (types .exit)) r)) ⌝ }
+    ensures { λ r. ⌜ ((subject : ℤ) → named subject ≡ who
+        → Step (whole (now (types .entry)) s) (giveValue (systemIn (whole (now (types .entry)) s)) subject j a v) (done (now (types .exit)) r)) ⌝ }
 {
     let counts = s.counts;
     let cells = s.cells;
@@ -109,7 +104,7 @@ fn give_value(
     let targets = answers_met(types, s, j, x, c);
     if request_value::is_ref(types, counts, a) {
         if !request_common::is_held(cells, who, v) {
-            return request_common::refused(s, 15);
+            return request_common::refused(s, refusal::WRONG_VALUES);
         }
         return give_reference(types, s, j, caller, v, targets);
     }
@@ -117,7 +112,7 @@ fn give_value(
     if e != 0 {
         return request_common::refused(s, e);
     }
-    answered(s, j, Answer::Number(v))
+    answered(s, j, Outcome::Number(v))
 }
 
 // What is due and what is given (A4, A5, A13).
@@ -131,22 +126,26 @@ fn give(
     given: Given,
 ) -> Served
     requires { ⌜ Sound (whole (now types) s) × Called (whole (now types) s) j x c ⌝ }
-    ensures { λ r. ⌜ ((subject : ℤ) → named subject ≡ who → Step (whole (now (types .entry)) s) (give (systemIn (whole (now (types .entry)) s)) subject j (dueFor (systemIn (whole (now (types .entry)) s)) j) (givenAs given)) (done (now (types .exit)) r)) ⌝ }
+    ensures { λ r. ⌜ ((subject : ℤ) → named subject ≡ who
+        → Step (whole (now (types .entry)) s)
+        (give (systemIn (whole (now (types .entry)) s)) subject j (dueFor (systemIn (whole (now (types .entry)) s)) j) (givenAs given))
+        (done (now (types .exit)) r))
+        × Keeps given (now (types .entry)) (now (types .exit)) ⌝ }
 {
     let counts = s.counts;
-    let due = crossing_layers::target_at(types, counts, wide(x.method), Slot::Answer, wide(c.sort));
+    let due = crossing_layers::target_at(types, counts, wide(x.method), Slot::Answer, wide(c.ty));
     match given {
         Given::Value(v) => {
             if due == 0 {
-                return request_common::refused(s, 15);
+                return request_common::refused(s, refusal::WRONG_VALUES);
             }
             give_value(types, s, who, j, x, c, due - 1, v)
         }
         Given::Nothing => {
             if due != 0 {
-                return request_common::refused(s, 15);
+                return request_common::refused(s, refusal::WRONG_VALUES);
             }
-            answered(s, j, Answer::Nothing)
+            answered(s, j, Outcome::Nothing)
         }
     }
 }
@@ -154,17 +153,19 @@ fn give(
 // The tests that are left once the subject is known and j is the number of a call (A2, A3).
 fn answer_call(types: &mut [u8; TYPE_BYTES], s: State, who: usize, j: usize, given: Given) -> Served
     requires { ⌜ Sound (whole (now types) s) × (j < s .calls .count) ⌝ }
-    ensures { λ r. ⌜ ((subject : ℤ) → named subject ≡ who → Step (whole (now (types .entry)) s) (answerCall (systemIn (whole (now (types .entry)) s)) subject j (givenAs given)) (done (now (types .exit)) r)) ⌝ }
+    ensures { λ r. ⌜ ((subject : ℤ) → named subject ≡ who
+        → Step (whole (now (types .entry)) s) (answerCall (systemIn (whole (now (types .entry)) s)) subject j (givenAs given)) (done (now (types .exit)) r))
+        × Keeps given (now (types .entry)) (now (types .exit)) ⌝ }
 {
     let x = state_record::call_at(s.calls, j);
     let c = state_record::cell_at(s.cells, wide(x.cell));
     let ps = s.places;
     let owner = state_record::base_owner(ps, wide(c.place));
     if owner != who {
-        return request_common::refused(s, 6);
+        return request_common::refused(s, refusal::NOT_HELD);
     }
     if x.answered {
-        return request_common::refused(s, 17);
+        return request_common::refused(s, refusal::ANSWERED_ALREADY);
     }
     give(types, s, who, j, x, c, given)
 }
@@ -178,17 +179,19 @@ pub fn answer_step(
     given: Given,
 ) -> Served
     requires { ⌜ Sound (whole (now types) s) ⌝ }
-    ensures { λ r. ⌜ Step (whole (now (types .entry)) s) (answerRequest (systemIn (whole (now (types .entry)) s)) subject call (givenAs given)) (done (now (types .exit)) r) ⌝ }
+    ensures { λ r. ⌜ Step (whole (now (types .entry)) s) (answerRequest (systemIn (whole (now (types .entry)) s)) subject call (givenAs given))
+        (done (now (types .exit)) r)
+        × Keeps given (now (types .entry)) (now (types .exit)) ⌝ }
 {
     let counts = s.counts;
     let calls = s.calls;
     if !request_common::is_subject(counts, subject) {
-        return request_common::refused(s, 5);
+        return request_common::refused(s, refusal::UNKNOWN_SUBJECT);
     }
     let who = index_of(subject, counts.subjects);
     let j = index_of(call, calls.count);
     if calls.count <= j {
-        return request_common::refused(s, 6);
+        return request_common::refused(s, refusal::NOT_HELD);
     }
     answer_call(types, s, who, j, given)
 }

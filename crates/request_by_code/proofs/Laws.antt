@@ -7,13 +7,14 @@ use lib.IntN.{ℤ, pos}
 use lib.ListN.{length, getD, drop}
 use borrow.Author.Tests.{eq-eqb, ne-eqb, le-leb, lt-leb}
 use Rattle.spec_model.specs.Basics.{Res}
-use Rattle.spec_model.specs.Requests.{System, Request, Result, Outcome, got, refused, serve, newRequest, moveRequest, callRequest, answerRequest, after, outcome}
+use Rattle.spec_model.specs.Requests.{System, Request, Result, Outcome as Outcomeᵐ, got, refused, serve, newRequest, moveRequest, callRequest, answerRequest, after, outcome}
 use Rattle.spec_model.specs.Coded.{byCode}
+use Rattle.spec_model.specs.Refusals.{form}
 use Rattle.state_record.specs.Whole.{Whole as State}
 use Rattle.state_record.specs.View.{systemIn}
 use Rattle.state_record.specs.Sound.{Sound}
-use Rattle.request_common.specs.declared.Answer.{Answer}
-use Rattle.request_common.specs.declared.Answer.the-variants.{Refused, Pair, Number, Nothing}
+use Rattle.request_common.specs.declared.Outcome.{Outcome}
+use Rattle.request_common.specs.declared.Outcome.the-variants.{Refused, Pair, Number, Nothing}
 use Rattle.request_common.specs.Served.{Done as Served, refusalOf as refusal}
 use Rattle.request_common.specs.Served.{outcomeOf, servedWith, Step}
 use Rattle.request_common.proofs.Laws.{refuses as step-refuses, refused-means}
@@ -21,7 +22,7 @@ use Rattle.request_by_code.specs.Coded.{serveAsked}
 
 -- ---- One request.
 
-pub refuses : (s : State) (q : Option Request) (r : Served) → Sound s → q ≡ none → r ≡ refusal s 1 → Step s (serveAsked (systemIn s) q) r
+pub refuses : (s : State) (q : Option Request) (r : Served) → Sound s → q ≡ none → r ≡ refusal s form → Step s (serveAsked (systemIn s) q) r
 unfolding serveAsked
 refuses s q r h e k = step-refuses h (ap (serveAsked (systemIn s)) e) k
 
@@ -73,13 +74,13 @@ code-none (suc (suc (suc (suc k)))) ws a b c d = refl
 module _ (s : State) (m : Res (System × Result)) (r : Served) (h : Step s m r) where
   pub outcome-is : outcome m ≡ outcomeOf (r .answer)
   outcome-is = ap outcome (sym (h .is)) ∙ go (outcomeOf (r .answer)) where
-    go : (o : Outcome) → outcome (servedWith (systemIn (r .state)) o) ≡ o
+    go : (o : Outcomeᵐ) → outcome (servedWith (systemIn (r .state)) o) ≡ o
     go (refused e) = refl
     go (got x) = refl
 
   pub after-is : after (systemIn s) m ≡ systemIn (r .state)
   after-is = ap (after (systemIn s)) (sym (h .is)) ∙ go (r .answer) refl where
-    go : (a : Answer) → r .answer ≡ a → after (systemIn s) (servedWith (systemIn (r .state)) (outcomeOf a)) ≡ systemIn (r .state)
+    go : (a : Outcome) → r .answer ≡ a → after (systemIn s) (servedWith (systemIn (r .state)) (outcomeOf a)) ≡ systemIn (r .state)
     go (Refused e) z = sym (refused-means h e z)
     go (Pair a b) z = refl
     go (Number v) z = refl

@@ -6,6 +6,7 @@ ghost use Rattle.state_record.specs.Sound.{Sound};
 ghost use Rattle.request_common.specs.Served.{Step, done};
 ghost use Rattle.spec_model.specs.Coded.{byCode};
 ghost use Rattle.request_by_code.specs.Coded.{serveAsked};
+use base_numbers::refusal;
 use request_answer::Given;
 use request_common::Served;
 use request_common::refused;
@@ -26,10 +27,11 @@ pub const CODES: usize = 4;
 // New: three operands (U3).
 fn serve_new(types: &mut [u8; TYPE_BYTES], s: State, ops: &[i64]) -> Served
     requires { ⌜ Sound (whole (now types) s) ⌝ }
-    ensures { λ r. ⌜ Step (whole (now (types .entry)) s) (serveAsked (systemIn (whole (now (types .entry)) s)) (byCode 0 (now (ops .entry)))) (done (now (types .exit)) r) ⌝ }
+    ensures { λ r. ⌜ Step (whole (now (types .entry)) s) (serveAsked (systemIn (whole (now (types .entry)) s)) (byCode 0 (now (ops .entry))))
+        (done (now (types .exit)) r) ⌝ }
 {
     if ops.len() != 3 {
-        return refused(s, 1);
+        return refused(s, refusal::FORM);
     }
     request_new_move::new_step(types, s, ops[0], ops[1], ops[2])
 }
@@ -37,10 +39,11 @@ fn serve_new(types: &mut [u8; TYPE_BYTES], s: State, ops: &[i64]) -> Served
 // Move: four (U3).
 fn serve_move(types: &mut [u8; TYPE_BYTES], s: State, ops: &[i64]) -> Served
     requires { ⌜ Sound (whole (now types) s) ⌝ }
-    ensures { λ r. ⌜ Step (whole (now (types .entry)) s) (serveAsked (systemIn (whole (now (types .entry)) s)) (byCode 1 (now (ops .entry)))) (done (now (types .exit)) r) ⌝ }
+    ensures { λ r. ⌜ Step (whole (now (types .entry)) s) (serveAsked (systemIn (whole (now (types .entry)) s)) (byCode 1 (now (ops .entry))))
+        (done (now (types .exit)) r) ⌝ }
 {
     if ops.len() != 4 {
-        return refused(s, 1);
+        return refused(s, refusal::FORM);
     }
     request_new_move::move_step(types, s, ops[0], ops[1], ops[2], ops[3])
 }
@@ -49,10 +52,11 @@ fn serve_move(types: &mut [u8; TYPE_BYTES], s: State, ops: &[i64]) -> Served
 // call, the largest of the four requests', would be taken by every other request too.
 fn serve_call(types: &mut [u8; TYPE_BYTES], s: State, ops: &[i64]) -> Served
     requires { ⌜ Sound (whole (now types) s) ⌝ }
-    ensures { λ r. ⌜ Step (whole (now (types .entry)) s) (serveAsked (systemIn (whole (now (types .entry)) s)) (byCode 2 (now (ops .entry)))) (done (now (types .exit)) r) ⌝ }
+    ensures { λ r. ⌜ Step (whole (now (types .entry)) s) (serveAsked (systemIn (whole (now (types .entry)) s)) (byCode 2 (now (ops .entry))))
+        (done (now (types .exit)) r) ⌝ }
 {
     if ops.len() < 3 {
-        return refused(s, 1);
+        return refused(s, refusal::FORM);
     }
     if ops.len() == 3 {
         return request_call::call_step(types, s, ops[0], ops[1], ops[2], &ops[..0]);
@@ -63,13 +67,14 @@ fn serve_call(types: &mut [u8; TYPE_BYTES], s: State, ops: &[i64]) -> Served
 // Answer: two operands and a value, or nothing (U5).
 fn serve_answer(types: &mut [u8; TYPE_BYTES], s: State, ops: &[i64]) -> Served
     requires { ⌜ Sound (whole (now types) s) ⌝ }
-    ensures { λ r. ⌜ Step (whole (now (types .entry)) s) (serveAsked (systemIn (whole (now (types .entry)) s)) (byCode 3 (now (ops .entry)))) (done (now (types .exit)) r) ⌝ }
+    ensures { λ r. ⌜ Step (whole (now (types .entry)) s) (serveAsked (systemIn (whole (now (types .entry)) s)) (byCode 3 (now (ops .entry))))
+        (done (now (types .exit)) r) ⌝ }
 {
     if ops.len() == 2 {
         return request_answer::answer_step(types, s, ops[0], ops[1], Given::Nothing);
     }
     if ops.len() != 3 {
-        return refused(s, 1);
+        return refused(s, refusal::FORM);
     }
     let v = ops[2];
     request_answer::answer_step(types, s, ops[0], ops[1], Given::Value(v))
@@ -78,7 +83,8 @@ fn serve_answer(types: &mut [u8; TYPE_BYTES], s: State, ops: &[i64]) -> Served
 // The request of a code and its operands: 1 where there is none such (U6). Every request is served by it.
 pub fn serve_coded(types: &mut [u8; TYPE_BYTES], s: State, k: usize, ops: &[i64]) -> Served
     requires { ⌜ Sound (whole (now types) s) ⌝ }
-    ensures { λ r. ⌜ Step (whole (now (types .entry)) s) (serveAsked (systemIn (whole (now (types .entry)) s)) (byCode k (now (ops .entry)))) (done (now (types .exit)) r) ⌝ }
+    ensures { λ r. ⌜ Step (whole (now (types .entry)) s) (serveAsked (systemIn (whole (now (types .entry)) s)) (byCode k (now (ops .entry))))
+        (done (now (types .exit)) r) ⌝ }
 {
     if k == NEW {
         return serve_new(types, s, ops);
@@ -92,5 +98,5 @@ pub fn serve_coded(types: &mut [u8; TYPE_BYTES], s: State, k: usize, ops: &[i64]
     if k == ANSWER {
         return serve_answer(types, s, ops);
     }
-    refused(s, 1)
+    refused(s, refusal::FORM)
 }

@@ -16,8 +16,9 @@ use Rattle.spec_model.specs.Table.{Table, methodAt, isAvail, permit, signed}
 use Rattle.spec_model.specs.Table.{Method as Methodᵐ}
 use Rattle.spec_model.specs.Crossing.{baseOwner}
 use Rattle.spec_model.specs.Check.{stateOf, answerOf, methodOf, tableOf}
-use Rattle.spec_model.specs.Requests.{System, Result, pair, noCell, noCall, cellAt, held, argumentsHeld, sendArguments, wayOf, layersOf, adapterCount, maxCalls, withCalls, withCall, callRequest}
+use Rattle.spec_model.specs.Requests.{System, Result, pair, noCell, noCall, cellAt, held, argumentsHeld, sendArguments, callLayers, layersOf, adapterCount, maxCalls, withCalls, withCall, callRequest}
 use Rattle.spec_model.specs.Requests.{Cell as Cellᵐ, Call as Callᵐ}
+use Rattle.spec_model.specs.Refusals.{unknownSubject, notHeld, notCallable, wrongValues, callsFull}
 use Rattle.table_record.specs.declared.Counts.{Counts}
 use Rattle.table_record.specs.declared.Method.{Method}
 use Rattle.table_record.specs.Store.{tableIn, rawMethod}
@@ -32,20 +33,23 @@ use Rattle.state_record.specs.Whole.{Whole as State}
 use Rattle.state_record.specs.View.{cellOf, callOf, cellsIn, placesIn, callsIn, callAdded, systemIn, withTypes}
 use Rattle.state_record.specs.Sound.{CallIn, Sound}
 use Rattle.state_record.proofs.Laws.{calls-length, system-is}
-use Rattle.request_common.specs.declared.Answer.{Answer}
-use Rattle.request_common.specs.declared.Answer.the-variants.{Pair}
-use Rattle.request_common.specs.Served.{Done as Served, refusalOf as refusal}
+use Rattle.request_common.specs.declared.Outcome.{Outcome}
+use Rattle.request_common.specs.declared.Outcome.the-variants.{Pair}
+use Rattle.request_common.specs.Served.{Done as Served}
 use Rattle.request_common.specs.Served.{outcomeOf, servedWith, servedAs, Step}
-use Rattle.request_common.proofs.Laws.{refuses, refuses-kept, step-as, table-is, cells-are, places-are, calls-are, subject-at, held-at}
-use Rattle.request_value.specs.Sent.{isAccepted, argumentsOf, allSent, Sent}
+use Rattle.request_common.proofs.Laws.{refuses-kept, step-as, table-is, cells-are, places-are, calls-are, subject-at, held-at}
+use Rattle.request_value.specs.declared.Numbers.{Numbers}
+use Rattle.request_value.specs.declared.Numbers.the-variants as numbers
+use Rattle.request_value.specs.Sent.{isAccepted, argumentsOf, allSent, Sent, Passes}
 use Rattle.request_value.proofs.Sending.{goes-on, only-refused, step-after}
 use Rattle.request_value.proofs.OtherCalls.{callsLeft, calls-step}
-use Rattle.request_call.specs.Called.{newCall, callThrough, callHeld}
+use Rattle.request_call.specs.Called.{newCall, callThrough, callHeld, Planned}
+use Rattle.request_call.specs.declared.Plan.{Plan}
 
 pub call-eq : (a b c x y z : ℕ) → a ≡ x → b ≡ y → c ≡ z → newCall a b c ≡ newCall x y z
 call-eq a b c x y z p q r = ap (λ (n : ℕ). newCall n b c) p ∙ ap (λ (n : ℕ). newCall x n c) q ∙ ap (newCall x y) r
 
-module _ (s : State) (h : Sound s) (room : s .calls .count < 256) (who k m adapters : ℕ) (cell : k < s .cells .count) (method : m < s .counts .methods) where
+module _ (s : State) (h : Sound s) (room : s .calls .count < maxCalls) (who k m adapters : ℕ) (cell : k < s .cells .count) (method : m < s .counts .methods) where
   pub call-byte : (k < 256) × (m < 256)
   call-byte = (omega (arith, cell, h .cellCount), omega (arith, method, h .checked .limits .methods))
 
@@ -83,47 +87,106 @@ module _ (s : State) (h : Sound s) (k : ℕ) (low : k < s .cells .count) (c : Ce
     pub place-low : p < s .places .count
     place-low = subst (λ (n : ℕ). n < s .places .count) (sym (e ∙ ap (λ (x : Cellᵐ). x .place) is)) (h .cells k low .place)
 
-    pub way-met : (layers way : List ℕ) → layers ≡ layersOf (placesIn (s .places)) p → way ≡ c .sort ∷ layers → way ≡ cellAt (systemIn s) k .type ∷ layersOf (placesIn (s .places)) p
-    way-met layers way y z = z ∙ ap (λ (xs : List ℕ). c .sort ∷ xs) y ∙ ap (λ (x : Cellᵐ). x .type ∷ layersOf (placesIn (s .places)) p) cell-read
+    pub call-layers-met : (layers ls : List ℕ) → layers ≡ layersOf (placesIn (s .places)) p → ls ≡ c .ty ∷ layers → ls ≡ cellAt (systemIn s) k .type ∷ layersOf (placesIn (s .places)) p
+    call-layers-met layers ls y z = z ∙ ap (λ (xs : List ℕ). c .ty ∷ xs) y ∙ ap (λ (x : Cellᵐ). x .type ∷ layersOf (placesIn (s .places)) p) cell-read
 
-  module _ (t : ℕ) (e : t ≡ c .sort) where
+  module _ (t : ℕ) (e : t ≡ c .ty) where
     pub sort-here : t ≡ cellAt (systemIn s) k .type
     sort-here = e ∙ ap (λ (x : Cellᵐ). x .type) cell-read
 
     pub sort-low : t < s .counts .types
     sort-low = subst (λ (n : ℕ). n < s .counts .types) (sym (e ∙ ap (λ (x : Cellᵐ). x .type) is)) (h .cells k low .type)
 
--- ---- After the arguments.
-module _ (s : State) (h : Sound s) (who k m : ℕ) (xs : List ℕ) (vs : List ℤ) (p : ℕ) (here : p ≡ cellAt (systemIn s) k .place)
-    (owner : ℕ) (owns : owner ≡ baseOwner (placesIn (s .places)) p) (way : List ℕ) (met : way ≡ cellAt (systemIn s) k .type ∷ layersOf (placesIn (s .places)) p)
-    (q : Served) (sent : Sent s (allSent (sendArguments (systemIn s) owner way m 0 xs vs)) q) where
+-- ---- The call that is left, whose place is p.
+module _ (s : State) (who k m p : ℕ) (here : p ≡ cellAt (systemIn s) k .place) where
   abbrev Ends : System → Res (System × Result)
   Ends x = ok (withCall x (newCall who k m), pair (length (systemIn s .calls)) (adapterCount (systemIn s .places) (cellAt (systemIn s) k .place)))
 
-  through-is : callThrough (systemIn s) who k m xs vs ≡ try (servedAs q) (λ x. Ends (x .0))
+  call-layers-are : (ls : List ℕ) → ls ≡ cellAt (systemIn s) k .type ∷ layersOf (placesIn (s .places)) p → callLayers (systemIn s) (cellAt (systemIn s) k) ≡ ls
+  call-layers-are ls met = sym (met ∙ ap (λ (n : ℕ). cellAt (systemIn s) k .type ∷ layersOf (placesIn (s .places)) n) here
+      ∙ ap (λ ps. cellAt (systemIn s) k .type ∷ layersOf ps (cellAt (systemIn s) k .place)) (sym (places-are s)))
+
+  -- its answer, by the counted calls and the adapters of p
+  ends-is : (x : System) (n : ℕ) → n ≡ s .calls .count → (adapters : ℕ) → adapters ≡ adapterCount (placesIn (s .places)) p → Ends x ≡ ok (withCall x (newCall who k m), pair n adapters)
+  ends-is x n calls adapters count = sym (ap (λ (y : ℕ). ok (withCall x (newCall who k m), pair y adapters)) calls-same
+      ∙ ap (λ (y : ℕ). ok (withCall x (newCall who k m), pair (length (systemIn s .calls)) y)) adapters-same)
+    where
+      calls-same : n ≡ length (systemIn s .calls)
+      calls-same = calls ∙ sym (ap length (calls-are s) ∙ calls-length (s .calls))
+
+      adapters-same : adapters ≡ adapterCount (systemIn s .places) (cellAt (systemIn s) k .place)
+      adapters-same = count ∙ ap (adapterCount (placesIn (s .places))) here ∙ ap (λ ps. adapterCount ps (cellAt (systemIn s) k .place)) (sym (places-are s))
+
+-- ---- What is planned.
+module _ (s : State) (vs : List ℤ) where
+  pub planned-as : {m m′ : Res (System × Result)} → m ≡ m′ → (p : Plan) → Planned s vs m′ p → Planned s vs m p
+  planned-as e p h = record { stops = λ z. e ∙ h .stops z; fits = h .fits; goes = λ z. e ∙ h .goes z; adds = λ z y. e ∙ h .adds z y }
+
+  pub planned-stops : {m : Res (System × Result)} (e : ℕ) → (e ≡ 0 → ⊥) → m ≡ refuse e → (p : Plan) → p .refusal ≡ e → Planned s vs m p
+  planned-stops e z w p u = record {
+    stops = λ y. w ∙ ap (λ (n : ℕ). refuse n) (sym u);
+    fits = λ y. absurd (z (sym u ∙ y));
+    goes = λ y. absurd (z (sym u ∙ y));
+    adds = λ y x. absurd (z (sym u ∙ y));
+  }
+
+  pub planned-refuses : {m : Res (System × Result)} (e : ℕ) → 0 < e → m ≡ refuse e → (p : Plan) → p .refusal ≡ e → Planned s vs m p
+  planned-refuses e low = planned-stops e (λ z. omega (arith, z, low))
+
+  pub planned-goes : (who k m adapters : ℕ) (x : Method) (sends : Bool) → (s .calls .count < maxCalls) × (who < 256) × (k < s .cells .count) × (m < s .counts .methods) →
+      (sends ≡ false → callThrough (systemIn s) who k m (argumentsOf x) vs ≡ ok (withCall (systemIn s) (newCall who k m), pair (s .calls .count) adapters)) →
+      Planned s vs (callThrough (systemIn s) who k m (argumentsOf x) vs)
+      (record { refusal = 0; sends = sends; who = who; cell = k; method = m; adapters = adapters; signature = x })
+  planned-goes who k m adapters x sends low e = record { stops = λ z. absurd (z refl); fits = λ z. low; goes = λ z. refl; adds = λ z y. e y }
+
+-- ---- Before the arguments: what their numbers come to.
+abbrev pub ownerAt : State → ℕ → ℕ
+ownerAt s k = baseOwner (systemIn s .places) (cellAt (systemIn s) k .place)
+
+module _ (s : State) (who k m : ℕ) (xs : List ℕ) (vs : List ℤ) (p : ℕ) (here : p ≡ cellAt (systemIn s) k .place)
+    (ls : List ℕ) (met : ls ≡ cellAt (systemIn s) k .type ∷ layersOf (placesIn (s .places)) p)
+    (q : Numbers) (passes : Passes (systemIn s) (sendArguments (systemIn s) (ownerAt s k) ls m 0 xs vs) q) where
+  before-is : (y : Res System) → sendArguments (systemIn s) (ownerAt s k) ls m 0 xs vs ≡ y → callThrough (systemIn s) who k m xs vs ≡ try y (Ends s who k m p here)
+  before-is y w = ap (λ (u : List ℕ). try (sendArguments (systemIn s) (ownerAt s k) u m 0 xs vs) (Ends s who k m p here)) (call-layers-are s who k m p here ls met)
+      ∙ ap (λ (u : Res System). try u (Ends s who k m p here)) w
+
+  pub numbers-refuse : (e : ℕ) → q ≡ numbers.Refused e → (r : Plan) → r .refusal ≡ e → Planned s vs (callThrough (systemIn s) who k m xs vs) r
+  numbers-refuse e z r u =
+      let w = subst (Passes (systemIn s) (sendArguments (systemIn s) (ownerAt s k) ls m 0 xs vs)) z passes in
+      planned-stops s vs e (w .1) (before-is (refuse e) (w .0)) r u
+
+  pub numbers-add : q ≡ numbers.Passed → (adapters : ℕ) → adapters ≡ adapterCount (placesIn (s .places)) p →
+      callThrough (systemIn s) who k m xs vs ≡ ok (withCall (systemIn s) (newCall who k m), pair (s .calls .count) adapters)
+  numbers-add z adapters count = before-is (ok (systemIn s)) (subst (Passes (systemIn s) (sendArguments (systemIn s) (ownerAt s k) ls m 0 xs vs)) z passes)
+      ∙ ends-is s who k m p here (systemIn s) (s .calls .count) refl adapters count
+
+-- ---- After the arguments.
+module _ (s : State) (h : Sound s) (who k m : ℕ) (xs : List ℕ) (vs : List ℤ) (p : ℕ) (here : p ≡ cellAt (systemIn s) k .place)
+    (owner : ℕ) (owns : owner ≡ baseOwner (placesIn (s .places)) p) (ls : List ℕ) (met : ls ≡ cellAt (systemIn s) k .type ∷ layersOf (placesIn (s .places)) p)
+    (q : Served) (sent : Sent s (allSent (sendArguments (systemIn s) owner ls m 0 xs vs)) q) where
+  abbrev Then : System → Res (System × Result)
+  Then = Ends s who k m p here
+
+  through-is : callThrough (systemIn s) who k m xs vs ≡ try (servedAs q) (λ x. Then (x .0))
   through-is =
-      ap (λ (o : ℕ). try (sendArguments (systemIn s) o (wayOf (systemIn s) (cellAt (systemIn s) k)) m 0 xs vs) Ends) owner-is
-      ∙ ap (λ (w : List ℕ). try (sendArguments (systemIn s) owner w m 0 xs vs) Ends) way-is
-      ∙ through (sendArguments (systemIn s) owner way m 0 xs vs) ∙ ap (λ (y : Res (System × Result)). try y (λ x. Ends (x .0))) (sym (sent .is))
+      ap (λ (o : ℕ). try (sendArguments (systemIn s) o (callLayers (systemIn s) (cellAt (systemIn s) k)) m 0 xs vs) Then) owner-is
+      ∙ ap (λ (w : List ℕ). try (sendArguments (systemIn s) owner w m 0 xs vs) Then) (call-layers-are s who k m p here ls met)
+      ∙ through (sendArguments (systemIn s) owner ls m 0 xs vs) ∙ ap (λ (y : Res (System × Result)). try y (λ x. Then (x .0))) (sym (sent .is))
     where
       owner-is : baseOwner (systemIn s .places) (cellAt (systemIn s) k .place) ≡ owner
       owner-is = sym (owns ∙ ap (baseOwner (placesIn (s .places))) here ∙ ap (λ ps. baseOwner ps (cellAt (systemIn s) k .place)) (sym (places-are s)))
 
-      way-is : wayOf (systemIn s) (cellAt (systemIn s) k) ≡ way
-      way-is = sym (met ∙ ap (λ (n : ℕ). cellAt (systemIn s) k .type ∷ layersOf (placesIn (s .places)) n) here
-          ∙ ap (λ ps. cellAt (systemIn s) k .type ∷ layersOf ps (cellAt (systemIn s) k .place)) (sym (places-are s)))
-
-      through : (y : Res System) → try y Ends ≡ try (allSent y) (λ x. Ends (x .0))
+      through : (y : Res System) → try y Then ≡ try (allSent y) (λ x. Then (x .0))
       through (refuse e) = refl
       through (ok x) = refl
 
   pub through-stops : isAccepted (q .answer) ≡ false → Step s (callThrough (systemIn s) who k m xs vs) (record { answer = q .answer; state = withTypes s (q .state .types) })
-  through-stops z = only-refused (λ (y : Answer). callThrough (systemIn s) who k m xs vs ≡ try (servedWith (systemIn (q .state)) (outcomeOf y)) (λ x. Ends (x .0)) →
+  through-stops z = only-refused (λ (y : Outcome). callThrough (systemIn s) who k m xs vs ≡ try (servedWith (systemIn (q .state)) (outcomeOf y)) (λ x. Then (x .0)) →
       Step s (callThrough (systemIn s) who k m xs vs) (record { answer = y; state = withTypes s (q .state .types) }))
       (λ e u. refuses-kept h (sent .sound .long) (sent .stored .kept) u refl) (q .answer) z through-is
 
-  pub through-room : s .calls .count < 256 → who < 256 → k < s .cells .count → m < s .counts .methods →
-      Sound (q .state) × (q .state .calls .count < 256) × (who < 256) × (k < q .state .cells .count) × (m < q .state .counts .methods)
+  pub through-room : s .calls .count < maxCalls → who < 256 → k < s .cells .count → m < s .counts .methods →
+      Sound (q .state) × (q .state .calls .count < maxCalls) × (who < 256) × (k < q .state .cells .count) × (m < q .state .counts .methods)
   through-room room byte cell method = (
     sent .sound,
     omega (arith, room, sent .went .calls),
@@ -135,71 +198,61 @@ module _ (s : State) (h : Sound s) (who k m : ℕ) (xs : List ℕ) (vs : List �
   pub through-adds : isAccepted (q .answer) ≡ true → (adapters : ℕ) → adapters ≡ adapterCount (placesIn (s .places)) p → (r : Served) →
       Step (q .state) (ok (withCall (systemIn (q .state)) (newCall who k m), pair (q .state .calls .count) adapters)) r → Step s (callThrough (systemIn s) who k m xs vs) r
   through-adds z adapters count r g = step-as
-      (through-is ∙ goes-on (q .answer) (systemIn (q .state)) Ends z ∙ sym (ap (λ (n : ℕ). ok (withCall (systemIn (q .state)) (newCall who k m), pair n adapters)) calls-same
-      ∙ ap (λ (n : ℕ). ok (withCall (systemIn (q .state)) (newCall who k m), pair (length (systemIn s .calls)) n)) adapters-same)) (step-after (q .state) (sent .stored) r g)
-    where
-      calls-same : q .state .calls .count ≡ length (systemIn s .calls)
-      calls-same = sent .went .calls ∙ sym (ap length (calls-are s) ∙ calls-length (s .calls))
-
-      adapters-same : adapters ≡ adapterCount (systemIn s .places) (cellAt (systemIn s) k .place)
-      adapters-same = count ∙ ap (adapterCount (placesIn (s .places))) here ∙ ap (λ ps. adapterCount ps (cellAt (systemIn s) k .place)) (sym (places-are s))
+      (through-is ∙ goes-on (q .answer) (systemIn (q .state)) Then z ∙ ends-is s who k m p here (systemIn (q .state)) (q .state .calls .count) (sent .went .calls) adapters count)
+      (step-after (q .state) (sent .stored) r g)
 
 -- ---- The tests that are left once the subject, its cell and the method are known.
 
-module _ (s : State) (h : Sound s) (subject : ℤ) (k m : ℕ) (vs : List ℤ) (t : ℕ) (sort : t ≡ cellAt (systemIn s) k .type)
+module _ (s : State) (subject : ℤ) (k m : ℕ) (vs : List ℤ) (t : ℕ) (ty : t ≡ cellAt (systemIn s) k .type)
     (x : Method) (read : (l : List ℕ) → methodOf (rawMethod x) ≡ methodAt (tableIn (s .types) l (s .counts)) t m) where
   abbrev By : Methodᵐ → Res (System × Result)
   By y =
-      need (isAvail (y .state)) 14 λ _. need (argumentsHeld (systemIn s) subject (y .args) vs) 15 λ _. need (ltb (length (systemIn s .calls)) maxCalls) 18 λ _.
+      need (isAvail (y .state)) notCallable λ _. need (argumentsHeld (systemIn s) subject (y .args) vs) wrongValues λ _. need (ltb (length (systemIn s .calls)) maxCalls) callsFull λ _.
       callThrough (systemIn s) (named subject) k m (y .args) vs
 
   held-is : callHeld (systemIn s) subject k m vs ≡ By (methodOf (rawMethod x))
-  held-is = ap By (sym (read (s .links) ∙ ap (λ (n : ℕ). methodAt (tableIn (s .types) (s .links) (s .counts)) n m) sort
+  held-is = ap By (sym (read (s .links) ∙ ap (λ (n : ℕ). methodAt (tableIn (s .types) (s .links) (s .counts)) n m) ty
       ∙ ap (λ (y : Table). methodAt y (cellAt (systemIn s) k .type) m) (sym (table-is s))))
 
-  abbrev Asked : Served → Type 0
-  Asked r = Step s (callHeld (systemIn s) subject k m vs) r
-
-  pub held-14 : (x .state ≡ 2 → ⊥) → (r : Served) → r ≡ refusal s 14 → Asked r
-  held-14 z r e = refuses h (held-is ∙ rw (not-avail (x .state) z)) e
+  pub held-14 : (x .state ≡ 2 → ⊥) → callHeld (systemIn s) subject k m vs ≡ refuse notCallable
+  held-14 z = held-is ∙ rw (not-avail (x .state) z)
 
   module _ (avail : x .state ≡ 2) where
     abbrev Next : Bool → Bool → Res (System × Result)
-    Next a b = need a 15 λ _. need b 18 λ _. callThrough (systemIn s) (named subject) k m (argumentsOf x) vs
+    Next a b = need a wrongValues λ _. need b callsFull λ _. callThrough (systemIn s) (named subject) k m (argumentsOf x) vs
 
     avail-is : callHeld (systemIn s) subject k m vs ≡ Next (argumentsHeld (systemIn s) subject (argumentsOf x) vs) (ltb (length (systemIn s .calls)) maxCalls)
     avail-is = held-is ∙ ap (λ (n : ℕ). By (signed (stateOf n) (cond (permit (stateOf n)) (argumentsOf x) []) (cond (permit (stateOf n)) (answerOf (x .answer)) none))) avail
 
-    pub held-15 : argumentsHeld (systemIn s) subject (argumentsOf x) vs ≡ false → (r : Served) → r ≡ refusal s 15 → Asked r
-    held-15 z r e = refuses h (avail-is ∙ rw z) e
+    pub held-15 : argumentsHeld (systemIn s) subject (argumentsOf x) vs ≡ false → callHeld (systemIn s) subject k m vs ≡ refuse wrongValues
+    held-15 z = avail-is ∙ rw z
 
     module _ (fit : argumentsHeld (systemIn s) subject (argumentsOf x) vs ≡ true) where
       calls-counted : length (systemIn s .calls) ≡ s .calls .count
       calls-counted = ap length (calls-are s) ∙ calls-length (s .calls)
 
-      fit-is : callHeld (systemIn s) subject k m vs ≡ Next true (ltb (s .calls .count) 256)
+      fit-is : callHeld (systemIn s) subject k m vs ≡ Next true (ltb (s .calls .count) maxCalls)
       fit-is = avail-is ∙ ap (λ (y : Bool). Next y (ltb (length (systemIn s .calls)) maxCalls)) fit ∙ ap (λ (n : ℕ). Next true (ltb n maxCalls)) calls-counted
 
-      pub held-18 : 256 ≤ s .calls .count → (r : Served) → r ≡ refusal s 18 → Asked r
-      held-18 l r e = refuses h (fit-is ∙ ap (Next true) (le-ltb (s .calls .count) 256 l)) e
+      pub held-18 : maxCalls ≤ s .calls .count → callHeld (systemIn s) subject k m vs ≡ refuse callsFull
+      held-18 l = fit-is ∙ ap (Next true) (le-ltb (s .calls .count) maxCalls l)
 
-      pub held-goes : s .calls .count < 256 → (who : ℕ) → named subject ≡ who → (r : Served) → Step s (callThrough (systemIn s) who k m (argumentsOf x) vs) r → Asked r
-      held-goes l who w r g =
-          step-as (fit-is ∙ ap (Next true) (lt-ltb (s .calls .count) 256 l) ∙ ap (λ (n : ℕ). callThrough (systemIn s) n k m (argumentsOf x) vs) w) g
+      pub held-goes : s .calls .count < maxCalls → (who : ℕ) → named subject ≡ who → callHeld (systemIn s) subject k m vs ≡ callThrough (systemIn s) who k m (argumentsOf x) vs
+      held-goes l who w = fit-is ∙ ap (Next true) (lt-ltb (s .calls .count) maxCalls l) ∙ ap (λ (n : ℕ). callThrough (systemIn s) n k m (argumentsOf x) vs) w
 
 -- ---- The operands.
 module _ (s : System) (subject k m : ℤ) (vs : List ℤ) where
-  call-5 : names subject (s .table .subjects) ≡ false → callRequest s subject k m vs ≡ refuse 5
+  call-5 : names subject (s .table .subjects) ≡ false → callRequest s subject k m vs ≡ refuse unknownSubject
   unfolding callRequest
   call-5 e = rw e
 
   module _ (known : names subject (s .table .subjects) ≡ true) where
-    call-6 : held s subject k ≡ false → callRequest s subject k m vs ≡ refuse 6
+    call-6 : held s subject k ≡ false → callRequest s subject k m vs ≡ refuse notHeld
     unfolding callRequest
     call-6 e = rw (known, e)
 
     module _ (has : held s subject k ≡ true) where
-      call-14 : names m (s .table .methods) ≡ false → callRequest s subject k m vs ≡ refuse 14
+      call-14 : names m (s .table .methods) ≡ false → callRequest s subject k m vs ≡ refuse notCallable
       unfolding callRequest
       call-14 e = rw (known, has, e)
 
@@ -208,33 +261,32 @@ module _ (s : System) (subject k m : ℤ) (vs : List ℤ) where
       call-is e = rw (known, has, e)
 
 module _ (s : State) (h : Sound s) (subject cell method : ℤ) (vs : List ℤ) where
-  abbrev Called : Served → Type 0
-  Called r = Step s (callRequest (systemIn s) subject cell method vs) r
+  abbrev Asked : Res (System × Result)
+  Asked = callRequest (systemIn s) subject cell method vs
 
   methods-are : systemIn s .table .methods ≡ s .counts .methods
   unfolding tableIn tableOf
   methods-are = ap (λ (x : System). x .table .methods) (system-is s)
 
-  pub step-5 : names subject (systemIn s .table .subjects) ≡ false → (r : Served) → r ≡ refusal s 5 → Called r
-  step-5 z r e = refuses h (call-5 (systemIn s) subject cell method vs z) e
+  pub asked-5 : names subject (systemIn s .table .subjects) ≡ false → Asked ≡ refuse unknownSubject
+  asked-5 z = call-5 (systemIn s) subject cell method vs z
 
   module _ (known : names subject (systemIn s .table .subjects) ≡ true) (who : ℕ) (who-is : who ≡ indexOf subject (s .counts .subjects)) where
     pub who-named : (named subject ≡ who) × (who < 256)
     who-named = let x = subject-at s subject who who-is known in (sym (x .0), omega (arith, x .1, h .checked .limits .subjects))
 
-    pub step-6 : held (systemIn s) subject cell ≡ false → (r : Served) → r ≡ refusal s 6 → Called r
-    step-6 z r e = refuses h (call-6 (systemIn s) subject cell method vs known z) e
+    pub asked-6 : held (systemIn s) subject cell ≡ false → Asked ≡ refuse notHeld
+    asked-6 z = call-6 (systemIn s) subject cell method vs known z
 
     module _ (has : held (systemIn s) subject cell ≡ true) (k : ℕ) (k-is : k ≡ indexOf cell (s .cells .count)) (m : ℕ) (m-is : m ≡ indexOf method (s .counts .methods)) where
       pub cell-here : (k ≡ named cell) × (k < s .cells .count)
       cell-here = held-at s cell k k-is subject has
 
-      pub step-14 : s .counts .methods ≤ m → (r : Served) → r ≡ refusal s 14 → Called r
-      step-14 l r e = refuses h (call-14 (systemIn s) subject cell method vs known has (ap (names method) methods-are ∙ index-unknown method (s .counts .methods) m m-is l)) e
+      pub asked-14 : s .counts .methods ≤ m → Asked ≡ refuse notCallable
+      asked-14 l = call-14 (systemIn s) subject cell method vs known has (ap (names method) methods-are ∙ index-unknown method (s .counts .methods) m m-is l)
 
-      pub step-goes : m < s .counts .methods → (r : Served) → ((z : ℤ) → named z ≡ who → Step s (callHeld (systemIn s) z k m vs) r) → Called r
-      step-goes l r g =
+      pub asked-goes : m < s .counts .methods → Asked ≡ callHeld (systemIn s) subject k m vs
+      asked-goes l =
           let x = index-known method (s .counts .methods) m m-is l in
-          step-as (call-is (systemIn s) subject cell method vs known has (ap (names method) methods-are ∙ x .0)
-          ∙ sym (ap (λ (n : ℕ). callHeld (systemIn s) subject n m vs) (cell-here .0) ∙ ap (λ (n : ℕ). callHeld (systemIn s) subject (named cell) n vs) (sym (x .1))))
-          (g subject (who-named .0))
+          call-is (systemIn s) subject cell method vs known has (ap (names method) methods-are ∙ x .0)
+          ∙ sym (ap (λ (n : ℕ). callHeld (systemIn s) subject n m vs) (cell-here .0) ∙ ap (λ (n : ℕ). callHeld (systemIn s) subject (named cell) n vs) (sym (x .1)))

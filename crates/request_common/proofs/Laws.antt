@@ -11,17 +11,19 @@ use lib.ListN.{length, getD, List·getD-append}
 use lib.Seq.{getD-at}
 use borrow.Author.Tests.{ltb-true, lt-ltb, le-ltb}
 use Rattle.spec_model.specs.Basics.{Res, refuse, ok, need, names, named}
-use Rattle.spec_model.specs.Table.{Table, typeAt, isRef, isClass}
+use Rattle.spec_model.specs.Table.{Table, typeAt, isRef, isClass, maxTypes}
 use Rattle.spec_model.specs.Crossing.{Reference}
 use Rattle.spec_model.specs.Requests.{System, Result, pair, addCell, withCell, maxCells, held, isSheetRef, noCell}
 use Rattle.spec_model.specs.Requests.{Cell as Cellᵐ}
 use Rattle.spec_model.specs.Check.{noRawType, tableOf}
 use Rattle.spec_model.proofs.Rules.{first}
+use Rattle.spec_model.specs.Refusals.{cellsFull}
 use Rattle.table_record.specs.declared.Counts.{Counts}
 use Rattle.table_record.specs.Store.{typesIn, typesTo, tableIn, withCount}
 use Rattle.table_record.specs.Limits.{Limits}
 use Rattle.table_record.proofs.Lists.{lt-or-ge}
 use Rattle.table_record.proofs.Tables.{types-same}
+use Rattle.table_record.specs.Layout.{typesSize}
 use Rattle.derive_sub_sup.proofs.Bytes.{record-same}
 use Rattle.base_numbers.specs.Index.{indexOf}
 use Rattle.base_numbers.proofs.Laws.{index-unknown, index-known}
@@ -40,8 +42,8 @@ use Rattle.state_check.proofs.Laws.{ref-is, class-is}
 use Rattle.derive_sub_sup.specs.Link.{Kept}
 use Rattle.crossing_one.specs.Crossed.{Grew}
 use Rattle.crossing_one.proofs.Laws.{grown-checked, grew-on}
-use Rattle.request_common.specs.declared.Answer.{Answer}
-use Rattle.request_common.specs.declared.Answer.the-variants.{Refused, Pair, Number, Nothing}
+use Rattle.request_common.specs.declared.Outcome.{Outcome}
+use Rattle.request_common.specs.declared.Outcome.the-variants.{Refused, Pair, Number, Nothing}
 use Rattle.request_common.specs.declared.Served.{Served}
 use Rattle.request_common.specs.Served.{refusal, refusalOf, Done, done, Stored, Step, Arrives, arrived, isSheetClass}
 
@@ -76,12 +78,12 @@ stored-kept s t h k = record {
 pub refuses : {s : State} {m : Res (System × Result)} {e : ℕ} {q : Done} → Sound s → m ≡ refuse e → q ≡ refusalOf s e → Step s m q
 refuses {s} {m} h z y = subst (Step s m) (sym y) (record { is = sym z; stays = λ d w. refl; stored = stored-self s h; sound = h })
 
-pub refuses-kept : {s : State} {t : List ℕ} {m : Res (System × Result)} {e : ℕ} {q : Done} → Sound s → length t ≡ 16384 → Kept (s .counts .types) (s .types) t
+pub refuses-kept : {s : State} {t : List ℕ} {m : Res (System × Result)} {e : ℕ} {q : Done} → Sound s → length t ≡ typesSize → Kept (s .counts .types) (s .types) t
     → m ≡ refuse e → q ≡ refusalOf (withTypes s t) e → Step s m q
 refuses-kept {s} {t} {m} h long k z y = subst (Step s m) (sym y) (record { is = sym z; stays = λ d w. refl; stored = stored-kept s t h k; sound = sound-types s t long h })
 
 -- The same with the answer as `refused` gives it.
-pub step-refuses-kept : {b t : List ℕ} {s : Rest} {m : Res (System × Result)} {e : ℕ} {r : Served} → Sound (whole b s) → length t ≡ 16384 → Kept (s .counts .types) b t
+pub step-refuses-kept : {b t : List ℕ} {s : Rest} {m : Res (System × Result)} {e : ℕ} {r : Served} → Sound (whole b s) → length t ≡ typesSize → Kept (s .counts .types) b t
     → m ≡ refuse e → r ≡ refusal s e → Step (whole b s) m (done t r)
 step-refuses-kept {b} {t} {s} h long k z y = refuses-kept {s = whole b s} h long k z (ap (done t) y)
 
@@ -115,11 +117,11 @@ module _ (s : State) where
   calls-are = ap (λ (x : System). x .calls) (system-is s)
 
 -- what is not counted of the types means nothing
-table-kept : (b t l : List ℕ) (c : Counts) → c .types ≤ 128 → Kept (c .types) b t → tableIn t l c ≡ tableIn b l c
+table-kept : (b t l : List ℕ) (c : Counts) → c .types ≤ maxTypes → Kept (c .types) b t → tableIn t l c ≡ tableIn b l c
 unfolding tableIn tableOf typesTo
 table-kept b t l c low k = rw (types-same (c .methods) (c .sheet) (typesIn b) (c .types) (typesIn t) (λ i h. record-same b t i (omega arith) (k i h)))
 
-pub system-kept : (s : State) (t : List ℕ) → s .counts .types ≤ 128 → Kept (s .counts .types) (s .types) t → systemIn (withTypes s t) ≡ systemIn s
+pub system-kept : (s : State) (t : List ℕ) → s .counts .types ≤ maxTypes → Kept (s .counts .types) (s .types) t → systemIn (withTypes s t) ≡ systemIn s
 system-kept s t low k = system-is (withTypes s t)
     ∙ ap (λ (x : Table). record { table = x; cells = cellsIn (s .cells); places = placesIn (s .places); calls = callsIn (s .calls) }) (table-kept (s .types) t (s .links) (s .counts) low k)
     ∙ sym (system-is s)
@@ -205,40 +207,40 @@ module _ (b : List ℕ) (c : Counts) (limits : Limits c) (z : ℤ) (i : ℕ) (e 
 
 -- ---- A reference that becomes a cell.
 abbrev cellBy : ℕ → ℕ → ℕ → Cellᵐ
-cellBy holder sort place = record { holder = holder; type = sort; place = place }
+cellBy holder ty place = record { holder = holder; type = ty; place = place }
 
 pub cell-eq : (a b c x y z : ℕ) → a ≡ x → b ≡ y → c ≡ z → cellBy a b c ≡ cellBy x y z
 cell-eq a b c x y z p q r = ap (λ (n : ℕ). cellBy n b c) p ∙ ap (λ (n : ℕ). cellBy x n c) q ∙ ap (cellBy x y) r
 
-module _ (s : State) (types : List ℕ) (n : ℕ) (ps : Places) (holder sort place : ℕ) (h : Arrives s types n ps sort place) where
+module _ (s : State) (types : List ℕ) (n : ℕ) (ps : Places) (holder ty place : ℕ) (h : Arrives s types n ps ty place) where
   abbrev f : Reference
-  f = arrived s types n ps sort place
+  f = arrived s types n ps ty place
 
   -- the state by its parts
   abbrev S : System
   S = record { table = tableIn (s .types) (s .links) (s .counts); cells = cellsIn (s .cells); places = placesIn (s .places); calls = callsIn (s .calls) }
 
   abbrev Adds : Bool → Res (System × Result)
-  Adds room = elim room [ true ↦ ok (withCell S holder f, pair (s .cells .count) place) | false ↦ refuse 13 ]
+  Adds room = elim room [ true ↦ ok (withCell S holder f, pair (s .cells .count) place) | false ↦ refuse cellsFull ]
 
   adds-is : addCell (systemIn s) holder f ≡ Adds (ltb (s .cells .count) maxCells)
   unfolding addCell
   adds-is = ap (λ (x : System). addCell x holder f) (system-is s) ∙ rw (cells-length (s .cells)) (both (ltb (s .cells .count) maxCells))
     where
-      both : (b : Bool) → need b 13 (λ _. ok (withCell S holder f, pair (s .cells .count) place)) ≡ Adds b
+      both : (b : Bool) → need b cellsFull (λ _. ok (withCell S holder f, pair (s .cells .count) place)) ≡ Adds b
       both true = refl
       both false = refl
 
-  pub cell-refused : 256 ≤ s .cells .count → addCell (systemIn s) holder f ≡ refuse 13
-  cell-refused l = adds-is ∙ ap Adds (le-ltb (s .cells .count) 256 l)
+  pub cell-refused : maxCells ≤ s .cells .count → addCell (systemIn s) holder f ≡ refuse cellsFull
+  cell-refused l = adds-is ∙ ap Adds (le-ltb (s .cells .count) maxCells l)
 
-  pub sort-byte : sort < 256
-  sort-byte = let u = h .sort in let w = h .grew .room in omega arith
+  pub ty-byte : ty < 256
+  ty-byte = let u = h .ty in let w = h .grew .room in omega arith
 
   pub place-byte : place < 256
-  place-byte = let u = h .place in let w = h .falling .count in omega arith
+  place-byte = let u = h .place in let w = h .descending .count in omega arith
 
-  module _ (room : s .cells .count < 256) (c : Cell) (is : cellOf c ≡ cellBy holder sort place)
+  module _ (room : s .cells .count < maxCells) (c : Cell) (is : cellOf c ≡ cellBy holder ty place)
       (cells : Cells) (e : cells ≡ cellAdded (s .cells) c) (are : cellsIn cells ≡ cellsIn (s .cells) ++ (cellOf c ∷ [])) where
     abbrev s′ : State
     s′ = record { types = types; links = s .links; counts = withCount (s .counts) n; cells = cells; places = ps; calls = s .calls }
@@ -251,7 +253,7 @@ module _ (s : State) (types : List ℕ) (n : ℕ) (ps : Places) (holder sort pla
         (are ∙ ap (λ (x : Cellᵐ). cellsIn (s .cells) ++ (x ∷ [])) is)
 
     new-cell : CellIn s′ (cellOf c)
-    new-cell = subst (CellIn s′) (sym is) (record { type = h .sort; place = h .place })
+    new-cell = subst (CellIn s′) (sym is) (record { type = h .ty; place = h .place })
 
     old-cell : (k : ℕ) → k < s .cells .count → CellIn s′ (getD (cellsIn (s .cells)) k noCell)
     old-cell k l = let x = h .sound .cells k l in record { type = let u = x .type in let w = h .grew .more in omega arith; place = let u = x .place in let w = h .more in omega arith }
@@ -268,13 +270,13 @@ module _ (s : State) (types : List ℕ) (n : ℕ) (ps : Places) (holder sort pla
 
     pub cell-added : Step s (addCell (systemIn s) holder f) (record { answer = Pair (s .cells .count) place; state = s′ })
     cell-added = record {
-      is = ap (λ (x : System). ok (x, pair (s .cells .count) place)) means ∙ sym (adds-is ∙ ap Adds (lt-ltb (s .cells .count) 256 room));
+      is = ap (λ (x : System). ok (x, pair (s .cells .count) place)) means ∙ sym (adds-is ∙ ap Adds (lt-ltb (s .cells .count) maxCells room));
       stays = λ d y. absurd (differ d y);
       stored = record { links = refl; counts = refl; grew = h .grew; kept = h .kept };
       sound = record {
         long = h .long;
         checked = grown-checked (s .links) (s .counts) n (h .sound .checked) (h .grew .more) (h .grew .room);
-        falling = h .falling;
+        descending = h .descending;
         typed = h .typed;
         cellCount = let w = count-is in omega arith;
         callCount = h .sound .callCount;
@@ -284,4 +286,4 @@ module _ (s : State) (types : List ℕ) (n : ℕ) (ps : Places) (holder sort pla
     }
       where
         differ : (d : ℕ) → Pair (s .cells .count) place ≡ Refused d → ⊥
-        differ d y = let z : _≡_ {A = ℕ} 0 1 = ap (λ (a : Answer). elim a [ Refused x ↦ 1 | Pair x y ↦ 0 | Number x ↦ 0 | Nothing ↦ 0 ]) y in omega arith
+        differ d y = let z : _≡_ {A = ℕ} 0 1 = ap (λ (a : Outcome). elim a [ Refused x ↦ 1 | Pair x y ↦ 0 | Number x ↦ 0 | Nothing ↦ 0 ]) y in omega arith

@@ -9,21 +9,22 @@ use lib.ListN.{length}
 use Rattle.spec_model.specs.Basics.{Res, refuse, ok, names, named}
 use Rattle.spec_model.specs.Table.{Table, typeAt, isClass}
 use Rattle.spec_model.specs.Crossing.{Reference}
-use Rattle.spec_model.specs.Requests.{System, Result, Outcome, got, refused}
+use Rattle.spec_model.specs.Requests.{System, Result, Outcome as Outcomeᵐ, got, refused}
 use Rattle.table_record.specs.Store.{tableIn, withCount}
+use Rattle.table_record.specs.Layout.{typesSize}
 use Rattle.derive_sub_sup.specs.Link.{Kept}
 use Rattle.state_record.specs.declared.Places.{Places}
 use Rattle.state_record.specs.declared.State.{State as Rest}
 use Rattle.state_record.specs.Whole.{Whole as State}
 use Rattle.state_record.specs.View.{placesIn, systemIn, withTypes}
-use Rattle.state_record.specs.Sound.{Falling, Typed, Sound}
+use Rattle.state_record.specs.Sound.{Descending, Typed, Sound}
 use Rattle.crossing_one.specs.Crossed.{Grew, reference}
-use Rattle.request_common.specs.declared.Answer.the-variants.{Refused}
+use Rattle.request_common.specs.declared.Outcome.the-variants.{Refused}
 use Rattle.request_common.specs.declared.Served.{Served}
 pub use Rattle.request_common.specs.Outcome.{outcomeOf, Done, done, refusalOf}
 
 -- what the answer and the state left say together
-abbrev pub servedWith : System → Outcome → Res (System × Result)
+abbrev pub servedWith : System → Outcomeᵐ → Res (System × Result)
 servedWith s (refused e) = refuse e
 servedWith s (got x) = ok (s, x)
 
@@ -52,17 +53,17 @@ pub record Step (s : State) (m : Res (System × Result)) (r : Done) : Type 0 whe
 
 -- A reference that has crossed and is to be a cell: the types and the places as they have become, its static type and its place.
 abbrev pub arrived : State → List ℕ → ℕ → Places → ℕ → ℕ → Reference
-arrived s types n ps sort place = reference (tableIn types (s .links) (withCount (s .counts) n)) (placesIn ps) sort place
+arrived s types n ps ty place = reference (tableIn types (s .links) (withCount (s .counts) n)) (placesIn ps) ty place
 
 pub record Arrives (s : State) (types : List ℕ) (n : ℕ) (ps : Places) (t p : ℕ) : Type 0 where
   pub sound : Sound s
-  pub long : length types ≡ 16384
+  pub long : length types ≡ typesSize
   pub grew : Grew (s .counts) n types
   pub kept : Kept (s .counts .types) (s .types) types
-  pub falling : Falling ps
+  pub descending : Descending ps
   pub typed : Typed ps (withCount (s .counts) n)
   pub more : s .places .count ≤ ps .count
-  pub sort : t < n
+  pub ty : t < n
   pub place : p < ps .count
 
 -- the number of a sheet class, as `new` asks for it (N2)

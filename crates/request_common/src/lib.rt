@@ -1,17 +1,18 @@
-// What the four requests have in common: their answers, the tests of their operands (N1 to N3, M1 to M3, C1, C2, C5, A1, A6), and a reference that becomes a cell.
-// A state goes in by value and comes out by value: where a request is refused, it is the one that went in.
+// What the four requests have in common: their answers, the tests of their operands (N1 to N3, M1 to M3, C1, C2, C5, A1, A6), and a reference that becomes a
+// cell. A state goes in by value and comes out by value: where a request is refused, it is the one that went in.
 ghost use mathlib.Core.Path.{_≡_};
 ghost use mathlib.Core.List.{List};
 ghost use Prim.Native.Nat.{ℕ, _≤_, _<_};
 ghost use lib.IntN.{ℤ};
 ghost use Rattle.spec_model.specs.Basics.{names, named};
-ghost use Rattle.spec_model.specs.Requests.{addCell, held, isSheetRef};
+ghost use Rattle.spec_model.specs.Requests.{addCell, held, isSheetRef, maxCells};
 ghost use Rattle.table_record.specs.Limits.{Limits};
 ghost use Rattle.state_record.specs.Whole.{Whole, whole};
 ghost use Rattle.state_record.specs.View.{systemIn};
 ghost use Rattle.request_common.specs.Served.{refusal, Step, done, Arrives, arrived, isSheetClass};
 use base_numbers::index_of;
 use base_numbers::narrow;
+use base_numbers::refusal;
 use base_numbers::wide;
 use state_record::Cell;
 use state_record::Cells;
@@ -21,7 +22,7 @@ use table_record::Counts;
 use table_record::TYPE_BYTES;
 
 // What a request answers: the number of its refusal; two numbers (Q18, C19); the number answered; or nothing.
-pub enum Answer {
+pub enum Outcome {
     Refused(usize),
     Pair { first: usize, second: usize },
     Number(i64),
@@ -29,7 +30,7 @@ pub enum Answer {
 }
 
 pub struct Served {
-    pub answer: Answer,
+    pub answer: Outcome,
     pub state: State,
 }
 
@@ -38,7 +39,7 @@ pub fn refused(s: State, number: usize) -> Served
     ensures { λ r. ⌜ r ≡ refusal s number ⌝ }
 {
     Served {
-        answer: Answer::Refused(number),
+        answer: Outcome::Refused(number),
         state: s,
     }
 }
@@ -49,30 +50,25 @@ pub fn add_cell(
     count: usize,
     places: Places,
     holder: usize,
-    sort: usize,
+    ty: usize,
     place: usize,
 ) -> Served
-    requires { ⌜ (holder < 256) × (sort < 256) × (place < 256) ⌝ }
-    ensures { λ r. ⌜ ((b t : List ℕ) → Arrives (whole b s) t count places sort place → Step (whole b s) (addCell (systemIn (whole b s)) holder (arrived (whole b s) t count places sort place)) (done t r)) ⌝ }
+    requires { ⌜ (holder < 256) × (ty < 256) × (place < 256) ⌝ }
+    ensures { λ r. ⌜ ((b t : List ℕ) → Arrives (whole b s) t count places ty place
+        → Step (whole b s) (addCell (systemIn (whole b s)) holder (arrived (whole b s) t count places ty place)) (done t r)) ⌝ }
 {
     if State::CELLS <= s.cells.count {
-        return refused(s, 13);
+        return refused(s, refusal::CELLS_FULL);
     }
     let first = s.cells.count;
     let c = Cell {
         holder: narrow(holder),
-        sort: narrow(sort),
+        ty: narrow(ty),
         place: narrow(place),
     };
     let cells = s.cells.add(c);
     let links = s.links;
-    let counts = Counts {
-        subjects: s.counts.subjects,
-        methods: s.counts.methods,
-        cats: s.counts.cats,
-        sheet: s.counts.sheet,
-        types: count,
-    };
+    let counts = s.counts.with_types(count);
     let calls = s.calls;
     let state = State {
         links,
@@ -82,7 +78,7 @@ pub fn add_cell(
         calls,
     };
     Served {
-        answer: Answer::Pair {
+        answer: Outcome::Pair {
             first,
             second: place,
         },
@@ -100,7 +96,7 @@ pub fn is_subject(c: Counts, z: i64) -> bool
 
 // Whether k is the number of a cell that `who` holds (M2, C2, C5, A6).
 pub fn is_held(cs: Cells, who: usize, k: i64) -> bool
-    requires { ⌜ cs .count ≤ 256 ⌝ }
+    requires { ⌜ cs .count ≤ maxCells ⌝ }
     ensures { λ r. ⌜ ((s : Whole) (subject : ℤ) → s .cells ≡ cs → named subject ≡ who → r ≡ held (systemIn s) subject k) ⌝ }
 {
     let i = index_of(k, cs.count);
@@ -120,7 +116,7 @@ pub fn is_sheet_ref(types: &[u8; TYPE_BYTES], c: Counts, z: i64) -> bool
     if c.sheet <= i {
         return false;
     }
-    state_check::is_ref(types, i)
+    table_record::is_ref(types, i)
 }
 
 // Whether z is the number of a sheet class (N2).

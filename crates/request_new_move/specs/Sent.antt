@@ -10,7 +10,7 @@ use Rattle.table_record.specs.Store.{tableIn}
 use Rattle.state_record.specs.declared.Places.{Places}
 use Rattle.state_record.specs.Whole.{Whole as State}
 use Rattle.state_record.specs.View.{placesIn, systemIn}
-use Rattle.state_record.specs.Sound.{Falling, Typed, Sound}
+use Rattle.state_record.specs.Sound.{Descending, Typed, Sound}
 use Rattle.crossing_one.specs.declared.Crossing.{Crossing}
 use Rattle.crossing_one.specs.Crossed.{crossing}
 
@@ -21,7 +21,7 @@ sentTo s ps x = try (crossing (tableIn (s .types) (s .links) (s .counts)) ps x) 
 -- what that asks: at least as many places as the state has (new has one more)
 pub record Sends (s : State) (ps : Places) (x : Crossing) : Type 0 where
   pub sound : Sound s
-  pub falling : Falling ps
+  pub descending : Descending ps
   pub typed : Typed ps (s .counts)
   pub more : s .places .count ≤ ps .count
   pub place : x .place < ps .count
@@ -32,5 +32,5 @@ pub record Sends (s : State) (ps : Places) (x : Crossing) : Type 0 where
 pub record Made (ps : Places) (class owner : ℕ) (qs : Places) : Type 0 where
   pub are : placesIn qs ≡ placesIn ps ++ (object class owner ∷ [])
   pub count : qs .count ≡ ps .count + 1
-  pub falling : Falling qs
+  pub descending : Descending qs
   pub typed : (c : Counts) → Typed ps c → class < c .types → Typed qs c

@@ -4,13 +4,15 @@
 ghost use mathlib.Core.Path.{_≡_};
 ghost use Prim.Native.Nat.{_<_};
 ghost use Rattle.spec_model.specs.Requests.{newRequest, moveRequest};
+ghost use Rattle.spec_model.specs.Crossing.{maxPlaces};
 ghost use Rattle.state_record.specs.Whole.{whole};
 ghost use Rattle.state_record.specs.View.{systemIn};
-ghost use Rattle.state_record.specs.Sound.{Falling, Sound};
+ghost use Rattle.state_record.specs.Sound.{Descending, Sound};
 ghost use Rattle.request_common.specs.Served.{Step, done};
 ghost use Rattle.request_new_move.specs.Sent.{sentTo, Sends, Made};
 use base_numbers::index_of;
 use base_numbers::narrow;
+use base_numbers::refusal;
 use base_numbers::wide;
 use crossing_one::Crossing;
 use request_common::Served;
@@ -31,12 +33,12 @@ fn send(types: &mut [u8; TYPE_BYTES], s: State, ps: Places, x: Crossing) -> Serv
         return request_common::refused(s, y.refusal);
     }
     let places = y.places;
-    request_common::add_cell(s, y.types, places, x.receiver, y.sort, y.place)
+    request_common::add_cell(s, y.types, places, x.receiver, y.ty, y.place)
 }
 
 // An object of the class, owned by the subject, is the next place (N5).
 fn make(ps: Places, class: usize, owner: usize) -> Places
-    requires { ⌜ Falling ps × (ps .count < 128) × (class < 256) × (owner < 256) ⌝ }
+    requires { ⌜ Descending ps × (ps .count < maxPlaces) × (class < 256) × (owner < 256) ⌝ }
     ensures { λ q. ⌜ Made ps class owner q ⌝ }
 {
     let place = Place::Object {
@@ -49,28 +51,29 @@ fn make(ps: Places, class: usize, owner: usize) -> Places
 // New (N): an object of a sheet class, and a cell of the subject that refers to it.
 pub fn new_step(types: &mut [u8; TYPE_BYTES], s: State, subject: i64, class: i64, to: i64) -> Served
     requires { ⌜ Sound (whole (now types) s) ⌝ }
-    ensures { λ q. ⌜ Step (whole (now (types .entry)) s) (newRequest (systemIn (whole (now (types .entry)) s)) subject class to) (done (now (types .exit)) q) ⌝ }
+    ensures { λ q. ⌜ Step (whole (now (types .entry)) s) (newRequest (systemIn (whole (now (types .entry)) s)) subject class to)
+        (done (now (types .exit)) q) ⌝ }
 {
     let c = s.counts;
     if !request_common::is_subject(c, subject) {
-        return request_common::refused(s, 5);
+        return request_common::refused(s, refusal::UNKNOWN_SUBJECT);
     }
     if !request_common::is_sheet_class(types, c, class) {
-        return request_common::refused(s, 7);
+        return request_common::refused(s, refusal::UNKNOWN_TYPE);
     }
     if !request_common::is_sheet_ref(types, c, to) {
-        return request_common::refused(s, 7);
+        return request_common::refused(s, refusal::UNKNOWN_TYPE);
     }
     let ps = s.places;
     if State::PLACES <= ps.count {
-        return request_common::refused(s, 12);
+        return request_common::refused(s, refusal::PLACES_FULL);
     }
     let owner = index_of(subject, c.subjects);
-    let sort = index_of(class, c.sheet);
+    let ty = index_of(class, c.sheet);
     let target = index_of(to, c.sheet);
-    let made = make(ps, sort, owner);
+    let made = make(ps, ty, owner);
     let x = Crossing {
-        from: sort,
+        from: ty,
         place: ps.count,
         to: target,
         receiver: owner,
@@ -88,29 +91,30 @@ pub fn move_step(
     to: i64,
 ) -> Served
     requires { ⌜ Sound (whole (now types) s) ⌝ }
-    ensures { λ q. ⌜ Step (whole (now (types .entry)) s) (moveRequest (systemIn (whole (now (types .entry)) s)) subject cell receiver to) (done (now (types .exit)) q) ⌝ }
+    ensures { λ q. ⌜ Step (whole (now (types .entry)) s) (moveRequest (systemIn (whole (now (types .entry)) s)) subject cell receiver to)
+        (done (now (types .exit)) q) ⌝ }
 {
     let c = s.counts;
     if !request_common::is_subject(c, subject) {
-        return request_common::refused(s, 5);
+        return request_common::refused(s, refusal::UNKNOWN_SUBJECT);
     }
     if !request_common::is_subject(c, receiver) {
-        return request_common::refused(s, 5);
+        return request_common::refused(s, refusal::UNKNOWN_SUBJECT);
     }
     let cells = s.cells;
     let who = index_of(subject, c.subjects);
     if !request_common::is_held(cells, who, cell) {
-        return request_common::refused(s, 6);
+        return request_common::refused(s, refusal::NOT_HELD);
     }
     if !request_common::is_sheet_ref(types, c, to) {
-        return request_common::refused(s, 7);
+        return request_common::refused(s, refusal::UNKNOWN_TYPE);
     }
     let r = index_of(receiver, c.subjects);
     let target = index_of(to, c.sheet);
     let moved = state_record::cell_at(cells, index_of(cell, cells.count));
     let ps = s.places;
     let x = Crossing {
-        from: wide(moved.sort),
+        from: wide(moved.ty),
         place: wide(moved.place),
         to: target,
         receiver: r,

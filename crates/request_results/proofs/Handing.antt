@@ -8,10 +8,11 @@ use lib.IntN.{ℤ}
 use lib.ListN.{take, drop, drop-of-length-le}
 use Rattle.spec_model.specs.Basics.{refuse, need}
 use Rattle.spec_model.specs.Table.{Ty, size}
-use Rattle.spec_model.specs.Requests.{System, Request, Outcome, refused, serve, after}
+use Rattle.spec_model.specs.Requests.{System, Request, Outcome as Outcomeᵐ, refused, serve, after}
 use Rattle.spec_model.specs.Check.{systemOf, systemAccepted}
 use Rattle.spec_model.specs.Handed.{counted, handBack, serveHanded, Returns}
 use Rattle.spec_model.proofs.Rules.{never}
+use Rattle.spec_model.specs.Refusals.{outOfRange}
 use Rattle.law_handed.proofs.Counted.{means-same, accepted-same, outcome-same}
 use Rattle.law_handed.proofs.Laws.{returns-alike}
 use Rattle.table_check.proofs.Steps.{passed}
@@ -19,13 +20,14 @@ use Rattle.table_check.proofs.Steps.{refused as unfit}
 use Rattle.table_record.specs.Store.{tableIn, withCount}
 use Rattle.table_record.specs.Records.{bytesOf}
 use Rattle.table_record.proofs.Tables.{size-is}
+use Rattle.table_record.specs.Layout.{typeSize}
 use Rattle.state_record.specs.Whole.{Whole as State}
 use Rattle.state_record.specs.View.{rawState, systemIn}
 use Rattle.state_bytes.specs.Flat.{Flat, countsIn, rawFlat}
 use Rattle.state_bytes.specs.Records.{stateFrom}
 use Rattle.state_bytes.proofs.Laws.{codesIn, read-counted, codes-refused, written-counted}
-use Rattle.request_common.specs.declared.Answer.{Answer}
-use Rattle.request_common.specs.declared.Answer.the-variants.{Refused, Pair, Number, Nothing}
+use Rattle.request_common.specs.declared.Outcome.{Outcome}
+use Rattle.request_common.specs.declared.Outcome.the-variants.{Refused, Pair, Number, Nothing}
 use Rattle.request_common.specs.Served.{Done as Served}
 use Rattle.request_common.specs.Served.{outcomeOf}
 use Rattle.request_value.specs.Sent.{isAccepted}
@@ -36,19 +38,19 @@ use Rattle.request_results.specs.Stored.{Stored, Back}
 
 -- Every counted byte of the types: the equation of `Handed`, of the state x that is left, types b before and b′ after, n of them before.
 abbrev Bytes : System → ℕ → List ℕ → List ℕ → Type 0
-Bytes x n b b′ = take (size (x .table) * 128) b′ ≡ take (n * 128) b ++ flatten (map bytesOf (drop n (x .table .types)))
+Bytes x n b b′ = take (size (x .table) * typeSize) b′ ≡ take (n * typeSize) b ++ flatten (map bytesOf (drop n (x .table .types)))
 
 abbrev withBytes : Flat → List ℕ → Flat
 withBytes f t = record { types = t; links = f .links; cells = f .cells; places = f .places; calls = f .calls; counts = f .counts }
 
 -- which answers are refusals
-refusal-of : (a : Answer) → isAccepted a ≡ false → (e : ℕ) × (a ≡ Refused e)
+refusal-of : (a : Outcome) → isAccepted a ≡ false → (e : ℕ) × (a ≡ Refused e)
 refusal-of (Refused e) h = (e, refl)
 refusal-of (Pair a b) h = never (sym h)
 refusal-of (Number v) h = never (sym h)
 refusal-of Nothing h = never (sym h)
 
-no-refusal : (a : Answer) (e : ℕ) → isAccepted a ≡ true → outcomeOf a ≡ refused e → ⊥
+no-refusal : (a : Outcome) (e : ℕ) → isAccepted a ≡ true → outcomeOf a ≡ refused e → ⊥
 no-refusal (Refused n) e h p = never h
 no-refusal (Pair a b) e h p = let z : _≡_ {A = ℕ} 0 1 = cc in omega arith
 no-refusal (Number v) e h p = let z : _≡_ {A = ℕ} 0 1 = cc in omega arith
@@ -64,12 +66,12 @@ module _ (f : Flat) (q : Request) (v : List ℤ) (bad : codesIn f ≡ false) whe
   no : systemAccepted (rawFlat f) ≡ false
   no = codes-refused f bad
 
-  refuses : serveHanded (rawFlat f) q ≡ handBack (rawFlat f) (refuse 2)
+  refuses : serveHanded (rawFlat f) q ≡ handBack (rawFlat f) (refuse outOfRange)
   unfolding serveHanded
-  refuses = ap (λ (b : Bool). handBack (rawFlat f) (need b 2 λ _. serve (systemOf (rawFlat f)) q)) no
+  refuses = ap (λ (b : Bool). handBack (rawFlat f) (need b outOfRange λ _. serve (systemOf (rawFlat f)) q)) no
 
   stays : leaves (rawFlat f) q ≡ systemOf (rawFlat f)
-  stays = ap (λ (b : Bool). after (systemOf (rawFlat f)) (need b 2 λ _. serve (systemOf (rawFlat f)) q)) no
+  stays = ap (λ (b : Bool). after (systemOf (rawFlat f)) (need b outOfRange λ _. serve (systemOf (rawFlat f)) q)) no
 
   abbrev n : ℕ
   n = countsIn (f .counts) .types
@@ -81,8 +83,8 @@ module _ (f : Flat) (q : Request) (v : List ℤ) (bad : codesIn f ≡ false) whe
   all-old : Bytes (systemOf (rawFlat f)) n (f .types) (f .types)
   unfolding flatten
   all-old = let e : size (systemOf (rawFlat f) .table) ≤ n = omega (arith, sized) in
-      ap (λ (k : ℕ). take (k * 128) (f .types)) sized
-      ∙ sym (ap (λ (xs : List Ty). take (n * 128) (f .types) ++ flatten (map bytesOf xs)) (drop-of-length-le (systemOf (rawFlat f) .table .types) e) ∙ append-nil (take (n * 128) (f .types)))
+      ap (λ (k : ℕ). take (k * typeSize) (f .types)) sized
+      ∙ sym (ap (λ (xs : List Ty). take (n * typeSize) (f .types) ++ flatten (map bytesOf xs)) (drop-of-length-le (systemOf (rawFlat f) .table .types) e) ∙ append-nil (take (n * typeSize) (f .types)))
 
   codes-handed : Handed q 2 (lentState f v) (lentState f v)
   codes-handed = let o : outcomeOn f q ≡ refused 2 = ap (λ x. x .outcome) refuses in record {
@@ -100,7 +102,7 @@ module _ (f : Flat) (q : Request) (v : List ℤ) (fits : codesIn f ≡ true) (r 
   abbrev s : State
   s = stateFrom f
 
-  abbrev a : Outcome
+  abbrev a : Outcomeᵐ
   a = outcomeOf (r .answer)
 
   alike : counted (rawState s) ≡ counted (rawFlat f)
@@ -111,8 +113,8 @@ module _ (f : Flat) (q : Request) (v : List ℤ) (fits : codesIn f ≡ true) (r 
 
   left : leavesState s q ≡ leaves (rawFlat f) q
   unfolding systemIn
-  left = ap (λ (b : Bool). after (systemOf (rawState s)) (need b 2 λ _. serve (systemOf (rawState s)) q)) (accepted-same (rawState s) (rawFlat f) alike)
-      ∙ ap (λ (x : System). after x (need (systemAccepted (rawFlat f)) 2 λ _. serve x q)) (means-same (rawState s) (rawFlat f) alike)
+  left = ap (λ (b : Bool). after (systemOf (rawState s)) (need b outOfRange λ _. serve (systemOf (rawState s)) q)) (accepted-same (rawState s) (rawFlat f) alike)
+      ∙ ap (λ (x : System). after x (need (systemAccepted (rawFlat f)) outOfRange λ _. serve x q)) (means-same (rawState s) (rawFlat f) alike)
 
   -- g is what the arrays hold afterwards, and u the values
   module _ (g : Flat) (n : ℕ) (u : List ℤ) (number : n ≡ outcomeNumber a) (values : u ≡ outcomeValues v a) where
@@ -122,7 +124,7 @@ module _ (f : Flat) (q : Request) (v : List ℤ) (fits : codesIn f ≡ true) (r 
     handed same untouched links counts types = record {
       number = number ∙ ap outcomeNumber is;
       values = values ∙ ap (outcomeValues v) is;
-      returns = subst (λ (o : Outcome). Returns (rawFlat f) q o (rawFlat g)) is
+      returns = subst (λ (o : Outcomeᵐ). Returns (rawFlat f) q o (rawFlat g)) is
           (returns-alike (rawState s) q a (rawState (r .state)) (w .returns) (rawFlat f) (rawFlat g) (sym alike) same (λ e p. ap (λ (x : LentState). rawFlat (x .state)) (untouched e p)));
       refused = λ e p. untouched e (is ∙ p);
       links = links;

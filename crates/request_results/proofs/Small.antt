@@ -5,8 +5,9 @@ use mathlib.Core.Bool.{Bool, true, false, So}
 use Prim.Native.Nat.{ℕ, _<_}
 use native.Mathlib.Omega.{arith}
 use Rattle.spec_model.specs.Basics.{Res, refuse, ok, need}
-use Rattle.spec_model.specs.Requests.{System, Request, Result, pair, number, nothing, Outcome, got, refused, outcome, serve, after}
+use Rattle.spec_model.specs.Requests.{System, Request, Result, pair, number, nothing, Outcome as Outcomeᵐ, got, refused, outcome, serve, after}
 use Rattle.spec_model.specs.Check.{systemAccepted, systemFits, systemOf}
+use Rattle.spec_model.specs.Refusals.{outOfRange}
 use Rattle.law_model.proofs.Steps.{IfOk}
 use Rattle.law_model.proofs.Checked.{Bounded, fits-bounded, checked-stays}
 use Rattle.law_model.proofs.Returned.{accepted-codes}
@@ -14,8 +15,8 @@ use Rattle.law_handed.proofs.Small.{Named, small-serve}
 use Rattle.law_handed.proofs.Small.{Small as SmallWith}
 use Rattle.state_record.specs.Whole.{Whole as State}
 use Rattle.state_record.specs.View.{rawState, systemIn}
-use Rattle.request_common.specs.declared.Answer.{Answer}
-use Rattle.request_common.specs.declared.Answer.the-variants.{Refused, Pair, Number, Nothing}
+use Rattle.request_common.specs.declared.Outcome.{Outcome}
+use Rattle.request_common.specs.declared.Outcome.the-variants.{Refused, Pair, Number, Nothing}
 use Rattle.request_common.specs.Served.{Done as Served}
 use Rattle.request_common.specs.Served.{outcomeOf}
 use Rattle.request_serve.specs.Serves.{defined, Serves}
@@ -41,14 +42,14 @@ serve-small s h q = go (serve s q) (small-serve s q) (checked-stays s h q)
     go (ok x) n k = small (x .0) k (x .1) n
 
 -- the answer that is given is that of the request
-small-of : (a : Answer) (m : Res (System × Result)) → outcomeOf a ≡ outcome m → IfOk m (λ x. SmallResult (x .1)) → Small a
+small-of : (a : Outcome) (m : Res (System × Result)) → outcomeOf a ≡ outcome m → IfOk m (λ x. SmallResult (x .1)) → Small a
 small-of (Refused e) m p h = tt
 small-of (Number v) m p h = tt
 small-of Nothing m p h = tt
 small-of (Pair a b) (refuse e) p h = let z : _≡_ {A = ℕ} 0 1 = cc in absurd (omega arith)
 small-of (Pair a b) (ok x) p h = subst SmallResult (sym (ap result p)) h
   where
-    result : Outcome → Result
+    result : Outcomeᵐ → Result
     result (got x) = x
     result (refused e) = nothing
 
@@ -56,6 +57,6 @@ pub served-small : (s : State) (q : Request) (r : Served) → Serves s q r → S
 unfolding systemIn
 served-small s q r w = small-of (r .answer) (defined s q) (serves-answer s q r w) (go (systemAccepted (rawState s)) refl)
   where
-    go : (b : Bool) → systemAccepted (rawState s) ≡ b → IfOk {A = System × Result} (need b 2 λ _. serve (systemIn s) q) (λ x. SmallResult (x .1))
+    go : (b : Bool) → systemAccepted (rawState s) ≡ b → IfOk {A = System × Result} (need b outOfRange λ _. serve (systemIn s) q) (λ x. SmallResult (x .1))
     go true e = serve-small (systemOf (rawState s)) (accepted-codes (rawState s) e .2) q
     go false e = tt

@@ -9,7 +9,8 @@ use Rattle.spec_model.specs.Table.{size}
 use Rattle.spec_model.specs.Requests.{System, Request, Result, pair, number, nothing, Outcome, got, refused, serve, after}
 use Rattle.spec_model.specs.Check.{RawSystem, systemOf, systemAccepted}
 use Rattle.spec_model.specs.Handed.{serveHanded, Returns}
-use Rattle.table_record.specs.Layout.{withCount}
+use Rattle.spec_model.specs.Refusals.{outOfRange}
+use Rattle.table_record.specs.Layout.{withCount, typeSize}
 use Rattle.table_record.specs.Records.{bytesOf}
 use Rattle.state_bytes.specs.Flat.{Flat, countsIn, rawFlat}
 
@@ -38,7 +39,7 @@ outcomeValues old (got x) = resultValues x
 
 -- what the definition makes of a request on a state handed in, and the state that it leaves
 abbrev pub defined : RawSystem → Request → Res (System × Result)
-defined r q = need (systemAccepted r) 2 λ _. serve (systemOf r) q
+defined r q = need (systemAccepted r) outOfRange λ _. serve (systemOf r) q
 
 abbrev pub leaves : RawSystem → Request → System
 leaves r q = after (systemOf r) (defined r q)
@@ -59,5 +60,6 @@ pub record Handed (q : Request) (n : ℕ) (old new : LentState) : Type 0 where
   pub links : new .state .links ≡ old .state .links
   pub counts : countsIn (new .state .counts) ≡ withCount (countsIn (old .state .counts)) (size (leaves (rawFlat (old .state)) q .table))
   -- Every counted byte of the types: those that there were, and behind them the record that stands for each new one (B22).
-  pub types : take (size (leaves (rawFlat (old .state)) q .table) * 128) (new .state .types)
-      ≡ take (countsIn (old .state .counts) .types * 128) (old .state .types) ++ flatten (map bytesOf (drop (countsIn (old .state .counts) .types) (leaves (rawFlat (old .state)) q .table .types)))
+  pub types : take (size (leaves (rawFlat (old .state)) q .table) * typeSize) (new .state .types)
+      ≡ take (countsIn (old .state .counts) .types * typeSize) (old .state .types) ++ flatten
+      (map bytesOf (drop (countsIn (old .state .counts) .types) (leaves (rawFlat (old .state)) q .table .types)))

@@ -5,15 +5,15 @@ use Prim.Native.Nat.{ℕ, _<_}
 use Rattle.state_record.specs.Whole.{Whole as State}
 use Rattle.state_bytes.specs.Flat.{Flat, countsIn, cellCount, placeCount, callCount}
 use Rattle.state_bytes.specs.Records.{CellsTo, PlacesTo, CallsTo}
-use Rattle.request_common.specs.declared.Answer.{Answer}
-use Rattle.request_common.specs.declared.Answer.the-variants.{Refused, Pair, Number, Nothing}
+use Rattle.request_common.specs.declared.Outcome.{Outcome}
+use Rattle.request_common.specs.declared.Outcome.the-variants.{Refused, Pair, Number, Nothing}
 use Rattle.request_common.specs.Served.{Done as Served}
 use Rattle.request_common.specs.Served.{outcomeOf}
 use Rattle.request_value.specs.Sent.{isAccepted}
 use Rattle.request_results.specs.States.{LentState, outcomeNumber, outcomeValues}
 
 -- two numbers that are small enough to be signed
-abbrev pub Small : Answer → Type 0
+abbrev pub Small : Outcome → Type 0
 Small (Refused e) = Unit
 Small (Pair a b) = (a < 65536) × (b < 65536)
 Small (Number v) = Unit

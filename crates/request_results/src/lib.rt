@@ -1,5 +1,5 @@
-// What comes back of a request at the C boundary: the number returned, the values, and the new state in the arrays that were lent; a refusal stores nothing (Q14, E12).
-// What each hands out is given by definitions in specs/States.antt; that it is all of a request's contract is proved in proofs/Handing.antt.
+// What comes back of a request at the C boundary: the number returned, the values, and the new state in the arrays that were lent; a refusal stores nothing
+// (Q14, E12). What each hands out is given by definitions in specs/States.antt; that it is all of a request's contract is proved in proofs/Handing.antt.
 ghost use mathlib.Core.Path.{_≡_};
 ghost use mathlib.Core.Bool.{true, false};
 ghost use mathlib.Core.List.{List, [], _∷_};
@@ -10,7 +10,7 @@ ghost use Rattle.state_bytes.specs.Flat.{flat};
 ghost use Rattle.request_common.specs.Served.{outcomeOf, done};
 ghost use Rattle.request_results.specs.States.{outcomeNumber, outcomeValues, lentState};
 ghost use Rattle.request_results.specs.Stored.{Small, Stored, Back};
-use request_common::Answer;
+use request_common::Outcome;
 use request_common::Served;
 use state_bytes::CALL_BYTES;
 use state_bytes::CELL_BYTES;
@@ -37,21 +37,21 @@ fn put_nothing(values: &mut [i64; 3])
 }
 
 // The number of an answer, and its values (E12).
-fn answer_out(a: Answer, values: &mut [i64; 3]) -> usize
+fn outcome_out(a: Outcome, values: &mut [i64; 3]) -> usize
     requires { ⌜ Small a ⌝ }
     ensures { λ n. ⌜ (n ≡ outcomeNumber (outcomeOf a)) × (now (values .exit) ≡ outcomeValues (now (values .entry)) (outcomeOf a)) ⌝ }
 {
     match a {
-        Answer::Refused(e) => e,
-        Answer::Pair { first, second } => {
+        Outcome::Refused(e) => e,
+        Outcome::Pair { first, second } => {
             put_pair(first, second, values);
             0
         }
-        Answer::Number(v) => {
+        Outcome::Number(v) => {
             put_number(v, values);
             0
         }
-        Answer::Nothing => {
+        Outcome::Nothing => {
             put_nothing(values);
             0
         }
@@ -66,7 +66,9 @@ pub fn store(
     calls: &mut [u8; CALL_BYTES],
     counts: &mut [usize; 8],
 )
-    ensures { λ _. ⌜ ((t l : List ℕ) → Stored (whole t s) (flat t l (now (cells .entry)) (now (places .entry)) (now (calls .entry)) (now (counts .entry))) (flat t l (now (cells .exit)) (now (places .exit)) (now (calls .exit)) (now (counts .exit)))) ⌝ }
+    ensures { λ _. ⌜ ((t l : List ℕ)
+        → Stored (whole t s) (flat t l (now (cells .entry)) (now (places .entry)) (now (calls .entry)) (now (counts .entry)))
+        (flat t l (now (cells .exit)) (now (places .exit)) (now (calls .exit)) (now (counts .exit)))) ⌝ }
 {
     let cs = s.cells;
     let ps = s.places;
@@ -87,13 +89,16 @@ pub fn hand_back(
     values: &mut [i64; 3],
 ) -> usize
     requires { ⌜ Small (r .answer) ⌝ }
-    ensures { λ n. ⌜ ((t l : List ℕ) → Back (done t r) n (lentState (flat t l (now (cells .entry)) (now (places .entry)) (now (calls .entry)) (now (counts .entry))) (now (values .entry))) (lentState (flat t l (now (cells .exit)) (now (places .exit)) (now (calls .exit)) (now (counts .exit))) (now (values .exit)))) ⌝ }
+    ensures { λ n. ⌜ ((t l : List ℕ)
+        → Back (done t r) n
+        (lentState (flat t l (now (cells .entry)) (now (places .entry)) (now (calls .entry)) (now (counts .entry))) (now (values .entry)))
+        (lentState (flat t l (now (cells .exit)) (now (places .exit)) (now (calls .exit)) (now (counts .exit))) (now (values .exit)))) ⌝ }
 {
     let a = r.answer;
     if !request_value::accepted(a) {
-        return answer_out(a, values);
+        return outcome_out(a, values);
     }
     let s = r.state;
     store(s, cells, places, calls, counts);
-    answer_out(a, values)
+    outcome_out(a, values)
 }

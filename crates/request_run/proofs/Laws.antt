@@ -11,22 +11,24 @@ use lib.Seq.{sets, length-sets}
 use Rattle.spec_model.specs.Basics.{ok, need, names}
 use Rattle.spec_model.proofs.Rules.{never}
 use Rattle.spec_model.specs.Table.{size}
-use Rattle.spec_model.specs.Requests.{System, Request, Outcome, after}
+use Rattle.spec_model.specs.Requests.{System, Request, Outcome as Outcomeᵐ, after}
 use Rattle.spec_model.specs.Check.{systemOf, systemAccepted}
 use Rattle.spec_model.specs.Handed.{counted, storedFrom}
 use Rattle.base_numbers.specs.Index.{indexOf}
 use Rattle.table_record.specs.Store.{withCount}
 use Rattle.table_record.specs.Records.{bytesOf}
+use Rattle.table_record.specs.Layout.{typeSize}
 use Rattle.state_record.specs.Whole.{Whole as State}
 use Rattle.state_record.specs.View.{rawState, systemIn, withTypes}
 use Rattle.state_record.specs.Sound.{Sound}
-use Rattle.request_common.specs.declared.Answer.{Answer}
-use Rattle.request_common.specs.declared.Answer.the-variants.{Refused, Pair, Number, Nothing}
+use Rattle.request_common.specs.declared.Outcome.{Outcome}
+use Rattle.request_common.specs.declared.Outcome.the-variants.{Refused, Pair, Number, Nothing}
 use Rattle.request_common.specs.Served.{Done as Served}
 use Rattle.request_common.specs.Served.{outcomeOf, Stored, Step}
 use Rattle.request_common.proofs.Laws.{stored-self, stored-on, system-kept}
 use Rattle.request_value.specs.Sent.{isAccepted}
 use Rattle.spec_model.specs.Coded.{byCode}
+use Rattle.spec_model.specs.Refusals.{outOfRange}
 use Rattle.request_by_code.specs.Coded.{serveAsked}
 use Rattle.request_by_code.proofs.Laws.{outcome-is, after-is}
 use Rattle.request_run.specs.Requested.{request, requests, runAsked, runHanded}
@@ -50,10 +52,10 @@ neither false b h = (refl, h)
 
 -- every counted byte of the types, the equation of `RanAs`
 abbrev Bytes : State → System → List ℕ → Type 0
-Bytes s m b = take (size (m .table) * 128) b ≡ take (s .counts .types * 128) (s .types) ++ flatten (map bytesOf (drop (s .counts .types) (m .table .types)))
+Bytes s m b = take (size (m .table) * typeSize) b ≡ take (s .counts .types * typeSize) (s .types) ++ flatten (map bytesOf (drop (s .counts .types) (m .table .types)))
 
 -- ---- The run so far: `i` requests are served, the words from `at` on are still to come.
-abbrev rest : State → List ℤ → ℕ → ℕ → List Outcome × System
+abbrev rest : State → List ℤ → ℕ → ℕ → List Outcomeᵐ × System
 rest s ws f at = serveEach (systemIn s) (requests f (drop at ws))
 
 pub record Going (s₀ : State) (ws old : List ℤ) (s : State) (cur : List ℤ) (i at : ℕ) (any : Bool) : Type 0 where
@@ -69,7 +71,7 @@ pub record Going (s₀ : State) (ws old : List ℤ) (s : State) (cur : List ℤ)
   pub within : at ≤ length ws
 
 module _ (s₀ : State) (ws old : List ℤ) where
-  abbrev whole : List Outcome × System
+  abbrev whole : List Outcomeᵐ × System
   whole = runAsked (systemIn s₀) (requests (room old) ws)
 
   pub going-starts : Sound s₀ → Going s₀ ws old s₀ old 0 0 false
@@ -121,14 +123,14 @@ module _ (s₀ : State) (ws old : List ℤ) where
     ended e h₀ t back out k r y =
         let z : i + 0 ≡ i = omega arith in
         let st : State = withTypes s t in
-        let is : systemIn st ≡ rest s₀ ws (room old) 0 .1 = back-means h₀ t back ∙ ap (λ (p : List Outcome × System). p .1) (sym e) ∙ g .system in
+        let is : systemIn st ≡ rest s₀ ws (room old) 0 .1 = back-means h₀ t back ∙ ap (λ (p : List Outcomeᵐ × System). p .1) (sym e) ∙ g .system in
         let w : Stored s₀ st = back-left h₀ t back in
         subst (RanAs s₀ old out (whole .0) (whole .1)) (sym y)
-        (subst (λ (m : List Outcome × System). RanAs s₀ old out (m .0) (m .1) (record { refusal = 0; served = i; state = withTypes s t }))
+        (subst (λ (m : List Outcomeᵐ × System). RanAs s₀ old out (m .0) (m .1) (record { refusal = 0; served = i; state = withTypes s t }))
         (each-is-run (systemIn s₀) (requests (room old) ws)) (record {
           refusal = refl;
-          served = sym z ∙ ap (λ (p : List Outcome × System). i + length (p .0)) (sym e) ∙ g .count;
-          answers = k ∙ ap (λ (p : List Outcome × System). sets cur (i * 4) (answersOf (p .0))) (sym e) ∙ g .words;
+          served = sym z ∙ ap (λ (p : List Outcomeᵐ × System). i + length (p .0)) (sym e) ∙ g .count;
+          answers = k ∙ ap (λ (p : List Outcomeᵐ × System). sets cur (i * 4) (answersOf (p .0))) (sym e) ∙ g .words;
           records = counted-stored s₀ st w ∙ ap (λ (m : System). counted (storedFrom (rawState s₀) m)) is;
           untouched = λ a. back-same h₀ t back (g .untouched a .0);
           links = w .links;
@@ -153,7 +155,7 @@ module _ (s₀ : State) (ws old : List ℤ) where
     going-done l = ended (ap (λ (xs : List ℤ). serveEach (systemIn s) (requests (room old - i) xs)) (drop-of-length-le ws {i = at} l) ∙ no-words (room old - i))
 
     module _ (more : i < room old) (here : at < length ws) (r : Served) (step : Step s (serveAsked (systemIn s) (askedAt ws at)) r) where
-      abbrev on : List Outcome × System
+      abbrev on : List Outcomeᵐ × System
       on = rest (r .state) ws (room old - (i + 1)) (nextAt ws at)
 
       one : rest s ws (room old - i) at ≡ (outcomeOf (r .answer) ∷ on .0, on .1)
@@ -163,7 +165,7 @@ module _ (s₀ : State) (ws old : List ℤ) where
           let qs : List (Option Request) = requests (room old - (i + 1)) (drop (nextAt ws at) ws) in
           ap (λ (f : ℕ). rest s ws f at) e ∙ ap (serveEach (systemIn s)) (request-at ws at here (room old - (i + 1)))
           ∙ ap
-          (λ (o : Outcome). (o ∷ serveEach (after (systemIn s) (serveAsked (systemIn s) (askedAt ws at))) qs .0, serveEach (after (systemIn s) (serveAsked (systemIn s) (askedAt ws at))) qs .1))
+          (λ (o : Outcomeᵐ). (o ∷ serveEach (after (systemIn s) (serveAsked (systemIn s) (askedAt ws at))) qs .0, serveEach (after (systemIn s) (serveAsked (systemIn s) (askedAt ws at))) qs .1))
           (outcome-is s _ r step)
           ∙ ap (λ (t : System). (outcomeOf (r .answer) ∷ serveEach t qs .0, serveEach t qs .1)) (after-is s _ r step)
 
@@ -171,11 +173,11 @@ module _ (s₀ : State) (ws old : List ℤ) where
           → (any′ : Bool) → any′ ≡ (any || isAccepted (r .answer)) → Going s₀ ws old (r .state) out (i + 1) at′ any′
       unfolding answersOf
       going-on out k at′ d w any′ ea = subst (λ (n : ℕ). n ≤ length ws → Going s₀ ws old (r .state) out (i + 1) n any′) (sym d) (λ (w′ : nextAt ws at ≤ length ws). record {
-        system = ap (λ (p : List Outcome × System). p .1) (sym one) ∙ g .system;
-        count = let z : i + 1 + length (on .0) ≡ i + suc (length (on .0)) = omega arith in z ∙ ap (λ (p : List Outcome × System). i + length (p .0)) (sym one) ∙ g .count;
-        words = written (outcomeOf (r .answer)) k ∙ ap (λ (p : List Outcome × System). sets cur (i * 4) (answersOf (p .0))) (sym one) ∙ g .words;
+        system = ap (λ (p : List Outcomeᵐ × System). p .1) (sym one) ∙ g .system;
+        count = let z : i + 1 + length (on .0) ≡ i + suc (length (on .0)) = omega arith in z ∙ ap (λ (p : List Outcomeᵐ × System). i + length (p .0)) (sym one) ∙ g .count;
+        words = written (outcomeOf (r .answer)) k ∙ ap (λ (p : List Outcomeᵐ × System). sets cur (i * 4) (answersOf (p .0))) (sym one) ∙ g .words;
         untouched = λ a. let b = g .untouched a in
-            let c = still (r .answer) refl (subst (λ (p : List Outcome × System). AllRefused (p .0)) one (b .1)) in
+            let c = still (r .answer) refl (subst (λ (p : List Outcomeᵐ × System). AllRefused (p .0)) one (b .1)) in
             (ea ∙ ap (λ (x : Bool). x || isAccepted (r .answer)) (b .0) ∙ c .0, c .1);
         quiet = λ z. let n = neither any (isAccepted (r .answer)) (sym ea ∙ z) in still-there (r .answer) refl (n .1) ∙ ap (λ (x : State). withTypes x (r .state .types)) (g .quiet (n .0));
         stored = stored-on s₀ s (r .state) (g .stored) (step .stored);
@@ -185,19 +187,19 @@ module _ (s₀ : State) (ws old : List ℤ) where
         within = w′;
       }) w
         where
-          still : (a : Answer) → r .answer ≡ a → AllRefused (outcomeOf a ∷ on .0) → (isAccepted (r .answer) ≡ false) × AllRefused (on .0)
+          still : (a : Outcome) → r .answer ≡ a → AllRefused (outcomeOf a ∷ on .0) → (isAccepted (r .answer) ≡ false) × AllRefused (on .0)
           still (Refused e) z h = (ap isAccepted z, h)
           still (Pair m n) z h = absurd h
           still (Number v) z h = absurd h
           still Nothing z h = absurd h
 
-          still-there : (a : Answer) → r .answer ≡ a → isAccepted (r .answer) ≡ false → r .state ≡ withTypes s (r .state .types)
+          still-there : (a : Outcome) → r .answer ≡ a → isAccepted (r .answer) ≡ false → r .state ≡ withTypes s (r .state .types)
           still-there (Refused e) z h = step .stays e z
           still-there (Pair m n) z h = never (sym h ∙ ap isAccepted z)
           still-there (Number v) z h = never (sym h ∙ ap isAccepted z)
           still-there Nothing z h = never (sym h ∙ ap isAccepted z)
 
-          written : (o : Outcome) → out ≡ sets cur (i * 4) (wordsOf o) → sets out ((i + 1) * 4) (answersOf (on .0)) ≡ sets cur (i * 4) (answersOf (o ∷ on .0))
+          written : (o : Outcomeᵐ) → out ≡ sets cur (i * 4) (wordsOf o) → sets out ((i + 1) * 4) (answersOf (on .0)) ≡ sets cur (i * 4) (answersOf (o ∷ on .0))
           written o z =
               let e : (i + 1) * 4 ≡ i * 4 + 4 = omega arith in
               ap (λ (l : List ℤ). sets l ((i + 1) * 4) (answersOf (on .0))) z ∙ ap (λ (n : ℕ). sets (sets cur (i * 4) (wordsOf o)) n (answersOf (on .0))) e
@@ -207,8 +209,8 @@ module _ (s₀ : State) (ws old : List ℤ) where
 module _ (s : State) (ws old new : List ℤ) (r : Ran) where
   pub handed-unfit : systemAccepted (rawState s) ≡ false → r ≡ record { refusal = 2; served = 0; state = s } → new ≡ old → Runs s old new (runHanded (rawState s) (room old) ws) r
   unfolding runHanded
-  handed-unfit h e k = subst (λ (q : Bool). Runs s old new (need q 2 λ _. ok (runAsked (systemOf (rawState s)) (requests (room old) ws))) r) (sym h) (e, k)
+  handed-unfit h e k = subst (λ (q : Bool). Runs s old new (need q outOfRange λ _. ok (runAsked (systemOf (rawState s)) (requests (room old) ws))) r) (sym h) (e, k)
 
   pub handed-fit : systemAccepted (rawState s) ≡ true → Runs s old new (ok (runAsked (systemIn s) (requests (room old) ws))) r → Runs s old new (runHanded (rawState s) (room old) ws) r
   unfolding runHanded systemIn
-  handed-fit h e = subst (λ (q : Bool). Runs s old new (need q 2 λ _. ok (runAsked (systemOf (rawState s)) (requests (room old) ws))) r) (sym h) e
+  handed-fit h e = subst (λ (q : Bool). Runs s old new (need q outOfRange λ _. ok (runAsked (systemOf (rawState s)) (requests (room old) ws))) r) (sym h) e

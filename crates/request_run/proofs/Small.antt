@@ -12,23 +12,23 @@ use Rattle.state_record.specs.Whole.{Whole as State}
 use Rattle.state_record.specs.View.{cellsIn, systemIn}
 use Rattle.state_record.specs.Sound.{Sound}
 use Rattle.state_record.proofs.Laws.{cells-length, places-length}
-use Rattle.request_common.specs.declared.Answer.{Answer}
-use Rattle.request_common.specs.declared.Answer.the-variants.{Refused, Pair, Number, Nothing}
+use Rattle.request_common.specs.declared.Outcome.{Outcome}
+use Rattle.request_common.specs.declared.Outcome.the-variants.{Refused, Pair, Number, Nothing}
 use Rattle.request_common.specs.Served.{Done as Served}
 use Rattle.request_common.specs.Served.{outcomeOf, servedWith, Step}
 use Rattle.request_common.proofs.Laws.{cells-are, places-are}
 use Rattle.request_by_code.specs.Coded.{serveAsked}
-use Rattle.request_run.specs.Loop.{SmallAnswer}
+use Rattle.request_run.specs.Loop.{SmallOutcome}
 
 small-asked : (s : System) (q : Option Request) → Small (λ (x : System × Result). Named s (x .0) (x .1)) (serveAsked s q)
 unfolding serveAsked
 small-asked s none = (omega arith, omega arith)
 small-asked s (some q) = small-serve s q
 
-pub step-small : (s : State) (q : Option Request) (r : Served) → Sound s → Step s (serveAsked (systemIn s) q) r → SmallAnswer (r .answer)
+pub step-small : (s : State) (q : Option Request) (r : Served) → Sound s → Step s (serveAsked (systemIn s) q) r → SmallOutcome (r .answer)
 step-small s q r h w = go (r .answer) (subst (Small (λ (x : System × Result). Named (systemIn s) (x .0) (x .1))) (sym (w .is)) (small-asked (systemIn s) q))
   where
-    go : (a : Answer) → Small {A = System × Result} (λ x. Named (systemIn s) (x .0) (x .1)) (servedWith (systemIn (r .state)) (outcomeOf a)) → SmallAnswer a
+    go : (a : Outcome) → Small {A = System × Result} (λ x. Named (systemIn s) (x .0) (x .1)) (servedWith (systemIn (r .state)) (outcomeOf a)) → SmallOutcome a
     go (Refused e) k = omega (arith, k .1)
     go (Pair a b) (inl k) =
         let t : State = r .state in
@@ -36,9 +36,9 @@ step-small s q r h w = go (r .answer) (subst (Small (λ (x : System × Result). 
         let l : a < t .cells .count = omega (arith, n, k .0) in
         let p : getD (cellsIn (t .cells)) a noCell .place < t .places .count = w .sound .cells a l .place in
         let e : getD (cellsIn (t .cells)) a noCell .place ≡ b = ap (λ (cs : List Cell). getD cs a noCell .place) (sym (cells-are t)) ∙ k .1 in
-        (omega (arith, l, w .sound .cellCount), omega (arith, p, e, w .sound .falling .count))
+        (omega (arith, l, w .sound .cellCount), omega (arith, p, e, w .sound .descending .count))
     go (Pair a b) (inr k) =
         let n : length (systemIn s .places) ≡ s .places .count = ap length (places-are s) ∙ places-length (s .places) in
-        (omega (arith, k .0), omega (arith, n, k .1, h .falling .count))
+        (omega (arith, k .0), omega (arith, n, k .1, h .descending .count))
     go (Number v) k = tt
     go Nothing k = tt

@@ -11,14 +11,14 @@ use lib.ListN.{length, getD, set, take, drop, drop-of-length-le, length-drop, le
 use lib.Seq.{drop-cons, sets, getD-drop, drop-drop}
 use borrow.Author.Tests.{lt-ltb, le-ltb}
 use Rattle.spec_model.specs.Basics.{names, named}
-use Rattle.spec_model.specs.Requests.{Request, pair, number, nothing, Outcome, got, refused}
+use Rattle.spec_model.specs.Requests.{Request, pair, number, nothing, Outcome as Outcomeᵐ, got, refused}
 use Rattle.base_numbers.specs.Index.{indexOf}
 use Rattle.request_run.specs.Requested.{request, requests}
-use Rattle.request_common.specs.declared.Answer.{Answer}
-use Rattle.request_common.specs.declared.Answer.the-variants.{Refused, Pair, Number, Nothing}
+use Rattle.request_common.specs.declared.Outcome.{Outcome}
+use Rattle.request_common.specs.declared.Outcome.the-variants.{Refused, Pair, Number, Nothing}
 use Rattle.request_common.specs.Served.{outcomeOf}
 use Rattle.request_run.specs.Ran.{wordsOf}
-use Rattle.request_run.specs.Loop.{SmallAnswer, leftAt, countAt, askedAt, nextAt}
+use Rattle.request_run.specs.Loop.{SmallOutcome, leftAt, countAt, askedAt, nextAt}
 
 -- ---- The request in front of a list.
 abbrev frontCount : List ℤ → ℕ
@@ -121,32 +121,32 @@ module _ (l : List ℤ) (i : ℕ) (h : i + 4 ≤ length l) (a : ℤ) where
     room-fourth c =
         subst (λ (n : ℕ). i + 3 < n) (sym (length-set (set (set l i a) (i + 1) b) (i + 2) c ∙ length-set (set l i a) (i + 1) b ∙ length-set l i a)) (omega arith)
 
-pub small-refused : (e : ℕ) (a : Answer) → a ≡ Refused e → SmallAnswer a → e < 65536
-small-refused e a h k = subst SmallAnswer h k
+pub small-refused : (e : ℕ) (a : Outcome) → a ≡ Refused e → SmallOutcome a → e < 65536
+small-refused e a h k = subst SmallOutcome h k
 
-pub small-pair : (m n : ℕ) (a : Answer) → a ≡ Pair m n → SmallAnswer a → (m < 65536) × (n < 65536)
-small-pair m n a h k = subst SmallAnswer h k
+pub small-pair : (m n : ℕ) (a : Outcome) → a ≡ Pair m n → SmallOutcome a → (m < 65536) × (n < 65536)
+small-pair m n a h k = subst SmallOutcome h k
 
-pub words-refused : (e : ℕ) (z : ℤ) (a : Answer) → a ≡ Refused e → z ≡ pos e → z ∷ pos 0 ∷ pos 0 ∷ pos 0 ∷ [] ≡ wordsOf (outcomeOf a)
+pub words-refused : (e : ℕ) (z : ℤ) (a : Outcome) → a ≡ Refused e → z ≡ pos e → z ∷ pos 0 ∷ pos 0 ∷ pos 0 ∷ [] ≡ wordsOf (outcomeOf a)
 words-refused e z a h k = rw (h, k)
 
-pub words-pair : (m n : ℕ) (y z : ℤ) (a : Answer) → a ≡ Pair m n → y ≡ pos m → z ≡ pos n → pos 0 ∷ pos 2 ∷ y ∷ z ∷ [] ≡ wordsOf (outcomeOf a)
+pub words-pair : (m n : ℕ) (y z : ℤ) (a : Outcome) → a ≡ Pair m n → y ≡ pos m → z ≡ pos n → pos 0 ∷ pos 2 ∷ y ∷ z ∷ [] ≡ wordsOf (outcomeOf a)
 words-pair m n y z a h k l = rw (h, k, l)
 
-pub words-number : (v z : ℤ) (a : Answer) → a ≡ Number v → z ≡ v → pos 0 ∷ pos 1 ∷ z ∷ pos 0 ∷ [] ≡ wordsOf (outcomeOf a)
+pub words-number : (v z : ℤ) (a : Outcome) → a ≡ Number v → z ≡ v → pos 0 ∷ pos 1 ∷ z ∷ pos 0 ∷ [] ≡ wordsOf (outcomeOf a)
 words-number v z a h k = rw (h, k)
 
-pub words-nothing : (a : Answer) → a ≡ Nothing → pos 0 ∷ pos 0 ∷ pos 0 ∷ pos 0 ∷ [] ≡ wordsOf (outcomeOf a)
+pub words-nothing : (a : Outcome) → a ≡ Nothing → pos 0 ∷ pos 0 ∷ pos 0 ∷ pos 0 ∷ [] ≡ wordsOf (outcomeOf a)
 words-nothing a h = rw h
 
 -- the words of an answer, and then those of the answers behind it
-pub words-next : (o : Outcome) (l : List ℤ) (i : ℕ) (vs : List ℤ) → sets (sets l i (wordsOf o)) (i + 4) vs ≡ sets l i (wordsOf o ++ vs)
+pub words-next : (o : Outcomeᵐ) (l : List ℤ) (i : ℕ) (vs : List ℤ) → sets (sets l i (wordsOf o)) (i + 4) vs ≡ sets l i (wordsOf o ++ vs)
 words-next o l i vs = go o
   where
     by : (a b c d : ℤ) → sets (sets l i (a ∷ b ∷ c ∷ d ∷ [])) (i + 4) vs ≡ sets l i (a ∷ b ∷ c ∷ d ∷ vs)
     by a b c d = let e : i + 4 ≡ suc (suc (suc (suc i))) = omega arith in ap (λ (k : ℕ). sets (sets l i (a ∷ b ∷ c ∷ d ∷ [])) k vs) e
 
-    go : (o : Outcome) → sets (sets l i (wordsOf o)) (i + 4) vs ≡ sets l i (wordsOf o ++ vs)
+    go : (o : Outcomeᵐ) → sets (sets l i (wordsOf o)) (i + 4) vs ≡ sets l i (wordsOf o ++ vs)
     go (refused e) = by (pos e) (pos 0) (pos 0) (pos 0)
     go (got (pair a b)) = by (pos 0) (pos 2) (pos a) (pos b)
     go (got (number v)) = by (pos 0) (pos 1) v (pos 0)

@@ -8,16 +8,16 @@ use lib.IntN.{ℤ, pos}
 use lib.ListN.{length, getD, take, drop}
 use Rattle.spec_model.specs.Requests.{Request}
 use Rattle.base_numbers.specs.Index.{indexOf}
-use Rattle.request_common.specs.declared.Answer.{Answer}
-use Rattle.request_common.specs.declared.Answer.the-variants.{Refused, Pair, Number, Nothing}
+use Rattle.request_common.specs.declared.Outcome.{Outcome}
+use Rattle.request_common.specs.declared.Outcome.the-variants.{Refused, Pair, Number, Nothing}
 use Rattle.request_run.specs.Requested.{request}
 
 -- The numbers of an answer, small enough to be words as they are; those of a sound state are (proofs/Small.antt).
-abbrev pub SmallAnswer : Answer → Type 0
-SmallAnswer (Refused e) = e < 65536
-SmallAnswer (Pair a b) = (a < 65536) × (b < 65536)
-SmallAnswer (Number v) = Unit
-SmallAnswer Nothing = Unit
+abbrev pub SmallOutcome : Outcome → Type 0
+SmallOutcome (Refused e) = e < 65536
+SmallOutcome (Pair a b) = (a < 65536) × (b < 65536)
+SmallOutcome (Number v) = Unit
+SmallOutcome Nothing = Unit
 
 -- The request that begins at a word, as the functions find it.
 -- the words behind the code

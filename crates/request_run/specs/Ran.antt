@@ -9,7 +9,7 @@ use Rattle.spec_model.specs.Basics.{Res, refuse, ok}
 use Rattle.spec_model.specs.Table.{size}
 use Rattle.spec_model.specs.Requests.{System, pair, number, nothing, Outcome, got, refused}
 use Rattle.spec_model.specs.Handed.{counted, storedFrom}
-use Rattle.table_record.specs.Layout.{withCount}
+use Rattle.table_record.specs.Layout.{withCount, typeSize}
 use Rattle.table_record.specs.Records.{bytesOf}
 use Rattle.state_record.specs.Whole.{Whole as State}
 use Rattle.state_record.specs.Whole.{whole}
@@ -60,7 +60,7 @@ pub record RanAs (s : State) (old new : List ℤ) (os : List Outcome) (m : Syste
   pub links : r .state .links ≡ s .links
   pub counts : r .state .counts ≡ withCount (s .counts) (size (m .table))
   -- Every counted byte of the types: those that there were, and behind them the record that stands for each new one (B22).
-  pub types : take (size (m .table) * 128) (r .state .types) ≡ take (s .counts .types * 128) (s .types) ++ flatten (map bytesOf (drop (s .counts .types) (m .table .types)))
+  pub types : take (size (m .table) * typeSize) (r .state .types) ≡ take (s .counts .types * typeSize) (s .types) ++ flatten (map bytesOf (drop (s .counts .types) (m .table .types)))
 
 -- Where the state handed in is not taken, nothing changes (Q14).
 abbrev pub Runs : State → List ℤ → List ℤ → Res (List Outcome × System) → Over → Type 0

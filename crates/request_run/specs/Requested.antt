@@ -9,6 +9,7 @@ use Rattle.spec_model.specs.Basics.{Res, ok, need, names, named}
 use Rattle.spec_model.specs.Requests.{System, Request, Outcome, refused, run}
 use Rattle.spec_model.specs.Check.{RawSystem, systemOf, systemAccepted}
 use Rattle.spec_model.specs.Coded.{byCode}
+use Rattle.spec_model.specs.Refusals.{outOfRange, form}
 
 abbrev pub request : ℤ → List ℤ → Option Request
 request code ws = cond (names code 4) (byCode (named code) ws) none
@@ -28,7 +29,7 @@ asked (some q ∷ qs) = q ∷ asked qs
 
 abbrev pub placed : List (Option Request) → List Outcome → List Outcome
 placed [] os = []
-placed (none ∷ qs) os = refused 1 ∷ placed qs os
+placed (none ∷ qs) os = refused form ∷ placed qs os
 placed (some q ∷ qs) [] = []
 placed (some q ∷ qs) (o ∷ os) = o ∷ placed qs os
 
@@ -38,4 +39,4 @@ runAsked s qs = let r = run s (asked qs) in (placed qs (r .0), r .1)
 -- On a state handed in, with room for f answers: 2 before all else, and once.
 unfoldable pub runHanded : RawSystem → ℕ → List ℤ → Res (List Outcome × System)
 unfolding systemAccepted systemOf run requests
-runHanded r f ws = need (systemAccepted r) 2 λ _. ok (runAsked (systemOf r) (requests f ws))
+runHanded r f ws = need (systemAccepted r) outOfRange λ _. ok (runAsked (systemOf r) (requests f ws))

@@ -1,5 +1,5 @@
-// A run (U): the requests in a list of words, one after the other. What it answers is the definition `runHanded` in specs/Requested.antt, the model's run of those that are
-// requests; the state is checked once, and then each step leaves what the next one needs.
+// A run (U): the requests in a list of words, one after the other. What it answers is the definition `runHanded` in specs/Requested.antt, the model's run of
+// those that are requests; the state is checked once, and then each step leaves what the next one needs.
 ghost use mathlib.Core.Path.{_≡_};
 ghost use mathlib.Core.Bool.{cond, _||_};
 ghost use mathlib.Core.List.{[], _∷_};
@@ -15,11 +15,12 @@ ghost use Rattle.request_common.specs.Served.{outcomeOf, Step, done};
 ghost use Rattle.request_by_code.specs.Coded.{serveAsked};
 ghost use Rattle.request_run.specs.Requested.{request, requests, runAsked, runHanded};
 ghost use Rattle.request_run.specs.Ran.{wordsOf, room, over, Runs};
-ghost use Rattle.request_run.specs.Loop.{SmallAnswer, countAt, askedAt, nextAt};
+ghost use Rattle.request_run.specs.Loop.{SmallOutcome, countAt, askedAt, nextAt};
 use base_numbers::index_of;
+use base_numbers::refusal;
 use request_by_code::CODES;
 use request_by_code::serve_coded;
-use request_common::Answer;
+use request_common::Outcome;
 use request_common::Served;
 use request_common::refused;
 use request_serve::copied;
@@ -56,15 +57,15 @@ fn put_words(out: &mut [i64], at: usize, first: i64, second: i64, third: i64, fo
 }
 
 // An answer as four words (U8).
-fn put_answer(out: &mut [i64], at: usize, a: Answer)
-    requires { ⌜ (at + 4 ≤ length (now out)) × SmallAnswer a ⌝ }
+fn put_outcome(out: &mut [i64], at: usize, a: Outcome)
+    requires { ⌜ (at + 4 ≤ length (now out)) × SmallOutcome a ⌝ }
     ensures { λ _. ⌜ now (out .exit) ≡ sets (now (out .entry)) at (wordsOf (outcomeOf a)) ⌝ }
 {
     match a {
-        Answer::Refused(e) => put_words(out, at, word(e), 0, 0, 0),
-        Answer::Pair { first, second } => put_words(out, at, 0, 2, word(first), word(second)),
-        Answer::Number(v) => put_words(out, at, 0, 1, v, 0),
-        Answer::Nothing => put_words(out, at, 0, 0, 0, 0),
+        Outcome::Refused(e) => put_words(out, at, word(e), 0, 0, 0),
+        Outcome::Pair { first, second } => put_words(out, at, 0, 2, word(first), word(second)),
+        Outcome::Number(v) => put_words(out, at, 0, 1, v, 0),
+        Outcome::Nothing => put_words(out, at, 0, 0, 0, 0),
     }
 }
 
@@ -97,7 +98,8 @@ fn next(words: &[i64], at: usize) -> usize
 // The request of a code as a word and its operands (U6).
 fn serve(types: &mut [u8; TYPE_BYTES], s: State, code: i64, ops: &[i64]) -> Served
     requires { ⌜ Sound (whole (now types) s) ⌝ }
-    ensures { λ r. ⌜ Step (whole (now (types .entry)) s) (serveAsked (systemIn (whole (now (types .entry)) s)) (request code (now (ops .entry)))) (done (now (types .exit)) r) ⌝ }
+    ensures { λ r. ⌜ Step (whole (now (types .entry)) s) (serveAsked (systemIn (whole (now (types .entry)) s)) (request code (now (ops .entry))))
+        (done (now (types .exit)) r) ⌝ }
 {
     let k = index_of(code, CODES);
     serve_coded(types, s, k, ops)
@@ -106,12 +108,13 @@ fn serve(types: &mut [u8; TYPE_BYTES], s: State, code: i64, ops: &[i64]) -> Serv
 // The request at `at` (U6, U7).
 fn serve_at(types: &mut [u8; TYPE_BYTES], s: State, words: &[i64], at: usize) -> Served
     requires { ⌜ Sound (whole (now types) s) × (at < length (now words)) ⌝ }
-    ensures { λ r. ⌜ Step (whole (now (types .entry)) s) (serveAsked (systemIn (whole (now (types .entry)) s)) (askedAt (now (words .entry)) at)) (done (now (types .exit)) r) ⌝ }
+    ensures { λ r. ⌜ Step (whole (now (types .entry)) s) (serveAsked (systemIn (whole (now (types .entry)) s)) (askedAt (now (words .entry)) at))
+        (done (now (types .exit)) r) ⌝ }
 {
     let left = words.len() - at - 1;
     let n = operands(words, at);
     if left <= n {
-        return refused(s, 1);
+        return refused(s, refusal::FORM);
     }
     let code = words[at];
     let first = at + 2;
@@ -162,7 +165,8 @@ fn run_checked(
     answers: &mut [i64],
 ) -> Ran
     requires { ⌜ Sound (whole (now types) s) × (now old ≡ now types) ⌝ }
-    ensures { λ r. ⌜ Runs (whole (now (types .entry)) s) (now (answers .entry)) (now (answers .exit)) (ok (runAsked (systemIn (whole (now (types .entry)) s)) (requests (room (now (answers .entry))) (now (words .entry))))) (over (now (types .exit)) r) ⌝ }
+    ensures { λ r. ⌜ Runs (whole (now (types .entry)) s) (now (answers .entry)) (now (answers .exit))
+        (ok (runAsked (systemIn (whole (now (types .entry)) s)) (requests (room (now (answers .entry))) (now (words .entry))))) (over (now (types .exit)) r) ⌝ }
 {
     let most = answers.len() / Ran::WORDS;
     let mut any = false;
@@ -176,7 +180,7 @@ fn run_checked(
         let r = serve_at(types, state, words, at);
         let answer = r.answer;
         any = either(any, request_value::accepted(answer));
-        put_answer(answers, served * Ran::WORDS, answer);
+        put_outcome(answers, served * Ran::WORDS, answer);
         state = r.state;
         served += 1;
         at = next(words, at);
@@ -186,14 +190,15 @@ fn run_checked(
 
 // On any state handed in: 2 before all else, and nothing is served (U1).
 pub fn run(types: &mut [u8; TYPE_BYTES], s: State, words: &[i64], answers: &mut [i64]) -> Ran
-    ensures { λ r. ⌜ Runs (whole (now (types .entry)) s) (now (answers .entry)) (now (answers .exit)) (runHanded (rawState (whole (now (types .entry)) s)) (room (now (answers .entry))) (now (words .entry))) (over (now (types .exit)) r) ⌝ }
+    ensures { λ r. ⌜ Runs (whole (now (types .entry)) s) (now (answers .entry)) (now (answers .exit))
+        (runHanded (rawState (whole (now (types .entry)) s)) (room (now (answers .entry))) (now (words .entry))) (over (now (types .exit)) r) ⌝ }
 {
     if state_check::state_fits(types, s) {
         let old = copied(*types);
         return run_checked(types, &old, s, words, answers);
     }
     Ran {
-        refusal: 2,
+        refusal: refusal::OUT_OF_RANGE,
         served: 0,
         state: s,
     }

@@ -6,39 +6,47 @@ use mathlib.Core.List.{List, _++_, map, flatten, append-nil}
 use mathlib.Core.Option.{Option, none, some}
 use Prim.Native.Nat.{ℕ, _*_, _≤_}
 use native.Mathlib.Omega.{arith}
+use lib.IntN.{ℤ}
 use lib.ListN.{take, drop, drop-of-length-le}
 use Rattle.spec_model.specs.Basics.{Res, refuse, ok, need}
 use Rattle.spec_model.specs.Table.{Ty, size}
-use Rattle.spec_model.specs.Requests.{System, Request, Result, Outcome, got, refused, outcome, serve, after}
+use Rattle.spec_model.specs.Requests.{System, Request, Result, Outcome as Outcomeᵐ, got, refused, outcome, serve, after}
 use Rattle.spec_model.specs.Check.{systemAccepted, systemOf}
 use Rattle.spec_model.specs.Handed.{counted, handBack, serveHanded}
+use Rattle.spec_model.proofs.Rules.{never}
+use Rattle.spec_model.specs.Refusals.{form, outOfRange}
 use Rattle.law_model.proofs.Returned.{Before, handed-is}
 use Rattle.law_handed.proofs.Laws.{returns-means}
 use Rattle.law_handed.proofs.Before.{returns-before}
 use Rattle.table_record.specs.Store.{withCount}
 use Rattle.table_record.specs.Records.{bytesOf}
+use Rattle.table_record.specs.Layout.{typeSize}
 use Rattle.state_record.specs.declared.State.{State as Rest}
 use Rattle.state_record.specs.Whole.{Whole as State}
 use Rattle.state_record.specs.Whole.{whole}
 use Rattle.state_record.specs.Sound.{Sound}
 use Rattle.state_record.specs.View.{rawState, systemIn, withTypes}
-use Rattle.request_common.specs.declared.Answer.{Answer}
-use Rattle.request_common.specs.declared.Answer.the-variants.{Refused, Pair, Number, Nothing}
+use Rattle.request_common.specs.declared.Outcome.{Outcome}
+use Rattle.request_common.specs.declared.Outcome.the-variants.{Refused, Pair, Number, Nothing}
 use Rattle.request_common.specs.declared.Served.{Served as Answered}
 use Rattle.request_common.specs.Served.{Done as Served, refusalOf as refusal}
 use Rattle.request_common.specs.Served.{outcomeOf, servedWith, servedAs, done, Step}
 use Rattle.request_common.proofs.Laws.{refuses}
+use Rattle.request_value.specs.Sent.{isAccepted}
+use Rattle.request_call.specs.declared.Plan.{Plan}
+use Rattle.request_call.specs.Called.{Planned}
 use Rattle.request_by_code.specs.Coded.{serveAsked}
 use Rattle.request_by_code.proofs.Laws.{outcome-is}
 use Rattle.request_serve.specs.Serves.{defined, leaves, Serves, ServesAsked}
 use Rattle.request_serve.specs.Back.{givenBack}
+use Rattle.request_serve.specs.Known.{Known}
 use Rattle.request_serve.proofs.Stored.{sized, counted-stored, counts-stored, bytes-stored}
 
 -- the answers that are refusals
-refused-answer : (a : Answer) (e : ℕ) → outcomeOf a ≡ refused e → a ≡ Refused e
+refused-answer : (a : Outcome) (e : ℕ) → outcomeOf a ≡ refused e → a ≡ Refused e
 refused-answer (Refused n) e p = ap Refused (ap number p)
   where
-    number : Outcome → ℕ
+    number : Outcomeᵐ → ℕ
     number (refused n) = n
     number (got x) = 0
 refused-answer (Pair a b) e p = let z : _≡_ {A = ℕ} 0 1 = cc in absurd (omega arith)
@@ -53,12 +61,12 @@ module _ {b t t′ : List ℕ} {s : Rest} {m : Res (System × Result)} {r : Answ
   back-step : Step (whole b s) m (done t′ r)
   back-step = go (r .answer) refl
     where
-      kept : (a : Answer) → r .answer ≡ a → givenBack b t a ≡ t → Step (whole b s) m (done t′ r)
+      kept : (a : Outcome) → r .answer ≡ a → givenBack b t a ≡ t → Step (whole b s) m (done t′ r)
       kept a z y = subst (λ (x : List ℕ). Step (whole b s) m (done x r)) (sym (e ∙ ap (givenBack b t) z ∙ y)) w
 
-      go : (a : Answer) → r .answer ≡ a → Step (whole b s) m (done t′ r)
-      go (Refused d) z = refuses h (sym (w .is) ∙ ap (λ (a : Answer). servedWith (systemIn (whole t (r .state))) (outcomeOf a)) z)
-          (ap (λ (a : Answer). record { answer = a; state = whole t′ (r .state) }) z ∙ ap (λ (x : State). refusal x d) (back-stays d z))
+      go : (a : Outcome) → r .answer ≡ a → Step (whole b s) m (done t′ r)
+      go (Refused d) z = refuses h (sym (w .is) ∙ ap (λ (a : Outcome). servedWith (systemIn (whole t (r .state))) (outcomeOf a)) z)
+          (ap (λ (a : Outcome). record { answer = a; state = whole t′ (r .state) }) z ∙ ap (λ (x : State). refusal x d) (back-stays d z))
       go (Pair x y) z = kept (Pair x y) z refl
       go (Number v) z = kept (Number v) z refl
       go Nothing z = kept Nothing z refl
@@ -69,21 +77,21 @@ module _ (s : State) (q : Request) (r : Served) (h : So (systemAccepted (rawStat
   s′ = r .state
 
   defined-is : defined s q ≡ serve (systemIn s) q
-  defined-is = ap (λ (b : Bool). need b 2 λ _. serve (systemIn s) q) h
+  defined-is = ap (λ (b : Bool). need b outOfRange λ _. serve (systemIn s) q) h
 
   handed : serveHanded (rawState s) q ≡ handBack (rawState s) (servedAs r)
   unfolding systemIn
   handed = handed-is (rawState s) h q ∙ ap (handBack (rawState s)) (sym (w .is))
 
-  answers : (o : Outcome) → o ≡ handBack (rawState s) (servedWith (systemIn s′) o) .outcome
+  answers : (o : Outcomeᵐ) → o ≡ handBack (rawState s) (servedWith (systemIn s′) o) .outcome
   answers (refused e) = refl
   answers (got x) = refl
 
-  stored : (o : Outcome) → outcomeOf (r .answer) ≡ o → counted (rawState s′) ≡ counted (handBack (rawState s) (servedWith (systemIn s′) o) .state)
+  stored : (o : Outcomeᵐ) → outcomeOf (r .answer) ≡ o → counted (rawState s′) ≡ counted (handBack (rawState s) (servedWith (systemIn s′) o) .state)
   stored (refused e) p = ap (λ x. counted (rawState x)) (stays e (refused-answer (r .answer) e p))
   stored (got x) p = counted-stored s s′ (w .stored)
 
-  left-with : (o : Outcome) → outcomeOf (r .answer) ≡ o → after (systemIn s) (servedWith (systemIn s′) o) ≡ systemIn s′
+  left-with : (o : Outcomeᵐ) → outcomeOf (r .answer) ≡ o → after (systemIn s) (servedWith (systemIn s′) o) ≡ systemIn s′
   left-with (refused e) p = ap systemIn (sym (stays e (refused-answer (r .answer) e p)))
   left-with (got x) p = refl
 
@@ -101,7 +109,7 @@ module _ (s : State) (q : Request) (r : Served) (h : So (systemAccepted (rawStat
     links = w .stored .links;
     counts = counts-stored s s′ (w .stored) ∙ ap (λ (x : System). withCount (s .counts) (size (x .table))) (sym left);
     types = subst
-        (λ (x : System). take (size (x .table) * 128) (s′ .types) ≡ take (s .counts .types * 128) (s .types) ++ flatten (map bytesOf (drop (s .counts .types) (x .table .types))))
+        (λ (x : System). take (size (x .table) * typeSize) (s′ .types) ≡ take (s .counts .types * typeSize) (s .types) ++ flatten (map bytesOf (drop (s .counts .types) (x .table .types))))
         (sym left) (bytes-stored s s′ (w .stored));
   }
 
@@ -109,27 +117,43 @@ module _ (s : State) (q : Request) (r : Served) (h : So (systemAccepted (rawStat
 pub back-serves : (b t t′ : List ℕ) (s : Rest) (q : Option Request) (r : Answered) → Sound (whole b s) → So (systemAccepted (rawState (whole b s)))
     → Step (whole b s) (serveAsked (systemIn (whole b s)) q) (done t r) → t′ ≡ givenBack b t (r .answer) → ServesAsked (whole b s) q (done t′ r)
 unfolding serveAsked
-back-serves b t t′ s none r h k w e = let z = refused-answer (r .answer) 1 (sym (outcome-is (whole b s) (refuse 1) (done t r) w)) in
-    ap (λ (x : State). record { answer = r .answer; state = x }) (back-stays h w e 1 z) ∙ ap (λ (a : Answer). record { answer = a; state = whole b s }) z
+back-serves b t t′ s none r h k w e = let z = refused-answer (r .answer) 1 (sym (outcome-is (whole b s) (refuse form) (done t r) w)) in
+    ap (λ (x : State). record { answer = r .answer; state = x }) (back-stays h w e 1 z) ∙ ap (λ (a : Outcome). record { answer = a; state = whole b s }) z
     ∙ ap (λ (x : Bool). refusal (whole b s) (cond x 1 2)) (sym k)
 back-serves b t t′ s (some q) r h k w e = step-serves (whole b s) q (done t′ r) k (back-step h w e) (back-stays h w e)
 
+-- ---- A request that stores no type: what it leaves is what it would give back.
+pub kept-serves : (b t : List ℕ) (s : Rest) (q : Option Request) (r : Answered) → Sound (whole b s) → So (systemAccepted (rawState (whole b s)))
+    → Step (whole b s) (serveAsked (systemIn (whole b s)) q) (done t r) → t ≡ b → ServesAsked (whole b s) q (done t r)
+kept-serves b t s q r h k w e = back-serves b t t s q r h k w (go (isAccepted (r .answer)))
+  where
+    go : (x : Bool) → t ≡ cond x t b
+    go true = refl
+    go false = e
+
+-- nothing is known where something may be sent
+pub known-open : (s : State) (m : Res (System × Result)) (p : Plan) → p .refusal ≡ 0 → p .sends ≡ true → Known s m p
+known-open s m p z t = record { stops = λ y. absurd (y z); fits = λ y u. never (sym u ∙ t); adds = λ y u. never (sym u ∙ t) }
+
+pub known-call : (s : State) (vs : List ℤ) (m m′ : Res (System × Result)) → m ≡ m′ → (p : Plan) → Planned s vs m′ p → Known s m p
+known-call s vs m m′ e p h = record { stops = λ z. e ∙ h .stops z; fits = λ z y. h .fits z; adds = λ z y. e ∙ h .adds z y }
+
 -- ---- a refusal with 2
 module _ (s : State) (q : Request) (no : systemAccepted (rawState s) ≡ false) where
-  refuses-2 : serveHanded (rawState s) q ≡ handBack (rawState s) (refuse 2)
+  refuses-2 : serveHanded (rawState s) q ≡ handBack (rawState s) (refuse outOfRange)
   unfolding serveHanded
-  refuses-2 = ap (λ (b : Bool). handBack (rawState s) (need b 2 λ _. serve (systemOf (rawState s)) q)) no
+  refuses-2 = ap (λ (b : Bool). handBack (rawState s) (need b outOfRange λ _. serve (systemOf (rawState s)) q)) no
 
   untouched : leaves s q ≡ systemIn s
-  untouched = ap (λ (b : Bool). after (systemIn s) (need b 2 λ _. serve (systemIn s) q)) no
+  untouched = ap (λ (b : Bool). after (systemIn s) (need b outOfRange λ _. serve (systemIn s) q)) no
 
-  all-old : take (s .counts .types * 128) (s .types) ≡ take (s .counts .types * 128) (s .types) ++ flatten (map bytesOf (drop (s .counts .types) (systemIn s .table .types)))
+  all-old : take (s .counts .types * typeSize) (s .types) ≡ take (s .counts .types * typeSize) (s .types) ++ flatten (map bytesOf (drop (s .counts .types) (systemIn s .table .types)))
   unfolding flatten
   all-old = let e : size (systemIn s .table) ≤ s .counts .types = omega (arith, sized s) in
-      sym (ap (λ (xs : List Ty). take (s .counts .types * 128) (s .types) ++ flatten (map bytesOf xs)) (drop-of-length-le (systemIn s .table .types) e)
-      ∙ append-nil (take (s .counts .types * 128) (s .types)))
+      sym (ap (λ (xs : List Ty). take (s .counts .types * typeSize) (s .types) ++ flatten (map bytesOf xs)) (drop-of-length-le (systemIn s .table .types) e)
+      ∙ append-nil (take (s .counts .types * typeSize) (s .types)))
 
-  two-serves : Serves s q (refusal s 2)
+  two-serves : Serves s q (refusal s outOfRange)
   two-serves = record {
     returns = record {
       outcome = ap (λ x. x .outcome) (sym refuses-2);
@@ -140,12 +164,12 @@ module _ (s : State) (q : Request) (no : systemAccepted (rawState s) ≡ false) 
     links = refl;
     counts = ap (withCount (s .counts)) (sym (ap (λ (x : System). size (x .table)) untouched ∙ sized s));
     types = subst
-        (λ (x : System). take (size (x .table) * 128) (s .types) ≡ take (s .counts .types * 128) (s .types) ++ flatten (map bytesOf (drop (s .counts .types) (x .table .types))))
-        (sym untouched) (ap (λ (n : ℕ). take (n * 128) (s .types)) (sized s) ∙ all-old);
+        (λ (x : System). take (size (x .table) * typeSize) (s .types) ≡ take (s .counts .types * typeSize) (s .types) ++ flatten (map bytesOf (drop (s .counts .types) (x .table .types))))
+        (sym untouched) (ap (λ (n : ℕ). take (n * typeSize) (s .types)) (sized s) ∙ all-old);
   }
 
 -- of a request or of none
-pub refused-serves : (s : State) (q : Option Request) → systemAccepted (rawState s) ≡ false → (r : Served) → r ≡ refusal s 2 → ServesAsked s q r
+pub refused-serves : (s : State) (q : Option Request) → systemAccepted (rawState s) ≡ false → (r : Served) → r ≡ refusal s outOfRange → ServesAsked s q r
 refused-serves s none h r e = e ∙ ap (λ (x : Bool). refusal s (cond x 1 2)) (sym h)
 refused-serves s (some q) h r e = subst (λ x. Serves s q x) (sym e) (two-serves s q h)
 
@@ -163,7 +187,7 @@ module _ (s : State) (q : Request) (r : Served) (w : Serves s q r) where
   unfolding systemIn
   serves-means = go (systemAccepted (rawState s)) refl
     where
-      go : (b : Bool) → systemAccepted (rawState s) ≡ b → systemIn (r .state) ≡ after (systemIn s) (need b 2 λ _. serve (systemIn s) q)
+      go : (b : Bool) → systemAccepted (rawState s) ≡ b → systemIn (r .state) ≡ after (systemIn s) (need b outOfRange λ _. serve (systemIn s) q)
       go true e = returns-means (rawState s) q (outcomeOf (r .answer)) (rawState (r .state)) (w .returns) e
       go false e = ap systemIn (w .stays 2 (refused-answer (r .answer) 2 (w .returns .outcome ∙ ap (λ x. x .outcome) (refuses-2 s q e))))
 

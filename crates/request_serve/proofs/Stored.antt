@@ -8,7 +8,7 @@ use lib.Dec.{ltb}
 use lib.ListN.{getD, take, drop, List·getD-map}
 use lib.Seq.{getD-take, getD-drop}
 use Rattle.spec_model.specs.Basics.{from}
-use Rattle.spec_model.specs.Table.{Ty, Table, size, typeAt}
+use Rattle.spec_model.specs.Table.{Ty, Table, size, typeAt, maxTypes}
 use Rattle.spec_model.specs.Requests.{Cell as Cellᵐ, System, noCell}
 use Rattle.spec_model.specs.Check.{RawTable, RawPlace, RawCall, RawSystem, noRawType, noRawPlace, noRawCall, typeOf, firstOf}
 use Rattle.spec_model.specs.Records.{typeRecord}
@@ -21,6 +21,7 @@ use Rattle.table_record.specs.Store.{typesIn, typesTo, rawTable, tableIn, withC
 use Rattle.table_record.specs.Records.{bytesOf}
 use Rattle.table_record.proofs.Laws.{Agree, type-in, type-agree, record-own}
 use Rattle.table_record.proofs.Tables.{size-is, type-is, types-of}
+use Rattle.table_record.specs.Layout.{typeSize}
 use Rattle.law_table.proofs.Whole.{record-shaped}
 use Rattle.derive_sub_sup.specs.Link.{recordAt}
 use Rattle.derive_sub_sup.proofs.Bytes.{record-same, exact-take}
@@ -52,13 +53,13 @@ unfolding callsIn
 calls-counted js = seen-counted callOf callRecord (λ c. callRecord (callOf c)) (λ c. refl) blankCall (js .count) 0 (js .list)
 
 -- a record whose bytes are those that stand for a type is that type's
-record-exact : (b : List ℕ) (i : ℕ) (x : Ty) → i < 128 → recordAt b i ≡ bytesOf x → getD (typesIn b) i noRawType ≡ typeRecord x
+record-exact : (b : List ℕ) (i : ℕ) (x : Ty) → i < maxTypes → recordAt b i ≡ bytesOf x → getD (typesIn b) i noRawType ≡ typeRecord x
 unfolding Agree
 record-exact b i x h e =
     type-in b i noRawType h
-    ∙ type-agree b (i * 128) (bytesOf x) 0
+    ∙ type-agree b (i * typeSize) (bytesOf x) 0
     (λ p l. let z : 0 + p ≡ p = omega arith in
-    sym (getD-take 128 (drop (i * 128) b) p 0 l ∙ getD-drop (i * 128) b p 0) ∙ ap (λ (r : List ℕ). getD r p 0) e ∙ ap (λ (k : ℕ). getD (bytesOf x) k 0) (sym z))
+    sym (getD-take typeSize (drop (i * typeSize) b) p 0 l ∙ getD-drop (i * typeSize) b p 0) ∙ ap (λ (r : List ℕ). getD r p 0) e ∙ ap (λ (k : ℕ). getD (bytesOf x) k 0) (sym z))
     ∙ record-own (typeRecord x) (record-shaped x)
 
 -- the types of the state are those of its table, as many as are counted
@@ -86,7 +87,7 @@ module _ (s s′ : State) (w : Stored s s′) where
   type-counted : (i : ℕ) → i < n′ → getD (typesIn (s′ .types)) i noRawType ≡ cond (ltb i (c .types)) (getD (typesIn (s .types)) i noRawType) (typeRecord (typeAt t′ i))
   type-counted i l = go (ltb i (c .types)) refl
     where
-      below : i < 128
+      below : i < maxTypes
       below = omega (arith, l, w .grew .room)
 
       go : (b : Bool) → ltb i (c .types) ≡ b → getD (typesIn (s′ .types)) i noRawType ≡ cond b (getD (typesIn (s .types)) i noRawType) (typeRecord (typeAt t′ i))
@@ -115,8 +116,8 @@ module _ (s s′ : State) (w : Stored s s′) where
   pub counts-stored : s′ .counts ≡ withCount (s .counts) (size (systemIn s′ .table))
   counts-stored = w .counts ∙ ap (withCount (s .counts)) (sym (sized s′))
 
-  pub bytes-stored : take (size (systemIn s′ .table) * 128) (s′ .types) ≡ take (c .types * 128) (s .types) ++ flatten (map bytesOf (drop (c .types) (systemIn s′ .table .types)))
-  bytes-stored = ap (λ (n : ℕ). take (n * 128) (s′ .types)) (sized s′)
+  pub bytes-stored : take (size (systemIn s′ .table) * typeSize) (s′ .types) ≡ take (c .types * typeSize) (s .types) ++ flatten (map bytesOf (drop (c .types) (systemIn s′ .table .types)))
+  bytes-stored = ap (λ (n : ℕ). take (n * typeSize) (s′ .types)) (sized s′)
       ∙ exact-take c (c .types) n′ (s .types) (s′ .types) (w .grew .more) (w .kept) (w .grew .exact)
-      ∙ ap (λ (xs : List Ty). take (c .types * 128) (s .types) ++ flatten (map bytesOf (drop (c .types) xs)))
+      ∙ ap (λ (xs : List Ty). take (c .types * typeSize) (s .types) ++ flatten (map bytesOf (drop (c .types) xs)))
       (sym (typed s′ ∙ ap (λ (d : Counts). typesTo (d .methods) (d .sheet) n′ (typesIn (s′ .types))) (w .counts)))

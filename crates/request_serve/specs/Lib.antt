@@ -1,2 +1,3 @@
 pub mod Serves
 pub mod Back
+pub mod Known

@@ -4,14 +4,14 @@ use mathlib.Core.Bool.{true}
 use Prim.Native.Nat.{ℕ, _≤_, _<_}
 use lib.ListN.{getD}
 use Rattle.spec_model.specs.Basics.{ok}
-use Rattle.spec_model.specs.Requests.{System, Result, noCall, withCalls, got}
+use Rattle.spec_model.specs.Requests.{System, Result, noCall, withCalls, got, maxCalls}
 use Rattle.spec_model.proofs.Rules.{never}
 use Rattle.state_record.specs.declared.Calls.{Calls}
 use Rattle.state_record.specs.Whole.{Whole as State}
 use Rattle.state_record.specs.View.{callsIn, systemIn}
 use Rattle.state_record.specs.Sound.{CallIn, Sound}
 use Rattle.state_record.proofs.Laws.{system-is}
-use Rattle.request_common.specs.declared.Answer.{Answer}
+use Rattle.request_common.specs.declared.Outcome.{Outcome}
 use Rattle.request_common.specs.Served.{outcomeOf, servedWith, Step}
 use Rattle.request_common.proofs.Laws.{stored-self}
 use Rattle.request_value.specs.Sent.{isAccepted}
@@ -19,11 +19,11 @@ use Rattle.request_value.specs.Sent.{isAccepted}
 abbrev pub callsLeft : State → Calls → State
 callsLeft s calls = record { types = s .types; links = s .links; counts = s .counts; cells = s .cells; places = s .places; calls = calls }
 
-module _ (s : State) (h : Sound s) (calls : Calls) (few : calls .count ≤ 256) (each : (j : ℕ) → j < calls .count → CallIn s (getD (callsIn calls) j noCall)) where
+module _ (s : State) (h : Sound s) (calls : Calls) (few : calls .count ≤ maxCalls) (each : (j : ℕ) → j < calls .count → CallIn s (getD (callsIn calls) j noCall)) where
   pub calls-mean : systemIn (callsLeft s calls) ≡ withCalls (systemIn s) (callsIn calls)
   calls-mean = system-is (callsLeft s calls) ∙ ap (λ (x : System). withCalls x (callsIn calls)) (sym (system-is s))
 
-  pub calls-step : (a : Answer) (x : Result) → outcomeOf a ≡ got x → isAccepted a ≡ true
+  pub calls-step : (a : Outcome) (x : Result) → outcomeOf a ≡ got x → isAccepted a ≡ true
       → Step s (ok (withCalls (systemIn s) (callsIn calls), x)) (record { answer = a; state = callsLeft s calls })
   calls-step a x e k = record {
     is = ap (servedWith (systemIn (callsLeft s calls))) e ∙ ap (λ (y : System). ok (y, x)) calls-mean;
@@ -32,7 +32,7 @@ module _ (s : State) (h : Sound s) (calls : Calls) (few : calls .count ≤ 256) 
     sound = record {
       long = h .long;
       checked = h .checked;
-      falling = h .falling;
+      descending = h .descending;
       typed = h .typed;
       cellCount = h .cellCount;
       callCount = few;

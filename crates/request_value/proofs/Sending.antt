@@ -17,6 +17,8 @@ use Rattle.spec_model.specs.Crossing.{Reference}
 use Rattle.spec_model.specs.Requests.{System, Result, pair, nothing, noCell, leaving, withCell, addCell, after, maxCells, crossLayers, passLayers, send, sendArguments}
 use Rattle.spec_model.specs.Requests.{Cell as Cellᵐ}
 use Rattle.spec_model.proofs.Rules.{never}
+use Rattle.spec_model.specs.Refusals.{cellsFull}
+use Rattle.table_record.specs.declared.Counts.{Counts}
 use Rattle.table_record.specs.Store.{tableIn}
 use Rattle.table_record.proofs.Lists.{lt-or-ge}
 use Rattle.state_record.specs.declared.Cell.{Cell}
@@ -28,8 +30,8 @@ use Rattle.crossing_one.specs.declared.Crossed.{Crossed}
 use Rattle.crossing_one.specs.Crossed.{reference, Ready, Stands, crossedOf, Leaves}
 use Rattle.crossing_one.proofs.Laws.{refused-is, came-is}
 use Rattle.crossing_layers.specs.Carried.{passedOf}
-use Rattle.request_common.specs.declared.Answer.{Answer}
-use Rattle.request_common.specs.declared.Answer.the-variants.{Refused, Pair, Number, Nothing}
+use Rattle.request_common.specs.declared.Outcome.{Outcome}
+use Rattle.request_common.specs.declared.Outcome.the-variants.{Refused, Pair, Number, Nothing}
 use Rattle.request_common.specs.Served.{Done as Served, refusalOf as refusal}
 use Rattle.state_record.specs.View.{withTypes}
 use Rattle.request_common.specs.Served.{outcomeOf, servedWith, servedAs, Stored, Step, Arrives, arrived}
@@ -38,20 +40,20 @@ use Rattle.request_value.specs.Sent.{isAccepted, sendArgument, allSent, 
 
 -- ---- Answers.
 -- what goes on with the state of an accepted request alone
-pub goes-on : {A : Type 0} (a : Answer) (s : System) (k : System → Res A) → isAccepted a ≡ true → try (servedWith s (outcomeOf a)) (λ x. k (x .0)) ≡ k s
+pub goes-on : {A : Type 0} (a : Outcome) (s : System) (k : System → Res A) → isAccepted a ≡ true → try (servedWith s (outcomeOf a)) (λ x. k (x .0)) ≡ k s
 goes-on (Refused e) s k h = never h
 goes-on (Pair x y) s k h = refl
 goes-on (Number v) s k h = refl
 goes-on Nothing s k h = refl
 
 -- a request that is not accepted is refused with some number
-pub only-refused : (P : Answer → Type 0) → ((e : ℕ) → P (Refused e)) → (a : Answer) → isAccepted a ≡ false → P a
+pub only-refused : (P : Outcome → Type 0) → ((e : ℕ) → P (Refused e)) → (a : Outcome) → isAccepted a ≡ false → P a
 only-refused P f (Refused e) h = f e
 only-refused P f (Pair x y) h = never (sym h)
 only-refused P f (Number v) h = never (sym h)
 only-refused P f Nothing h = never (sym h)
 
-pub accepted-by : (a : Answer) (s : System) {x : System × Result} → servedWith s (outcomeOf a) ≡ ok x → isAccepted a ≡ true
+pub accepted-by : (a : Outcome) (s : System) {x : System × Result} → servedWith s (outcomeOf a) ≡ ok x → isAccepted a ≡ true
 accepted-by (Refused e) s h = absurd (let z : _≡_ {A = ℕ} 0 1 = ap (λ (y : Res (System × Result)). elim y [ refuse d ↦ 0 | ok u ↦ 1 ]) h in omega arith)
 accepted-by (Pair x y) s h = refl
 accepted-by (Number v) s h = refl
@@ -70,8 +72,8 @@ step-after {s} s₁ k r g = record {
 pub step-stops : {s : State} {m : Res (System × Result)} (k : System × Result → Res (System × Result)) (q : Served) → Step s m q → isAccepted (q .answer) ≡ false → Step s (try m k) q
 step-stops {s} {m} k q h z = record { is = same (q .answer) z ∙ ap (λ (y : Res (System × Result)). try y k) (h .is); stays = h .stays; stored = h .stored; sound = h .sound }
   where
-    same : (a : Answer) → isAccepted a ≡ false → servedWith (systemIn (q .state)) (outcomeOf a) ≡ try (servedWith (systemIn (q .state)) (outcomeOf a)) k
-    same = only-refused (λ (a : Answer). servedWith (systemIn (q .state)) (outcomeOf a) ≡ try (servedWith (systemIn (q .state)) (outcomeOf a)) k) (λ e. refl)
+    same : (a : Outcome) → isAccepted a ≡ false → servedWith (systemIn (q .state)) (outcomeOf a) ≡ try (servedWith (systemIn (q .state)) (outcomeOf a)) k
+    same = only-refused (λ (a : Outcome). servedWith (systemIn (q .state)) (outcomeOf a) ≡ try (servedWith (systemIn (q .state)) (outcomeOf a)) k) (λ e. refl)
 
 -- nothing is done
 pub step-nothing : (s : State) → Sound s → Step s (ok (systemIn s, nothing)) (record { answer = Nothing; state = s })
@@ -118,40 +120,40 @@ added-goes s r f more q k = go (q .answer) refl (ltb (length (systemIn s .cells)
     new : System × Result
     new = (withCell (systemIn s) r f, pair (length (systemIn s .cells)) (f .place))
 
-    left : (b : Bool) → systemIn (q .state) ≡ after (systemIn s) (need b 13 (λ _. ok new)) → Went s (q .state)
+    left : (b : Bool) → systemIn (q .state) ≡ after (systemIn s) (need b cellsFull (λ _. ok new)) → Went s (q .state)
     left true e = went-by s (q .state) (new .0) e (omega (arith, length-append (systemIn s .cells) (record { holder = r; type = f .type; place = f .place } ∷ []))) more refl
     left false e =
         went-by s (q .state) (systemIn s) e (omega arith) (let p : length (systemIn s .places) ≡ s .places .count = ap length (places-are s) ∙ places-length (s .places) in omega arith) refl
 
-    go : (a : Answer) → q .answer ≡ a → (b : Bool) → servedWith (systemIn (q .state)) (outcomeOf a) ≡ need b 13 (λ _. ok new) → Went s (q .state)
+    go : (a : Outcome) → q .answer ≡ a → (b : Bool) → servedWith (systemIn (q .state)) (outcomeOf a) ≡ need b cellsFull (λ _. ok new) → Went s (q .state)
     go (Refused d) z b e = subst (Went s) (sym (k .stays d z)) (went-types s (q .state .types))
     go (Pair x y) z b e = left b (ap (after (systemIn s)) e)
     go (Number v) z b e = left b (ap (after (systemIn s)) e)
     go Nothing z b e = left b (ap (after (systemIn s)) e)
 
 module _ (s : State) (h : Sound s) (r k : ℕ) (c : Cell) (is : cellOf c ≡ getD (cellsIn (s .cells)) k noCell) (inside : CellIn s (getD (cellsIn (s .cells)) k noCell)) (ts : List (Option ℕ))
-    (sort place : ℕ) (sort-is : sort ≡ c .sort) (place-is : place ≡ c .place) where
-  sort-at : sort ≡ getD (cellsIn (s .cells)) k noCell .type
+    (ty place : ℕ) (sort-is : ty ≡ c .ty) (place-is : place ≡ c .place) where
+  sort-at : ty ≡ getD (cellsIn (s .cells)) k noCell .type
   sort-at = sort-is ∙ ap (λ (x : Cellᵐ). x .type) is
 
   place-at : place ≡ getD (cellsIn (s .cells)) k noCell .place
   place-at = place-is ∙ ap (λ (x : Cellᵐ). x .place) is
 
   pub send-stands : Ready (s .links) (s .counts) (s .types) → Ready (s .links) (s .counts) (s .types) × Stands (s .places) place
-  send-stands g = (g, record { falling = h .falling; place = subst (λ (n : ℕ). n < s .places .count) (sym place-at) (inside .place) })
+  send-stands g = (g, record { descending = h .descending; place = subst (λ (n : ℕ). n < s .places .count) (sym place-at) (inside .place) })
 
   abbrev From : Reference
-  From = reference (tableIn (s .types) (s .links) (s .counts)) (placesIn (s .places)) sort place
+  From = reference (tableIn (s .types) (s .links) (s .counts)) (placesIn (s .places)) ty place
 
   leaving-is : leaving (systemIn s) k ≡ From
   leaving-is =
       ap (λ (x : System). leaving x k) (system-is s)
       ∙ ap (λ (n : ℕ). reference (tableIn (s .types) (s .links) (s .counts)) (placesIn (s .places)) n (getD (cellsIn (s .cells)) k noCell .place)) (sym sort-at)
-      ∙ ap (λ (n : ℕ). reference (tableIn (s .types) (s .links) (s .counts)) (placesIn (s .places)) sort n) (sym place-at)
+      ∙ ap (λ (n : ℕ). reference (tableIn (s .types) (s .links) (s .counts)) (placesIn (s .places)) ty n) (sym place-at)
 
-  module _ (b : List ℕ) (x : Crossed) (crossed : crossedOf b (s .links) (s .counts) x ≡ crossLayers true From r ts) (leaves : Leaves (s .counts) (s .places) sort (s .types) b x) where
+  module _ (b : List ℕ) (x : Crossed) (crossed : crossedOf b (s .links) (s .counts) x ≡ crossLayers true From r ts) (leaves : Leaves (s .counts) (s .places) ty (s .types) b x) where
     abbrev Arrived : Reference
-    Arrived = arrived s b (x .types) (x .places) (x .sort) (x .place)
+    Arrived = arrived s b (x .types) (x .places) (x .ty) (x .place)
 
     abbrev Adds : Res Reference → Res (System × Result)
     Adds y = try y (λ f. addCell (systemIn s) r f)
@@ -167,16 +169,16 @@ module _ (s : State) (h : Sound s) (r k : ℕ) (c : Cell) (is : cellOf c ≡ get
     )
 
     module _ (z : x .refusal ≡ 0) where
-      pub send-arrives : Arrives s b (x .types) (x .places) (x .sort) (x .place)
+      pub send-arrives : Arrives s b (x .types) (x .places) (x .ty) (x .place)
       send-arrives = let m = leaves .came z in record {
         sound = h;
         long = leaves .long;
         grew = m .types;
         kept = leaves .kept;
-        falling = m .falling;
+        descending = m .descending;
         typed = m .typed (h .typed);
         more = m .before .more;
-        sort = m .sort (subst (λ (n : ℕ). n < s .counts .types) (sym sort-at) (inside .type));
+        ty = m .ty (subst (λ (n : ℕ). n < s .counts .types) (sym sort-at) (inside .type));
         place = m .place;
       }
 
@@ -187,20 +189,20 @@ module _ (s : State) (h : Sound s) (r k : ℕ) (c : Cell) (is : cellOf c ≡ get
       )
 
 -- ---- One argument.
-module _ (s : State) (h : Sound s) (r : ℕ) (way : List ℕ) (m i a : ℕ) (v : ℤ) (ts : List (Option ℕ))
-    (are : (l : List ℕ) → ts ≡ map (argumentAt (tableIn (s .types) l (s .counts)) m i) way) (q : Bool)
+module _ (s : State) (h : Sound s) (r : ℕ) (ls : List ℕ) (m i a : ℕ) (v : ℤ) (ts : List (Option ℕ))
+    (are : (l : List ℕ) → ts ≡ map (argumentAt (tableIn (s .types) l (s .counts)) m i) ls) (q : Bool)
     (kind : (l : List ℕ) → q ≡ isRef (typeAt (tableIn (s .types) l (s .counts)) a .rep)) where
   abbrev Either : Bool → List (Option ℕ) → Table → Res (System × Result)
   Either y os t = elim y [ true ↦ send (systemIn s) r (named v) os | false ↦ try (passLayers true t v os) λ _. ok (systemIn s, nothing) ]
 
-  argument-is : sendArgument (systemIn s) r way m i a v ≡ Either q ts (tableIn (s .types) (s .links) (s .counts))
+  argument-is : sendArgument (systemIn s) r ls m i a v ≡ Either q ts (tableIn (s .types) (s .links) (s .counts))
   argument-is =
-      ap (λ (t : Table). Either (isRef (typeAt t a .rep)) (map (argumentAt t m i) way) t) (table-is s)
-      ∙ ap (λ (y : Bool). Either y (map (argumentAt (tableIn (s .types) (s .links) (s .counts)) m i) way) (tableIn (s .types) (s .links) (s .counts))) (sym (kind (s .links)))
+      ap (λ (t : Table). Either (isRef (typeAt t a .rep)) (map (argumentAt t m i) ls) t) (table-is s)
+      ∙ ap (λ (y : Bool). Either y (map (argumentAt (tableIn (s .types) (s .links) (s .counts)) m i) ls) (tableIn (s .types) (s .links) (s .counts))) (sym (kind (s .links)))
       ∙ ap (λ (os : List (Option ℕ)). Either q os (tableIn (s .types) (s .links) (s .counts))) (sym (are (s .links)))
 
   abbrev Goes : Served → Type 0
-  Goes y = Step s (sendArgument (systemIn s) r way m i a v) y × Went s (y .state)
+  Goes y = Step s (sendArgument (systemIn s) r ls m i a v) y × Went s (y .state)
 
   pub argument-sent : q ≡ true → (y : Served) → Step s (send (systemIn s) r (named v) ts) y × Went s (y .state) → Goes y
   argument-sent z y k = (
@@ -212,7 +214,7 @@ module _ (s : State) (h : Sound s) (r : ℕ) (way : List ℕ) (m i a : ℕ) (v :
     abbrev Passed : Bool → Res (System × Result)
     Passed y = try {A = Unit {0}} (elim y [ false ↦ refuse e | true ↦ ok tt ]) λ _. ok (systemIn s, nothing)
 
-    number-is : sendArgument (systemIn s) r way m i a v ≡ Passed (eqb e 0)
+    number-is : sendArgument (systemIn s) r ls m i a v ≡ Passed (eqb e 0)
     number-is = argument-is ∙ ap (λ (w : Bool). Either w ts (tableIn (s .types) (s .links) (s .counts))) z
         ∙ ap (λ (y : Res (Unit {0})). try y (λ _. ok (systemIn s, nothing))) (sym (passed (s .links)))
 
@@ -226,16 +228,16 @@ module _ (s : State) (h : Sound s) (r : ℕ) (way : List ℕ) (m i a : ℕ) (v :
     )
 
 -- ---- All arguments.
-send-step : (s : System) (r : ℕ) (way : List ℕ) (m i a : ℕ) (xs : List ℕ) (v : ℤ) (vs : List ℤ) →
-    sendArguments s r way m i (a ∷ xs) (v ∷ vs) ≡ try (sendArgument s r way m i a v) (λ x. sendArguments (x .0) r way m (suc i) xs vs)
+send-step : (s : System) (r : ℕ) (ls : List ℕ) (m i a : ℕ) (xs : List ℕ) (v : ℤ) (vs : List ℤ) →
+    sendArguments s r ls m i (a ∷ xs) (v ∷ vs) ≡ try (sendArgument s r ls m i a v) (λ x. sendArguments (x .0) r ls m (suc i) xs vs)
 unfolding sendArguments
-send-step s r way m i a xs v vs = go (isRef (typeAt (s .table) a .rep))
+send-step s r ls m i a xs v vs = go (isRef (typeAt (s .table) a .rep))
   where
     ts : List (Option ℕ)
-    ts = map (argumentAt (s .table) m i) way
+    ts = map (argumentAt (s .table) m i) ls
 
     rest : System → Res System
-    rest x = sendArguments x r way m (suc i) xs vs
+    rest x = sendArguments x r ls m (suc i) xs vs
 
     number : (y : Res (Unit {0})) → try y (λ _. rest s) ≡ try {A = System × Result} (try y (λ _. ok (s, nothing))) (λ x. rest (x .0))
     number (refuse e) = refl
@@ -246,21 +248,75 @@ send-step s r way m i a xs v vs = go (isRef (typeAt (s .table) a .rep))
     go true = refl
     go false = number (passLayers true (s .table) v ts)
 
-sent-over : (s : System) (r : ℕ) (way : List ℕ) (m i : ℕ) (vs : List ℤ) → sendArguments s r way m i [] vs ≡ ok s
+sent-over : (s : System) (r : ℕ) (ls : List ℕ) (m i : ℕ) (vs : List ℤ) → sendArguments s r ls m i [] vs ≡ ok s
 unfolding sendArguments
-sent-over s r way m i vs = refl
+sent-over s r ls m i vs = refl
 
-sent-all : (s : System) (r : ℕ) (way : List ℕ) (m i : ℕ) (xs : List ℕ) → sendArguments s r way m i xs [] ≡ ok s
+sent-all : (s : System) (r : ℕ) (ls : List ℕ) (m i : ℕ) (xs : List ℕ) → sendArguments s r ls m i xs [] ≡ ok s
 unfolding sendArguments
-sent-all s r way m i [] = refl
-sent-all s r way m i (a ∷ xs) = refl
+sent-all s r ls m i [] = refl
+sent-all s r ls m i (a ∷ xs) = refl
 
-module _ (s₀ : State) (r : ℕ) (way : List ℕ) (m : ℕ) (xs : List ℕ) (vs : List ℤ) where
+-- ---- The numbers in front of the first reference.
+number-first : (s : System) (r : ℕ) (ls : List ℕ) (m i a : ℕ) (xs : List ℕ) (v : ℤ) (vs : List ℤ) → isRef (typeAt (s .table) a .rep) ≡ false →
+    sendArguments s r ls m i (a ∷ xs) (v ∷ vs) ≡ try (passLayers true (s .table) v (map (argumentAt (s .table) m i) ls)) (λ _. sendArguments s r ls m (suc i) xs vs)
+unfolding sendArguments
+number-first s r ls m i a xs v vs e = ap Kind e
+  where
+    Kind : Bool → Res System
+    Kind y = elim y [
+      | true ↦ try (send s r (named v) (map (argumentAt (s .table) m i) ls)) λ x. sendArguments (x .0) r ls m (suc i) xs vs
+      | false ↦ try (passLayers true (s .table) v (map (argumentAt (s .table) m i) ls)) λ _. sendArguments s r ls m (suc i) xs vs
+    ]
+
+module _ (s : System) (r : ℕ) (ls : List ℕ) (m : ℕ) (xs : List ℕ) (vs : List ℤ) where
+  -- all arguments come to what those from i on come to
+  abbrev pub NumbersRest : ℕ → Type 0
+  NumbersRest i = sendArguments s r ls m i (drop i xs) (drop i vs) ≡ sendArguments s r ls m 0 xs vs
+
+  module _ (i : ℕ) (w : NumbersRest i) where
+    pub numbers-over : drop i xs ≡ [] → sendArguments s r ls m 0 xs vs ≡ ok s
+    numbers-over e = sym w ∙ ap (λ (ys : List ℕ). sendArguments s r ls m i ys (drop i vs)) e ∙ sent-over s r ls m i (drop i vs)
+
+    pub numbers-end : drop i vs ≡ [] → sendArguments s r ls m 0 xs vs ≡ ok s
+    numbers-end e = sym w ∙ ap (sendArguments s r ls m i (drop i xs)) e ∙ sent-all s r ls m i (drop i xs)
+
+    module _ (a : ℕ) (some : drop i xs ≡ a ∷ drop (i + 1) xs) (v : ℤ) (more : drop i vs ≡ v ∷ drop (i + 1) vs) (number : isRef (typeAt (s .table) a .rep) ≡ false)
+        (e : ℕ) (passed : passedOf e ≡ passLayers true (s .table) v (map (argumentAt (s .table) m i) ls)) where
+      abbrev Behind : Bool → Res System
+      Behind y = try {A = Unit {0}} (elim y [ false ↦ refuse e | true ↦ ok tt ]) λ _. sendArguments s r ls m (suc i) (drop (i + 1) xs) (drop (i + 1) vs)
+
+      numbers-are : sendArguments s r ls m 0 xs vs ≡ Behind (eqb e 0)
+      numbers-are =
+          sym w ∙ ap (λ (ys : List ℕ). sendArguments s r ls m i ys (drop i vs)) some ∙ ap (sendArguments s r ls m i (a ∷ drop (i + 1) xs)) more
+          ∙ number-first s r ls m i a (drop (i + 1) xs) v (drop (i + 1) vs) number
+          ∙ ap (λ (y : Res (Unit {0})). try y (λ _. sendArguments s r ls m (suc i) (drop (i + 1) xs) (drop (i + 1) vs))) (sym passed)
+
+      pub numbers-stop : (e ≡ 0 → ⊥) → sendArguments s r ls m 0 xs vs ≡ refuse e
+      numbers-stop z = numbers-are ∙ ap Behind (ne-eqb e 0 z)
+
+      pub numbers-next : e ≡ 0 → NumbersRest (i + 1)
+      numbers-next z = ap (λ (n : ℕ). sendArguments s r ls m n (drop (i + 1) xs) (drop (i + 1) vs)) (add-one i) ∙ sym (numbers-are ∙ ap Behind (eq-eqb e 0 z))
+
+-- the state of which the lent types and the counts are part has their table
+module _ (s : State) (b : List ℕ) (c : Counts) (t : s .types ≡ b) (n : s .counts ≡ c) where
+  pub table-of : systemIn s .table ≡ tableIn b (s .links) c
+  table-of = table-is s ∙ ap (λ (x : List ℕ). tableIn x (s .links) (s .counts)) t ∙ ap (tableIn b (s .links)) n
+
+  pub number-of : (a : ℕ) (q : Bool) → ((l : List ℕ) → q ≡ isRef (typeAt (tableIn b l c) a .rep)) → q ≡ false → isRef (typeAt (systemIn s .table) a .rep) ≡ false
+  number-of a q is z = ap (λ (x : Table). isRef (typeAt x a .rep)) table-of ∙ sym (is (s .links)) ∙ z
+
+  pub passed-of : (e m i : ℕ) (v : ℤ) (ls : List ℕ) (ts : List (Option ℕ)) → ((l : List ℕ) → ts ≡ map (argumentAt (tableIn b l c) m i) ls) →
+      ((l : List ℕ) → passedOf e ≡ passLayers true (tableIn b l c) v ts) → passedOf e ≡ passLayers true (systemIn s .table) v (map (argumentAt (systemIn s .table) m i) ls)
+  passed-of e m i v ls ts are is =
+      is (s .links) ∙ ap (passLayers true (tableIn b (s .links) c) v) (are (s .links)) ∙ ap (λ (x : Table). passLayers true x v (map (argumentAt x m i) ls)) (sym table-of)
+
+module _ (s₀ : State) (r : ℕ) (ls : List ℕ) (m : ℕ) (xs : List ℕ) (vs : List ℤ) where
   abbrev All : Res (System × Result)
-  All = allSent (sendArguments (systemIn s₀) r way m 0 xs vs)
+  All = allSent (sendArguments (systemIn s₀) r ls m 0 xs vs)
 
   abbrev Rest : System → ℕ → List ℕ → List ℤ → Res (System × Result)
-  Rest s i ys us = allSent (sendArguments s r way m i ys us)
+  Rest s i ys us = allSent (sendArguments s r ls m i ys us)
 
   -- all arguments are sent as those from i on, by the state as it has become
   pub record Sends (s : State) (i : ℕ) : Type 0 where
@@ -284,20 +340,20 @@ module _ (s₀ : State) (r : ℕ) (way : List ℕ) (m : ℕ) (xs : List ℕ) (vs
     done e = record { is = sym e ∙ w .rest; stored = w .stored; sound = w .sound; went = w .went }
 
     pub sends-over : drop i xs ≡ [] → Done (record { answer = Nothing; state = s })
-    sends-over e = done (ap (λ (ys : List ℕ). Rest (systemIn s) i ys (drop i vs)) e ∙ ap allSent (sent-over (systemIn s) r way m i (drop i vs)))
+    sends-over e = done (ap (λ (ys : List ℕ). Rest (systemIn s) i ys (drop i vs)) e ∙ ap allSent (sent-over (systemIn s) r ls m i (drop i vs)))
 
     pub sends-end : drop i vs ≡ [] → Done (record { answer = Nothing; state = s })
-    sends-end e = done (ap (Rest (systemIn s) i (drop i xs)) e ∙ ap allSent (sent-all (systemIn s) r way m i (drop i xs)))
+    sends-end e = done (ap (Rest (systemIn s) i (drop i xs)) e ∙ ap allSent (sent-all (systemIn s) r ls m i (drop i xs)))
 
     module _ (a : ℕ) (some : drop i xs ≡ a ∷ drop (i + 1) xs) (v : ℤ) (more : drop i vs ≡ v ∷ drop (i + 1) vs)
-        (q : Served) (k : Step s (sendArgument (systemIn s) r way m i a v) q) (g : Went s (q .state)) where
+        (q : Served) (k : Step s (sendArgument (systemIn s) r ls m i a v) q) (g : Went s (q .state)) where
       abbrev After : System → Res System
-      After x = sendArguments x r way m (suc i) (drop (i + 1) xs) (drop (i + 1) vs)
+      After x = sendArguments x r ls m (suc i) (drop (i + 1) xs) (drop (i + 1) vs)
 
       go-on : All ≡ allSent (try (servedAs q) (λ x. After (x .0)))
       go-on =
           sym (w .rest) ∙ ap (λ (ys : List ℕ). Rest (systemIn s) i ys (drop i vs)) some ∙ ap (Rest (systemIn s) i (a ∷ drop (i + 1) xs)) more
-          ∙ ap allSent (send-step (systemIn s) r way m i a (drop (i + 1) xs) v (drop (i + 1) vs) ∙ ap (λ (y : Res (System × Result)). try y (λ x. After (x .0))) (sym (k .is)))
+          ∙ ap allSent (send-step (systemIn s) r ls m i a (drop (i + 1) xs) v (drop (i + 1) vs) ∙ ap (λ (y : Res (System × Result)). try y (λ x. After (x .0))) (sym (k .is)))
 
       pub sends-stop : isAccepted (q .answer) ≡ false → Done q
       sends-stop z = record {
@@ -307,8 +363,8 @@ module _ (s₀ : State) (r : ℕ) (way : List ℕ) (m : ℕ) (xs : List ℕ) (vs
         went = went-on s₀ s (q .state) (w .went) g;
       }
         where
-          stopped : (y : Answer) → isAccepted y ≡ false → servedWith (systemIn (q .state)) (outcomeOf y) ≡ allSent (try (servedWith (systemIn (q .state)) (outcomeOf y)) (λ x. After (x .0)))
-          stopped = only-refused (λ (y : Answer). servedWith (systemIn (q .state)) (outcomeOf y) ≡ allSent (try (servedWith (systemIn (q .state)) (outcomeOf y)) (λ x. After (x .0)))) (λ e. refl)
+          stopped : (y : Outcome) → isAccepted y ≡ false → servedWith (systemIn (q .state)) (outcomeOf y) ≡ allSent (try (servedWith (systemIn (q .state)) (outcomeOf y)) (λ x. After (x .0)))
+          stopped = only-refused (λ (y : Outcome). servedWith (systemIn (q .state)) (outcomeOf y) ≡ allSent (try (servedWith (systemIn (q .state)) (outcomeOf y)) (λ x. After (x .0)))) (λ e. refl)
 
       pub sends-next : isAccepted (q .answer) ≡ true → Sends (q .state) (i + 1)
       sends-next z = record {

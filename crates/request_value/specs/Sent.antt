@@ -5,18 +5,20 @@ use mathlib.Core.List.{List, map}
 use Prim.Native.Nat.{ℕ, _≤_}
 use lib.IntN.{ℤ}
 use lib.ListN.{take}
-use Rattle.spec_model.specs.Basics.{Res, ok, try, named}
+use Rattle.spec_model.specs.Basics.{Res, refuse, ok, try, named}
 use Rattle.spec_model.specs.Table.{typeAt, argumentAt, isRef}
 use Rattle.spec_model.specs.Requests.{System, Result, nothing, send, passLayers}
 use Rattle.table_record.specs.declared.Method.{Method}
 use Rattle.state_record.specs.Whole.{Whole as State}
 use Rattle.state_record.specs.Sound.{Sound}
-use Rattle.request_common.specs.declared.Answer.{Answer}
-use Rattle.request_common.specs.declared.Answer.the-variants.{Refused, Pair, Number, Nothing}
+use Rattle.request_common.specs.declared.Outcome.{Outcome}
+use Rattle.request_common.specs.declared.Outcome.the-variants.{Refused, Pair, Number, Nothing}
 use Rattle.request_common.specs.Served.{Done as Served}
 use Rattle.request_common.specs.Served.{servedAs, Stored}
+use Rattle.request_value.specs.declared.Numbers.{Numbers}
+use Rattle.request_value.specs.declared.Numbers.the-variants as numbers
 
-abbrev pub isAccepted : Answer → Bool
+abbrev pub isAccepted : Outcome → Bool
 isAccepted (Refused e) = false
 isAccepted (Pair a b) = true
 isAccepted (Number v) = true
@@ -28,9 +30,9 @@ argumentsOf x = take (x .count) (x .args)
 
 -- Argument i, whose type in the cell type's signature is a: what `sendArguments` does with it before it goes on.
 abbrev pub sendArgument : System → ℕ → List ℕ → ℕ → ℕ → ℕ → ℤ → Res (System × Result)
-sendArgument s r way m i a v = elim (isRef (typeAt (s .table) a .rep)) [
-  | true ↦ send s r (named v) (map (argumentAt (s .table) m i) way)
-  | false ↦ try (passLayers true (s .table) v (map (argumentAt (s .table) m i) way)) λ _. ok (s, nothing)
+sendArgument s r ls m i a v = elim (isRef (typeAt (s .table) a .rep)) [
+  | true ↦ send s r (named v) (map (argumentAt (s .table) m i) ls)
+  | false ↦ try (passLayers true (s .table) v (map (argumentAt (s .table) m i) ls)) λ _. ok (s, nothing)
 ]
 
 abbrev pub allSent : Res System → Res (System × Result)
@@ -48,3 +50,9 @@ pub record Sent (s : State) (m : Res (System × Result)) (q : Served) : Type 0 w
   pub stored : Stored s (q .state)
   pub sound : Sound (q .state)
   pub went : Went s (q .state)
+
+-- What is known of all arguments, sent from s, by their numbers alone; nothing where one is a reference.
+abbrev pub Passes : System → Res System → Numbers → Type 0
+Passes s m (numbers.Refused e) = (m ≡ refuse e) × (e ≡ 0 → ⊥)
+Passes s m numbers.Passed = m ≡ ok s
+Passes s m numbers.Reference = Unit {0}

@@ -7,21 +7,21 @@ ghost use lib.IntN.{pos};
 ghost use lib.ListN.{getD};
 ghost use Rattle.spec_model.specs.Basics.{named};
 ghost use Rattle.spec_model.specs.Table.{typeAt, isRef};
-ghost use Rattle.spec_model.specs.Requests.{noCell, send, sendArguments};
+ghost use Rattle.spec_model.specs.Requests.{noCell, send, sendArguments, maxCells};
 ghost use Rattle.table_record.specs.Store.{tableIn};
 ghost use Rattle.table_record.specs.Limits.{Limits};
-ghost use Rattle.state_record.specs.Whole.{whole};
+ghost use Rattle.state_record.specs.Whole.{Whole, whole};
 ghost use Rattle.state_record.specs.View.{cellOf, cellsIn, systemIn};
 ghost use Rattle.state_record.specs.Sound.{Sound};
-ghost use Rattle.crossing_layers.specs.Carried.{wayIn, targetsIn};
+ghost use Rattle.crossing_layers.specs.Carried.{callLayersIn, targetsIn, maxLayers};
 ghost use Rattle.request_common.specs.Served.{Step, done};
-ghost use Rattle.request_value.specs.Sent.{isAccepted, argumentsOf, sendArgument, allSent, Went, Sent};
+ghost use Rattle.request_value.specs.Sent.{isAccepted, argumentsOf, sendArgument, allSent, Went, Sent, Passes};
 use base_numbers::index_of;
 use base_numbers::wide;
+use crossing_layers::CallLayers;
 use crossing_layers::Slot;
 use crossing_layers::Targets;
-use crossing_layers::Way;
-use request_common::Answer;
+use request_common::Outcome;
 use request_common::Served;
 use state_record::Cell;
 use state_record::Cells;
@@ -44,7 +44,7 @@ fn from_zero(v: i64) -> i64
 // The cell that v names. Where it names none it is read as one of zeros, as in the model. No state that passed the check comes to that (H6, C5), but `Sound`
 // says nothing of signatures.
 fn named_cell(cs: Cells, v: i64) -> Cell
-    requires { ⌜ cs .count ≤ 256 ⌝ }
+    requires { ⌜ cs .count ≤ maxCells ⌝ }
     ensures { λ r. ⌜ cellOf r ≡ getD (cellsIn cs) (named v) noCell ⌝ }
 {
     let k = index_of(from_zero(v), cs.count);
@@ -53,7 +53,7 @@ fn named_cell(cs: Cells, v: i64) -> Cell
     }
     Cell {
         holder: 0,
-        sort: 0,
+        ty: 0,
         place: 0,
     }
 }
@@ -72,8 +72,10 @@ pub fn is_ref(types: &[u8; TYPE_BYTES], c: Counts, a: usize) -> bool
 
 // The reference in the cell that v names crosses to each target and becomes a cell of r (C11, C17; A8, A10).
 pub fn send(types: &mut [u8; TYPE_BYTES], s: State, r: usize, v: i64, targets: Targets) -> Served
-    requires { ⌜ Sound (whole (now types) s) × (0 < s .places .count) × (0 < s .counts .types) × (r < 256) × (targets .count ≤ 129) ⌝ }
-    ensures { λ q. ⌜ Step (whole (now (types .entry)) s) (send (systemIn (whole (now (types .entry)) s)) r (named v) (targetsIn targets)) (done (now (types .exit)) q) × Went (whole (now (types .entry)) s) (whole (now (types .exit)) (q .state)) ⌝ }
+    requires { ⌜ Sound (whole (now types) s) × (0 < s .places .count) × (0 < s .counts .types) × (r < 256) × (targets .count ≤ maxLayers) ⌝ }
+    ensures { λ q. ⌜ Step (whole (now (types .entry)) s) (send (systemIn (whole (now (types .entry)) s)) r (named v) (targetsIn targets))
+        (done (now (types .exit)) q)
+        × Went (whole (now (types .entry)) s) (whole (now (types .exit)) (q .state)) ⌝ }
 {
     let c = named_cell(s.cells, v);
     let links = s.links;
@@ -84,7 +86,7 @@ pub fn send(types: &mut [u8; TYPE_BYTES], s: State, r: usize, v: i64, targets: T
         &links,
         counts,
         ps,
-        wide(c.sort),
+        wide(c.ty),
         wide(c.place),
         targets,
         r,
@@ -92,21 +94,21 @@ pub fn send(types: &mut [u8; TYPE_BYTES], s: State, r: usize, v: i64, targets: T
     if x.refusal != 0 {
         return request_common::refused(s, x.refusal);
     }
-    request_common::add_cell(s, x.types, x.places, r, x.sort, x.place)
+    request_common::add_cell(s, x.types, x.places, r, x.ty, x.place)
 }
 
 // Whether a request was accepted.
-pub fn accepted(a: Answer) -> bool
+pub fn accepted(a: Outcome) -> bool
     ensures { λ r. ⌜ r ≡ isAccepted a ⌝ }
 {
     match a {
-        Answer::Refused(_) => false,
-        Answer::Pair {
+        Outcome::Refused(_) => false,
+        Outcome::Pair {
             first: _,
             second: _,
         } => true,
-        Answer::Number(_) => true,
-        Answer::Nothing => true,
+        Outcome::Number(_) => true,
+        Outcome::Nothing => true,
     }
 }
 
@@ -115,14 +117,16 @@ fn send_argument(
     types: &mut [u8; TYPE_BYTES],
     s: State,
     r: usize,
-    w: Way,
+    w: CallLayers,
     m: usize,
     i: usize,
     a: usize,
     v: i64,
 ) -> Served
-    requires { ⌜ Sound (whole (now types) s) × (0 < s .places .count) × (0 < s .counts .types) × (r < 256) × (w .count ≤ 129) ⌝ }
-    ensures { λ q. ⌜ Step (whole (now (types .entry)) s) (sendArgument (systemIn (whole (now (types .entry)) s)) r (wayIn w) m i a v) (done (now (types .exit)) q) × Went (whole (now (types .entry)) s) (whole (now (types .exit)) (q .state)) ⌝ }
+    requires { ⌜ Sound (whole (now types) s) × (0 < s .places .count) × (0 < s .counts .types) × (r < 256) × (w .count ≤ maxLayers) ⌝ }
+    ensures { λ q. ⌜ Step (whole (now (types .entry)) s) (sendArgument (systemIn (whole (now (types .entry)) s)) r (callLayersIn w) m i a v)
+        (done (now (types .exit)) q)
+        × Went (whole (now (types .entry)) s) (whole (now (types .exit)) (q .state)) ⌝ }
 {
     let c = s.counts;
     let targets = crossing_layers::targets_of(types, c, m, Slot::Argument(i), w);
@@ -134,9 +138,49 @@ fn send_argument(
         return request_common::refused(s, e);
     }
     Served {
-        answer: Answer::Nothing,
+        answer: Outcome::Nothing,
         state: s,
     }
+}
+
+// What the arguments come to before any is sent: the refusal of a number; all passed, and none is a reference; or a reference is met, and nothing is said.
+pub enum Numbers {
+    Refused(usize),
+    Passed,
+    Reference,
+}
+
+// The numbers in front of the first reference, by the types as they are: they change nothing, so no state is needed (C8, C10, C14).
+pub fn pass_numbers(
+    types: &[u8; TYPE_BYTES],
+    c: Counts,
+    w: CallLayers,
+    m: usize,
+    x: Method,
+    vs: &[i64],
+) -> Numbers
+    requires { ⌜ Limits c × (w .count ≤ maxLayers) ⌝ }
+    ensures { λ q. ⌜ ((s : Whole) (r : ℕ) → s .types ≡ now (types .entry) → s .counts ≡ c
+        → Passes (systemIn s) (sendArguments (systemIn s) r (callLayersIn w) m 0 (argumentsOf x) (now (vs .entry))) q) ⌝ }
+{
+    let n = vs.len();
+    let mut i: usize = 0;
+    while i < n {
+        let a = crossing_layers::argument_in(x, i);
+        if a == 0 {
+            return Numbers::Passed;
+        }
+        if is_ref(types, c, a - 1) {
+            return Numbers::Reference;
+        }
+        let targets = crossing_layers::targets_of(types, c, m, Slot::Argument(i), w);
+        let e = crossing_layers::pass(types, c, vs[i], targets);
+        if e != 0 {
+            return Numbers::Refused(e);
+        }
+        i += 1;
+    }
+    Numbers::Passed
 }
 
 // The arguments in order, each before the next is begun (C10, C17).
@@ -144,13 +188,14 @@ pub fn send_arguments(
     types: &mut [u8; TYPE_BYTES],
     s: State,
     r: usize,
-    w: Way,
+    w: CallLayers,
     m: usize,
     x: Method,
     vs: &[i64],
 ) -> Served
-    requires { ⌜ Sound (whole (now types) s) × (0 < s .places .count) × (0 < s .counts .types) × (r < 256) × (w .count ≤ 129) ⌝ }
-    ensures { λ q. ⌜ Sent (whole (now (types .entry)) s) (allSent (sendArguments (systemIn (whole (now (types .entry)) s)) r (wayIn w) m 0 (argumentsOf x) (now (vs .entry)))) (done (now (types .exit)) q) ⌝ }
+    requires { ⌜ Sound (whole (now types) s) × (0 < s .places .count) × (0 < s .counts .types) × (r < 256) × (w .count ≤ maxLayers) ⌝ }
+    ensures { λ q. ⌜ Sent (whole (now (types .entry)) s)
+        (allSent (sendArguments (systemIn (whole (now (types .entry)) s)) r (callLayersIn w) m 0 (argumentsOf x) (now (vs .entry)))) (done (now (types .exit)) q) ⌝ }
 {
     let n = vs.len();
     let mut at = s;
@@ -159,7 +204,7 @@ pub fn send_arguments(
         let a = crossing_layers::argument_in(x, i);
         if a == 0 {
             return Served {
-                answer: Answer::Nothing,
+                answer: Outcome::Nothing,
                 state: at,
             };
         }
@@ -172,7 +217,7 @@ pub fn send_arguments(
         i += 1;
     }
     Served {
-        answer: Answer::Nothing,
+        answer: Outcome::Nothing,
         state: at,
     }
 }

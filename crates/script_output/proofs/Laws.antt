@@ -10,6 +10,7 @@ use borrow.Rule.Slice.PartMut.{midOf, putMid}
 use Rattle.spec_model.specs.Basics.{refuse}
 use Rattle.spec_model.specs.Table.{isNone}
 use Rattle.spec_model.specs.Requests.{System, Request, refused, serve, after, outcome}
+use Rattle.spec_model.specs.Refusals.{form}
 use Rattle.spec_sheet.specs.Lines.{Row, row, cut, bytes, split, firstLine}
 use Rattle.spec_sheet.proofs.Steps.{none-some}
 use Rattle.state_record.specs.Whole.{Whole as State}
@@ -73,7 +74,7 @@ module _ (s : State) (rest : List ℕ) (at : ℕ) (l : List ℕ) (h : LineAt res
       go : (o : Option Request) → requestLine l ≡ o
           → linesFrom (systemIn s) (split (drop at rest)) ≡ outcomeText (outcomeOf (r .answer)) ∷ linesFrom (systemIn (r .state)) (split (drop next rest))
       go none e =
-          let m : serveAsked (systemIn s) (askedAs q) ≡ refuse 1 = ap (serveAsked (systemIn s)) (a .is ∙ e) in
+          let m : serveAsked (systemIn s) (askedAs q) ≡ refuse form = ap (serveAsked (systemIn s)) (a .is ∙ e) in
           let o : refused 1 ≡ outcomeOf (r .answer) = ap outcome (sym m) ∙ outcome-is s _ r t in
           let w : q .right ≡ false = a .right ∙ ap (λ z. not (isNone z)) e in
           let d : drop next rest ≡ [] = ap (λ z. drop z rest) (n ∙ ap (λ z. cond z (at + (length l + 1)) (length rest)) w) ∙ drop-of-length-le rest {i = length rest} (omega arith) in

@@ -16,10 +16,11 @@ use Rattle.spec_model.specs.Basics.{Res, refuse, ok, try, need, names, named}
 use Rattle.spec_model.specs.Table.{typeAt, isRef, isAvail, isClass, answerAt, methodAt}
 use Rattle.spec_model.specs.Crossing.{object, maxPlaces, baseOwner, Reference, cross}
 use Rattle.spec_model.specs.Requests.{System, Request, new, move, call, answer, Result, pair, number, nothing, got, outcome, maxCells, maxCalls, cellAt, callAt, isSheetRef, held, leaving}
-use Rattle.spec_model.specs.Requests.{addCell, newRequest, moveRequest, wayOf, crossLayers, passLayers, send, argumentsHeld, sendArguments, callRequest, withAnswer, give, answerRequest, serve}
+use Rattle.spec_model.specs.Requests.{addCell, newRequest, moveRequest, callLayers, crossLayers, passLayers, send, argumentsHeld, sendArguments, callRequest, withAnswer, give, answerRequest, serve}
 use Rattle.spec_model.specs.Requests.{after, run}
 use Rattle.spec_model.specs.Requests.{loaded as start}
 use Rattle.spec_model.specs.Claim.{follow}
+use Rattle.spec_model.specs.Refusals.{unknownSubject, notHeld, unknownType, placesFull, cellsFull, notCallable, wrongValues, answeredAlready, callsFull}
 use Rattle.law_model.proofs.Steps.{IfOk, ok-need, ok-try, whatever}
 use Rattle.law_model.proofs.Checked.{Bounded, fits-bounded, bounded-kept}
 use Rattle.law_model.proofs.Reached.{reached-fits}
@@ -76,7 +77,7 @@ Q q x = Given q (x .1)
 
 cell-gives : (q : Request) (s : System) (r : ℕ) (f : Reference) → IfOk (addCell s r f) (Q q)
 unfolding addCell
-cell-gives q s r f = ok-need _ (ltb (length (s .cells)) maxCells) 13 _ λ _. tt
+cell-gives q s r f = ok-need _ (ltb (length (s .cells)) maxCells) cellsFull _ λ _. tt
 
 send-gives : (q : Request) (s : System) (r k : ℕ) (ts : List (Option ℕ)) → IfOk (send s r k ts) (Q q)
 unfolding send
@@ -90,13 +91,13 @@ give-gives s subject i j (some a) none = tt
 give-gives s subject i j (some a) (some v) = go (isRef (typeAt (s .table) a .rep))
   where
     ts : List (Option ℕ)
-    ts = reverse (map (answerAt (s .table) (callAt s j .method)) (wayOf s (cellAt s (callAt s j .cell))))
+    ts = reverse (map (answerAt (s .table) (callAt s j .method)) (callLayers s (cellAt s (callAt s j .cell))))
 
     go : (b : Bool) → IfOk {A = System × Result} (elim b [
-      | true ↦ need (held s subject v) 15 λ _. try (send s (callAt s j .caller) (named v) ts) λ x. ok (withAnswer (x .0) j, x .1)
+      | true ↦ need (held s subject v) wrongValues λ _. try (send s (callAt s j .caller) (named v) ts) λ x. ok (withAnswer (x .0) j, x .1)
       | false ↦ try (passLayers true (s .table) v ts) λ _. ok (withAnswer s j, number v)
     ]) (Q (answer subject i (some v)))
-    go true = let q = answer subject i (some v) in ok-need (Q q) (held s subject v) 15 _ λ _.
+    go true = let q = answer subject i (some v) in ok-need (Q q) (held s subject v) wrongValues _ λ _.
         ok-try (Q q) (Q q) (send s (callAt s j .caller) (named v) ts) _ (send-gives q s (callAt s j .caller) (named v) ts) λ x h. h
     go false = ok-try (λ _. Unit {0}) (Q (answer subject i (some v))) (passLayers true (s .table) v ts) _ (whatever (passLayers true (s .table) v ts)) λ _ _. refl
 
@@ -104,32 +105,32 @@ serve-gives : (s : System) (q : Request) → IfOk (serve s q) (Q q)
 unfolding serve newRequest moveRequest callRequest answerRequest
 serve-gives s (new subject class to) =
     let f : Reference = record { table = s .table; places = s .places ++ (object (named class) (named subject) ∷ []); type = named class; place = length (s .places) } in
-    ok-need _ (names subject (s .table .subjects)) 5 _ λ _.
-    ok-need _ (names class (s .table .sheet) && isClass (typeAt (s .table) (named class))) 7 _ λ _.
-    ok-need _ (isSheetRef (s .table) to) 7 _ λ _.
-    ok-need _ (ltb (length (s .places)) maxPlaces) 12 _ λ _.
+    ok-need _ (names subject (s .table .subjects)) unknownSubject _ λ _.
+    ok-need _ (names class (s .table .sheet) && isClass (typeAt (s .table) (named class))) unknownType _ λ _.
+    ok-need _ (isSheetRef (s .table) to) unknownType _ λ _.
+    ok-need _ (ltb (length (s .places)) maxPlaces) placesFull _ λ _.
     let crossed = cross f (named to) (named subject) in
     ok-try (λ _. Unit {0}) _ crossed _ (whatever crossed) λ g _. cell-gives (new subject class to) s (named subject) g
 serve-gives s (move subject k receiver to) =
-    ok-need _ (names subject (s .table .subjects) && names receiver (s .table .subjects)) 5 _ λ _.
-    ok-need _ (held s subject k) 6 _ λ _.
-    ok-need _ (isSheetRef (s .table) to) 7 _ λ _.
+    ok-need _ (names subject (s .table .subjects) && names receiver (s .table .subjects)) unknownSubject _ λ _.
+    ok-need _ (held s subject k) notHeld _ λ _.
+    ok-need _ (isSheetRef (s .table) to) unknownType _ λ _.
     let crossed = cross (leaving s (named k)) (named to) (named receiver) in
     ok-try (λ _. Unit {0}) _ crossed _ (whatever crossed) λ g _. cell-gives (move subject k receiver to) s (named receiver) g
 serve-gives s (call subject k m vs) =
     let c = cellAt s (named k) in let f = methodAt (s .table) (c .type) (named m) in
-    let sent = sendArguments s (baseOwner (s .places) (c .place)) (wayOf s c) (named m) 0 (f .args) vs in
-    ok-need _ (names subject (s .table .subjects)) 5 _ λ _.
-    ok-need _ (held s subject k) 6 _ λ _.
-    ok-need _ (names m (s .table .methods) && isAvail (f .state)) 14 _ λ _.
-    ok-need _ (argumentsHeld s subject (f .args) vs) 15 _ λ _.
-    ok-need _ (ltb (length (s .calls)) maxCalls) 18 _ λ _.
+    let sent = sendArguments s (baseOwner (s .places) (c .place)) (callLayers s c) (named m) 0 (f .args) vs in
+    ok-need _ (names subject (s .table .subjects)) unknownSubject _ λ _.
+    ok-need _ (held s subject k) notHeld _ λ _.
+    ok-need _ (names m (s .table .methods) && isAvail (f .state)) notCallable _ λ _.
+    ok-need _ (argumentsHeld s subject (f .args) vs) wrongValues _ λ _.
+    ok-need _ (ltb (length (s .calls)) maxCalls) callsFull _ λ _.
     ok-try (λ _. Unit {0}) _ sent _ (whatever sent) λ _ _. tt
 serve-gives s (answer subject j v) =
     let c = cellAt s (callAt s (named j) .cell) in
-    ok-need _ (names subject (s .table .subjects)) 5 _ λ _.
-    ok-need _ (names j (length (s .calls)) && eqb (named subject) (baseOwner (s .places) (c .place))) 6 _ λ _.
-    ok-need _ (not (callAt s (named j) .answered)) 17 _ λ _.
+    ok-need _ (names subject (s .table .subjects)) unknownSubject _ λ _.
+    ok-need _ (names j (length (s .calls)) && eqb (named subject) (baseOwner (s .places) (c .place))) notHeld _ λ _.
+    ok-need _ (not (callAt s (named j) .answered)) answeredAlready _ λ _.
     give-gives s subject j (named j) (answerAt (s .table) (callAt s (named j) .method) (c .type)) v
 
 serve-few : (s : System) → Bounded s → (q : Request) → IfOk (serve s q) (λ x. Few q (x .1))

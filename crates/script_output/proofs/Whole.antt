@@ -15,6 +15,7 @@ use Rattle.spec_model.specs.Requests.{System, Request, serve, after, outcome, r
 use Rattle.spec_model.specs.Requests.{loaded as start}
 use Rattle.table_record.specs.declared.Counts.{Counts}
 use Rattle.table_record.specs.Store.{tableIn}
+use Rattle.table_record.specs.Layout.{typesSize}
 use Rattle.table_check.proofs.Accepted.{accepted-checked}
 use Rattle.spec_sheet.specs.Lines.{Row, row, cut, bytes, split, join}
 use Rattle.spec_sheet.specs.Text.{numberText}
@@ -88,7 +89,7 @@ module _ (s : List ℕ) where
         ∙ ap (λ i. join (printedLines (read (take i s)) (split (drop i s)))) w ∙ rw (le-ltb maxInput (length s) l)
 
     module _ (z : x .refusal ≡ 0) where
-      pub served-sound : length (x .types) ≡ 16384 → (st : Rest) → st ≡ stateLoaded (x .links) (x .counts) → Sound (whole (x .types) st)
+      pub served-sound : length (x .types) ≡ typesSize → (st : Rest) → st ≡ stateLoaded (x .links) (x .counts) → Sound (whole (x .types) st)
       served-sound long st q = subst (λ (y : Rest). Sound (whole (x .types) y)) (sym q)
           (loaded-sound (x .types) (x .links) (x .counts) long (accepted-checked (x .types) (x .links) (x .counts) (read-accepted (take e s) x h z)))
 

@@ -2,18 +2,20 @@
 // (specs/Output.antt).
 // Each line is written behind the one before it, in one lent buffer (F2).
 use base_numbers::least;
-use request_common::Answer;
+use base_numbers::refusal;
+use request_common::Outcome;
 use request_common::Served;
 use request_common::refused;
 use script_read_request::Asked;
 use script_read_request::read_request;
-use script_write_outcome::write_answer;
+use script_write_outcome::write_outcome;
 use state_record::State;
 use table_record::TYPE_BYTES;
 use text_cursor::Cursor;
 use text_cursor::between;
 use text_cursor::next_line;
 use text_read::is_word;
+use text_write::Wrote;
 use text_write::write_number;
 use text_write::write_word;
 ghost use mathlib.Core.Path.{_≡_};
@@ -32,21 +34,15 @@ ghost use Rattle.request_common.specs.Served.{Step, done};
 ghost use Rattle.request_by_code.specs.Coded.{serveAsked};
 ghost use Rattle.script_read_request.specs.Read.{askedAs};
 ghost use Rattle.text_write.specs.Fill.{Filled, Lined};
+ghost use Rattle.text_write.specs.Written.{writtenOf};
 ghost use Rattle.script_output.specs.Output.{sheetEnd, scriptOutput};
 ghost use Rattle.script_output.specs.Parts.{linesFrom};
-ghost use Rattle.script_output.specs.Answer.{writtenOf};
 
 // The longest input that is read (P1).
 pub const INPUT_BYTES: usize = 32768;
 
 // Room for what is printed: no output is longer than its input and five bytes (proofs/Short.antt).
-pub const PRINTED_BYTES: usize = 32773;
-
-// What became of the buffer. specs/Answer.antt gives the number for each case.
-pub enum Wrote {
-    ShortBuffer,
-    Length(usize),
-}
+pub const PRINTED_BYTES: usize = INPUT_BYTES + 5;
 
 // Where the sheet ends (P2). A line that no LF ends is the last one: the cursor stays in front of it.
 fn sheet_end(s: &[u8]) -> usize
@@ -76,7 +72,7 @@ fn serve_asked(types: &mut [u8; TYPE_BYTES], s: State, q: Asked) -> Served
     ensures { λ r. ⌜ Step (whole (now (types .entry)) s) (serveAsked (systemIn (whole (now (types .entry)) s)) (askedAs q)) (done (now (types .exit)) r) ⌝ }
 {
     if !q.right {
-        return refused(s, 1);
+        return refused(s, refusal::FORM);
     }
     let items = q.items;
     let count = q.count;
@@ -101,7 +97,7 @@ fn serve_lines(buf: &mut [u8], types: &mut [u8; TYPE_BYTES], s: State, rest: &[u
 {
     // what came of the last line, kept whole: a state taken out of it would be copied once more
     let mut r = Served {
-        answer: Answer::Nothing,
+        answer: Outcome::Nothing,
         state: s,
     };
     let mut written: usize = 0;
@@ -115,7 +111,7 @@ fn serve_lines(buf: &mut [u8], types: &mut [u8; TYPE_BYTES], s: State, rest: &[u
         r = serve_asked(types, r.state, q);
         let answer = r.answer;
         let k = least(written, buf.len());
-        let more = write_answer(&mut buf[k..], answer);
+        let more = write_outcome(&mut buf[k..], answer);
         written += more;
         at = behind(right, d.at, rest.len());
     }
@@ -148,7 +144,7 @@ pub fn script(s: &[u8], buf: &mut [u8]) -> Wrote
     }
     let need = put_script(&mut buf[..0], s);
     if buf.len() < need {
-        return Wrote::ShortBuffer;
+        return Wrote::Refused(refusal::SHORT_BUFFER);
     }
     Wrote::Length(put_script(buf, s))
 }

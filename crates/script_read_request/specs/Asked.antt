@@ -1,4 +1,4 @@
--- What a line behind the sheet asks (P4 to P11, P14): a request, or nothing where the line is malformed.
+-- What a line behind the sheet asks (P4 to P11): a request, or nothing where the line is malformed.
 use mathlib.Core.Bool.{_&&_, cond}
 use mathlib.Core.List.{List, [], _∷_, _++_}
 use mathlib.Core.Option.{Option, none}

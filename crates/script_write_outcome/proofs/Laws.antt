@@ -10,8 +10,8 @@ use lib.IntN.{ℤ, pos, negsuc, natAbs, _+ℤ_, _-ℤ_}
 use lib.Signed.{ltZ}
 use mir.Syntax.{w64}
 use mir.Val.{SFits}
-use Rattle.request_common.specs.declared.Answer.{Answer}
-use Rattle.request_common.specs.declared.Answer.the-variants.{Refused, Pair, Number, Nothing}
+use Rattle.request_common.specs.declared.Outcome.{Outcome}
+use Rattle.request_common.specs.declared.Outcome.the-variants.{Refused, Pair, Number, Nothing}
 use Rattle.request_common.specs.Served.{outcomeOf}
 use borrow.Author.Tests.{ltb-true, lt-ltb}
 use Rattle.spec_model.specs.Requests.{pair, number, got}
@@ -62,16 +62,16 @@ unfolding outcomeText
 number-is v w e = ap (λ z. (bytes "got=" ++ integerText z) ++ 10 ∷ []) e
 
 -- ---- the variants of an answer
-pub refused-is : (a : Answer) (e : ℕ) → a ≡ Refused e → numberText (bytes "no=") e ∷ [] ≡ outcomeText (outcomeOf a) ∷ []
+pub refused-is : (a : Outcome) (e : ℕ) → a ≡ Refused e → numberText (bytes "no=") e ∷ [] ≡ outcomeText (outcomeOf a) ∷ []
 unfolding outcomeText
 refused-is a e h = ap (λ z. outcomeText (outcomeOf z) ∷ []) (sym h)
 
-pub paired-is : (a : Answer) (x y : ℕ) → a ≡ Pair x y → outcomeText (got (pair x y)) ∷ [] ≡ outcomeText (outcomeOf a) ∷ []
+pub paired-is : (a : Outcome) (x y : ℕ) → a ≡ Pair x y → outcomeText (got (pair x y)) ∷ [] ≡ outcomeText (outcomeOf a) ∷ []
 paired-is a x y h = ap (λ z. outcomeText (outcomeOf z) ∷ []) (sym h)
 
-pub numbered-is : (a : Answer) (v w : ℤ) → a ≡ Number v → w ≡ v → outcomeText (got (number w)) ∷ [] ≡ outcomeText (outcomeOf a) ∷ []
+pub numbered-is : (a : Outcome) (v w : ℤ) → a ≡ Number v → w ≡ v → outcomeText (got (number w)) ∷ [] ≡ outcomeText (outcomeOf a) ∷ []
 numbered-is a v w h e = ap (λ z. outcomeText (got (number z)) ∷ []) e ∙ ap (λ z. outcomeText (outcomeOf z) ∷ []) (sym h)
 
-pub nothing-is : (a : Answer) → a ≡ Nothing → bytes "got=-" ∷ [] ≡ outcomeText (outcomeOf a) ∷ []
+pub nothing-is : (a : Outcome) → a ≡ Nothing → bytes "got=-" ∷ [] ≡ outcomeText (outcomeOf a) ∷ []
 unfolding outcomeText
 nothing-is a h = ap (λ z. outcomeText (outcomeOf z) ∷ []) (sym h)

@@ -1,6 +1,6 @@
 // The line that `script` prints for what a request came to (P12, P13). Each piece is written behind the one before it, in one lent buffer (F2).
 use base_numbers::least;
-use request_common::Answer;
+use request_common::Outcome;
 use text_write::put_byte;
 use text_write::put_bytes;
 use text_write::put_decimal;
@@ -64,14 +64,14 @@ fn write_integer(buf: &mut [u8], v: i64) -> usize
 }
 
 // The line of an answer.
-pub fn write_answer(buf: &mut [u8], a: Answer) -> usize
+pub fn write_outcome(buf: &mut [u8], a: Outcome) -> usize
     ensures is { λ r. ⌜ Lined (now (buf .entry)) (now (buf .exit)) (outcomeText (outcomeOf a) ∷ []) r ⌝ }
     ensures few { λ r. ⌜ r ≤ 73 ⌝ }
 {
     match a {
-        Answer::Refused(e) => write_number(buf, b"no=", e),
-        Answer::Pair { first, second } => write_pair(buf, first, second),
-        Answer::Number(v) => write_integer(buf, v),
-        Answer::Nothing => write_word(buf, b"got=-"),
+        Outcome::Refused(e) => write_number(buf, b"no=", e),
+        Outcome::Pair { first, second } => write_pair(buf, first, second),
+        Outcome::Number(v) => write_integer(buf, v),
+        Outcome::Nothing => write_word(buf, b"got=-"),
     }
 }

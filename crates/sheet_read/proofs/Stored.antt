@@ -12,7 +12,7 @@ use lib.ListN.{length, getD, set, take, replicate, getD-replicate, length-map, L
 use lib.Seq.{sets, getD-set-same, getD-set-other, getD-take, length-take-le, take-suc-set}
 use borrow.Author.Tests.{lt-ltb}
 use Rattle.spec_model.specs.Basics.{from}
-use Rattle.spec_model.specs.Table.{Ty, Rep, Table, size, isRef, Method as Methodᵐ}
+use Rattle.spec_model.specs.Table.{Ty, Rep, Table, size, isRef, Method as Methodᵐ, maxMethods, maxCategories, maxTypes}
 use Rattle.spec_model.specs.Check.{RawType, RawLinks, noRawMethod, noRawLinks, repOf, kindOf, methodOf, linksOf, typeOf}
 use Rattle.spec_model.specs.Records.{typeRecord, linksRecord}
 use Rattle.table_record.specs.declared.Method.{Method}
@@ -26,6 +26,7 @@ use Rattle.table_record.proofs.Lists.{from-last, from-same, is-from, length-fro
 use Rattle.table_record.proofs.Tables.{types-add}
 use Rattle.table_record.proofs.Laws.{absent}
 use Rattle.table_record.proofs.Codes.{number-rep}
+use Rattle.table_record.specs.Layout.{typeSize, linkSize, typesSize, linksSize}
 use Rattle.spec_sheet.specs.Sheet.{sheetType, malformed, loaded}
 use Rattle.sheet_read.specs.declared.Sheet.{Sheet}
 use Rattle.sheet_read.specs.View.{linksTo, methodIs, blankMethod, MethodsExact, answered}
@@ -99,55 +100,55 @@ pub empty-links : emptyLinks ≡ linkBytes []
 unfolding emptyLinks linkBytes padded flatten
 empty-links = refl
 
-pub types-room : (ts : List Ty) → length ts ≤ 128 → length (typeBytes ts) ≡ 16384
+pub types-room : (ts : List Ty) → length ts ≤ maxTypes → length (typeBytes ts) ≡ typesSize
 unfolding typeBytes
-types-room ts h = let l : length (flatten (map bytesOf ts)) ≡ length ts * 128 = flat-length bytesOf 128 bytes-long ts in padded-length 16384 (flatten (map bytesOf ts)) (omega arith)
+types-room ts h = let l : length (flatten (map bytesOf ts)) ≡ length ts * typeSize = flat-length bytesOf typeSize bytes-long ts in padded-length typesSize (flatten (map bytesOf ts)) (omega arith)
 
-pub links-room : (cs : List (List ℕ)) → length cs ≤ 31 → length (linkBytes cs) ≡ 96
+pub links-room : (cs : List (List ℕ)) → length cs ≤ maxCategories → length (linkBytes cs) ≡ linksSize
 unfolding linkBytes
-links-room cs h = let l : length (flatten (map linkBytesOf ([] ∷ cs))) ≡ suc (length cs) * 3 = flat-length linkBytesOf 3 (λ x. refl) ([] ∷ cs) in padded-length 96
+links-room cs h = let l : length (flatten (map linkBytesOf ([] ∷ cs))) ≡ suc (length cs) * linkSize = flat-length linkBytesOf linkSize (λ x. refl) ([] ∷ cs) in padded-length linksSize
     (flatten (map linkBytesOf ([] ∷ cs))) (omega arith)
 
 -- a type more is stored behind i others
-pub types-stored : (ts : List Ty) (t : Ty) (i : ℕ) (x : RawType) (b b′ : List ℕ) → length ts ≡ i → i < 128 → b ≡ typeBytes ts → typeRecord t ≡ x
-    → b′ ≡ sets b (i * 128) (recordBytes x)
+pub types-stored : (ts : List Ty) (t : Ty) (i : ℕ) (x : RawType) (b b′ : List ℕ) → length ts ≡ i → i < maxTypes → b ≡ typeBytes ts → typeRecord t ≡ x
+    → b′ ≡ sets b (i * typeSize) (recordBytes x)
     → b′ ≡ typeBytes (ts ++ t ∷ [])
 unfolding typeBytes
 types-stored ts t i x b b′ n h e r w =
     let all : List ℕ = flatten (map bytesOf ts) in
-    let l : length all ≡ length ts * 128 = flat-length bytesOf 128 bytes-long ts in
-    let k : i * 128 ≡ length all = omega arith in
-    let m : length (bytesOf t) ≡ 128 = bytes-long t in
-    w ∙ ap (λ (z : List ℕ). sets z (i * 128) (recordBytes x)) e ∙ ap (λ (z : RawType). sets (padded 16384 all) (i * 128) (recordBytes z)) (sym r)
-    ∙ ap (λ (z : ℕ). sets (padded 16384 all) z (bytesOf t)) k ∙ padded-next 16384 all (bytesOf t) (omega arith) ∙ ap (padded 16384) (sym (flat-next bytesOf ts t))
+    let l : length all ≡ length ts * typeSize = flat-length bytesOf typeSize bytes-long ts in
+    let k : i * typeSize ≡ length all = omega arith in
+    let m : length (bytesOf t) ≡ typeSize = bytes-long t in
+    w ∙ ap (λ (z : List ℕ). sets z (i * typeSize) (recordBytes x)) e ∙ ap (λ (z : RawType). sets (padded typesSize all) (i * typeSize) (recordBytes z)) (sym r)
+    ∙ ap (λ (z : ℕ). sets (padded typesSize all) z (bytesOf t)) k ∙ padded-next typesSize all (bytesOf t) (omega arith) ∙ ap (padded typesSize) (sym (flat-next bytesOf ts t))
 
 pub type-record : (m n i : ℕ) (x : RawType) → TypeExact m n i x → typeRecord (typeOf m n i x) ≡ x
 unfolding TypeExact
 type-record m n i x e = e
 
 -- and the links of a category behind those of j others
-pub links-stored : (cs : List (List ℕ)) (c : List ℕ) (j : ℕ) (x : RawLinks) (l l′ : List ℕ) → length cs ≡ j → j < 31 → l ≡ linkBytes cs → linksRecord c ≡ x
-    → l′ ≡ sets l ((j + 1) * 3) (linksBytes x) → l′ ≡ linkBytes (cs ++ c ∷ [])
+pub links-stored : (cs : List (List ℕ)) (c : List ℕ) (j : ℕ) (x : RawLinks) (l l′ : List ℕ) → length cs ≡ j → j < maxCategories → l ≡ linkBytes cs → linksRecord c ≡ x
+    → l′ ≡ sets l ((j + 1) * linkSize) (linksBytes x) → l′ ≡ linkBytes (cs ++ c ∷ [])
 unfolding linkBytes
 links-stored cs c j x l l′ n h e r w =
     let all : List ℕ = flatten (map linkBytesOf ([] ∷ cs)) in
-    let m : length all ≡ suc (length cs) * 3 = flat-length linkBytesOf 3 (λ x. refl) ([] ∷ cs) in
-    let k : (j + 1) * 3 ≡ length all = omega arith in
-    w ∙ ap (λ (z : List ℕ). sets z ((j + 1) * 3) (linksBytes x)) e ∙ ap (λ (z : RawLinks). sets (padded 96 all) ((j + 1) * 3) (linksBytes z)) (sym r)
-    ∙ ap (λ (z : ℕ). sets (padded 96 all) z (linkBytesOf c)) k ∙ padded-next 96 all (linkBytesOf c) (omega arith) ∙ ap (padded 96) (sym (flat-next linkBytesOf ([] ∷ cs) c))
+    let m : length all ≡ suc (length cs) * linkSize = flat-length linkBytesOf linkSize (λ x. refl) ([] ∷ cs) in
+    let k : (j + 1) * linkSize ≡ length all = omega arith in
+    w ∙ ap (λ (z : List ℕ). sets z ((j + 1) * linkSize) (linksBytes x)) e ∙ ap (λ (z : RawLinks). sets (padded linksSize all) ((j + 1) * linkSize) (linksBytes z)) (sym r)
+    ∙ ap (λ (z : ℕ). sets (padded linksSize all) z (linkBytesOf c)) k ∙ padded-next linksSize all (linkBytesOf c) (omega arith) ∙ ap (padded linksSize) (sym (flat-next linkBytesOf ([] ∷ cs) c))
 
 pub links-count : (n : ℕ) (ls : List RawLinks) → length (linksTo n ls) ≡ n
 unfolding linksTo
 links-count n ls = length-from (λ k. linksOf (getD ls k noRawLinks)) n 1
 
 -- Methods put in one after the other: at first every byte is 0.
-pub methods-blank : (m : Method) → m ≡ emptyMethod → MethodsExact 0 (replicate 16 m)
+pub methods-blank : (m : Method) → m ≡ emptyMethod → MethodsExact 0 (replicate maxMethods m)
 methods-blank m e = record { exact = λ j h. absurd (omega arith); rest = λ j h l. blank j l }
   where
-    blank : (j : ℕ) → j < 16 → getD (map rawMethod (replicate 16 m)) j noRawMethod ≡ blankMethod
-    blank j l = List·getD-map rawMethod (replicate 16 m) j absent ∙ ap rawMethod (getD-replicate 16 j m absent l ∙ e)
+    blank : (j : ℕ) → j < maxMethods → getD (map rawMethod (replicate maxMethods m)) j noRawMethod ≡ blankMethod
+    blank j l = List·getD-map rawMethod (replicate maxMethods m) j absent ∙ ap rawMethod (getD-replicate maxMethods j m absent l ∙ e)
 
-pub methods-put : (ms : List Method) (j : ℕ) (x : Method) → length ms ≡ 16 → j < 16 → MethodExact (rawMethod x) → MethodsExact j ms → MethodsExact (j + 1) (set ms j x)
+pub methods-put : (ms : List Method) (j : ℕ) (x : Method) → length ms ≡ maxMethods → j < maxMethods → MethodExact (rawMethod x) → MethodsExact j ms → MethodsExact (j + 1) (set ms j x)
 methods-put ms j x l h e w = record { exact = before; rest = λ k p q. other k (λ r. let d : k ≡ j = r in omega arith) ∙ w .rest k (omega arith) q }
   where
     same : getD (map rawMethod (set ms j x)) j noRawMethod ≡ rawMethod x

@@ -5,7 +5,7 @@ use Rattle.table_record.specs.declared.Counts.{Counts}
 use Rattle.table_record.specs.Layout.{emptyTypes, emptyLinks, emptyCounts}
 use Rattle.table_record.specs.Records.{typeBytes, linkBytes, countsOf}
 use Rattle.spec_sheet.specs.Sheet.{SheetAnswer, malformed, loaded}
-use Rattle.sheet_read.specs.declared.Outcome.{Outcome}
+use Rattle.sheet_read.specs.declared.ReadInto.{ReadInto}
 use Rattle.sheet_read.specs.declared.Sheet.{Sheet}
 
 -- The reader's answer for the definition's, every byte of it: the bytes that stand for the table; or number and offset of the refusal, with a table that holds nothing (B21).
@@ -18,5 +18,5 @@ abbrev pub sheetOf : ℕ → ℕ → List ℕ → List ℕ → Counts → Sheet
 sheetOf n at types links counts = record { refusal = n; at = at; types = types; links = links; counts = counts }
 
 -- that answer where the bytes are lent
-abbrev pub outcomeOf : Outcome → List ℕ → List ℕ → Sheet
-outcomeOf r types links = sheetOf (r .refusal) (r .at) types links (r .counts)
+abbrev pub readIntoOf : ReadInto → List ℕ → List ℕ → Sheet
+readIntoOf r types links = sheetOf (r .refusal) (r .at) types links (r .counts)

@@ -16,7 +16,7 @@ use Rattle.sheet_read.specs.declared.Done.the-variants.{Refused, At}
 use Rattle.sheet_read.specs.declared.Front.{Front}
 use Rattle.sheet_read.specs.declared.First.{First}
 use Rattle.sheet_read.specs.declared.First.the-variants.{Refused as Refusedᶠ, At as Atᶠ}
-pub use Rattle.sheet_read.specs.Answer.{answered, sheetOf, outcomeOf}
+pub use Rattle.sheet_read.specs.Answer.{answered, sheetOf, readIntoOf}
 
 -- Several lines of s, read as x; and what holds where they are accepted.
 abbrev pub doneBy : {A : Type 0} → List ℕ → A → Done → Reading A
@@ -34,7 +34,7 @@ firstBy s (Atᶠ f c) = got f (c .at) (split (drop (c .at) s))
 
 abbrev pub FirstWithin : First → Type 0
 FirstWithin (Refusedᶠ k c) = Unit {0}
-FirstWithin (Atᶠ f c) = (f .methods ≤ 16) × (f .cats ≤ 31)
+FirstWithin (Atᶠ f c) = (f .methods ≤ maxMethods) × (f .cats ≤ maxCategories)
 
 -- The broader categories of categories 1 to n.
 unfoldable pub linksTo : ℕ → List RawLinks → List (List ℕ)
@@ -51,7 +51,7 @@ blankMethod = record { state = 0; count = 0; args = 0 ∷ 0 ∷ 0 ∷ 0 ∷ []; 
 -- Of sixteen methods the first m are the records that stand for what they mean, and the bytes of the others are 0.
 pub record MethodsExact (m : ℕ) (ms : List Method) : Type 0 where
   pub exact : (j : ℕ) → j < m → MethodExact (getD (map rawMethod ms) j noRawMethod)
-  pub rest : (j : ℕ) → m ≤ j → j < 16 → getD (map rawMethod ms) j noRawMethod ≡ blankMethod
+  pub rest : (j : ℕ) → m ≤ j → j < maxMethods → getD (map rawMethod ms) j noRawMethod ≡ blankMethod
 
 -- the `under=` line of a category, and the `m=` line of a method
 abbrev pub eachUnder : ℕ → ℕ → Reader (List ℕ)

@@ -6,7 +6,7 @@ ghost use mathlib.Core.Bool.{false};
 ghost use mathlib.Core.List.{List, [], map};
 ghost use Prim.Native.Nat.{ℕ, _≤_, _<_};
 ghost use lib.ListN.{length, take, drop};
-ghost use Rattle.spec_model.specs.Table.{Table};
+ghost use Rattle.spec_model.specs.Table.{Table, maxMethods, maxCategories, maxSheetTypes, maxTypes};
 ghost use Rattle.spec_model.specs.Check.{repOf, typeOf};
 ghost use Rattle.table_record.specs.Store.{typesIn, linksIn, rawOf, typesTo, emptyTypes, emptyLinks, TypeExact};
 ghost use Rattle.table_record.specs.Records.{typeBytes, linkBytes};
@@ -14,8 +14,9 @@ ghost use Rattle.spec_sheet.specs.Lines.{split, bind, times};
 ghost use Rattle.spec_sheet.specs.Sheet.{malformed, sheetAnswer, sheetType, oneType, ending, read as readSheet};
 ghost use Rattle.text_read.specs.View.{reading};
 ghost use Rattle.sheet_read.specs.View.{doneBy, OnDone, firstBy, FirstWithin, linksTo, methodIs, MethodsExact};
-ghost use Rattle.sheet_read.specs.View.{eachUnder, eachMethod, membersRead, first, afterCount, afterFirst, answered, outcomeOf};
+ghost use Rattle.sheet_read.specs.View.{eachUnder, eachMethod, membersRead, first, afterCount, afterFirst, answered, readIntoOf};
 use base_numbers::narrow;
+use base_numbers::refusal;
 use sheet_read_line::UnderGot;
 use table_record::Counts;
 use table_record::Head;
@@ -60,7 +61,7 @@ pub enum First {
 
 // What comes of a sheet that is read into lent bytes: 0, 0 and the counts of the table in them; or the number of a refusal and the byte offset of its line,
 // with counts and bytes of a table that holds nothing.
-pub struct Outcome {
+pub struct ReadInto {
     pub refusal: usize,
     pub at: usize,
     pub counts: Counts,
@@ -77,8 +78,9 @@ pub struct Sheet {
 
 // The `under=` lines of the categories (S22), stored in lent bytes that hold nothing.
 fn links_into(s: &[u8], c: Cursor, cats: usize, l: &mut [u8; LINK_BYTES]) -> Done
-    requires { ⌜ (cats ≤ 31) × (now l ≡ emptyLinks) ⌝ }
-    ensures is { λ r. ⌜ doneBy (now (s .entry)) (linksTo cats (linksIn (now (l .exit)))) r ≡ times (eachUnder cats) cats 1 [] (c .at) (split (drop (c .at) (now (s .entry)))) ⌝ }
+    requires { ⌜ (cats ≤ maxCategories) × (now l ≡ emptyLinks) ⌝ }
+    ensures is { λ r. ⌜ doneBy (now (s .entry)) (linksTo cats (linksIn (now (l .exit)))) r
+        ≡ times (eachUnder cats) cats 1 [] (c .at) (split (drop (c .at) (now (s .entry)))) ⌝ }
     ensures exact { λ r. ⌜ OnDone r (now (l .exit) ≡ linkBytes (linksTo cats (linksIn (now (l .exit))))) ⌝ }
 {
     let mut j: usize = 0;
@@ -101,9 +103,10 @@ fn links_into(s: &[u8], c: Cursor, cats: usize, l: &mut [u8; LINK_BYTES]) -> Don
 
 // The `m=` lines of a type: m of them, of a sheet with n types.
 fn methods_at(s: &[u8], c: Cursor, m: usize, n: usize) -> MethodsGot
-    requires { ⌜ (m ≤ 16) × (n ≤ 48) ⌝ }
-    ensures is { λ r. ⌜ reading (now (s .entry)) (r .refusal) (map methodIs (take m (r .list))) (r .next .at) ≡ times (eachMethod n) m 0 [] (c .at) (split (drop (c .at) (now (s .entry)))) ⌝ }
-    ensures exact { λ r. ⌜ (r .refusal ≡ 0 → MethodsExact m (r .list)) × (length (r .list) ≡ 16) ⌝ }
+    requires { ⌜ (m ≤ maxMethods) × (n ≤ maxSheetTypes) ⌝ }
+    ensures is { λ r. ⌜ reading (now (s .entry)) (r .refusal) (map methodIs (take m (r .list))) (r .next .at)
+        ≡ times (eachMethod n) m 0 [] (c .at) (split (drop (c .at) (now (s .entry)))) ⌝ }
+    ensures exact { λ r. ⌜ (r .refusal ≡ 0 → MethodsExact m (r .list)) × (length (r .list) ≡ maxMethods) ⌝ }
 {
     let none = Method::empty();
     let mut list = [none; Counts::METHODS];
@@ -141,7 +144,7 @@ fn no_type(refusal: usize, next: Cursor) -> TypeGot
 
 // The head of a sheet type: kind, left and right are 0 (B14).
 fn sheet_head(rep: usize, cat: usize, own: usize) -> Head
-    requires { ⌜ (rep ≤ 2) × (cat ≤ 31) × (own ≤ 1) ⌝ }
+    requires { ⌜ (rep ≤ 2) × (cat ≤ maxCategories) × (own ≤ 1) ⌝ }
     ensures { λ r. ⌜ r ≡ record { rep = rep; cat = cat; own = own; kind = 0; left = 0; right = 0 } ⌝ }
 {
     Head {
@@ -156,7 +159,7 @@ fn sheet_head(rep: usize, cat: usize, own: usize) -> Head
 
 // A number type: neither own nor methods (B15).
 fn number_type(rep: usize, cat: usize) -> TypeRec
-    requires { ⌜ (0 < rep) × (rep ≤ 2) × (cat ≤ 31) ⌝ }
+    requires { ⌜ (0 < rep) × (rep ≤ 2) × (cat ≤ maxCategories) ⌝ }
     ensures is { λ r. ⌜ ((m n i : ℕ) → i < n → typeOf m n i (rawOf r) ≡ sheetType (repOf rep) cat false []) ⌝ }
     ensures exact { λ r. ⌜ ((m n i : ℕ) → i < n → TypeExact m n i (rawOf r)) ⌝ }
 {
@@ -168,8 +171,10 @@ fn number_type(rep: usize, cat: usize) -> TypeRec
 
 // What a reference type has behind its `cat=` line (S25): m methods, of a sheet with n types.
 fn ref_type(s: &[u8], c: Cursor, cat: usize, m: usize, n: usize) -> TypeGot
-    requires { ⌜ (cat ≤ 31) × (m ≤ 16) × (n ≤ 48) ⌝ }
-    ensures is { λ r. ⌜ ((i : ℕ) → i < n → reading (now (s .entry)) (r .refusal) (typeOf m n i (rawOf (r .t))) (r .next .at) ≡ membersRead m n cat (c .at) (split (drop (c .at) (now (s .entry))))) ⌝ }
+    requires { ⌜ (cat ≤ maxCategories) × (m ≤ maxMethods) × (n ≤ maxSheetTypes) ⌝ }
+    ensures is { λ r. ⌜ ((i : ℕ) → i < n
+        → reading (now (s .entry)) (r .refusal) (typeOf m n i (rawOf (r .t))) (r .next .at)
+        ≡ membersRead m n cat (c .at) (split (drop (c .at) (now (s .entry))))) ⌝ }
     ensures exact { λ r. ⌜ ((i : ℕ) → i < n → r .refusal ≡ 0 → TypeExact m n i (rawOf (r .t))) ⌝ }
 {
     let o = sheet_read_line::next_own(s, c);
@@ -195,8 +200,9 @@ fn ref_type(s: &[u8], c: Cursor, cat: usize, m: usize, n: usize) -> TypeGot
 
 // The block of type i of n (S25). A number out of turn is 2 (S30).
 fn one_type(s: &[u8], c: Cursor, i: usize, m: usize, cats: usize, n: usize) -> TypeGot
-    requires { ⌜ (i < n) × (n ≤ 48) × (m ≤ 16) × (cats ≤ 31) ⌝ }
-    ensures is { λ r. ⌜ reading (now (s .entry)) (r .refusal) (typeOf m n i (rawOf (r .t))) (r .next .at) ≡ oneType m cats n i (c .at) (split (drop (c .at) (now (s .entry)))) ⌝ }
+    requires { ⌜ (i < n) × (n ≤ maxSheetTypes) × (m ≤ maxMethods) × (cats ≤ maxCategories) ⌝ }
+    ensures is { λ r. ⌜ reading (now (s .entry)) (r .refusal) (typeOf m n i (rawOf (r .t))) (r .next .at)
+        ≡ oneType m cats n i (c .at) (split (drop (c .at) (now (s .entry)))) ⌝ }
     ensures exact { λ r. ⌜ (r .refusal ≡ 0 → TypeExact m n i (rawOf (r .t))) ⌝ }
 {
     let x = text_read::next_number(s, c, b"type=", i, i);
@@ -238,8 +244,9 @@ fn types_into(
     n: usize,
     b: &mut [u8; TYPE_BYTES],
 ) -> Done
-    requires { ⌜ (m ≤ 16) × (cats ≤ 31) × (n ≤ 48) × (now b ≡ emptyTypes) ⌝ }
-    ensures is { λ r. ⌜ doneBy (now (s .entry)) (typesTo m n n (typesIn (now (b .exit)))) r ≡ times (oneType m cats n) n 0 [] (c .at) (split (drop (c .at) (now (s .entry)))) ⌝ }
+    requires { ⌜ (m ≤ maxMethods) × (cats ≤ maxCategories) × (n ≤ maxSheetTypes) × (now b ≡ emptyTypes) ⌝ }
+    ensures is { λ r. ⌜ doneBy (now (s .entry)) (typesTo m n n (typesIn (now (b .exit)))) r
+        ≡ times (oneType m cats n) n 0 [] (c .at) (split (drop (c .at) (now (s .entry)))) ⌝ }
     ensures exact { λ r. ⌜ OnDone r (now (b .exit) ≡ typeBytes (typesTo m n n (typesIn (now (b .exit))))) ⌝ }
 {
     let mut i: usize = 0;
@@ -260,18 +267,19 @@ fn types_into(
 
 // The last line, and nothing behind it (S10). Only then are the signatures tested: 3 at the last line where a type stands in one that may not (S6, S13).
 fn last_line(s: &[u8], c: Cursor, b: &[u8; TYPE_BYTES], n: usize, m: usize) -> Done
-    requires { ⌜ (n ≤ 128) × (m ≤ 16) ⌝ }
-    ensures { λ r. ⌜ ((t : Table) → t .types ≡ typesTo m n n (typesIn (now (b .entry))) → doneBy (now (s .entry)) t r ≡ ending t (c .at) (split (drop (c .at) (now (s .entry))))) ⌝ }
+    requires { ⌜ (n ≤ maxTypes) × (m ≤ maxMethods) ⌝ }
+    ensures { λ r. ⌜ ((t : Table) → t .types ≡ typesTo m n n (typesIn (now (b .entry)))
+        → doneBy (now (s .entry)) t r ≡ ending t (c .at) (split (drop (c .at) (now (s .entry))))) ⌝ }
 {
     let g = sheet_read_line::next_end(s, c);
     match g {
         Got::Refused(k) => Done::Refused(k, c),
         Got::At(_, next) => {
             if next.at < s.len() {
-                return Done::Refused(1, next);
+                return Done::Refused(refusal::FORM, next);
             }
             if !sheet_read_signatures::types_stand(b, n, m) {
-                return Done::Refused(3, c);
+                return Done::Refused(refusal::NOT_BELOW, c);
             }
             Done::At(next)
         }
@@ -323,13 +331,13 @@ fn refused(
     at: usize,
     types: &mut [u8; TYPE_BYTES],
     links: &mut [u8; LINK_BYTES],
-) -> Outcome
-    ensures { λ r. ⌜ outcomeOf r (now (types .exit)) (now (links .exit)) ≡ answered (malformed refusal at) ⌝ }
+) -> ReadInto
+    ensures { λ r. ⌜ readIntoOf r (now (types .exit)) (now (links .exit)) ≡ answered (malformed refusal at) ⌝ }
 {
     *types = table_record::empty_types();
     *links = table_record::empty_links();
     let counts = Counts::empty();
-    Outcome {
+    ReadInto {
         refusal,
         at,
         counts,
@@ -344,9 +352,11 @@ fn after_count(
     n: usize,
     types: &mut [u8; TYPE_BYTES],
     links: &mut [u8; LINK_BYTES],
-) -> Outcome
-    requires { ⌜ (h .methods ≤ 16) × (h .cats ≤ 31) × (n ≤ 48) × (now types ≡ emptyTypes) ⌝ }
-    ensures { λ r. ⌜ ((cs : List (List ℕ)) → now (links .entry) ≡ linkBytes cs → length cs ≡ h .cats → outcomeOf r (now (types .exit)) (now (links .exit)) ≡ answered (sheetAnswer (bind (afterCount h cs n) ending (c .at) (split (drop (c .at) (now (s .entry))))))) ⌝ }
+) -> ReadInto
+    requires { ⌜ (h .methods ≤ maxMethods) × (h .cats ≤ maxCategories) × (n ≤ maxSheetTypes) × (now types ≡ emptyTypes) ⌝ }
+    ensures { λ r. ⌜ ((cs : List (List ℕ)) → now (links .entry) ≡ linkBytes cs → length cs ≡ h .cats
+        → readIntoOf r (now (types .exit)) (now (links .exit))
+        ≡ answered (sheetAnswer (bind (afterCount h cs n) ending (c .at) (split (drop (c .at) (now (s .entry))))))) ⌝ }
 {
     let t = types_into(s, c, h.methods, h.cats, n, types);
     let f = match t {
@@ -366,7 +376,7 @@ fn after_count(
                 sheet: n,
                 types: n,
             };
-            Outcome {
+            ReadInto {
                 refusal: 0,
                 at: 0,
                 counts,
@@ -382,9 +392,10 @@ fn after_first(
     h: Front,
     types: &mut [u8; TYPE_BYTES],
     links: &mut [u8; LINK_BYTES],
-) -> Outcome
-    requires { ⌜ (h .methods ≤ 16) × (h .cats ≤ 31) × (now types ≡ emptyTypes) × (now links ≡ emptyLinks) ⌝ }
-    ensures { λ r. ⌜ outcomeOf r (now (types .exit)) (now (links .exit)) ≡ answered (sheetAnswer (bind (afterFirst h) ending (c .at) (split (drop (c .at) (now (s .entry)))))) ⌝ }
+) -> ReadInto
+    requires { ⌜ (h .methods ≤ maxMethods) × (h .cats ≤ maxCategories) × (now types ≡ emptyTypes) × (now links ≡ emptyLinks) ⌝ }
+    ensures { λ r. ⌜ readIntoOf r (now (types .exit)) (now (links .exit))
+        ≡ answered (sheetAnswer (bind (afterFirst h) ending (c .at) (split (drop (c .at) (now (s .entry)))))) ⌝ }
 {
     let u = links_into(s, c, h.cats, links);
     let d = match u {
@@ -401,8 +412,8 @@ fn after_first(
 }
 
 // Sheet read into lent bytes, for any text; what the bytes held before is gone. Where a sheet is accepted there is no line to point at, and `at` is 0 (S33).
-pub fn read_into(s: &[u8], types: &mut [u8; TYPE_BYTES], links: &mut [u8; LINK_BYTES]) -> Outcome
-    ensures { λ r. ⌜ outcomeOf r (now (types .exit)) (now (links .exit)) ≡ answered (readSheet (now (s .entry))) ⌝ }
+pub fn read_into(s: &[u8], types: &mut [u8; TYPE_BYTES], links: &mut [u8; LINK_BYTES]) -> ReadInto
+    ensures { λ r. ⌜ readIntoOf r (now (types .exit)) (now (links .exit)) ≡ answered (readSheet (now (s .entry))) ⌝ }
 {
     *types = table_record::empty_types();
     *links = table_record::empty_links();

@@ -1,28 +1,30 @@
 -- Laws over plain values for the line kinds: words, broader categories, signatures and methods. The proofs of the functions cite them.
 use mathlib.Core.Path.{_≡_, refl, sym, ap, _∙_, subst}
+use mathlib.Core.Logic.{_⊎_, inl, inr}
 use mathlib.Core.Bool.{Bool, true, false, _&&_, cond}
-use mathlib.Core.List.{List, [], _∷_, _++_}
+use mathlib.Core.List.{List, [], _∷_}
 use mathlib.Core.Option.{Option, none, some}
 use Prim.Native.Nat.{ℕ, zero, suc, _+_, _≤_, _<_}
 use native.Mathlib.Omega.{arith}
 use native.Mathlib.Numerals.{add-one}
 use lib.Dec.{eqb, ltb, leb}
-use lib.ListN.{length, getD, set, take, drop}
-use lib.Seq.{length-take-le, take-suc-set, take-suc, getD-take, getD-set-other}
+use lib.ListN.{length, getD, take, drop}
+use lib.Seq.{length-take-le, getD-take}
 use borrow.Author.Tests.{ltb-true, leb-true, leb-false, lt-ltb, le-ltb, eq-eqb, ne-eqb}
 use Rattle.spec_model.specs.Basics.{Res, refuse, ok, try, need, all, unlessMissing}
-use Rattle.spec_model.specs.Table.{State, denied, optional, avail, unavail, Rep, ref, w32, w64, Method, permit, bare}
-use Rattle.spec_model.specs.Check.{RawLinks, stateOf, answerOf, methodOf, linksOf}
-use Rattle.spec_model.specs.Records.{linksRecord}
+use Rattle.spec_model.specs.Table.{State, denied, optional, avail, unavail, Rep, ref, w32, w64, Method, maxArguments, permit, bare, maxSheetTypes, maxBroader}
+use Rattle.spec_model.specs.Check.{stateOf, answerOf, methodOf, linksOf}
 use Rattle.spec_model.proofs.Rules.{never, first, second}
+use Rattle.spec_model.specs.Refusals.{form, outOfRange, notBelow}
+use Rattle.table_record.proofs.Lists.{lt-or-ge}
 use Rattle.spec_sheet.specs.Lines.{bytes, starts, same, keyed, choice}
-use Rattle.spec_sheet.specs.Numbers.{Scan, fail, took, bindScan, whole, number, comma, numbers}
+use Rattle.spec_sheet.specs.Numbers.{Scan, fail, took, bindScan, whole, number, numbers}
 use Rattle.spec_sheet.specs.Text.{repText, ownText, stateText, endText}
 use Rattle.spec_sheet.specs.Sheet.{repLine, ownLine, endLine, underLine, closing, arguments, answer, below, signature, methodLine}
-use Rattle.text_read.specs.View.{scanned, result}
-use Rattle.text_read.proofs.Laws.{from-here, at-end, scan-none}
-use Rattle.sheet_read_line.specs.View.{LinksExact, argsOf, ArgsWithin, NoArgs, bareLine, Opens}
-use Rattle.sheet_read_line.specs.declared.Args.{Args}
+use Rattle.text_read.specs.declared.Numbers.{Numbers}
+use Rattle.text_read.specs.View.{scanned, result, itemsOf, numbersOf, RestEmpty, noNumbers, maxNumbers}
+use Rattle.text_read.proofs.Laws.{from-here, at-end, none-empty}
+use Rattle.sheet_read_line.specs.View.{LinksExact, ArgsWithin, bareLine, Opens}
 use Rattle.sheet_read_line.specs.declared.Opening.{Opening}
 use Rattle.sheet_read_line.specs.declared.Opening.the-variants.{Other, Signed}
 
@@ -31,39 +33,39 @@ pub result-refused : {A : Type 0} (nr : ℕ) (x : A) → 0 < nr → result nr x 
 result-refused nr x h = ap (λ z. cond z (ok x) (refuse nr)) (ne-eqb nr 0 (λ e. omega arith))
 
 -- every line kind refuses an empty line
-pub rep-empty : repLine [] ≡ refuse 1
+pub rep-empty : repLine [] ≡ refuse form
 unfolding repLine choice starts
 rep-empty = refl
 
-pub own-empty : ownLine [] ≡ refuse 1
+pub own-empty : ownLine [] ≡ refuse form
 unfolding ownLine choice starts
 own-empty = refl
 
-pub end-empty : endLine [] ≡ refuse 1
+pub end-empty : endLine [] ≡ refuse form
 unfolding endLine choice starts
 end-empty = refl
 
-pub under-empty : (cats k : ℕ) → underLine cats k [] ≡ refuse 1
+pub under-empty : (cats k : ℕ) → underLine cats k [] ≡ refuse form
 unfolding underLine keyed starts
 under-empty cats k = refl
 
-pub method-empty : (n : ℕ) → methodLine n [] ≡ refuse 1
+pub method-empty : (n : ℕ) → methodLine n [] ≡ refuse form
 unfolding methodLine starts
 method-empty n = refl
 
 -- The last line.
 pub end-yes : (l : List ℕ) → same endText l ≡ true → ok tt ≡ endLine l
 unfolding endLine choice
-end-yes l e = ap (λ z. cond z (ok tt) (refuse 1)) (sym e)
+end-yes l e = ap (λ z. cond z (ok tt) (refuse form)) (sym e)
 
-pub end-no : (l : List ℕ) → same endText l ≡ false → refuse 1 ≡ endLine l
+pub end-no : (l : List ℕ) → same endText l ≡ false → refuse form ≡ endLine l
 unfolding endLine choice
-end-no l e = ap (λ z. cond z (ok tt) (refuse 1)) (sym e)
+end-no l e = ap (λ z. cond z (ok tt) (refuse form)) (sym e)
 
 -- Words.
 module _ (l : List ℕ) where
   rep-third : Res Rep
-  rep-third = cond (same (repText w64) l) (ok w64) (refuse 1)
+  rep-third = cond (same (repText w64) l) (ok w64) (refuse form)
 
   rep-second : Res Rep
   rep-second = cond (same (repText w32) l) (ok w32) rep-third
@@ -88,14 +90,14 @@ module _ (l : List ℕ) where
 
       pub rep-w64 : same (repText w64) l ≡ true → ok w64 ≡ repLine l
       unfolding rep-third
-      rep-w64 e = ap (λ z. cond z (ok w64) (refuse 1)) (sym e) ∙ to-third
+      rep-w64 e = ap (λ z. cond z (ok w64) (refuse form)) (sym e) ∙ to-third
 
-      pub rep-none : same (repText w64) l ≡ false → refuse 1 ≡ repLine l
+      pub rep-none : same (repText w64) l ≡ false → refuse form ≡ repLine l
       unfolding rep-third
-      rep-none e = ap (λ z. cond z (ok w64) (refuse 1)) (sym e) ∙ to-third
+      rep-none e = ap (λ z. cond z (ok w64) (refuse form)) (sym e) ∙ to-third
 
   own-second : Res Bool
-  own-second = cond (same (ownText false) l) (ok false) (refuse 1)
+  own-second = cond (same (ownText false) l) (ok false) (refuse form)
 
   pub own-yes : same (ownText true) l ≡ true → ok true ≡ ownLine l
   unfolding ownLine choice own-second
@@ -108,47 +110,57 @@ module _ (l : List ℕ) where
 
     pub own-no : same (ownText false) l ≡ true → ok false ≡ ownLine l
     unfolding own-second
-    own-no e = ap (λ z. cond z (ok false) (refuse 1)) (sym e) ∙ to-own
+    own-no e = ap (λ z. cond z (ok false) (refuse form)) (sym e) ∙ to-own
 
-    pub own-none : same (ownText false) l ≡ false → refuse 1 ≡ ownLine l
+    pub own-none : same (ownText false) l ≡ false → refuse form ≡ ownLine l
     unfolding own-second
-    own-none e = ap (λ z. cond z (ok false) (refuse 1)) (sym e) ∙ to-own
+    own-none e = ap (λ z. cond z (ok false) (refuse form)) (sym e) ∙ to-own
 
 -- Numbers below a bound, one after the other.
-module _ (items : List ℕ) (count i n : ℕ) (four : length items ≡ 4) (few : count ≤ 4) (inv : all (below n) (take count items) ≡ all (below n) (drop i (take count items))) where
-  here : i < count → all (below n) (take count items) ≡ ltb (getD items i 0) n && all (below n) (drop (i + 1) (take count items))
+module _ (t : Numbers) (i n : ℕ) (few : t .count ≤ maxNumbers) (inv : all (below n) (numbersOf t) ≡ all (below n) (drop i (numbersOf t))) where
+  there : length (numbersOf t) ≡ t .count
+  there = length-take-le (t .count) (itemsOf t) few
+
+  here : i < t .count → all (below n) (numbersOf t) ≡ ltb (getD (itemsOf t) i 0) n && all (below n) (drop (i + 1) (numbersOf t))
   here h =
-      let e : length (take count items) ≡ count = length-take-le count items (omega arith) in
-      inv ∙ ap (all (below n)) (from-here (take count items) i (omega arith)) ∙ ap (λ z. ltb z n && all (below n) (drop (i + 1) (take count items))) (getD-take count items i 0 h)
+      inv ∙ ap (all (below n)) (from-here (numbersOf t) i (omega (arith, there)))
+      ∙ ap (λ z. ltb z n && all (below n) (drop (i + 1) (numbersOf t))) (getD-take (t .count) (itemsOf t) i 0 h)
 
-  pub below-not : i < count → n ≤ getD items i 0 → false ≡ all (below n) (take count items)
-  below-not h k = sym (here h ∙ ap (λ z. z && all (below n) (drop (i + 1) (take count items))) (le-ltb (getD items i 0) n k))
+  pub below-not : i < t .count → (x : ℕ) → x ≡ getD (itemsOf t) i 0 → n ≤ x → false ≡ all (below n) (numbersOf t)
+  below-not h x e k = sym (here h ∙ ap (λ z. z && all (below n) (drop (i + 1) (numbersOf t))) (ap (λ z. ltb z n) (sym e) ∙ le-ltb x n k))
 
-  pub below-next : i < count → getD items i 0 < n → all (below n) (take count items) ≡ all (below n) (drop (i + 1) (take count items))
-  below-next h k = here h ∙ ap (λ z. z && all (below n) (drop (i + 1) (take count items))) (lt-ltb (getD items i 0) n k)
+  pub below-next : i < t .count → (x : ℕ) → x ≡ getD (itemsOf t) i 0 → x < n → all (below n) (numbersOf t) ≡ all (below n) (drop (i + 1) (numbersOf t))
+  below-next h x e k = here h ∙ ap (λ z. z && all (below n) (drop (i + 1) (numbersOf t))) (ap (λ z. ltb z n) (sym e) ∙ lt-ltb x n k)
 
-  pub below-all : count ≤ i → true ≡ all (below n) (take count items)
-  below-all h =
-      let e : length (take count items) ≡ count = length-take-le count items (omega arith) in
-      sym (inv ∙ ap (all (below n)) (at-end (take count items) i (omega arith)))
+  pub below-all : t .count ≤ i → true ≡ all (below n) (numbersOf t)
+  below-all h = sym (inv ∙ ap (all (below n)) (at-end (numbersOf t) i (omega (arith, there))))
 
--- a number more is kept as a byte
-pub kept-next : (items bytes : List ℕ) (i x : ℕ) → i < length items → i < length bytes → x ≡ getD items i 0 → take i bytes ≡ take i items
-    → take (i + 1) (set bytes i x) ≡ take (i + 1) items
-kept-next items bytes i x h k e q =
-    ap (λ z. take z (set bytes i x)) (add-one i) ∙ take-suc-set bytes i x k ∙ ap (λ z. z ++ x ∷ []) q ∙ ap (λ z. take i items ++ z ∷ []) e
-    ∙ sym (take-suc items i 0 h) ∙ ap (λ z. take z items) (sym (add-one i))
+-- Numbers as bytes: those that are there are below n, the others are 0.
+low-at : (n : ℕ) (xs : List ℕ) (i : ℕ) → all (below n) xs ≡ true → i < length xs → getD xs i 0 < n
+low-at n [] i h k = absurd (omega arith)
+low-at n (x ∷ xs) zero h k = ltb-true x n (first (ltb x n) (all (below n) xs) h)
+low-at n (x ∷ xs) (suc i) h k = low-at n xs i (second (ltb x n) (all (below n) xs) h) (omega arith)
 
--- the bytes behind those kept are 0
-pub rest-none : (k : ℕ) → let z : List ℕ = 0 ∷ 0 ∷ 0 ∷ 0 ∷ [] in getD z k 0 ≡ 0
-rest-none zero = refl
-rest-none (suc zero) = refl
-rest-none (suc (suc zero)) = refl
-rest-none (suc (suc (suc zero))) = refl
-rest-none (suc (suc (suc (suc k)))) = refl
+module _ (n : ℕ) (t : Numbers) (few : t .count ≤ maxNumbers) (rest : RestEmpty t) where
+  pub item-small : all (below n) (numbersOf t) ≡ true → n ≤ maxSheetTypes → (i : ℕ) → getD (itemsOf t) i 0 < 256
+  item-small h k i = go (lt-or-ge i (t .count))
+    where
+      there : length (numbersOf t) ≡ t .count
+      there = length-take-le (t .count) (itemsOf t) few
 
-pub rest-next : (bytes : List ℕ) (i x : ℕ) → ((k : ℕ) → i ≤ k → getD bytes k 0 ≡ 0) → (k : ℕ) → i + 1 ≤ k → getD (set bytes i x) k 0 ≡ 0
-rest-next bytes i x h k e = getD-set-other bytes i k x 0 (λ q. let s : k ≡ i = q in omega arith) ∙ h k (omega arith)
+      go : (i < t .count) ⊎ (t .count ≤ i) → getD (itemsOf t) i 0 < 256
+      go (inl l) = let e = getD-take (t .count) (itemsOf t) i 0 l in let w = low-at n (numbersOf t) i h (omega (arith, there)) in omega (arith, e, w)
+      go (inr l) = omega (arith, rest i l)
+
+  module _ (a b c d : ℕ) (p : a ≡ t .first) (q : b ≡ t .second) (r : c ≡ t .third) (s : d ≡ t .fourth) where
+    packed : _≡_ {A = List ℕ} (a ∷ b ∷ c ∷ d ∷ []) (itemsOf t)
+    packed = rw (p, q, r, s)
+
+    pub args-taken : take (t .count) (a ∷ b ∷ c ∷ d ∷ []) ≡ numbersOf t
+    args-taken = ap (take (t .count)) packed
+
+    pub args-rest : (k : ℕ) → t .count ≤ k → getD (a ∷ b ∷ c ∷ d ∷ []) k 0 ≡ 0
+    args-rest k h = ap (λ z. getD z k 0) packed ∙ rest k h
 
 -- a bound that is allowed
 pub all-leb : (c : ℕ) (xs : List ℕ) → all (λ n. leb n c) xs ≡ all (below (c + 1)) xs
@@ -165,79 +177,69 @@ all-leb c (x ∷ xs) = ap (λ z. z && all (λ n. leb n c) xs) (one x) ∙ ap (λ
 -- An `under=` line.
 module _ (c k : ℕ) (l : List ℕ) where
   lower : List ℕ → Res (List ℕ)
-  lower xs = need (all (λ n. ltb n k) xs) 3 λ _. ok xs
+  lower xs = need (all (λ n. ltb n k) xs) notBelow λ _. ok xs
 
   ranged : List ℕ → Res (List ℕ)
-  ranged xs = need (all (λ n. leb n c) xs) 2 λ _. lower xs
+  ranged xs = need (all (λ n. leb n c) xs) outOfRange λ _. lower xs
 
   after-key : Bool → Res (List ℕ)
-  after-key b = try (need b 1 λ _. ok (drop 6 l)) λ r. try (whole (numbers 2 [] r)) ranged
+  after-key b = try (need b form λ _. ok (drop 6 l)) λ r. try (whole (numbers maxBroader [] r)) ranged
 
   line-of : after-key (starts (bytes "under=") l) ≡ underLine c k l
   unfolding underLine keyed after-key ranged lower
   line-of = refl
 
-  pub under-key : starts (bytes "under=") l ≡ false → refuse 1 ≡ underLine c k l
+  pub under-key : starts (bytes "under=") l ≡ false → refuse form ≡ underLine c k l
   unfolding after-key
   under-key e = ap after-key (sym e) ∙ line-of
 
   module _ (h : starts (bytes "under=") l ≡ true) where
-    behind-key : try (whole (numbers 2 [] (drop 6 l))) ranged ≡ underLine c k l
+    behind-key : try (whole (numbers maxBroader [] (drop 6 l))) ranged ≡ underLine c k l
     unfolding after-key
     behind-key = ap after-key (sym h) ∙ line-of
 
-    pub under-wrong : fail ≡ numbers 2 [] (drop 6 l) → refuse 1 ≡ underLine c k l
+    pub under-wrong : fail ≡ numbers maxBroader [] (drop 6 l) → refuse form ≡ underLine c k l
     under-wrong e = ap (λ z. try (whole z) ranged) e ∙ behind-key
 
-    module _ (xs : List ℕ) (e : ℕ) (q : took xs (drop e l) ≡ numbers 2 [] (drop 6 l)) where
+    module _ (xs : List ℕ) (e : ℕ) (q : took xs (drop e l) ≡ numbers maxBroader [] (drop 6 l)) where
       taken : try (whole (took xs (drop e l))) ranged ≡ underLine c k l
       taken = ap (λ z. try (whole z) ranged) q ∙ behind-key
 
-      pub under-behind : e < length l → refuse 1 ≡ underLine c k l
+      pub under-behind : e < length l → refuse form ≡ underLine c k l
       under-behind j = ap (λ z. try (whole (took xs z)) ranged) (sym (from-here l e j)) ∙ taken
 
       module _ (j : length l ≤ e) where
         alone : ranged xs ≡ underLine c k l
         alone = ap (λ z. try (whole (took xs z)) ranged) (sym (at-end l e j)) ∙ taken
 
-        pub under-above : all (below (c + 1)) xs ≡ false → refuse 2 ≡ underLine c k l
+        pub under-above : all (below (c + 1)) xs ≡ false → refuse outOfRange ≡ underLine c k l
         unfolding ranged
-        under-above b = ap (λ z. need z 2 λ _. lower xs) (sym (all-leb c xs ∙ b)) ∙ alone
+        under-above b = ap (λ z. need z outOfRange λ _. lower xs) (sym (all-leb c xs ∙ b)) ∙ alone
 
         module _ (b : all (below (c + 1)) xs ≡ true) where
           known : lower xs ≡ underLine c k l
           unfolding ranged
-          known = ap (λ z. need z 2 λ _. lower xs) (sym (all-leb c xs ∙ b)) ∙ alone
+          known = ap (λ z. need z outOfRange λ _. lower xs) (sym (all-leb c xs ∙ b)) ∙ alone
 
-          pub under-high : all (below k) xs ≡ false → refuse 3 ≡ underLine c k l
+          pub under-high : all (below k) xs ≡ false → refuse notBelow ≡ underLine c k l
           unfolding lower
-          under-high d = ap (λ z. need z 3 λ _. ok xs) (sym d) ∙ known
+          under-high d = ap (λ z. need z notBelow λ _. ok xs) (sym d) ∙ known
 
           pub under-good : all (below k) xs ≡ true → ok xs ≡ underLine c k l
           unfolding lower
-          under-good d = ap (λ z. need z 3 λ _. ok xs) (sym d) ∙ known
+          under-good d = ap (λ z. need z notBelow λ _. ok xs) (sym d) ∙ known
 
--- one or two numbers of four, as links
-pub one-or-two : (p : List ℕ) (count : ℕ) → length p ≡ 4 → 1 ≤ count → count ≤ 2 → cond (eqb count 2) (getD p 0 0 ∷ getD p 1 0 ∷ []) (getD p 0 0 ∷ []) ≡ take count p
-one-or-two [] count e h k = absurd (omega arith)
-one-or-two (a ∷ []) count e h k = absurd (omega arith)
-one-or-two (a ∷ b ∷ p) zero e h k = absurd (omega arith)
-one-or-two (a ∷ b ∷ p) (suc zero) e h k = refl
-one-or-two (a ∷ b ∷ p) (suc (suc zero)) e h k = refl
-one-or-two (a ∷ b ∷ p) (suc (suc (suc n))) e h k = absurd (omega arith)
-
--- they are the record of what they say: a missing second one is 0
-pub one-or-two-exact : (p : List ℕ) (n count : ℕ) → n ≡ count → 1 ≤ count → count ≤ 2 → ((k : ℕ) → count ≤ k → getD p k 0 ≡ 0)
-    → LinksExact (record { count = n; first = getD p 0 0; second = getD p 1 0 })
-one-or-two-exact p n zero e h k z = absurd (omega arith)
-one-or-two-exact p n (suc zero) e h k z =
-    ap (λ (m : ℕ). linksRecord (linksOf (record { count = m; first = getD p 0 0; second = getD p 1 0 }))) e
-    ∙ ap (λ (s : ℕ). let x : RawLinks = record { count = 1; first = getD p 0 0; second = s } in x) (sym (z 1 (omega arith)))
-    ∙ ap (λ (m : ℕ). let x : RawLinks = record { count = m; first = getD p 0 0; second = getD p 1 0 } in x) (sym e)
-one-or-two-exact p n (suc (suc zero)) e h k z =
-    ap (λ (m : ℕ). linksRecord (linksOf (record { count = m; first = getD p 0 0; second = getD p 1 0 }))) e
-    ∙ ap (λ (m : ℕ). let x : RawLinks = record { count = m; first = getD p 0 0; second = getD p 1 0 } in x) (sym e)
-one-or-two-exact p n (suc (suc (suc m))) e h k z = absurd (omega arith)
+-- One or two numbers as links: they are what was read, and the record of what they say, in which a missing second one is 0.
+pub links-are : (t : Numbers) (n a b : ℕ) → n ≡ t .count → a ≡ t .first → b ≡ t .second → 1 ≤ t .count → t .count ≤ 2 → RestEmpty t
+    → (linksOf (record { count = n; first = a; second = b }) ≡ numbersOf t) × LinksExact (record { count = n; first = a; second = b })
+links-are t n a b e p q h k z = go (t .count) e h k (z 1)
+  where
+    go : (c : ℕ) → n ≡ c → 1 ≤ c → c ≤ 2 → (c ≤ 1 → t .second ≡ 0) → (linksOf (record { count = n; first = a; second = b }) ≡ take c (itemsOf t))
+        × LinksExact (record { count = n; first = a; second = b })
+    go zero e h k z = absurd (omega arith)
+    go (suc zero) e h k z = let w = q ∙ z (omega arith) in (rw (e, p), rw (e, p, w))
+    go (suc (suc zero)) e h k z = (rw (e, p, q), rw (e, p, q))
+    go (suc (suc (suc c))) e h k z = absurd (omega arith)
 
 -- The arguments of a signature.
 pub args-none : (l : List ℕ) (at : ℕ) → at ≡ length l → fail ≡ arguments (drop at l)
@@ -245,45 +247,35 @@ unfolding arguments
 args-none l at h = sym (ap arguments (at-end l at (omega arith)))
 
 module _ (l : List ℕ) (at : ℕ) (h : at < length l) where
-  args-here : arguments (drop at l) ≡ cond (eqb (getD l at 0) 41) (took [] (drop (at + 1) l)) (bindScan (numbers 2 [] (drop at l)) closing)
+  abbrev listed : List ℕ → Scan (List ℕ)
+  listed p = bindScan (numbers maxArguments [] p) closing
+
+  args-here : arguments (drop at l) ≡ cond (eqb (getD l at 0) 41) (took [] (drop (at + 1) l)) (listed (drop at l))
   unfolding arguments
-  args-here = ap arguments (from-here l at h) ∙ ap (λ z. cond (eqb (getD l at 0) 41) (took [] (drop (at + 1) l)) (bindScan (numbers 2 [] z) closing)) (sym (from-here l at h))
+  args-here = ap arguments (from-here l at h) ∙ ap (λ z. cond (eqb (getD l at 0) 41) (took [] (drop (at + 1) l)) (listed z)) (sym (from-here l at h))
 
   pub args-empty : getD l at 0 ≡ 41 → took [] (drop (at + 1) l) ≡ arguments (drop at l)
-  args-empty q = sym (args-here ∙ ap (λ z. cond z (took [] (drop (at + 1) l)) (bindScan (numbers 2 [] (drop at l)) closing)) (eq-eqb (getD l at 0) 41 q))
+  args-empty q = sym (args-here ∙ ap (λ z. cond z (took [] (drop (at + 1) l)) (listed (drop at l))) (eq-eqb (getD l at 0) 41 q))
 
   module _ (ne : getD l at 0 ≡ 41 → ⊥) where
-    args-list : arguments (drop at l) ≡ bindScan (numbers 2 [] (drop at l)) closing
-    args-list = args-here ∙ ap (λ z. cond z (took [] (drop (at + 1) l)) (bindScan (numbers 2 [] (drop at l)) closing)) (ne-eqb (getD l at 0) 41 ne)
+    args-list : arguments (drop at l) ≡ listed (drop at l)
+    args-list = args-here ∙ ap (λ z. cond z (took [] (drop (at + 1) l)) (listed (drop at l))) (ne-eqb (getD l at 0) 41 ne)
 
-    pub args-wrong : fail ≡ number (drop at l) → fail ≡ arguments (drop at l)
-    unfolding numbers
-    args-wrong q = ap (λ z. bindScan (bindScan z (λ a r. comma (a ∷ []) (λ p. numbers 1 (a ∷ []) p) r)) closing) q ∙ sym args-list
+    pub args-wrong : fail ≡ numbers maxArguments [] (drop at l) → fail ≡ arguments (drop at l)
+    args-wrong q = sym (args-list ∙ ap (λ z. bindScan z closing) (sym q))
 
-    module _ (x e : ℕ) (q : took x (drop e l) ≡ number (drop at l)) where
-      first-taken : bindScan (comma (x ∷ []) (λ p. numbers 1 (x ∷ []) p) (drop e l)) closing ≡ arguments (drop at l)
-      unfolding numbers
-      first-taken = ap (λ z. bindScan (bindScan z (λ a r. comma (a ∷ []) (λ p. numbers 1 (a ∷ []) p) r)) closing) q ∙ sym args-list
+    module _ (xs : List ℕ) (e : ℕ) (q : took xs (drop e l) ≡ numbers maxArguments [] (drop at l)) where
+      closes : arguments (drop at l) ≡ closing xs (drop e l)
+      closes = args-list ∙ ap (λ z. bindScan z closing) (sym q)
 
       pub args-open : e ≡ length l → fail ≡ arguments (drop at l)
-      args-open b = ap (λ z. bindScan (comma (x ∷ []) (λ p. numbers 1 (x ∷ []) p) z) closing) (sym (at-end l e (omega arith))) ∙ first-taken
+      args-open b = sym (closes ∙ ap (closing xs) (at-end l e (omega arith)))
 
-      module _ (b : e < length l) where
-        behind-first : (w : ℕ) → getD l e 0 ≡ w → bindScan (comma (x ∷ []) (λ p. numbers 1 (x ∷ []) p) (w ∷ drop (e + 1) l)) closing ≡ arguments (drop at l)
-        behind-first w g =
-            ap (λ z. bindScan (comma (x ∷ []) (λ p. numbers 1 (x ∷ []) p) z) closing) (ap (λ z. z ∷ drop (e + 1) l) (sym g) ∙ sym (from-here l e b)) ∙ first-taken
+      pub args-other : e < length l → (getD l e 0 ≡ 41 → ⊥) → fail ≡ arguments (drop at l)
+      args-other b w = sym (closes ∙ ap (closing xs) (from-here l e b) ∙ ap (λ z. cond z (took xs (drop (e + 1) l)) fail) (ne-eqb (getD l e 0) 41 w))
 
-        pub args-closed : getD l e 0 ≡ 41 → took (x ∷ []) (drop (e + 1) l) ≡ arguments (drop at l)
-        args-closed g = behind-first 41 g
-
-        pub args-comma : getD l e 0 ≡ 44 → bindScan (numbers 1 (x ∷ []) (drop (e + 1) l)) closing ≡ arguments (drop at l)
-        args-comma g = behind-first 44 g
-
-        pub args-other : (getD l e 0 ≡ 41 → ⊥) → (getD l e 0 ≡ 44 → ⊥) → fail ≡ arguments (drop at l)
-        args-other v w =
-            ap (λ z. cond z (took (x ∷ []) (drop (e + 1) l)) fail) (sym (ne-eqb (getD l e 0) 41 v))
-            ∙ ap (λ z. bindScan (cond z (numbers 1 (x ∷ []) (drop (e + 1) l)) (took (x ∷ []) (getD l e 0 ∷ drop (e + 1) l))) closing) (sym (ne-eqb (getD l e 0) 44 w))
-            ∙ behind-first (getD l e 0) refl
+      pub args-closed : e < length l → getD l e 0 ≡ 41 → took xs (drop (e + 1) l) ≡ arguments (drop at l)
+      args-closed b w = sym (closes ∙ ap (closing xs) (from-here l e b) ∙ ap (λ z. cond z (took xs (drop (e + 1) l)) fail) (eq-eqb (getD l e 0) 41 w))
 
   -- its answer
   answer-here : answer (drop at l) ≡ cond (eqb (getD l at 0) 45) (took none (drop (at + 1) l)) (bindScan (number (drop at l)) (λ n r. took (some n) r))
@@ -307,101 +299,26 @@ pub answer-none : (l : List ℕ) (at : ℕ) → at ≡ length l → fail ≡ ans
 unfolding answer
 answer-none l at h = sym (ap answer (at-end l at (omega arith)))
 
--- No arguments, since the form is wrong.
-pub none-scanned : (l : List ℕ) (a : Args) (S : Scan (List ℕ)) → NoArgs a → fail ≡ S → (scanned l (a .right) (argsOf a) (a .next) ≡ S) × ArgsWithin (length l) a
-none-scanned l a S h q = (scan-none l (a .right) (argsOf a) (a .next) S (h .0) q, (omega (arith, h .4), omega (arith, h .1), λ k. h .2, λ k. h .3))
+-- What is handed out of arguments: none where the form is wrong, none between the brackets, and those up to the bracket that closes them.
+module _ (l : List ℕ) where
+  abbrev Read : Numbers → Scan (List ℕ) → Type 0
+  Read t S = (scanned l (t .right) (numbersOf t) (t .next) ≡ S) × ArgsWithin (length l) t
 
--- The second argument, behind x.
-module _ (l : List ℕ) (at x : ℕ) where
-  pub second-wrong : fail ≡ number (drop at l) → fail ≡ bindScan (numbers 1 (x ∷ []) (drop at l)) closing
-  unfolding numbers
-  second-wrong q = ap (λ z. bindScan (bindScan z (λ a r. comma (x ∷ a ∷ []) (λ p. fail) r)) closing) q
+  pub none-read : (at : ℕ) (t : Numbers) (S : Scan (List ℕ)) → t ≡ noNumbers at → at ≤ length l → fail ≡ S → Read t S
+  none-read at t S e h q = subst (λ (y : Numbers). Read y S) (sym e) (q, (h, omega arith, none-empty at))
 
-  module _ (y e : ℕ) (q : took y (drop e l) ≡ number (drop at l)) where
-    second-taken : bindScan (comma (x ∷ y ∷ []) (λ p. fail) (drop e l)) closing ≡ bindScan (numbers 1 (x ∷ []) (drop at l)) closing
-    unfolding numbers
-    second-taken = ap (λ z. bindScan (bindScan z (λ a r. comma (x ∷ a ∷ []) (λ p. fail) r)) closing) q
+  abbrev right : Numbers → Numbers
+  right t = record { right = true; count = t .count; first = t .first; second = t .second; third = t .third; fourth = t .fourth; next = t .next }
 
-    pub second-open : e ≡ length l → fail ≡ bindScan (numbers 1 (x ∷ []) (drop at l)) closing
-    second-open b = ap (λ z. bindScan (comma (x ∷ y ∷ []) (λ p. fail) z) closing) (sym (at-end l e (omega arith))) ∙ second-taken
+  pub empty-read : (at : ℕ) → at < length l → (t : Numbers) → t ≡ noNumbers (at + 1) → (S : Scan (List ℕ)) → took [] (drop (at + 1) l) ≡ S → Read (right t) S
+  empty-read at h t e S q = subst (λ (y : Numbers). Read (right y) S) (sym e) (q, (omega arith, omega arith, none-empty (at + 1)))
 
-    module _ (b : e < length l) where
-      behind-second : (w : ℕ) → getD l e 0 ≡ w → bindScan (comma (x ∷ y ∷ []) (λ p. fail) (w ∷ drop (e + 1) l)) closing ≡ bindScan (numbers 1 (x ∷ []) (drop at l)) closing
-      behind-second w g = ap (λ z. bindScan (comma (x ∷ y ∷ []) (λ p. fail) z) closing) (ap (λ z. z ∷ drop (e + 1) l) (sym g) ∙ sym (from-here l e b)) ∙ second-taken
+  abbrev closed : Numbers → Numbers
+  closed t = record { right = t .right; count = t .count; first = t .first; second = t .second; third = t .third; fourth = t .fourth; next = t .next + 1 }
 
-      pub second-closed : getD l e 0 ≡ 41 → took (x ∷ y ∷ []) (drop (e + 1) l) ≡ bindScan (numbers 1 (x ∷ []) (drop at l)) closing
-      second-closed g = behind-second 41 g
-
-      pub second-other : (getD l e 0 ≡ 41 → ⊥) → fail ≡ bindScan (numbers 1 (x ∷ []) (drop at l)) closing
-      second-other v = go (eqb (getD l e 0) 44) ∙ behind-second (getD l e 0) refl
-        where
-          go : (k : Bool) → fail ≡ bindScan (cond k fail (took (x ∷ y ∷ []) (getD l e 0 ∷ drop (e + 1) l))) closing
-          go true = refl
-          go false = ap (λ z. cond z (took (x ∷ y ∷ []) (drop (e + 1) l)) fail) (sym (ne-eqb (getD l e 0) 41 v))
-
--- Whether the arguments that are there are below n.
-module _ (a : Args) (n : ℕ) where
-  pub below-none : a .count ≡ 0 → true ≡ all (below n) (argsOf a)
-  below-none e = ap (λ z. all (below n) (take z (a .first ∷ a .second ∷ []))) (sym e)
-
-  pub below-first-not : (a .count ≡ 0 → ⊥) → n ≤ a .first → false ≡ all (below n) (argsOf a)
-  below-first-not h k = go (a .count) h
-    where
-      go : (c : ℕ) → (c ≡ 0 → ⊥) → false ≡ all (below n) (take c (a .first ∷ a .second ∷ []))
-      go zero h = absurd (h refl)
-      go (suc c) h = ap (λ z. z && all (below n) (take c (a .second ∷ []))) (sym (le-ltb (a .first) n k))
-
-  module _ (k : a .first < n) where
-    pub below-one : a .count ≡ 1 → true ≡ all (below n) (argsOf a)
-    below-one e = ap (λ z. z && true) (sym (lt-ltb (a .first) n k)) ∙ ap (λ z. all (below n) (take z (a .first ∷ a .second ∷ []))) (sym e)
-
-    module _ (two : a .count ≡ 2) where
-      below-second : ltb (a .second) n && true ≡ all (below n) (argsOf a)
-      below-second =
-          ap (λ z. z && (ltb (a .second) n && true)) (sym (lt-ltb (a .first) n k)) ∙ ap (λ z. all (below n) (take z (a .first ∷ a .second ∷ []))) (sym two)
-
-      pub below-second-not : n ≤ a .second → false ≡ all (below n) (argsOf a)
-      below-second-not j = ap (λ z. z && true) (sym (le-ltb (a .second) n j)) ∙ below-second
-
-      pub below-both : a .second < n → true ≡ all (below n) (argsOf a)
-      below-both j = ap (λ z. z && true) (sym (lt-ltb (a .second) n j)) ∙ below-second
-
--- Arguments as bytes: those that are there are below n, the others are 0.
-module _ (size n : ℕ) (t : Args) (within : ArgsWithin size t) where
-  pub first-small : all (below n) (argsOf t) ≡ true → n ≤ 48 → t .first < 256
-  first-small h k = go (t .count) (within .2) h
-    where
-      go : (c : ℕ) → (c < 1 → t .first ≡ 0) → all (below n) (take c (t .first ∷ t .second ∷ [])) ≡ true → t .first < 256
-      go zero z h = let e : t .first ≡ 0 = z (omega arith) in omega arith
-      go (suc c) z h = let e : t .first < n = ltb-true (t .first) n (first (ltb (t .first) n) (all (below n) (take c (t .second ∷ []))) h) in omega arith
-
-  pub second-small : all (below n) (argsOf t) ≡ true → n ≤ 48 → t .second < 256
-  second-small h k = go (t .count) (within .1) (within .3) h
-    where
-      go : (c : ℕ) → c ≤ 2 → (c < 2 → t .second ≡ 0) → all (below n) (take c (t .first ∷ t .second ∷ [])) ≡ true → t .second < 256
-      go zero f z h = let e : t .second ≡ 0 = z (omega arith) in omega arith
-      go (suc zero) f z h = let e : t .second ≡ 0 = z (omega arith) in omega arith
-      go (suc (suc zero)) f z h =
-          let e : t .second < n = ltb-true (t .second) n (first (ltb (t .second) n) true (second (ltb (t .first) n) (ltb (t .second) n && true) h)) in
-          omega arith
-      go (suc (suc (suc c))) f z h = absurd (omega arith)
-
-  module _ (a b : ℕ) (p : a ≡ t .first) (q : b ≡ t .second) where
-    pub args-taken : take (t .count) (a ∷ b ∷ 0 ∷ 0 ∷ []) ≡ argsOf t
-    args-taken = go (t .count) (within .1)
-      where
-        go : (c : ℕ) → c ≤ 2 → take c (a ∷ b ∷ 0 ∷ 0 ∷ []) ≡ take c (t .first ∷ t .second ∷ [])
-        go zero f = refl
-        go (suc zero) f = ap (λ z. z ∷ []) p
-        go (suc (suc zero)) f = ap (λ z. z ∷ b ∷ []) p ∙ ap (λ z. t .first ∷ z ∷ []) q
-        go (suc (suc (suc c))) f = absurd (omega arith)
-
-    pub args-rest : (k : ℕ) → t .count ≤ k → getD (a ∷ b ∷ 0 ∷ 0 ∷ []) k 0 ≡ 0
-    args-rest zero h = p ∙ within .2 (omega arith)
-    args-rest (suc zero) h = q ∙ within .3 (omega arith)
-    args-rest (suc (suc zero)) h = refl
-    args-rest (suc (suc (suc zero))) h = refl
-    args-rest (suc (suc (suc (suc k)))) h = refl
+  pub closed-read : (t : Numbers) → t .right ≡ true → t .next < length l → t .count ≤ maxArguments → RestEmpty t
+      → (S : Scan (List ℕ)) → took (numbersOf t) (drop (t .next + 1) l) ≡ S → Read (closed t) S
+  closed-read t e h k z S q = (ap (λ b. scanned l b (numbersOf t) (t .next + 1)) e ∙ q, (omega arith, k, z))
 
 -- an answer among n types
 answer-low : (a n : ℕ) → a ≤ n → unlessMissing (answerOf a) (below n) ≡ true
@@ -418,7 +335,7 @@ module _ (n : ℕ) (s : State) (l : List ℕ) where
   method xs o = record { state = s; args = xs; answer = o }
 
   checked : Method → Res Method
-  checked m = need (all (below n) (m .args) && unlessMissing (m .answer) (below n)) 2 λ _. ok m
+  checked m = need (all (below n) (m .args) && unlessMissing (m .answer) (below n)) outOfRange λ _. ok m
 
   after-args : Scan (List ℕ) → Res Method
   after-args r = try (whole (bindScan r λ xs q. bindScan (answer q) λ o p. took (method xs o) p)) checked
@@ -430,7 +347,7 @@ module _ (n : ℕ) (s : State) (l : List ℕ) where
   unfolding signature method checked after-args
   signature-of = refl
 
-  pub signature-args : fail ≡ arguments l → refuse 1 ≡ signature n s l
+  pub signature-args : fail ≡ arguments l → refuse form ≡ signature n s l
   unfolding after-args
   signature-args e = ap after-args e ∙ signature-of
 
@@ -439,7 +356,7 @@ module _ (n : ℕ) (s : State) (l : List ℕ) where
     unfolding after-args after-answer
     behind-args = ap after-args e ∙ signature-of
 
-    pub signature-answer : fail ≡ answer r → refuse 1 ≡ signature n s l
+    pub signature-answer : fail ≡ answer r → refuse form ≡ signature n s l
     unfolding after-answer
     signature-answer q = ap (after-answer xs) q ∙ behind-args
 
@@ -448,27 +365,27 @@ module _ (n : ℕ) (s : State) (l : List ℕ) where
       unfolding after-answer
       both-taken = ap (after-answer xs) q ∙ behind-args
 
-      pub signature-behind : k < length w → refuse 1 ≡ signature n s l
+      pub signature-behind : k < length w → refuse form ≡ signature n s l
       signature-behind h = ap (λ z. try (whole (took (method xs (answerOf a)) z)) checked) (sym (from-here w k h)) ∙ both-taken
 
       module _ (h : length w ≤ k) where
-        complete : need (all (below n) xs && unlessMissing (answerOf a) (below n)) 2 (λ _. ok (method xs (answerOf a))) ≡ signature n s l
+        complete : need (all (below n) xs && unlessMissing (answerOf a) (below n)) outOfRange (λ _. ok (method xs (answerOf a))) ≡ signature n s l
         unfolding checked method
         complete = ap (λ z. try (whole (took (method xs (answerOf a)) z)) checked) (sym (at-end w k h)) ∙ both-taken
 
-        pub signature-high : all (below n) xs ≡ false → refuse 2 ≡ signature n s l
-        signature-high b = ap (λ z. need (z && unlessMissing (answerOf a) (below n)) 2 (λ _. ok (method xs (answerOf a)))) (sym b) ∙ complete
+        pub signature-high : all (below n) xs ≡ false → refuse outOfRange ≡ signature n s l
+        signature-high b = ap (λ z. need (z && unlessMissing (answerOf a) (below n)) outOfRange (λ _. ok (method xs (answerOf a)))) (sym b) ∙ complete
 
         module _ (b : all (below n) xs ≡ true) where
-          args-below : need (unlessMissing (answerOf a) (below n)) 2 (λ _. ok (method xs (answerOf a))) ≡ signature n s l
-          args-below = ap (λ z. need (z && unlessMissing (answerOf a) (below n)) 2 (λ _. ok (method xs (answerOf a)))) (sym b) ∙ complete
+          args-below : need (unlessMissing (answerOf a) (below n)) outOfRange (λ _. ok (method xs (answerOf a))) ≡ signature n s l
+          args-below = ap (λ z. need (z && unlessMissing (answerOf a) (below n)) outOfRange (λ _. ok (method xs (answerOf a)))) (sym b) ∙ complete
 
-          pub signature-answer-high : n < a → refuse 2 ≡ signature n s l
-          signature-answer-high d = ap (λ z. need z 2 (λ _. ok (method xs (answerOf a)))) (sym (answer-high a n d)) ∙ args-below
+          pub signature-answer-high : n < a → refuse outOfRange ≡ signature n s l
+          signature-answer-high d = ap (λ z. need z outOfRange (λ _. ok (method xs (answerOf a)))) (sym (answer-high a n d)) ∙ args-below
 
           pub signature-good : a ≤ n → ok (record { state = s; args = xs; answer = answerOf a }) ≡ signature n s l
           unfolding method
-          signature-good d = ap (λ z. need z 2 (λ _. ok (method xs (answerOf a)))) (sym (answer-low a n d)) ∙ args-below
+          signature-good d = ap (λ z. need z outOfRange (λ _. ok (method xs (answerOf a)))) (sym (answer-low a n d)) ∙ args-below
 
 -- What a method's bytes mean.
 means : State → Bool → ℕ → List ℕ → ℕ → Method
@@ -527,7 +444,7 @@ other-opens l o e h = subst (Opens l) e h
 -- one without a signature
 module _ (l : List ℕ) where
   not-denied : Res Method
-  not-denied = cond (same (stateText unavail) l) (ok (bare unavail)) (refuse 1)
+  not-denied = cond (same (stateText unavail) l) (ok (bare unavail)) (refuse form)
 
   pub bare-denied : same (stateText denied) l ≡ true → ok (bare denied) ≡ bareLine l
   unfolding not-denied
@@ -540,8 +457,8 @@ module _ (l : List ℕ) where
 
     pub bare-unavail : same (stateText unavail) l ≡ true → ok (bare unavail) ≡ bareLine l
     unfolding not-denied
-    bare-unavail e = ap (λ z. cond z (ok (bare unavail)) (refuse 1)) (sym e) ∙ past-denied
+    bare-unavail e = ap (λ z. cond z (ok (bare unavail)) (refuse form)) (sym e) ∙ past-denied
 
-    pub bare-none : same (stateText unavail) l ≡ false → refuse 1 ≡ bareLine l
+    pub bare-none : same (stateText unavail) l ≡ false → refuse form ≡ bareLine l
     unfolding not-denied
-    bare-none e = ap (λ z. cond z (ok (bare unavail)) (refuse 1)) (sym e) ∙ past-denied
+    bare-none e = ap (λ z. cond z (ok (bare unavail)) (refuse form)) (sym e) ∙ past-denied

@@ -1,19 +1,21 @@
 -- What the answers for an `own=`, an `under=` and an `m=` line say, in the words of crate `spec_sheet` (text_read's View has those of a number, and of answers that hold an array).
 use mathlib.Core.Path.{_≡_}
-use mathlib.Core.Bool.{Bool, true, false, cond}
-use mathlib.Core.List.{List, [], _∷_}
-use Prim.Native.Nat.{ℕ, _≤_, _<_}
+use mathlib.Core.Bool.{Bool, true, cond}
+use mathlib.Core.List.{List}
+use Prim.Native.Nat.{ℕ, _≤_}
 use lib.Dec.{eqb}
-use lib.ListN.{length, take, drop}
+use lib.ListN.{length, drop}
 use Rattle.spec_model.specs.Basics.{Res, refuse, ok}
-use Rattle.spec_model.specs.Table.{denied, unavail, Method, bare, permit}
+use Rattle.spec_model.specs.Table.{denied, unavail, Method, maxArguments, bare, permit}
 use Rattle.spec_model.specs.Check.{RawLinks, linksOf, stateOf}
 use Rattle.spec_model.specs.Records.{linksRecord}
+use Rattle.spec_model.specs.Refusals.{form}
 use Rattle.table_record.specs.Store.{rawLinks}
 use Rattle.spec_sheet.specs.Lines.{Reading, refused, got, split, same}
 use Rattle.spec_sheet.specs.Text.{stateText}
 use Rattle.spec_sheet.specs.Sheet.{signature, methodLine}
-use Rattle.sheet_read_line.specs.declared.Args.{Args}
+use Rattle.text_read.specs.declared.Numbers.{Numbers}
+use Rattle.text_read.specs.View.{RestEmpty}
 use Rattle.sheet_read_line.specs.declared.Opening.{Opening}
 use Rattle.sheet_read_line.specs.declared.Opening.the-variants.{Other, Signed}
 use Rattle.sheet_read_line.specs.declared.Under.{Under}
@@ -45,21 +47,13 @@ abbrev pub UnderGotExact : UnderGot → Type 0
 UnderGotExact (Refused k) = Unit {0}
 UnderGotExact (At x c) = LinksExact (rawLinks x)
 
--- the arguments that are there
-abbrev pub argsOf : Args → List ℕ
-argsOf a = take (a .count) (a .first ∷ a .second ∷ [])
-
--- Where they end in a line of this length; there are at most two, and those that are not there are 0.
-abbrev pub ArgsWithin : ℕ → Args → Type 0
-ArgsWithin size a = (a .next ≤ size) × (a .count ≤ 2) × (a .count < 1 → a .first ≡ 0) × (a .count < 2 → a .second ≡ 0)
-
--- none, since the form is wrong
-abbrev pub NoArgs : Args → Type 0
-NoArgs a = (a .right ≡ false) × (a .count ≡ 0) × (a .first ≡ 0) × (a .second ≡ 0) × (a .next ≡ 0)
+-- Where the arguments end in a line of this length; there are not too many, and those that are not there are 0.
+abbrev pub ArgsWithin : ℕ → Numbers → Type 0
+ArgsWithin size t = (t .next ≤ size) × (t .count ≤ maxArguments) × RestEmpty t
 
 -- the lines of the two states without a signature
 abbrev pub bareLine : List ℕ → Res Method
-bareLine l = cond (same (stateText denied) l) (ok (bare denied)) (cond (same (stateText unavail) l) (ok (bare unavail)) (refuse 1))
+bareLine l = cond (same (stateText denied) l) (ok (bare denied)) (cond (same (stateText unavail) l) (ok (bare unavail)) (refuse form))
 
 -- What is left to be read of an `m=` line, by its beginning.
 abbrev pub Opens : List ℕ → Opening → Type 0

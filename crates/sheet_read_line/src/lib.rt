@@ -1,21 +1,21 @@
-// The line kinds of a sheet but those of one number (docs/SPEC.md S24 to S26). In each the tests for 1 come first, then those for 2, then those for 3, over the whole line (S5).
-// A function `read_..` reads the bytes of one line, a function `next_..` the next line of the text.
-// `is` says what is read, `exact` that the record is the one that stands for it: a state by its own code, unused slots 0 (B13).
+// The line kinds of a sheet but those of one number (docs/SPEC.md S24 to S26). In each the tests for 1 come first, then those for 2, then those for 3, over the
+// whole line (S5). A function `read_..` reads the bytes of one line, a function `next_..` the next line of the text. `is` says what is read, `exact` that the
+// record is the one that stands for it: a state by its own code, unused slots 0 (B13).
 ghost use mathlib.Core.Path.{_≡_};
 ghost use mathlib.Core.Bool.{true, false};
-ghost use mathlib.Core.List.{[], _∷_};
 ghost use Prim.Native.Nat.{ℕ, _≤_, _<_};
-ghost use lib.ListN.{length, getD, take, drop};
+ghost use lib.ListN.{length, getD, drop};
 ghost use Rattle.spec_model.specs.Basics.{refuse, ok, all};
-ghost use Rattle.spec_model.specs.Table.{bare, permit};
+ghost use Rattle.spec_model.specs.Table.{bare, permit, maxCategories, maxSheetTypes};
 ghost use Rattle.spec_model.specs.Check.{stateOf, repOf, answerOf, methodOf};
 ghost use Rattle.table_record.specs.Store.{rawMethod, MethodExact};
 ghost use Rattle.spec_sheet.specs.Lines.{split, line};
-ghost use Rattle.spec_sheet.specs.Numbers.{bindScan, numbers};
-ghost use Rattle.spec_sheet.specs.Sheet.{repLine, ownLine, endLine, underLine, closing, arguments, answer, below, signature, methodLine};
-ghost use Rattle.text_read.specs.View.{scanned, scanBy, valueBy, AtMost, readBy, GotAtMost, result, reading};
-ghost use Rattle.sheet_read_line.specs.View.{yesOf, underBy, underRead, UnderExact, UnderGotExact, argsOf, ArgsWithin, NoArgs, bareLine, Opens};
+ghost use Rattle.spec_sheet.specs.Sheet.{repLine, ownLine, endLine, underLine, arguments, answer, below, signature, methodLine};
+ghost use Rattle.text_read.specs.View.{scanned, scanBy, valueBy, AtMost, readBy, GotAtMost, result, reading, itemsOf, numbersOf, maxNumbers};
+ghost use Rattle.sheet_read_line.specs.View.{yesOf, underBy, underRead, UnderExact, UnderGotExact, ArgsWithin, bareLine, Opens};
 use base_numbers::narrow;
+use base_numbers::refusal;
+use table_record::Counts;
 use table_record::Head;
 use table_record::Links;
 use table_record::Method;
@@ -23,15 +23,9 @@ use text_cursor::Cursor;
 use text_cursor::between;
 use text_cursor::next_line;
 use text_read::Got;
-use text_read::NUMBERS;
 use text_read::Number;
+use text_read::Numbers;
 use text_read::Value;
-
-// Numbers that are stored as bytes, if each is below a bound.
-pub struct Packed {
-    pub right: bool,
-    pub items: [u8; Method::SLOTS],
-}
 
 // An `under=` line: the number of a refusal, or the broader categories.
 pub enum Under {
@@ -43,16 +37,6 @@ pub enum Under {
 pub enum UnderGot {
     Refused(usize),
     At(Links, Cursor),
-}
-
-// The arguments of a signature, scanned: whether the form is right, how many, the numbers, and where the bytes behind them start.
-// They are no list, and a method is made of them at one place: a copy in words of what was just stored in bytes has to wait for the stores.
-pub struct Args {
-    pub right: bool,
-    pub count: usize,
-    pub first: usize,
-    pub second: usize,
-    pub next: usize,
 }
 
 // How an `m=` line begins: with the state of a method that has a signature, which starts at an offset of the line, or otherwise.
@@ -88,7 +72,7 @@ fn read_rep(l: &[u8]) -> Value
     if text_read::is_word(l, b"rep=w64") {
         return Value::Is(Head::W64 as usize);
     }
-    Value::Refused(1)
+    Value::Refused(refusal::FORM)
 }
 
 pub fn next_rep(s: &[u8], c: Cursor) -> Got
@@ -112,7 +96,7 @@ fn read_own(l: &[u8]) -> Value
     if text_read::is_word(l, b"own=no") {
         return Value::Is(0);
     }
-    Value::Refused(1)
+    Value::Refused(refusal::FORM)
 }
 
 pub fn next_own(s: &[u8], c: Cursor) -> Got
@@ -132,7 +116,7 @@ fn read_end(l: &[u8]) -> Value
     if text_read::is_word(l, b"end=sheet") {
         return Value::Is(0);
     }
-    Value::Refused(1)
+    Value::Refused(refusal::FORM)
 }
 
 pub fn next_end(s: &[u8], c: Cursor) -> Got
@@ -144,65 +128,70 @@ pub fn next_end(s: &[u8], c: Cursor) -> Got
     text_read::passed(v, d)
 }
 
-// Whether the first count numbers are below n, and those numbers as bytes; the other bytes are 0.
-fn pack(items: [usize; NUMBERS], count: usize, n: usize) -> Packed
-    requires { ⌜ (count ≤ 4) × (length items ≡ 4) × (n ≤ 256) ⌝ }
-    ensures is { λ r. ⌜ r .right ≡ all (below n) (take count items) ⌝ }
-    ensures kept { λ r. ⌜ (r .right ≡ true → take count (r .items) ≡ take count items) × (length (r .items) ≡ 4) × ((k : ℕ) → count ≤ k → getD (r .items) k 0 ≡ 0) ⌝ }
+// The number at place i of those that there is room for.
+fn item_at(t: Numbers, i: usize) -> usize
+    requires { ⌜ i < maxNumbers ⌝ }
+    ensures { λ r. ⌜ r ≡ getD (itemsOf t) i 0 ⌝ }
 {
-    let mut bytes = [0u8; Method::SLOTS];
+    if i == 0 {
+        return t.first;
+    }
+    if i == 1 {
+        return t.second;
+    }
+    if i == 2 {
+        return t.third;
+    }
+    t.fourth
+}
+
+// Whether every number is below n.
+fn all_below(t: Numbers, n: usize) -> bool
+    requires { ⌜ t .count ≤ maxNumbers ⌝ }
+    ensures { λ r. ⌜ r ≡ all (below n) (numbersOf t) ⌝ }
+{
+    let count = t.count;
     let mut i: usize = 0;
     while i < count {
-        let x = items[i];
-        if n <= x {
-            return Packed {
-                right: false,
-                items: bytes,
-            };
+        if n <= item_at(t, i) {
+            return false;
         }
-        bytes[i] = narrow(x);
         i += 1;
     }
-    Packed {
-        right: true,
-        items: bytes,
-    }
+    true
 }
 
 // An `under=` line, of category k (S24): 2 where a number names no category, else 3 where one is not below k (S12).
 fn read_under(l: &[u8], cats: usize, k: usize) -> Under
-    requires { ⌜ (cats ≤ 31) × (k ≤ 31) ⌝ }
+    requires { ⌜ (cats ≤ maxCategories) × (k ≤ maxCategories) ⌝ }
     ensures is { λ r. ⌜ underBy r ≡ underLine cats k (now (l .entry)) ⌝ }
     ensures exact { λ r. ⌜ UnderExact r ⌝ }
 {
     if !text_read::begins(l, b"under=") {
-        return Under::Refused(1);
+        return Under::Refused(refusal::FORM);
     }
-    let t = text_read::numbers_at(l, 6, 2);
+    let t = text_read::numbers_at(l, 6, Counts::BROADER);
     if !t.right {
-        return Under::Refused(1);
+        return Under::Refused(refusal::FORM);
     }
     if t.next < l.len() {
-        return Under::Refused(1);
+        return Under::Refused(refusal::FORM);
     }
-    let items = t.items;
-    let known = pack(items, t.count, cats + 1);
-    if !known.right {
-        return Under::Refused(2);
+    if !all_below(t, cats + 1) {
+        return Under::Refused(refusal::OUT_OF_RANGE);
     }
-    let lower = pack(items, t.count, k);
-    if !lower.right {
-        return Under::Refused(3);
+    if !all_below(t, k) {
+        return Under::Refused(refusal::NOT_BELOW);
     }
     Under::Are(Links {
         count: narrow(t.count),
-        first: lower.items[0],
-        second: lower.items[1],
+        first: narrow(t.first),
+        second: narrow(t.second),
     })
 }
 
 pub fn next_under(s: &[u8], c: Cursor, cats: usize, k: usize) -> UnderGot
-    requires { ⌜ (cats ≤ 31) × (k ≤ 31) ⌝ }
+    requires { ⌜ (cats ≤ maxCategories) × (k ≤ maxCategories) ⌝ }
     ensures is { λ r. ⌜ underRead (now (s .entry)) (c .at) r ≡ line (underLine cats k) (c .at) (split (drop (c .at) (now (s .entry)))) ⌝ }
     ensures exact { λ r. ⌜ UnderGotExact r ⌝ }
 {
@@ -215,101 +204,33 @@ pub fn next_under(s: &[u8], c: Cursor, cats: usize, k: usize) -> UnderGot
     }
 }
 
-fn no_args() -> Args
-    ensures { λ r. ⌜ NoArgs r ⌝ }
-{
-    Args {
-        right: false,
-        count: 0,
-        first: 0,
-        second: 0,
-        next: 0,
-    }
-}
-
-// The second argument, behind a comma, and the bracket that closes them: a third one is a fault of form (S11).
-fn second_at(l: &[u8], at: usize, first: usize) -> Args
+// The arguments of a signature, to the bracket that closes them (S26). One too many is a fault of form (S11).
+fn args_at(l: &[u8], at: usize) -> Numbers
     requires { ⌜ at ≤ length (now l) ⌝ }
-    ensures is { λ r. ⌜ scanned (now (l .entry)) (r .right) (argsOf r) (r .next) ≡ bindScan (numbers 1 (first ∷ []) (drop at (now (l .entry)))) closing ⌝ }
-    ensures within { λ r. ⌜ ArgsWithin (length (now (l .entry))) r ⌝ }
-{
-    let t = text_read::number_at(l, at);
-    let Number::Right(second, e) = t else {
-        return no_args();
-    };
-    if e == l.len() {
-        return no_args();
-    }
-    if l[e] != b')' {
-        return no_args();
-    }
-    Args {
-        right: true,
-        count: 2,
-        first,
-        second,
-        next: e + 1,
-    }
-}
-
-// The arguments of a signature, to the bracket that closes them (S26).
-fn args_at(l: &[u8], at: usize) -> Args
-    requires { ⌜ at ≤ length (now l) ⌝ }
-    ensures is { λ r. ⌜ scanned (now (l .entry)) (r .right) (argsOf r) (r .next) ≡ arguments (drop at (now (l .entry))) ⌝ }
+    ensures is { λ r. ⌜ scanned (now (l .entry)) (r .right) (numbersOf r) (r .next) ≡ arguments (drop at (now (l .entry))) ⌝ }
     ensures within { λ r. ⌜ ArgsWithin (length (now (l .entry))) r ⌝ }
 {
     if at == l.len() {
-        return no_args();
+        return text_read::no_numbers(at);
     }
     if l[at] == b')' {
-        return Args {
-            right: true,
-            count: 0,
-            first: 0,
-            second: 0,
-            next: at + 1,
-        };
+        let mut none = text_read::no_numbers(at + 1);
+        none.right = true;
+        return none;
     }
-    let t = text_read::number_at(l, at);
-    let Number::Right(first, e) = t else {
-        return no_args();
-    };
+    let mut t = text_read::numbers_at(l, at, Counts::ARGUMENTS);
+    if !t.right {
+        return t;
+    }
+    let e = t.next;
     if e == l.len() {
-        return no_args();
+        return text_read::no_numbers(at);
     }
-    if l[e] == b')' {
-        return Args {
-            right: true,
-            count: 1,
-            first,
-            second: 0,
-            next: e + 1,
-        };
+    if l[e] != b')' {
+        return text_read::no_numbers(at);
     }
-    if l[e] != b',' {
-        return no_args();
-    }
-    second_at(l, e + 1, first)
-}
-
-// Whether every argument is below n.
-fn args_below(a: Args, n: usize) -> bool
-    requires { ⌜ a .count ≤ 2 ⌝ }
-    ensures { λ r. ⌜ r ≡ all (below n) (argsOf a) ⌝ }
-{
-    if a.count == 0 {
-        return true;
-    }
-    if n <= a.first {
-        return false;
-    }
-    if a.count == 1 {
-        return true;
-    }
-    if n <= a.second {
-        return false;
-    }
-    true
+    t.next = e + 1;
+    t
 }
 
 // The answer of a signature: 0 for `-`, else the number plus 1 (B10).
@@ -356,31 +277,36 @@ fn read_unsigned(state: u8) -> MethodLine
 
 // A signature, from `at` on, of a sheet with n types (S26): a number that isn't below n is 2 (S29).
 fn read_signature(l: &[u8], at: usize, state: u8, n: usize) -> MethodLine
-    requires { ⌜ (at ≤ length (now l)) × (n ≤ 48) × (permit (stateOf state) ≡ true) ⌝ }
+    requires { ⌜ (at ≤ length (now l)) × (n ≤ maxSheetTypes) × (permit (stateOf state) ≡ true) ⌝ }
     ensures is { λ r. ⌜ result (r .refusal) (methodOf (rawMethod (r .m))) ≡ signature n (stateOf state) (drop at (now (l .entry))) ⌝ }
     ensures exact { λ r. ⌜ MethodExact (rawMethod (r .m)) ⌝ }
 {
     let t = args_at(l, at);
     if !t.right {
-        return no_method(1);
+        return no_method(refusal::FORM);
     }
     let o = answer_at(l, t.next);
     let Number::Right(a, next) = o else {
-        return no_method(1);
+        return no_method(refusal::FORM);
     };
     if next < l.len() {
-        return no_method(1);
+        return no_method(refusal::FORM);
     }
-    if !args_below(t, n) {
-        return no_method(2);
+    if !all_below(t, n) {
+        return no_method(refusal::OUT_OF_RANGE);
     }
     if n < a {
-        return no_method(2);
+        return no_method(refusal::OUT_OF_RANGE);
     }
     let m = Method {
         state,
         count: narrow(t.count),
-        args: [narrow(t.first), narrow(t.second), 0, 0],
+        args: [
+            narrow(t.first),
+            narrow(t.second),
+            narrow(t.third),
+            narrow(t.fourth),
+        ],
         answer: narrow(a),
     };
     MethodLine { refusal: 0, m }
@@ -410,12 +336,12 @@ fn read_bare(l: &[u8]) -> MethodLine
     if text_read::is_word(l, b"m=unavail") {
         return read_unsigned(Method::UNAVAIL);
     }
-    no_method(1)
+    no_method(refusal::FORM)
 }
 
 // An `m=` line of a sheet with n types (S26).
 fn read_method(l: &[u8], n: usize) -> MethodLine
-    requires { ⌜ n ≤ 48 ⌝ }
+    requires { ⌜ n ≤ maxSheetTypes ⌝ }
     ensures is { λ r. ⌜ result (r .refusal) (methodOf (rawMethod (r .m))) ≡ methodLine n (now (l .entry)) ⌝ }
     ensures exact { λ r. ⌜ MethodExact (rawMethod (r .m)) ⌝ }
 {
@@ -427,8 +353,9 @@ fn read_method(l: &[u8], n: usize) -> MethodLine
 }
 
 pub fn next_method(s: &[u8], c: Cursor, n: usize) -> MethodGot
-    requires { ⌜ n ≤ 48 ⌝ }
-    ensures is { λ r. ⌜ reading (now (s .entry)) (r .refusal) (methodOf (rawMethod (r .m))) (r .next .at) ≡ line (methodLine n) (c .at) (split (drop (c .at) (now (s .entry)))) ⌝ }
+    requires { ⌜ n ≤ maxSheetTypes ⌝ }
+    ensures is { λ r. ⌜ reading (now (s .entry)) (r .refusal) (methodOf (rawMethod (r .m))) (r .next .at)
+        ≡ line (methodLine n) (c .at) (split (drop (c .at) (now (s .entry)))) ⌝ }
     ensures exact { λ r. ⌜ MethodExact (rawMethod (r .m)) ⌝ }
 {
     let d = next_line(s, c);

@@ -15,6 +15,7 @@ use Rattle.spec_model.specs.Table.{Ty, Table, Method as Methodᵐ, noType, type
 use Rattle.spec_model.specs.Check.{RawType, RawMethod, noRawType, noRawMethod, stateOf, repOf, answerOf, methodOf, typeOf}
 use Rattle.spec_model.proofs.Largest.{getD-from-out}
 use Rattle.spec_model.proofs.Lists.{all-same}
+use Rattle.spec_model.specs.Records.{argumentSlots}
 use Rattle.table_record.specs.Store.{typesTo, mayStandAs}
 use Rattle.table_record.proofs.Tables.{types-to-at}
 use Rattle.spec_sheet.specs.Sheet.{stands, signaturesStand}
@@ -42,32 +43,34 @@ pub stands-in : (rs : List RawType) (n a : ℕ) → a < n → mayStandAs (getD r
 stands-in rs n a h = ap (λ z. cond z (mayStandAs (getD rs a noRawType)) true) (sym (lt-ltb a n h))
 
 -- The arguments of a method: `count` of four are used.
-module _ (f : ℕ → Bool) (args : List ℕ) (count i : ℕ) (four : length args ≡ 4) (inv : all f (take count args) ≡ all f (drop i (take count args))) where
-  used : count ≤ 4 → length (take count args) ≡ count
+module _ (f : ℕ → Bool) (args : List ℕ) (count i : ℕ) (four : length args ≡ argumentSlots) (inv : all f (take count args) ≡ all f (drop i (take count args))) where
+  used : count ≤ argumentSlots → length (take count args) ≡ count
   used h = length-take-le count args (omega arith)
 
-  pub args-end : i ≡ count → i < 4 → true ≡ all f (take count args)
+  pub args-end : i ≡ count → i < argumentSlots → true ≡ all f (take count args)
   args-end e h = let u : length (take count args) ≡ count = used (omega arith) in all-done f (take count args) i 0 inv (omega arith)
 
-  long : i < 4 → i < count → i < length (take count args)
+  long : i < argumentSlots → i < count → i < length (take count args)
   long h k = ⊎-go (ltb count 4) refl
     where
       ⊎-go : (t : Bool) → ltb count 4 ≡ t → i < length (take count args)
-      ⊎-go true e = let l : count < 4 = ltb-true count 4 e in let u : length (take count args) ≡ count = used (omega arith) in omega arith
-      ⊎-go false e = let l : 4 ≤ count = ltb-false count 4 e in let u : length (take count args) ≡ 4 = ap length (take-all count args (omega arith)) ∙ four in omega arith
+      ⊎-go true e = let l : count < argumentSlots = ltb-true count argumentSlots e in let u : length (take count args) ≡ count = used (omega arith) in omega arith
+      ⊎-go false e = let l : argumentSlots ≤ count = ltb-false count argumentSlots e in let u : length (take count args) ≡ argumentSlots = ap length (take-all count args (omega arith))
+          ∙ four in omega arith
 
-  pub args-broken : i < 4 → i < count → f (getD args i 0) ≡ false → false ≡ all f (take count args)
+  pub args-broken : i < argumentSlots → i < count → f (getD args i 0) ≡ false → false ≡ all f (take count args)
   args-broken h k e = all-broken f (take count args) i 0 inv (long h k) (ap f (getD-take count args i 0 k) ∙ e)
 
-  pub args-next : i < 4 → i < count → f (getD args i 0) ≡ true → all f (take count args) ≡ all f (drop (i + 1) (take count args))
+  pub args-next : i < argumentSlots → i < count → f (getD args i 0) ≡ true → all f (take count args) ≡ all f (drop (i + 1) (take count args))
   args-next h k e = all-next f (take count args) i 0 inv (long h k) (ap f (getD-take count args i 0 k) ∙ e)
 
   pub args-done : 4 ≤ i → true ≡ all f (take count args)
   args-done h = all-done f (take count args) i 0 inv (short (ltb count 4) refl)
     where
       short : (t : Bool) → ltb count 4 ≡ t → length (take count args) ≤ i
-      short true e = let l : count < 4 = ltb-true count 4 e in let u : length (take count args) ≡ count = used (omega arith) in omega arith
-      short false e = let l : 4 ≤ count = ltb-false count 4 e in let u : length (take count args) ≡ 4 = ap length (take-all count args (omega arith)) ∙ four in omega arith
+      short true e = let l : count < argumentSlots = ltb-true count argumentSlots e in let u : length (take count args) ≡ count = used (omega arith) in omega arith
+      short false e = let l : argumentSlots ≤ count = ltb-false count argumentSlots e in let u : length (take count args) ≡ argumentSlots = ap length (take-all count args (omega arith))
+          ∙ four in omega arith
 
 -- A method.
 module _ (may : ℕ → Bool) (m : RawMethod) where

@@ -4,6 +4,7 @@ ghost use Prim.Native.Nat.{_≤_, _<_};
 ghost use lib.ListN.{getD, take};
 ghost use Rattle.spec_model.specs.Basics.{all};
 ghost use Rattle.spec_model.specs.Check.{noRawType, methodOf};
+ghost use Rattle.spec_model.specs.Table.{maxMethods, maxTypes};
 ghost use Rattle.table_record.specs.Store.{rawMethod, typesIn, typesTo};
 ghost use Rattle.spec_sheet.specs.Sheet.{stands};
 ghost use Rattle.sheet_read_signatures.specs.Signatures.{methodsOf, standsAt, methodsStand, typeStands};
@@ -14,7 +15,7 @@ use table_record::TYPE_BYTES;
 
 // Whether type a, if it is one of n, may stand in a signature.
 fn stands_at(b: &[u8; TYPE_BYTES], n: usize, a: usize) -> bool
-    requires { ⌜ n ≤ 128 ⌝ }
+    requires { ⌜ n ≤ maxTypes ⌝ }
     ensures { λ r. ⌜ r ≡ standsAt (typesIn (now (b .entry))) n a ⌝ }
 {
     if n <= a {
@@ -25,12 +26,12 @@ fn stands_at(b: &[u8; TYPE_BYTES], n: usize, a: usize) -> bool
 
 // Whether every argument of a signature may stand there.
 fn args_stand(b: &[u8; TYPE_BYTES], n: usize, m: Method) -> bool
-    requires { ⌜ n ≤ 128 ⌝ }
+    requires { ⌜ n ≤ maxTypes ⌝ }
     ensures { λ r. ⌜ r ≡ all (standsAt (typesIn (now (b .entry))) n) (take (m .count) (m .args)) ⌝ }
 {
     let count = wide(m.count);
     let mut i: usize = 0;
-    while i < 4 {
+    while i < Method::SLOTS {
         if i == count {
             return true;
         }
@@ -45,7 +46,7 @@ fn args_stand(b: &[u8; TYPE_BYTES], n: usize, m: Method) -> bool
 
 // Whether every type of a method's signature may stand there (T14).
 fn method_stands(b: &[u8; TYPE_BYTES], n: usize, m: Method) -> bool
-    requires { ⌜ n ≤ 128 ⌝ }
+    requires { ⌜ n ≤ maxTypes ⌝ }
     ensures { λ r. ⌜ r ≡ stands (standsAt (typesIn (now (b .entry))) n) (methodOf (rawMethod m)) ⌝ }
 {
     if !table_record::permits(m.state) {
@@ -63,7 +64,7 @@ fn method_stands(b: &[u8; TYPE_BYTES], n: usize, m: Method) -> bool
 
 // whether the signatures of type i do, of m methods
 fn type_stands(b: &[u8; TYPE_BYTES], n: usize, m: usize, i: usize) -> bool
-    requires { ⌜ (n ≤ 128) × (m ≤ 16) × (i < 128) ⌝ }
+    requires { ⌜ (n ≤ maxTypes) × (m ≤ maxMethods) × (i < maxTypes) ⌝ }
     ensures { λ r. ⌜ r ≡ methodsStand (standsAt (typesIn (now (b .entry))) n) (methodsOf m (getD (typesIn (now (b .entry))) i noRawType)) ⌝ }
 {
     let h = table_record::get_head(b, i);
@@ -83,7 +84,7 @@ fn type_stands(b: &[u8; TYPE_BYTES], n: usize, m: usize, i: usize) -> bool
 
 // whether those of the n types do
 pub fn types_stand(b: &[u8; TYPE_BYTES], n: usize, m: usize) -> bool
-    requires { ⌜ (n ≤ 128) × (m ≤ 16) ⌝ }
+    requires { ⌜ (n ≤ maxTypes) × (m ≤ maxMethods) ⌝ }
     ensures { λ r. ⌜ r ≡ all (typeStands (typesIn (now (b .entry))) n) (typesTo m n n (typesIn (now (b .entry)))) ⌝ }
 {
     let mut i: usize = 0;

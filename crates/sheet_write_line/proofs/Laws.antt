@@ -12,6 +12,7 @@ use lib.ListN.{length, getD, take}
 use lib.Seq.{take-all}
 use borrow.Author.Tests.{eq-eqb, ne-eqb}
 use Rattle.spec_model.specs.Check.{RawMethod, repOf, answerOf, methodOf, linksOf}
+use Rattle.spec_model.specs.Records.{argumentSlots}
 use Rattle.table_record.specs.declared.Links.{Links}
 use Rattle.table_record.specs.declared.Method.{Method}
 use Rattle.table_record.specs.Store.{rawMethod, rawLinks}
@@ -45,10 +46,10 @@ pub argument-next : (args : List ℕ) (i n : ℕ) → i < length args → n ≡ 
 argument-next args i n h e = ap (λ z. commas (take i args) ++ argumentText i z) e ∙ commas-next args i h ∙ ap (λ z. commas (take z args)) (sym (add-one i))
 
 -- the arguments used are those of four slots, at most
-pub slots : (args : List ℕ) (count n : ℕ) → length args ≡ 4 → n ≡ min count 4 → take n args ≡ take count args
+pub slots : (args : List ℕ) (count n : ℕ) → length args ≡ argumentSlots → n ≡ min count argumentSlots → take n args ≡ take count args
 slots args count n h e =
     ⊎-elim
-    (λ (l : count < 4). let q : n ≡ count = omega arith in ap (λ z. take z args) q)
+    (λ (l : count < argumentSlots). let q : n ≡ count = omega arith in ap (λ z. take z args) q)
     (λ (l : 4 ≤ count). take-all n args (omega arith) ∙ sym (take-all count args (omega arith)))
     (lt-or-ge count 4)
 

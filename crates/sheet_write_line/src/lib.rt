@@ -38,7 +38,7 @@ fn put_arguments(buf: &mut [u8], count: usize, args: [u8; Method::SLOTS]) -> usi
     ensures is { λ r. ⌜ Filled (now (buf .entry)) (now (buf .exit)) (commas (take count args)) r ⌝ }
     ensures few { λ r. ⌜ r ≤ 144 ⌝ }
 {
-    let n = least(count, 4);
+    let n = least(count, Method::SLOTS);
     let mut at: usize = 0;
     let mut i: usize = 0;
     while i < n {

@@ -16,6 +16,7 @@ ghost use mathlib.Core.List.{[], _∷_};
 ghost use Prim.Native.Nat.{_≤_, _<_};
 ghost use lib.Dec.{eqb};
 ghost use Rattle.spec_model.specs.Check.{repOf, tableOf};
+ghost use Rattle.spec_model.specs.Table.{maxMethods, maxCategories, maxTypes};
 ghost use Rattle.table_record.specs.Limits.{Limits};
 ghost use Rattle.table_record.specs.Store.{rawTable};
 ghost use Rattle.spec_sheet.specs.Lines.{bytes};
@@ -25,7 +26,7 @@ ghost use Rattle.sheet_write_table.specs.Parts.{typeIn, methodLines, typ
 
 // The lines of the methods of type i.
 fn write_methods(buf: &mut [u8], b: &[u8; TYPE_BYTES], i: usize, methods: usize) -> usize
-    requires { ⌜ (i < 128) × (methods ≤ 16) ⌝ }
+    requires { ⌜ (i < maxTypes) × (methods ≤ maxMethods) ⌝ }
     ensures is { λ r. ⌜ Lined (now (buf .entry)) (now (buf .exit)) (methodLines (now (b .entry)) i methods) r ⌝ }
     ensures few { λ r. ⌜ r ≤ 2912 ⌝ }
 {
@@ -43,8 +44,9 @@ fn write_methods(buf: &mut [u8], b: &[u8; TYPE_BYTES], i: usize, methods: usize)
 
 // The first three lines of a type (S25).
 fn write_head(buf: &mut [u8], i: usize, h: Head) -> usize
-    requires { ⌜ i < 128 ⌝ }
-    ensures is { λ r. ⌜ Lined (now (buf .entry)) (now (buf .exit)) (numberText (bytes "type=") i ∷ repText (repOf (h .rep)) ∷ numberText (bytes "cat=") (h .cat) ∷ []) r ⌝ }
+    requires { ⌜ i < maxTypes ⌝ }
+    ensures is { λ r. ⌜ Lined (now (buf .entry)) (now (buf .exit))
+        (numberText (bytes "type=") i ∷ repText (repOf (h .rep)) ∷ numberText (bytes "cat=") (h .cat) ∷ []) r ⌝ }
     ensures few { λ r. ⌜ r ≤ 91 ⌝ }
 {
     let a = write_number(buf, b"type=", i);
@@ -58,7 +60,7 @@ fn write_head(buf: &mut [u8], i: usize, h: Head) -> usize
 
 // The other lines of a reference type (S25).
 fn write_members(buf: &mut [u8], b: &[u8; TYPE_BYTES], i: usize, own: u8, methods: usize) -> usize
-    requires { ⌜ (i < 128) × (methods ≤ 16) ⌝ }
+    requires { ⌜ (i < maxTypes) × (methods ≤ maxMethods) ⌝ }
     ensures is { λ r. ⌜ Lined (now (buf .entry)) (now (buf .exit)) (ownText (eqb own 1) ∷ methodLines (now (b .entry)) i methods) r ⌝ }
     ensures few { λ r. ⌜ r ≤ 2929 ⌝ }
 {
@@ -70,7 +72,7 @@ fn write_members(buf: &mut [u8], b: &[u8; TYPE_BYTES], i: usize, own: u8, method
 
 // The lines of type i; a number type has only the first three.
 fn write_type(buf: &mut [u8], b: &[u8; TYPE_BYTES], c: Counts, i: usize) -> usize
-    requires { ⌜ (i < 128) × (c .methods ≤ 16) ⌝ }
+    requires { ⌜ (i < maxTypes) × (c .methods ≤ maxMethods) ⌝ }
     ensures is { λ r. ⌜ Lined (now (buf .entry)) (now (buf .exit)) (typeLines i (typeIn (now (b .entry)) c i)) r ⌝ }
     ensures few { λ r. ⌜ r ≤ 3020 ⌝ }
 {
@@ -104,7 +106,7 @@ fn write_types(buf: &mut [u8], b: &[u8; TYPE_BYTES], c: Counts) -> usize
 
 // The lines of the categories, of which the first is category 1.
 fn write_unders(buf: &mut [u8], l: &[u8; LINK_BYTES], cats: usize) -> usize
-    requires { ⌜ cats ≤ 31 ⌝ }
+    requires { ⌜ cats ≤ maxCategories ⌝ }
     ensures is { λ r. ⌜ Lined (now (buf .entry)) (now (buf .exit)) (underLines (now (l .entry)) cats) r ⌝ }
     ensures few { λ r. ⌜ r ≤ 2263 ⌝ }
 {

@@ -80,11 +80,11 @@ pub record Look : Type 0 where
 abbrev bookSays : Book → ℕ → List ℕ → Bool
 bookSays b k w = permits (b .table) (pageAt b k .class) w && all (λ x. permits (b .table) x w) (pageAt b k .trail)
 
-abbrev answersAt : System × Book → Ask → Bool × Bool
-answersAt x a = (offered (x .0) (a .cell) (a .chain), bookSays (x .1) (a .cell) (a .chain))
+abbrev comparisonAt : System × Book → Ask → Bool × Bool
+comparisonAt x a = (offered (x .0) (a .cell) (a .chain), bookSays (x .1) (a .cell) (a .chain))
 
 abbrev pub Seen : Look → Type 0
-Seen l = map (answersAt (reached (l .table) (l .requests))) (l .asks) ≡ map (λ a. (a .says, a .says)) (l .asks)
+Seen l = map (comparisonAt (reached (l .table) (l .requests))) (l .asks) ≡ map (λ a. (a .says, a .says)) (l .asks)
 
 abbrev pub AllSeen : List Look → Type 0
 AllSeen [] = Unit

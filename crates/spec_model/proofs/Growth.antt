@@ -4,11 +4,11 @@ use mathlib.Core.Logic.{_↔_}
 use mathlib.Core.Bool.{So}
 use mathlib.Core.List.{List, [], _∷_}
 use mathlib.Core.Option.{Option, none, some}
-use Prim.Native.Nat.{ℕ, _≤_, _<_}
+use Prim.Native.Nat.{ℕ, suc, _≤_, _<_}
 use native.Mathlib.Omega.{arith}
 use lib.ListN.{getD}
 use Rattle.spec_model.specs.Basics.{AllBelow}
-use Rattle.spec_model.specs.Table.{Ty, Table, noMethod, size, typeAt, methodAt}
+use Rattle.spec_model.specs.Table.{Ty, Table, noMethod, size, typeAt, methodAt, maxCategories}
 use Rattle.spec_model.specs.Relations.{ArgsBy, AnswerBy, Relation, subtype, conforms, strict, loose, free, catLe, outerRule, related, reaches, Keeps}
 use Rattle.spec_model.specs.Chains.{permits, Permits}
 use Rattle.spec_model.proofs.Rules.{so-both}
@@ -43,7 +43,7 @@ module _ (t u : Table) (x : Grown t u) where
 
   cats-same : (a b : ℕ) → catLe u a b ≡ catLe t a b
   unfolding catLe
-  cats-same a b = ap (λ (cs : List (List ℕ)). reaches 32 ([] ∷ cs) a b) (x .cats)
+  cats-same a b = ap (λ (cs : List (List ℕ)). reaches (suc maxCategories) ([] ∷ cs) a b) (x .cats)
 
   pub outer-same : (k : Relation) (a b : Ty) → outerRule k u a b ≡ outerRule k t a b
   unfolding outerRule

@@ -12,7 +12,7 @@ use Rattle.spec_model.specs.Relations.{subtype, conforms, related}
 use Rattle.spec_model.specs.Restriction.{derive}
 use Rattle.spec_model.specs.Requests.{Request, new, move, call, answer}
 
--- A page is the book's entry for one cell. Its trail has the types that the reference crossed since the thing was made or last unwrapped, beside it the types of the adapters that came
+-- A page is the book's entry for one cell. Its trail has the types that the reference crossed since the object was made or last unwrapped, beside it the types of the adapters that came
 -- of them (L3). The latest entry of a list comes first.
 pub record Page : Type 0 where
   pub class : ℕ
@@ -88,8 +88,8 @@ abbrev pub addPage : Book → Table × Page → Book
 addPage b x = record { table = x .0; pages = b .pages ++ (x .1 ∷ []); calls = b .calls }
 
 -- what a value meets on its way, by the page: as the layers of a call (L11)
-abbrev pub pageWay : Page → List ℕ
-pageWay g = lastType g ∷ (g .closed ++ (g .class ∷ []))
+abbrev pub pageLayers : Page → List ℕ
+pageLayers g = lastType g ∷ (g .closed ++ (g .class ∷ []))
 
 -- page k, copied, crosses to the types
 unfoldable pub copyPage : Book → ℕ → List (Option ℕ) → Book
@@ -99,11 +99,11 @@ copyPage b k ts = addPage b (pageCrossAll (b .table) (pageAt b k) ts)
 -- L11: argument i and those after it; a number leaves no page
 unfoldable pub copyArguments : Book → List ℕ → ℕ → ℕ → List ℕ → List ℤ → Book
 unfolding copyPage
-copyArguments b way m i [] vs = b
-copyArguments b way m i (a ∷ xs) [] = b
-copyArguments b way m i (a ∷ xs) (v ∷ vs) = elim (isRef (typeAt (b .table) a .rep)) [
-  | true ↦ copyArguments (copyPage b (named v) (map (argumentAt (b .table) m i) way)) way m (suc i) xs vs
-  | false ↦ copyArguments b way m (suc i) xs vs
+copyArguments b ls m i [] vs = b
+copyArguments b ls m i (a ∷ xs) [] = b
+copyArguments b ls m i (a ∷ xs) (v ∷ vs) = elim (isRef (typeAt (b .table) a .rep)) [
+  | true ↦ copyArguments (copyPage b (named v) (map (argumentAt (b .table) m i) ls)) ls m (suc i) xs vs
+  | false ↦ copyArguments b ls m (suc i) xs vs
 ]
 
 abbrev pub addNote : Book → Note → Book
@@ -115,7 +115,7 @@ unfolding copyPage
 copyAnswer b n none v = b
 copyAnswer b n (some a) none = b
 copyAnswer b n (some a) (some v) = elim (isRef (typeAt (b .table) a .rep)) [
-  | true ↦ copyPage b (named v) (reverse (map (answerAt (b .table) (n .method)) (pageWay (pageAt b (n .page)))))
+  | true ↦ copyPage b (named v) (reverse (map (answerAt (b .table) (n .method)) (pageLayers (pageAt b (n .page)))))
   | false ↦ b
 ]
 
@@ -130,5 +130,5 @@ enter b (new subject class to) = addPage b (pageCross (b .table) (emptyPage (nam
 -- L10
 enter b (move subject k receiver to) = copyPage b (named k) (some (named to) ∷ [])
 enter b (call subject k m vs) = let g = pageAt b (named k) in
-    addNote (copyArguments b (pageWay g) (named m) 0 (methodAt (b .table) (lastType g) (named m) .args) vs) (record { page = named k; method = named m })
+    addNote (copyArguments b (pageLayers g) (named m) 0 (methodAt (b .table) (lastType g) (named m) .args) vs) (record { page = named k; method = named m })
 enter b (answer subject j v) = let n = noteAt b (named j) in copyAnswer b n (answerAt (b .table) (n .method) (lastType (pageAt b (n .page)))) v

@@ -19,7 +19,7 @@ abbrev pub AllPermit : Table → List ℕ → List ℕ → Type 0
 AllPermit t [] w = Unit
 AllPermit t (x ∷ xs) w = Permits t x w × AllPermit t xs w
 
--- a cell offers what both its view and the thing in front of it let through (L18)
+-- a cell offers what both its view and the place that it leads to let through (L18)
 unfoldable pub offered : System → ℕ → List ℕ → Bool
 unfolding permits
 offered s k w = permits (s .table) (cellAt s k .type) w && permits (s .table) (placeType (placeAt (s .places) (cellAt s k .place))) w

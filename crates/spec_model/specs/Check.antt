@@ -9,10 +9,11 @@ use lib.IntN.{ℤ}
 use lib.ListN.{length, getD, take}
 use Rattle.spec_model.specs.Basics.{Res, need, _⇒_, all, every, from}
 use Rattle.spec_model.specs.Table.{State, denied, optional, avail, unavail, Rep, ref, w32, w64, Kind, sub, sup, closed, Method, Ty, Table, size, typeAt, isRef, permit, isClass}
-use Rattle.spec_model.specs.Table.{maxArguments, between, tableFits, signed}
-use Rattle.spec_model.specs.Relations.{Answers, compare}
+use Rattle.spec_model.specs.Table.{maxArguments, between, tableFits, signed, maxBroader}
+use Rattle.spec_model.specs.Relations.{Comparison, compare}
 use Rattle.spec_model.specs.Crossing.{Place, object, adapter, maxPlaces}
 use Rattle.spec_model.specs.Requests.{Cell, Call, System, maxCells, maxCalls, noCell}
+use Rattle.spec_model.specs.Refusals.{outOfRange}
 
 -- A state: every number names something, and what cells, objects and adapters must be besides (H9 to H11).
 abbrev pub cellFits : System → Cell → Bool
@@ -180,7 +181,7 @@ rawTypeFits methods sheet i x = ltb (x .rep) 3 && ((isRef (repOf (x .rep)) ⇒ (
     && (ltb i sheet || ltb (x .kind) 3))
 
 unfoldable pub codesFit : RawTable → Bool
-codesFit r = all (λ x. between 1 2 (x .count)) (from (r .cats) 1 (λ k. getD (r .links) k noRawLinks))
+codesFit r = all (λ x. between 1 maxBroader (x .count)) (from (r .cats) 1 (λ k. getD (r .links) k noRawLinks))
     && every (rawTypeFits (r .methods) (r .sheet)) 0 (from (r .types) 0 (λ i. getD (r .records) i noRawType))
 
 unfoldable pub tableAccepted : RawTable → Bool
@@ -196,6 +197,6 @@ unfolding codesFit stateCodesFit systemFits systemOf
 systemAccepted r = codesFit (r .table) && (stateCodesFit r && systemFits (systemOf r))
 
 -- What Compare answers to a table that is handed in: 2 before all else. (Requests: Handed.)
-unfoldable pub compareHanded : RawTable → ℤ → ℤ → Res Answers
+unfoldable pub compareHanded : RawTable → ℤ → ℤ → Res Comparison
 unfolding tableAccepted compare
-compareHanded r a b = need (tableAccepted r) 2 λ _. compare (tableOf r) a b
+compareHanded r a b = need (tableAccepted r) outOfRange λ _. compare (tableOf r) a b

@@ -8,8 +8,9 @@ use Rattle.spec_model.specs.Basics.{Res, ok, try, need}
 use Rattle.spec_model.specs.Table.{sub, closed, Table, typeAt}
 use Rattle.spec_model.specs.Relations.{subtype, conforms, strict, loose, free, related}
 use Rattle.spec_model.specs.Restriction.{derived}
+use Rattle.spec_model.specs.Refusals.{unrelated, notOwner, notStrict, placesFull}
 
--- A place is what a reference leads to: the thing itself, or an adapter in front of another place (Q1).
+-- A place is what a reference leads to: an object, or an adapter in front of another place (Q1).
 pub data Place : Type 0 where
   object : (class owner : ℕ) → Place
   adapter : (behind closed : ℕ) → Place
@@ -32,7 +33,7 @@ abbrev pub ownerOf : Place → ℕ
 ownerOf (object c o) = o
 ownerOf (adapter b c) = 0
 
--- The base of a place is the thing that is left when all adapters are taken off (Q2). What is behind lies below, so as many steps as there are places are enough.
+-- The base of a place is the object that is left when all adapters are taken off (Q2). What is behind lies below, so as many steps as there are places are enough.
 unfoldable pub base : ℕ → List Place → ℕ → ℕ
 base zero ps p = p
 base (suc f) ps p = elim (placeAt ps p) [ object c o ↦ p | adapter b c ↦ base f ps b ]
@@ -55,9 +56,9 @@ unfoldable pub adapt : Table → List Place → ℕ → ℕ → ℕ → Res Refe
 unfolding related derived
 adapt t ps to r p = elim (related conforms t r (placeType (placeAt ps p))) [
   | true ↦ ok (record { table = t; places = ps; type = to; place = p })
-  | false ↦ need (related strict t r (placeType (placeAt ps p))) 10 λ _.
+  | false ↦ need (related strict t r (placeType (placeAt ps p))) notStrict λ _.
       try (derived t closed r (placeType (placeAt ps p))) λ x.
-      need (ltb (length ps) maxPlaces) 12 λ _.
+      need (ltb (length ps) maxPlaces) placesFull λ _.
       ok (record { table = x .0; places = ps ++ (adapter p (x .1) ∷ []); type = to; place = length ps })
 ]
 
@@ -65,10 +66,10 @@ adapt t ps to r p = elim (related conforms t r (placeType (placeAt ps p))) [
 unfoldable pub cross : Reference → ℕ → ℕ → Res Reference
 unfolding related derived base adapt
 cross f to r = elim (typeAt (f .table) to .own) [
-  | true ↦ need (related free (f .table) to (f .type)) 8 λ _.
-      need (eqb r (baseOwner (f .places) (f .place))) 9 λ _.
+  | true ↦ need (related free (f .table) to (f .type)) unrelated λ _.
+      need (eqb r (baseOwner (f .places) (f .place))) notOwner λ _.
       adapt (f .table) (f .places) to to (baseOf (f .places) (f .place))
-  | false ↦ need (related loose (f .table) to (f .type)) 8 λ _.
+  | false ↦ need (related loose (f .table) to (f .type)) unrelated λ _.
       elim (related subtype (f .table) to (f .type)) [
         | true ↦ ok (record { table = f .table; places = f .places; type = to; place = f .place })
         | false ↦ try (derived (f .table) sub to (f .type)) λ x. adapt (x .0) (f .places) to (x .1) (f .place)

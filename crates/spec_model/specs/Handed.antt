@@ -14,6 +14,7 @@ use Rattle.spec_model.specs.Crossing.{Place, object, adapter}
 use Rattle.spec_model.specs.Requests.{Call, System, Request, Result, Outcome, got, refused, noCell, serve}
 use Rattle.spec_model.specs.Records.{typeRecord}
 use Rattle.spec_model.specs.Check.{RawTable, RawPlace, RawCall, RawSystem, noRawType, noRawLinks, noRawPlace, noRawCall, withRecords, firstOf, systemOf, systemAccepted}
+use Rattle.spec_model.specs.Refusals.{outOfRange}
 
 -- ---- The records that stand for a place and for a call; those for types and links are in Records.
 abbrev pub placeRecord : Place → RawPlace
@@ -70,7 +71,7 @@ handBack r (ok x) = record { outcome = got (x .1); state = storedFrom r (x .0) }
 
 unfoldable pub serveHanded : RawSystem → Request → Served
 unfolding systemAccepted serve storedFrom
-serveHanded r q = handBack r (need (systemAccepted r) 2 λ _. serve (systemOf r) q)
+serveHanded r q = handBack r (need (systemAccepted r) outOfRange λ _. serve (systemOf r) q)
 
 -- What a request owes that answers o and returns r′: result, counts and counted records are the definition's; refused, the whole state is the one handed in.
 pub record Returns (r : RawSystem) (q : Request) (o : Outcome) (r′ : RawSystem) : Type 0 where

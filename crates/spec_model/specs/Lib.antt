@@ -1,4 +1,5 @@
 pub mod Basics
+pub mod Refusals
 pub mod Table
 pub mod Relations
 pub mod Restriction

@@ -8,6 +8,8 @@ use lib.IntN.{ℤ}
 use lib.ListN.{getD}
 use Rattle.spec_model.specs.Basics.{Res, ok, need, _⇒_, any, from, names, named}
 use Rattle.spec_model.specs.Table.{State, denied, optional, avail, unavail, Rep, ref, w32, w64, Method, Ty, Table, noMethod, size, typeAt, methodAt, isRef, permit, isAvail}
+use Rattle.spec_model.specs.Refusals.{unknownType}
+use Rattle.spec_model.specs.Table.{maxCategories}
 
 -- the order of states (R1)
 abbrev pub stateLe : State → State → Bool
@@ -37,7 +39,7 @@ broader t = [] ∷ t .cats
 -- links fall, so as many steps as there are numbers of categories, 0 to 31, are enough
 unfoldable pub catLe : Table → ℕ → ℕ → Bool
 unfolding reaches
-catLe t a b = reaches 32 (broader t) a b
+catLe t a b = reaches (suc maxCategories) (broader t) a b
 
 -- The four relations, and `conforms`, which is subtype but for own (R12). All are written with T first: the type that is wanted, then S, the one that is there (R2).
 pub data Relation : Type 0 where
@@ -192,15 +194,15 @@ unfolding rounds allPairs
 related k t a b = look (rounds (size t * size t) k t (allPairs t)) a b
 
 -- Compare (R14)
-pub record Answers : Type 0 where
+pub record Comparison : Type 0 where
   pub subtype : Bool
   pub strict : Bool
   pub loose : Bool
   pub free : Bool
 
-unfoldable pub compare : Table → ℤ → ℤ → Res Answers
+unfoldable pub compare : Table → ℤ → ℤ → Res Comparison
 unfolding related
-compare t a b = need (names a (size t) && names b (size t)) 7 λ _.
+compare t a b = need (names a (size t) && names b (size t)) unknownType λ _.
     ok
     (record
     { subtype = related subtype t (named a) (named b); strict = related strict t (named a) (named b); loose = related loose t (named a) (named b); free = related free t (named a) (named b) })

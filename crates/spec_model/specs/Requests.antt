@@ -9,6 +9,8 @@ use lib.ListN.{length, getD, set}
 use Rattle.spec_model.specs.Basics.{Res, refuse, ok, try, need, names, named}
 use Rattle.spec_model.specs.Table.{ref, w32, w64, Table, typeAt, methodAt, argumentAt, answerAt, isRef, isAvail, isClass}
 use Rattle.spec_model.specs.Crossing.{Place, object, adapter, maxPlaces, placeAt, baseOwner, base, Reference, cross}
+use Rattle.spec_model.specs.Refusals.{unknownSubject, notHeld, unknownType, unrelated, notStrict, placesFull, cellsFull, notCallable, wrongValues}
+use Rattle.spec_model.specs.Refusals.{tooWide, answeredAlready, callsFull, laterLayer}
 
 -- A cell is one reference in the hands of a subject: who holds it, as what, and where it leads (Q4).
 pub record Cell : Type 0 where
@@ -23,7 +25,7 @@ pub record Call : Type 0 where
   pub method : ℕ
   pub answered : Bool
 
--- The state. A thing's number is where it stands in its list, and lists only grow (Q6, Q10).
+-- The state. What has a number has it by where it stands in its list, and lists only grow (Q6, Q10).
 pub record System : Type 0 where
   pub table : Table
   pub cells : List Cell
@@ -84,16 +86,16 @@ withCell s r f = record { table = f .table; cells = s .cells ++ (record { holder
 
 -- The reference that arrived becomes a cell of r, if there is one left (N7, M5, C17, A10).
 unfoldable pub addCell : System → ℕ → Reference → Res (System × Result)
-addCell s r f = need (ltb (length (s .cells)) maxCells) 13 λ _. ok (withCell s r f, pair (length (s .cells)) (f .place))
+addCell s r f = need (ltb (length (s .cells)) maxCells) cellsFull λ _. ok (withCell s r f, pair (length (s .cells)) (f .place))
 
--- New: a thing is made, and its maker holds it by the type asked for (N1 to N8).
+-- New: an object is made, and its maker holds it by the type asked for (N1 to N8).
 unfoldable pub newRequest : System → ℤ → ℤ → ℤ → Res (System × Result)
 unfolding cross addCell
 newRequest s subject class to =
-    need (names subject (s .table .subjects)) 5 λ _.
-    need (names class (s .table .sheet) && isClass (typeAt (s .table) (named class))) 7 λ _.
-    need (isSheetRef (s .table) to) 7 λ _.
-    need (ltb (length (s .places)) maxPlaces) 12 λ _.
+    need (names subject (s .table .subjects)) unknownSubject λ _.
+    need (names class (s .table .sheet) && isClass (typeAt (s .table) (named class))) unknownType λ _.
+    need (isSheetRef (s .table) to) unknownType λ _.
+    need (ltb (length (s .places)) maxPlaces) placesFull λ _.
     try (cross (record { table = s .table; places = s .places ++ (object (named class) (named subject) ∷ []); type = named class; place = length (s .places) }) (named to) (named subject)) λ f.
     addCell s (named subject) f
 
@@ -101,9 +103,9 @@ newRequest s subject class to =
 unfoldable pub moveRequest : System → ℤ → ℤ → ℤ → ℤ → Res (System × Result)
 unfolding cross addCell
 moveRequest s subject k receiver to =
-    need (names subject (s .table .subjects) && names receiver (s .table .subjects)) 5 λ _.
-    need (held s subject k) 6 λ _.
-    need (isSheetRef (s .table) to) 7 λ _.
+    need (names subject (s .table .subjects) && names receiver (s .table .subjects)) unknownSubject λ _.
+    need (held s subject k) notHeld λ _.
+    need (isSheetRef (s .table) to) unknownType λ _.
     try (cross (leaving s (named k)) (named to) (named receiver)) λ f.
     addCell s (named receiver) f
 
@@ -120,13 +122,13 @@ abbrev pub adapterCount : List Place → ℕ → ℕ
 adapterCount ps p = length (layersOf ps p) - 1
 
 -- what a value meets on its way: the cell's type, then the layers of its place (C9)
-abbrev pub wayOf : System → Cell → List ℕ
-wayOf s c = c .type ∷ layersOf (s .places) (c .place)
+abbrev pub callLayers : System → Cell → List ℕ
+callLayers s c = c .type ∷ layersOf (s .places) (c .place)
 
 -- the number of a refusal at the first layer, or at one further in (C13)
 abbrev pub atLayer : Bool → ℕ → ℕ
 atLayer true e = e
-atLayer false e = cond (eqb e 8 || eqb e 10) 19 e
+atLayer false e = cond (eqb e unrelated || eqb e notStrict) laterLayer e
 
 abbrev pub renumber {ℓ} : {A : Type ℓ} → Bool → Res A → Res A
 renumber first (refuse e) = refuse (atLayer first e)
@@ -136,7 +138,7 @@ renumber first (ok a) = ok a
 unfoldable pub crossLayers : Bool → Reference → ℕ → List (Option ℕ) → Res Reference
 unfolding cross
 crossLayers first f r [] = ok f
-crossLayers first f r (none ∷ ts) = refuse (atLayer first 8)
+crossLayers first f r (none ∷ ts) = refuse (atLayer first unrelated)
 crossLayers first f r (some t ∷ ts) = try (renumber first (cross f t r)) λ g. crossLayers false g r ts
 
 -- the signed numbers from -h to h - 1, half of the range of a width on each side of 0: `negsuc n` is -(n + 1)
@@ -147,10 +149,10 @@ within h (negsuc n) = ltb n h
 -- A number has to fit each width that it meets (C14); every value fits 64 bits. A layer without a type there, or with a reference, is unfit (C15).
 unfoldable pub passLayers : Bool → Table → ℤ → List (Option ℕ) → Res (Unit {0})
 passLayers first t v [] = ok tt
-passLayers first t v (none ∷ ts) = refuse (atLayer first 8)
+passLayers first t v (none ∷ ts) = refuse (atLayer first unrelated)
 passLayers first t v (some a ∷ ts) = elim (typeAt t a .rep) [
-  | ref ↦ refuse (atLayer first 8)
-  | w32 ↦ need (within 2147483648 v) 16 λ _. passLayers false t v ts
+  | ref ↦ refuse (atLayer first unrelated)
+  | w32 ↦ need (within 2147483648 v) tooWide λ _. passLayers false t v ts
   | w64 ↦ passLayers false t v ts
 ]
 
@@ -169,11 +171,11 @@ argumentsHeld s subject (a ∷ xs) (v ∷ vs) = (not (isRef (typeAt (s .table) a
 -- Argument i and those after it, whose types in the cell type's signature are `xs`: each passes all layers, and a reference has become a cell of r, before the next begins (C10, C17).
 unfoldable pub sendArguments : System → ℕ → List ℕ → ℕ → ℕ → List ℕ → List ℤ → Res System
 unfolding send passLayers
-sendArguments s r way m i [] vs = ok s
-sendArguments s r way m i (a ∷ xs) [] = ok s
-sendArguments s r way m i (a ∷ xs) (v ∷ vs) = elim (isRef (typeAt (s .table) a .rep)) [
-  | true ↦ try (send s r (named v) (map (argumentAt (s .table) m i) way)) λ x. sendArguments (x .0) r way m (suc i) xs vs
-  | false ↦ try (passLayers true (s .table) v (map (argumentAt (s .table) m i) way)) λ _. sendArguments s r way m (suc i) xs vs
+sendArguments s r ls m i [] vs = ok s
+sendArguments s r ls m i (a ∷ xs) [] = ok s
+sendArguments s r ls m i (a ∷ xs) (v ∷ vs) = elim (isRef (typeAt (s .table) a .rep)) [
+  | true ↦ try (send s r (named v) (map (argumentAt (s .table) m i) ls)) λ x. sendArguments (x .0) r ls m (suc i) xs vs
+  | false ↦ try (passLayers true (s .table) v (map (argumentAt (s .table) m i) ls)) λ _. sendArguments s r ls m (suc i) xs vs
 ]
 
 abbrev pub withCalls : System → List Call → System
@@ -182,18 +184,18 @@ withCalls s cs = record { table = s .table; cells = s .cells; places = s .places
 abbrev pub withCall : System → Call → System
 withCall s c = withCalls s (s .calls ++ (c ∷ []))
 
--- Call: a method through a cell; its arguments go to the owner of the thing (C1 to C20).
+-- Call: a method through a cell; its arguments go to the owner of the object (C1 to C20).
 unfoldable pub callRequest : System → ℤ → ℤ → ℤ → List ℤ → Res (System × Result)
 unfolding sendArguments base layers
 callRequest s subject k m vs =
-    need (names subject (s .table .subjects)) 5 λ _.
-    need (held s subject k) 6 λ _.
+    need (names subject (s .table .subjects)) unknownSubject λ _.
+    need (held s subject k) notHeld λ _.
     let c = cellAt s (named k) in
-    need (names m (s .table .methods) && isAvail (methodAt (s .table) (c .type) (named m) .state)) 14 λ _.
+    need (names m (s .table .methods) && isAvail (methodAt (s .table) (c .type) (named m) .state)) notCallable λ _.
     let xs = methodAt (s .table) (c .type) (named m) .args in
-    need (argumentsHeld s subject xs vs) 15 λ _.
-    need (ltb (length (s .calls)) maxCalls) 18 λ _.
-    try (sendArguments s (baseOwner (s .places) (c .place)) (wayOf s c) (named m) 0 xs vs) λ x.
+    need (argumentsHeld s subject xs vs) wrongValues λ _.
+    need (ltb (length (s .calls)) maxCalls) callsFull λ _.
+    try (sendArguments s (baseOwner (s .places) (c .place)) (callLayers s c) (named m) 0 xs vs) λ x.
     ok (withCall x (record { caller = named subject; cell = named k; method = named m; answered = false }), pair (length (s .calls)) (adapterCount (s .places) (c .place)))
 
 -- a call with its flag, and the state with call j answered (A11)
@@ -203,27 +205,27 @@ flagged c b = record { caller = c .caller; cell = c .cell; method = c .method; a
 abbrev pub withAnswer : System → ℕ → System
 withAnswer s j = withCalls s (set (s .calls) j (flagged (callAt s j) true))
 
--- What is due and what is given must match (A5, A6). A value passes the layers from the thing outward to the caller, who gets a reference as a cell (A7 to A13).
+-- What is due and what is given must match (A5, A6). A value passes the layers from the object outward to the caller, who gets a reference as a cell (A7 to A13).
 unfoldable pub give : System → ℤ → ℕ → Option ℕ → Option ℤ → Res (System × Result)
 unfolding send passLayers layers
 give s subject j none none = ok (withAnswer s j, nothing)
-give s subject j none (some v) = refuse 15
-give s subject j (some a) none = refuse 15
+give s subject j none (some v) = refuse wrongValues
+give s subject j (some a) none = refuse wrongValues
 give s subject j (some a) (some v) =
-    let ts = reverse (map (answerAt (s .table) (callAt s j .method)) (wayOf s (cellAt s (callAt s j .cell)))) in
+    let ts = reverse (map (answerAt (s .table) (callAt s j .method)) (callLayers s (cellAt s (callAt s j .cell)))) in
     elim (isRef (typeAt (s .table) a .rep)) [
-      | true ↦ need (held s subject v) 15 λ _. try (send s (callAt s j .caller) (named v) ts) λ x. ok (withAnswer (x .0) j, x .1)
+      | true ↦ need (held s subject v) wrongValues λ _. try (send s (callAt s j .caller) (named v) ts) λ x. ok (withAnswer (x .0) j, x .1)
       | false ↦ try (passLayers true (s .table) v ts) λ _. ok (withAnswer s j, number v)
     ]
 
--- Answer: the owner of the thing answers a call once, with what the caller's view of the method promises (A1 to A4).
+-- Answer: the owner of the object answers a call once, with what the caller's view of the method promises (A1 to A4).
 unfoldable pub answerRequest : System → ℤ → ℤ → Option ℤ → Res (System × Result)
 unfolding give base
 answerRequest s subject j v =
-    need (names subject (s .table .subjects)) 5 λ _.
+    need (names subject (s .table .subjects)) unknownSubject λ _.
     let c = cellAt s (callAt s (named j) .cell) in
-    need (names j (length (s .calls)) && eqb (named subject) (baseOwner (s .places) (c .place))) 6 λ _.
-    need (not (callAt s (named j) .answered)) 17 λ _.
+    need (names j (length (s .calls)) && eqb (named subject) (baseOwner (s .places) (c .place))) notHeld λ _.
+    need (not (callAt s (named j) .answered)) answeredAlready λ _.
     give s subject (named j) (answerAt (s .table) (callAt s (named j) .method) (c .type)) v
 
 unfoldable pub serve : System → Request → Res (System × Result)

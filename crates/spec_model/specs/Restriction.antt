@@ -8,6 +8,7 @@ use lib.ListN.{set}
 use Rattle.spec_model.specs.Basics.{Res, refuse, ok, then, from}
 use Rattle.spec_model.specs.Table.{State, denied, optional, avail, unavail, Kind, sub, sup, closed, Key, Method, Ty, Table, noMethod, maxTypes, size, typeAt, withTypes, isRef, permit}
 use Rattle.spec_model.specs.Table.{isAvail, signed, bare}
+use Rattle.spec_model.specs.Refusals.{typesFull}
 
 -- what a state becomes on something that is settled: an adapter is, as a class is (D8)
 abbrev pub shut : State → State
@@ -22,7 +23,7 @@ abbrev pub restricted : Kind → State → State → State
 restricted sub a b = cond (permit a && not (permit b)) unavail a
 -- what the right side alone permits is not to be asked for (D4)
 restricted sup a b = cond (permit b && not (permit a)) denied b
--- there is only what the thing behind really has and the left side lets through (D8)
+-- there is only what the object behind really has and the left side lets through (D8)
 restricted closed a b = cond (isAvail b) (shut (cond (permit a && not (permit b)) unavail a)) unavail
 
 -- by which kind the types in a signature are derived: answers by the same kind, arguments by the other (D5, D6); Closed has the signatures of Sub (D9)
@@ -127,4 +128,4 @@ derive (suc f) t d l r = make (derive f) t d l r
 -- no number is free: 11 (D15)
 unfoldable pub derived : Table → Kind → ℕ → ℕ → Res (Table × ℕ)
 unfolding derive
-derived t d l r = elim (derive maxTypes t d l r) [ none ↦ refuse 11 | some p ↦ ok p ]
+derived t d l r = elim (derive maxTypes t d l r) [ none ↦ refuse typesFull | some p ↦ ok p ]

@@ -26,7 +26,11 @@ maxTypes = 128
 
 -- of one signature (T13)
 abbrev pub maxArguments : ℕ
-maxArguments = 2
+maxArguments = 4
+
+-- the broader categories that one category names (T6)
+abbrev pub maxBroader : ℕ
+maxBroader = 2
 
 -- what values of a type are: references, or signed numbers of a width (T8)
 pub data Rep : Type 0 where
@@ -140,7 +144,7 @@ countsFit t = between 1 maxSubjects (t .subjects) && (between 1 maxMethods (t .m
 
 -- what category k may name: links only fall (T6)
 abbrev pub linksFit : ℕ → List ℕ → Bool
-linksFit k links = between 1 2 (length links) && all (λ c. ltb c k) links
+linksFit k links = between 1 maxBroader (length links) && all (λ c. ltb c k) links
 
 -- What may stand in a signature: a type without own (T14).
 abbrev pub mayStand : Ty → Bool

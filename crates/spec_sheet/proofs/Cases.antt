@@ -60,7 +60,7 @@ pub derived-not-written : text (withTypes caseP (caseP .types ++ (sheetType w32 
 unfolding text sheetP caseP
 derived-not-written = refl
 
--- categories, two broader ones, two arguments, unavail and w64
+-- categories, two broader ones, four arguments, unavail and w64
 unfoldable pub mixed : Table
 mixed = record {
   subjects = 16;
@@ -68,12 +68,12 @@ mixed = record {
   cats = (0 ∷ []) ∷ (1 ∷ 0 ∷ []) ∷ [];
   sheet = 2;
   types =
-      sheetType ref 2 false (record { state = optional; args = 0 ∷ 1 ∷ []; answer = some 1 } ∷ bare unavail ∷ []) ∷ sheetType w64 1 false [] ∷ [];
+      sheetType ref 2 false (record { state = optional; args = 0 ∷ 1 ∷ 1 ∷ 0 ∷ []; answer = some 1 } ∷ bare unavail ∷ []) ∷ sheetType w64 1 false [] ∷ [];
 }
 
 unfoldable pub mixedSheet : List ℕ
 mixedSheet = bytes "guide=1\nsubjects=16\nmethods=2\ncats=2\nunder=0\nunder=1,0\ntypes=2\n"
-    ++ bytes "type=0\nrep=ref\ncat=2\nown=no\nm=optional(0,1)1\nm=unavail\ntype=1\nrep=w64\ncat=1\nend=sheet\n"
+    ++ bytes "type=0\nrep=ref\ncat=2\nown=no\nm=optional(0,1,1,0)1\nm=unavail\ntype=1\nrep=w64\ncat=1\nend=sheet\n"
 
 pub mixed-read : read mixedSheet ≡ loaded mixed
 unfolding read mixedSheet mixed
@@ -146,9 +146,14 @@ unfolding read one
 s3-in-signature = refl
 
 -- S5: 1 before 2, over the whole line
-pub s5-form-first : read (one ++ bytes "m=avail(0,0,99)0\n") ≡ malformed 1 72
+pub s5-form-first : read (one ++ bytes "m=avail(0,0,0,0,99)0\n") ≡ malformed 1 72
 unfolding read one
 s5-form-first = refl
+
+-- with three arguments the form is right
+pub s5-range : read (one ++ bytes "m=avail(0,0,99)0\n") ≡ malformed 2 72
+unfolding read one
+s5-range = refl
 
 -- S5: 2 before 3, over the whole line
 pub s5-range-first : read (two ++ bytes "under=5,9\n") ≡ malformed 2 54
@@ -210,10 +215,10 @@ pub s11-three-broader : read (two ++ bytes "under=0,0,0\n") ≡ malformed 1 54
 unfolding read two
 s11-three-broader = refl
 
--- S11: three arguments
-pub s11-three-arguments : read (one ++ bytes "m=avail(0,0,0)-\n") ≡ malformed 1 72
+-- S11: five arguments
+pub s11-five-arguments : read (one ++ bytes "m=avail(0,0,0,0,0)-\n") ≡ malformed 1 72
 unfolding read one
-s11-three-arguments = refl
+s11-five-arguments = refl
 
 -- S12: category 3 names itself
 pub s12-not-below : read (two ++ bytes "under=3\n") ≡ malformed 3 54

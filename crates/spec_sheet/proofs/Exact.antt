@@ -16,6 +16,7 @@ use Rattle.spec_model.specs.Basics.{refuse, ok}
 use Rattle.spec_model.specs.Table.{Table, tableFits, validSheet}
 use Rattle.spec_model.specs.Check.{RawTable, tableOf, codesFit, tableAccepted}
 use Rattle.spec_model.proofs.Rules.{second}
+use Rattle.spec_model.specs.Refusals.{outOfRange, shortBuffer}
 use Rattle.spec_sheet.specs.Lines.{Row, row, split, join, Reading, refused, got, Reader, line, follow, bind, endOfInput}
 use Rattle.spec_sheet.specs.Text.{endText, sheetLines, withoutDerived, text, Written, writeText, write}
 use Rattle.spec_sheet.specs.Sheet.{endLine, body, signaturesStand, ending, sheet, malformed, loaded, sheetAnswer, read}
@@ -150,7 +151,7 @@ write-text-ok xs old n = go (leb (length xs) (length old)) refl
     full = record { answer = ok (length xs); buffer = xs ++ drop (length xs) old }
 
     short : Written
-    short = record { answer = refuse 4; buffer = old }
+    short = record { answer = refuse shortBuffer; buffer = old }
 
     go : (b : Bool) → leb (length xs) (length old) ≡ b → cond b full short .answer ≡ ok n → Filled xs old (cond b full short .buffer) n
     go true e h = subst (Filled xs old (xs ++ drop (length xs) old)) (ok-value h) (fills xs old (leb-true (length xs) (length old) e))
@@ -164,7 +165,7 @@ write-text-refused xs old n = go (leb (length xs) (length old))
     full = record { answer = ok (length xs); buffer = xs ++ drop (length xs) old }
 
     short : Written
-    short = record { answer = refuse 4; buffer = old }
+    short = record { answer = refuse shortBuffer; buffer = old }
 
     go : (b : Bool) → cond b full short .answer ≡ refuse n → cond b full short .buffer ≡ old
     go true h = refuse-ok (sym h)
@@ -175,7 +176,7 @@ unfolding write
 write-ok r old n = go (tableAccepted r) refl
   where
     two : Written
-    two = record { answer = refuse 2; buffer = old }
+    two = record { answer = refuse outOfRange; buffer = old }
 
     go : (a : Bool) → tableAccepted r ≡ a → cond a (writeText (text (tableOf r)) old) two .answer ≡ ok n → WroteSheet r old (cond a (writeText (text (tableOf r)) old) two .buffer) n
     go true e h =
@@ -189,7 +190,7 @@ unfolding write
 write-refused r old n = go (tableAccepted r)
   where
     two : Written
-    two = record { answer = refuse 2; buffer = old }
+    two = record { answer = refuse outOfRange; buffer = old }
 
     go : (a : Bool) → cond a (writeText (text (tableOf r)) old) two .answer ≡ refuse n → cond a (writeText (text (tableOf r)) old) two .buffer ≡ old
     go true h = write-text-refused (text (tableOf r)) old n h

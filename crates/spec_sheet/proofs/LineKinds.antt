@@ -12,6 +12,7 @@ use borrow.Author.Tests.{ltb-true, leb-true, eqb-true, lt-ltb, le-leb, ne-eqb}
 use Rattle.spec_model.specs.Basics.{Res, ok, try, need, all, unlessMissing}
 use Rattle.spec_model.specs.Table.{State, denied, optional, avail, unavail, Rep, ref, w32, w64, Method, between, linksFit, permit, isNil, isNone, maxArguments, signed, bare}
 use Rattle.spec_model.proofs.Rules.{both, first, second, never}
+use Rattle.spec_model.specs.Refusals.{outOfRange, notBelow}
 use Rattle.spec_sheet.specs.Lines.{bytes, starts, same, keyed, choice}
 use Rattle.spec_sheet.specs.Clean.{notLF, clean}
 use Rattle.spec_sheet.specs.Numbers.{took, bindScan, whole, isDigit, top, number, numbers, decimal, tails, commas}
@@ -44,7 +45,7 @@ below-small c h n e = let q : n < c = ltb-true n c e in lt-ltb n top (omega arit
 
 -- a line with one number
 abbrev within : ℕ → ℕ → ℕ → Res ℕ
-within low high n = need (between low high n) 2 λ u. ok n
+within low high n = need (between low high n) outOfRange λ u. ok n
 
 pub number-exact : (key : List ℕ) (low high : ℕ) → high < top → So (clean key) → LineExact (numberLine key low high) (λ n. So (between low high n)) (numberText key)
 unfolding numberLine numberText
@@ -63,11 +64,11 @@ number-exact key low high h ck = record { sound = from; full = to; lf = λ n b. 
         ap (λ z. try z (λ r. try (whole (number r)) (within low high))) (keyed-full key (decimal n))
         ∙ ap (λ z. try (whole (number z)) (within low high)) (sym (append-nil (decimal n)))
         ∙ ap (λ z. try (whole z) (within low high)) (number-full n [] (fits n b) refl)
-        ∙ ap (λ z. need z 2 (λ u. ok n)) b
+        ∙ ap (λ z. need z outOfRange (λ u. ok n)) b
 
 -- the line of category k of c
 abbrev linksTried : ℕ → ℕ → List ℕ → Res (List ℕ)
-linksTried c k links = need (all (λ n. leb n c) links) 2 λ u. need (all (λ n. ltb n k) links) 3 λ u. ok links
+linksTried c k links = need (all (λ n. leb n c) links) outOfRange λ u. need (all (λ n. ltb n k) links) notBelow λ u. ok links
 
 pub under-exact : (c k : ℕ) → c < top → k ≤ c → LineExact (underLine c k) (λ links. So (linksFit k links)) underText
 unfolding underLine underText
@@ -97,8 +98,8 @@ under-exact c k h kc = record { sound = from; full = to; lf = λ links b. all-ap
         ap (λ z. try z (λ r. try (whole (numbers 2 [] r)) (linksTried c k))) (keyed-full (bytes "under=") (decimal a ++ tails xs))
         ∙ ap (λ z. try (whole (numbers 2 [] (decimal a ++ z))) (linksTried c k)) (sym (append-nil (tails xs)))
         ∙ ap (λ z. try (whole z) (linksTried c k)) (numbers-full 2 [] a xs [] few (smalls (a ∷ xs) b) refl)
-        ∙ ap (λ z. need z 2 λ u. need (all (λ n. ltb n k) (a ∷ xs)) 3 λ u. ok (a ∷ xs)) (known (a ∷ xs) b)
-        ∙ ap (λ z. need z 3 λ u. ok (a ∷ xs)) (second (between 1 2 (suc (length xs))) _ b)
+        ∙ ap (λ z. need z outOfRange λ u. need (all (λ n. ltb n k) (a ∷ xs)) notBelow λ u. ok (a ∷ xs)) (known (a ∷ xs) b)
+        ∙ ap (λ z. need z notBelow λ u. ok (a ∷ xs)) (second (between 1 2 (suc (length xs))) _ b)
 
     to : (links : List ℕ) → So (linksFit k links) → underLine c k (underText links) ≡ ok links
     to [] b = never b
@@ -209,7 +210,7 @@ abbrev SignatureOf : ℕ → State → List ℕ → Method → Type 0
 SignatureOf n s l m = (m .state ≡ s) × So (permitted n m) × (l ≡ signatureText m)
 
 abbrev named : ℕ → Method → Res Method
-named n m = need (all (below n) (m .args) && unlessMissing (m .answer) (below n)) 2 λ u. ok m
+named n m = need (all (below n) (m .args) && unlessMissing (m .answer) (below n)) outOfRange λ u. ok m
 
 args-small : (n : ℕ) (m : Method) → n ≤ top → So (permitted n m) → So (all small (m .args))
 args-small n m h b = all-weaken (below n) small (m .args) (below-small n h) (first (all (below n) (m .args)) _ (second (leb (length (m .args)) maxArguments) _ b))
@@ -240,7 +241,7 @@ signature-full n m h b =
     ap (λ z. try (whole (bindScan z λ xs r. bindScan (answer r) λ o q. took (signed (m .state) xs o) q)) (named n))
     (arguments-full (m .args) (answerText (m .answer)) (leb-true (length (m .args)) maxArguments (first (leb (length (m .args)) maxArguments) _ b)) (args-small n m h b))
     ∙ ap (λ z. try (whole (bindScan z λ o q. took (signed (m .state) (m .args) o) q)) (named n)) (answer-full (m .answer) (answer-small n m h b))
-    ∙ ap (λ z. need z 2 λ u. ok m) (second (leb (length (m .args)) maxArguments) _ b)
+    ∙ ap (λ z. need z outOfRange λ u. ok m) (second (leb (length (m .args)) maxArguments) _ b)
 
 answer-clean : (o : Option ℕ) → So (clean (answerText o))
 answer-clean none = refl

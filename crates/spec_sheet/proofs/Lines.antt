@@ -10,6 +10,7 @@ use lib.Seq.{drop-append-seam}
 use borrow.Author.Tests.{eqb-true, eq-eqb, ne-eqb}
 use Rattle.spec_model.specs.Basics.{Res, ok, all, need}
 use Rattle.spec_model.proofs.Rules.{both, first, second, never}
+use Rattle.spec_model.specs.Refusals.{form}
 use Rattle.spec_sheet.specs.Lines.{Row, row, cut, push, split, join, starts, same, keyed, choice}
 use Rattle.spec_sheet.specs.Clean.{notLF, clean}
 use Rattle.spec_sheet.specs.Numbers.{decimal, tails, commas, decimalIn}
@@ -132,7 +133,7 @@ keyed-sound key l r h = need-ok (starts key l) 1 (λ u. ok (drop (length key) l)
 
 pub keyed-full : (key r : List ℕ) → keyed key (key ++ r) ≡ ok r
 unfolding keyed
-keyed-full key r = ap (λ z. need z 1 (λ u. ok (drop (length key) (key ++ r)))) (starts-full key r) ∙ ap ok (drop-append-seam key r)
+keyed-full key r = ap (λ z. need z form (λ u. ok (drop (length key) (key ++ r)))) (starts-full key r) ∙ ap ok (drop-append-seam key r)
 
 -- A line reader is exact when it accepts the texts of the values that fit, each with its value, and nothing else.
 pub record LineExact {A : Type 0} (f : List ℕ → Res A) (fit : A → Type 0) (tx : A → List ℕ) : Type 0 where

@@ -8,6 +8,7 @@ use lib.Dec.{ltb, leb}
 use lib.ListN.{drop, length}
 use Rattle.spec_model.specs.Basics.{Res, refuse, ok, try, need, all, unlessMissing}
 use Rattle.spec_model.specs.Table.{State, avail, optional, denied, unavail, Rep, ref, w32, w64, Method, Table, between, maxSubjects, maxMethods, maxCategories, maxSheetTypes, bare}
+use Rattle.spec_model.specs.Refusals.{form}
 use Rattle.spec_sheet.specs.Lines.{bytes, Row, row, cut, split, Reading, refused, got, Reader, line, lineAt, follow, times, endOfInput, starts, same, keyed, choice}
 use Rattle.spec_sheet.specs.Numbers.{Scan, fail, took, bindScan, whole, number, numbers}
 use Rattle.spec_sheet.specs.Text.{newestForm, repText, ownText, stateText, endText}
@@ -73,10 +74,10 @@ unfolding methodLine
 method-told n l =
     let al : List ℕ = drop (length (stateText avail)) l in
     let ol : List ℕ = drop (length (stateText optional)) l in
-    let u : Res Method = cond (same (stateText unavail) l) (ok (bare unavail)) (refuse 1) in
+    let u : Res Method = cond (same (stateText unavail) l) (ok (bare unavail)) (refuse form) in
     let d : Res Method = cond (same (stateText denied) l) (ok (bare denied)) u in
     let p : Res Method = cond (starts (stateText optional) l) (signature n optional ol) d in
-    let ut : Told u = cond-told (same (stateText unavail) l) (ok (bare unavail)) (refuse 1) tt (omega arith, omega arith) in
+    let ut : Told u = cond-told (same (stateText unavail) l) (ok (bare unavail)) (refuse form) tt (omega arith, omega arith) in
     let dt : Told d = cond-told (same (stateText denied) l) (ok (bare denied)) u tt ut in
     let pt : Told p = cond-told (starts (stateText optional) l) (signature n optional ol) d (signature-told n optional ol) dt in
     cond-told (starts (stateText avail) l) (signature n avail al) p (signature-told n avail al) pt

@@ -7,6 +7,7 @@ use Prim.Native.String.{String}
 use lib.Dec.{eqb}
 use lib.ListN.{length, drop}
 use Rattle.spec_model.specs.Basics.{Res, refuse, ok, need}
+use Rattle.spec_model.specs.Refusals.{form}
 
 -- The bytes of an ASCII text.
 abbrev pub bytes : String → List ℕ
@@ -54,8 +55,8 @@ lineAt (ok x) at l rs = got x (at + (length l + 1)) rs
 
 -- The next line, read by f. None left is 1 at the end of the input (S9), and one that no LF ends is 1 where it begins (S8).
 abbrev pub line : {A : Type 0} → (List ℕ → Res A) → Reader A
-line f at [] = refused 1 at
-line f at (cut l ∷ rs) = refused 1 at
+line f at [] = refused form at
+line f at (cut l ∷ rs) = refused form at
 line f at (row l ∷ rs) = lineAt (f l) at l rs
 
 -- The line that stands first, without its LF; empty where no LF ends one. Every line kind refuses an empty line with 1, so a missing line and a cut one are refused by the same reading.
@@ -81,7 +82,7 @@ times p (suc n) i acc at rs = follow (p i at rs) (λ x. times p n (suc i) (acc +
 -- anything that is left, ended by LF or not, is 1 where it begins (S10)
 abbrev pub endOfInput : Reader (Unit {0})
 endOfInput at [] = got tt at []
-endOfInput at (r ∷ rs) = refused 1 at
+endOfInput at (r ∷ rs) = refused form at
 
 -- Inside a line: whether it begins with a word, and whether it is that word.
 unfoldable pub starts : List ℕ → List ℕ → Bool
@@ -95,10 +96,10 @@ same k l = starts k l && eqb (length l) (length k)
 -- what stands behind the key
 unfoldable pub keyed : List ℕ → List ℕ → Res (List ℕ)
 unfolding starts
-keyed key l = need (starts key l) 1 λ _. ok (drop (length key) l)
+keyed key l = need (starts key l) form λ _. ok (drop (length key) l)
 
 -- the value whose text the line is
 unfoldable pub choice : {A : Type 0} → (A → List ℕ) → List A → List ℕ → Res A
 unfolding starts
-choice f [] l = refuse 1
+choice f [] l = refuse form
 choice f (x ∷ xs) l = cond (same (f x) l) (ok x) (choice f xs l)

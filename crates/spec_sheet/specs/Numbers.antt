@@ -5,6 +5,7 @@ use Prim.Native.Nat.{ℕ, zero, suc, _+_, _-_, _*_, _/_, _%_, min}
 use Prim.Native.Char.{code}
 use lib.Dec.{eqb, ltb, leb}
 use Rattle.spec_model.specs.Basics.{Res, refuse, ok}
+use Rattle.spec_model.specs.Refusals.{form}
 
 -- What a scan gives: a value and the bytes behind it; or the form is wrong.
 pub data Scan (A : Type 0) : Type 0 where
@@ -17,9 +18,9 @@ bindScan (took x r) k = k x r
 
 -- A line has the right form if its scan went right and nothing is left behind it; else 1 (S28).
 abbrev pub whole : {A : Type 0} → Scan A → Res A
-whole fail = refuse 1
+whole fail = refuse form
 whole (took x []) = ok x
-whole (took x (b ∷ r)) = refuse 1
+whole (took x (b ∷ r)) = refuse form
 
 -- 48 is the byte of 0, 57 that of 9
 abbrev pub isDigit : ℕ → Bool

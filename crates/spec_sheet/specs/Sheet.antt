@@ -8,7 +8,8 @@ use lib.Dec.{eqb, ltb, leb}
 use lib.ListN.{length, drop}
 use Rattle.spec_model.specs.Basics.{Res, refuse, ok, try, need, all, unlessMissing}
 use Rattle.spec_model.specs.Table.{State, denied, optional, avail, unavail, Rep, ref, w32, w64, Method, Ty, Table, typeAt, between, mayStand, maxSubjects, maxMethods, maxCategories}
-use Rattle.spec_model.specs.Table.{maxSheetTypes, maxArguments, bare}
+use Rattle.spec_model.specs.Table.{maxSheetTypes, maxArguments, bare, maxBroader}
+use Rattle.spec_model.specs.Refusals.{form, outOfRange, notBelow}
 use Rattle.spec_sheet.specs.Lines.{bytes, split, Reading, refused, got, Reader, pure, line, bind, times, endOfInput, starts, same, keyed, choice}
 use Rattle.spec_sheet.specs.Numbers.{Scan, fail, took, bindScan, whole, number, numbers}
 use Rattle.spec_sheet.specs.Text.{newestForm, repText, ownText, stateText, endText}
@@ -16,12 +17,12 @@ use Rattle.spec_sheet.specs.Text.{newestForm, repText, ownText, stateTex
 -- A line of a key and one number, which has a range (S29). A `guide=` number that isn't known is outside of it too (S1).
 unfoldable pub numberLine : List ℕ → ℕ → ℕ → List ℕ → Res ℕ
 unfolding keyed number
-numberLine key low high l = try (keyed key l) λ r. try (whole (number r)) λ n. need (between low high n) 2 λ _. ok n
+numberLine key low high l = try (keyed key l) λ r. try (whole (number r)) λ n. need (between low high n) outOfRange λ _. ok n
 
 -- The line of category k of cats (S24): a number above the last category is 2, one that is not below k is 3 (S12).
 unfoldable pub underLine : ℕ → ℕ → List ℕ → Res (List ℕ)
 unfolding keyed numbers
-underLine cats k l = try (keyed (bytes "under=") l) λ r. try (whole (numbers 2 [] r)) λ links. need (all (λ n. leb n cats) links) 2 λ _. need (all (λ n. ltb n k) links) 3 λ _. ok links
+underLine cats k l = try (keyed (bytes "under=") l) λ r. try (whole (numbers maxBroader [] r)) λ links. need (all (λ n. leb n cats) links) outOfRange λ _. need (all (λ n. ltb n k) links) notBelow λ _. ok links
 
 -- one of three words (S25); another is 1 (S28)
 unfoldable pub repLine : List ℕ → Res Rep
@@ -38,7 +39,7 @@ unfoldable pub endLine : List ℕ → Res (Unit {0})
 unfolding choice
 endLine = choice (λ u. endText) (tt ∷ [])
 
--- The arguments of a signature, up to the bracket that closes them (S26). A third one is a fault of form (S11).
+-- The arguments of a signature, up to the bracket that closes them (S26). One too many is a fault of form (S11).
 abbrev pub closing : List ℕ → List ℕ → Scan (List ℕ)
 closing xs [] = fail
 closing xs (b ∷ r) = cond (eqb b (code ")")) (took xs r) fail
@@ -62,7 +63,7 @@ below n a = ltb a n
 unfoldable pub signature : ℕ → State → List ℕ → Res Method
 unfolding arguments answer
 signature n s l = try (whole (bindScan (arguments l) λ xs r. bindScan (answer r) λ o q. took (record { state = s; args = xs; answer = o }) q))
-    λ (m : Method). need (all (below n) (m .args) && unlessMissing (m .answer) (below n)) 2 λ _. ok m
+    λ (m : Method). need (all (below n) (m .args) && unlessMissing (m .answer) (below n)) outOfRange λ _. ok m
 
 -- the line of one method (S26)
 unfoldable pub methodLine : ℕ → List ℕ → Res Method
@@ -70,7 +71,7 @@ unfolding signature starts
 methodLine n l = cond (starts (stateText avail) l) (signature n avail (drop (length (stateText avail)) l))
     (cond (starts (stateText optional) l) (signature n optional (drop (length (stateText optional)) l))
     (cond (same (stateText denied) l) (ok (bare denied))
-    (cond (same (stateText unavail) l) (ok (bare unavail)) (refuse 1))))
+    (cond (same (stateText unavail) l) (ok (bare unavail)) (refuse form))))
 
 -- a type of the sheet, which has no key (T17)
 abbrev pub sheetType : Rep → ℕ → Bool → List Method → Ty
@@ -111,7 +112,7 @@ signaturesStand t = all (λ (x : Ty). all (stands (λ a. mayStand (typeAt t a)))
 -- The last line, and nothing behind it (S10). Only where no line is wrong are the signatures tested: 3 at the last line where a type stands in one that may not (S6, S13).
 unfoldable pub ending : Table → Reader Table
 unfolding endLine signaturesStand
-ending t last = bind (line endLine) (λ u. bind endOfInput λ u at rs. cond (signaturesStand t) (got t at rs) (refused 3 last)) last
+ending t last = bind (line endLine) (λ u. bind endOfInput λ u at rs. cond (signaturesStand t) (got t at rs) (refused notBelow last)) last
 
 -- the whole sheet
 unfoldable pub sheet : Reader Table

@@ -9,6 +9,7 @@ use lib.ListN.{length, take, drop}
 use Rattle.spec_model.specs.Basics.{Res, refuse, ok}
 use Rattle.spec_model.specs.Table.{State, denied, optional, avail, unavail, Rep, ref, w32, w64, Method, Ty, Table, withTypes, permit}
 use Rattle.spec_model.specs.Check.{RawTable, tableOf, tableAccepted}
+use Rattle.spec_model.specs.Refusals.{outOfRange, shortBuffer}
 use Rattle.spec_sheet.specs.Lines.{bytes, join}
 use Rattle.spec_sheet.specs.Numbers.{decimal, decimalIn, commas}
 
@@ -102,9 +103,9 @@ pub record Written : Type 0 where
 
 -- A text that fits stands in front, and what is behind it stays; one that does not is refused with 4, and every byte stays (W2 to W4).
 unfoldable pub writeText : List ℕ → List ℕ → Written
-writeText xs buffer = cond (leb (length xs) (length buffer)) (record { answer = ok (length xs); buffer = xs ++ drop (length xs) buffer }) (record { answer = refuse 4; buffer = buffer })
+writeText xs buffer = cond (leb (length xs) (length buffer)) (record { answer = ok (length xs); buffer = xs ++ drop (length xs) buffer }) (record { answer = refuse shortBuffer; buffer = buffer })
 
 -- the writer, on any table: its check comes first (W1)
 unfoldable pub write : RawTable → List ℕ → Written
 unfolding writeText text tableAccepted tableOf
-write r buffer = cond (tableAccepted r) (writeText (text (tableOf r)) buffer) (record { answer = refuse 2; buffer = buffer })
+write r buffer = cond (tableAccepted r) (writeText (text (tableOf r)) buffer) (record { answer = refuse outOfRange; buffer = buffer })

@@ -9,9 +9,11 @@ use lib.ListN.{getD, List·getD-eq-default}
 use borrow.Author.Tests.{lt-ltb, le-ltb}
 use Rattle.spec_model.specs.Check.{RawPlace, RawCall, noRawPlace, noRawCall}
 use Rattle.spec_model.proofs.Lists.{length-from, from-first}
+use Rattle.spec_model.specs.Crossing.{maxPlaces}
+use Rattle.spec_model.specs.Requests.{maxCalls}
 use Rattle.table_check.specs.Parts.{eachFrom}
 use Rattle.table_check.proofs.Each.{all-each}
-use Rattle.state_bytes.specs.Flat.{rawPlaceAt, rawCallAt, rawPlaces, rawCalls}
+use Rattle.state_bytes.specs.Flat.{rawPlaceAt, rawCallAt, rawPlaces, rawCalls, placeSize, callSize}
 use Rattle.state_bytes.specs.Records.{placeCodes, callCodes}
 
 abbrev pub PlaceFits : List ℕ → ℕ → Bool
@@ -30,26 +32,26 @@ module _ (b : List ℕ) where
   unfolding placeCodes
   places-each n = let e : n ≡ n - 0 = omega arith in all-each (λ k. getD (rawPlaces b) k noRawPlace) (λ (p : RawPlace). ltb (p .code) 2) n 0 ∙ ap (λ (z : ℕ). eachFrom z 0 (PlaceFits b)) e
 
-  pub place-fits : (p : ℕ) → p < 128 → PlaceFits b p ≡ ltb (getD b (p * 3) 0) 2
+  pub place-fits : (p : ℕ) → p < maxPlaces → PlaceFits b p ≡ ltb (getD b (p * placeSize) 0) 2
   unfolding rawPlaces
-  place-fits p h = ap (λ (x : RawPlace). ltb (x .code) 2) (from-first (λ k. rawPlaceAt b (k * 3)) 128 p noRawPlace h)
+  place-fits p h = ap (λ (x : RawPlace). ltb (x .code) 2) (from-first (λ k. rawPlaceAt b (k * placeSize)) maxPlaces p noRawPlace h)
 
-  pub places-past : (n i : ℕ) → 128 ≤ i → eachFrom n i (PlaceFits b) ≡ true
+  pub places-past : (n i : ℕ) → maxPlaces ≤ i → eachFrom n i (PlaceFits b) ≡ true
   unfolding rawPlaces
-  places-past n i h = each-all (PlaceFits b) n i (λ k p. let l = length-from (λ k. rawPlaceAt b (k * 3)) 128 0 in
+  places-past n i h = each-all (PlaceFits b) n i (λ k p. let l = length-from (λ k. rawPlaceAt b (k * placeSize)) maxPlaces 0 in
       ap (λ (x : RawPlace). ltb (x .code) 2) (List·getD-eq-default (rawPlaces b) noRawPlace (omega (arith, l, h, p))))
 
   pub calls-each : (n : ℕ) → callCodes b n ≡ eachFrom (n - 0) 0 (CallFits b)
   unfolding callCodes
   calls-each n = let e : n ≡ n - 0 = omega arith in all-each (λ k. getD (rawCalls b) k noRawCall) (λ (c : RawCall). ltb (c .answered) 2) n 0 ∙ ap (λ (z : ℕ). eachFrom z 0 (CallFits b)) e
 
-  pub call-fits : (j : ℕ) → j < 256 → CallFits b j ≡ ltb (getD b (j * 4 + 3) 0) 2
+  pub call-fits : (j : ℕ) → j < maxCalls → CallFits b j ≡ ltb (getD b (j * callSize + 3) 0) 2
   unfolding rawCalls
-  call-fits j h = ap (λ (x : RawCall). ltb (x .answered) 2) (from-first (λ k. rawCallAt b (k * 4)) 256 j noRawCall h)
+  call-fits j h = ap (λ (x : RawCall). ltb (x .answered) 2) (from-first (λ k. rawCallAt b (k * callSize)) maxCalls j noRawCall h)
 
-  pub calls-past : (n i : ℕ) → 256 ≤ i → eachFrom n i (CallFits b) ≡ true
+  pub calls-past : (n i : ℕ) → maxCalls ≤ i → eachFrom n i (CallFits b) ≡ true
   unfolding rawCalls
-  calls-past n i h = each-all (CallFits b) n i (λ k p. let l = length-from (λ k. rawCallAt b (k * 4)) 256 0 in
+  calls-past n i h = each-all (CallFits b) n i (λ k p. let l = length-from (λ k. rawCallAt b (k * callSize)) maxCalls 0 in
       ap (λ (x : RawCall). ltb (x .answered) 2) (List·getD-eq-default (rawCalls b) noRawCall (omega (arith, l, h, p))))
 
 -- a code, tested

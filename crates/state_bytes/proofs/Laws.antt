@@ -9,12 +9,13 @@ use lib.Dec.{ltb}
 use lib.ListN.{length, getD, length-map, List·getD-map, List·getD-eq-default}
 use borrow.Author.Tests.{ltb-true, lt-ltb}
 use Rattle.spec_model.specs.Basics.{from, all}
-use Rattle.spec_model.specs.Requests.{noCell}
+use Rattle.spec_model.specs.Requests.{noCell, maxCells, maxCalls}
 use Rattle.spec_model.specs.Check.{RawPlace, RawCall, noRawPlace, noRawCall, firstOf, stateCodesFit, systemFits, systemOf, codesFit, systemAccepted}
 use Rattle.spec_model.specs.Check.{placeOf as placeMeant, callOf as callMeant}
 use Rattle.spec_model.specs.Handed.{placeRecord, callRecord, counted}
 use Rattle.spec_model.proofs.Rules.{first, second}
 use Rattle.spec_model.proofs.Lists.{from-same, from-first, length-from, map-from}
+use Rattle.spec_model.specs.Crossing.{maxPlaces}
 use Rattle.law_model.proofs.Fitting.{all-at}
 use Rattle.table_record.proofs.Lists.{lt-or-ge}
 use Rattle.state_record.specs.declared.Place.{Place}
@@ -31,6 +32,7 @@ use Rattle.state_bytes.specs.Records.{placeCodes, callCodes, cellFrom, p
 use Rattle.state_bytes.specs.Records.{cellRecords, placeRecords, callRecords, CellsTo, PlacesTo, CallsTo}
 use Rattle.state_bytes.proofs.Filling.{below-least}
 use Rattle.state_bytes.proofs.Rows.{Rows, rows-behind, row-first}
+use Rattle.state_bytes.specs.Flat.{cellSize, placeSize, callSize}
 
 -- ---- Written: each record's row is its bytes.
 abbrev pub recOf : PlaceRec → RawPlace
@@ -78,36 +80,36 @@ counted-alike d size n xs ys lx ly h = from-same _ _ n 0 (λ k p q. ⊎-elim
 
 -- k rows were written: as many as are counted, or all that the array has
 module _ (old b : List ℕ) (k : ℕ) where
-  pub cells-written : (cs : Cells) → length (cs .list) ≡ 256 → k ≡ min (cs .count) 256 → k ≤ cs .count → Rows 3 (cellRow cs) old k b → CellsTo cs old b
+  pub cells-written : (cs : Cells) → length (cs .list) ≡ maxCells → k ≡ min (cs .count) maxCells → k ≤ cs .count → Rows cellSize (cellRow cs) old k b → CellsTo cs old b
   unfolding rawCells
   cells-written cs e m few rows = record {
-    counted = counted-alike noCell 256 (cs .count) (rawCells b) (cellRecords cs) (length-from (λ i. rawCellAt b (i * 3)) 256 0) (length-map (cs .list) cellOf ∙ e) (λ i p q.
-        let l : i < k = below-least (cs .count) 256 k i m p q in
-        from-first (λ i. rawCellAt b (i * 3)) 256 i noCell q
+    counted = counted-alike noCell maxCells (cs .count) (rawCells b) (cellRecords cs) (length-from (λ i. rawCellAt b (i * cellSize)) maxCells 0) (length-map (cs .list) cellOf ∙ e) (λ i p q.
+        let l : i < k = below-least (cs .count) maxCells k i m p q in
+        from-first (λ i. rawCellAt b (i * cellSize)) maxCells i noCell q
         ∙ rw (row-first 3 (cellRow cs) old k b rows i l (omega arith), rows .are i l 1 (omega arith), rows .are i l 2 (omega arith)) (sym (List·getD-map cellOf (cs .list) i blankCell)));
-    behind = rows-behind 3 (cellRow cs) old (cs .count * 3) k b (omega (arith, few)) rows;
+    behind = rows-behind cellSize (cellRow cs) old (cs .count * cellSize) k b (omega (arith, few)) rows;
   }
 
-  pub places-written : (ps : Places) → length (ps .list) ≡ 128 → k ≡ min (ps .count) 128 → k ≤ ps .count → Rows 3 (placeRow ps) old k b → PlacesTo ps old b
+  pub places-written : (ps : Places) → length (ps .list) ≡ maxPlaces → k ≡ min (ps .count) maxPlaces → k ≤ ps .count → Rows placeSize (placeRow ps) old k b → PlacesTo ps old b
   unfolding rawPlaces
   places-written ps e m few rows = record {
-    counted = counted-alike noRawPlace 128 (ps .count) (rawPlaces b) (placeRecords ps) (length-from (λ i. rawPlaceAt b (i * 3)) 128 0) (length-map (ps .list) recOf ∙ e) (λ i p q.
-        let l : i < k = below-least (ps .count) 128 k i m p q in let x = getD (ps .list) i blankPlace .place in
-        from-first (λ i. rawPlaceAt b (i * 3)) 128 i noRawPlace q
+    counted = counted-alike noRawPlace maxPlaces (ps .count) (rawPlaces b) (placeRecords ps) (length-from (λ i. rawPlaceAt b (i * placeSize)) maxPlaces 0) (length-map (ps .list) recOf ∙ e) (λ i p q.
+        let l : i < k = below-least (ps .count) maxPlaces k i m p q in let x = getD (ps .list) i blankPlace .place in
+        from-first (λ i. rawPlaceAt b (i * placeSize)) maxPlaces i noRawPlace q
         ∙ rw (row-first 3 (placeRow ps) old k b rows i l (omega arith), rows .are i l 1 (omega arith), rows .are i l 2 (omega arith))
         (place-read x ∙ sym (List·getD-map recOf (ps .list) i blankPlace)));
-    behind = rows-behind 3 (placeRow ps) old (ps .count * 3) k b (omega (arith, few)) rows;
+    behind = rows-behind placeSize (placeRow ps) old (ps .count * placeSize) k b (omega (arith, few)) rows;
   }
 
-  pub calls-written : (js : Calls) → length (js .list) ≡ 256 → k ≡ min (js .count) 256 → k ≤ js .count → Rows 4 (callRow js) old k b → CallsTo js old b
+  pub calls-written : (js : Calls) → length (js .list) ≡ maxCalls → k ≡ min (js .count) maxCalls → k ≤ js .count → Rows callSize (callRow js) old k b → CallsTo js old b
   unfolding rawCalls
   calls-written js e m few rows = record {
-    counted = counted-alike noRawCall 256 (js .count) (rawCalls b) (callRecords js) (length-from (λ i. rawCallAt b (i * 4)) 256 0) (length-map (js .list) callRec ∙ e) (λ i p q.
-        let l : i < k = below-least (js .count) 256 k i m p q in
-        from-first (λ i. rawCallAt b (i * 4)) 256 i noRawCall q
+    counted = counted-alike noRawCall maxCalls (js .count) (rawCalls b) (callRecords js) (length-from (λ i. rawCallAt b (i * callSize)) maxCalls 0) (length-map (js .list) callRec ∙ e) (λ i p q.
+        let l : i < k = below-least (js .count) maxCalls k i m p q in
+        from-first (λ i. rawCallAt b (i * callSize)) maxCalls i noRawCall q
         ∙ rw (row-first 4 (callRow js) old k b rows i l (omega arith), rows .are i l 1 (omega arith), rows .are i l 2 (omega arith), rows .are i l 3 (omega arith))
         (sym (List·getD-map callRec (js .list) i blankCall)));
-    behind = rows-behind 4 (callRow js) old (js .count * 4) k b (omega (arith, few)) rows;
+    behind = rows-behind callSize (callRow js) old (js .count * callSize) k b (omega (arith, few)) rows;
   }
 
 -- ---- Read: counted cells are the records of the bytes; a place or call is so where its code names something.
@@ -119,7 +121,7 @@ read-first h d f g e size n = counted-alike (h d) size n (map h (upTo size n d f
 
 cells-read : (b : List ℕ) (n : ℕ) → firstOf n noCell (cellRecords (cellsFrom b n)) ≡ firstOf n noCell (rawCells b)
 unfolding cellsFrom rawCells
-cells-read b n = read-first cellOf blankCell (cellFrom b) (λ k. rawCellAt b (k * 3)) (λ k. refl) 256 n
+cells-read b n = read-first cellOf blankCell (cellFrom b) (λ k. rawCellAt b (k * cellSize)) (λ k. refl) maxCells n
 
 -- what a code is read as
 abbrev placeAgain : RawPlace → RawPlace
@@ -140,13 +142,14 @@ place-by (suc c) x y = refl
 places-read : (b : List ℕ) (n : ℕ) → firstOf n noRawPlace (placeRecords (placesFrom b n)) ≡ firstOf n noRawPlace (map placeAgain (rawPlaces b))
 unfolding placesFrom rawPlaces
 places-read b n =
-    read-first recOf blankPlace (placeFrom b) (λ p. placeAgain (rawPlaceAt b (p * 3))) (λ p. place-by (getD b (p * 3) 0) (getD b (p * 3 + 1) 0) (getD b (p * 3 + 2) 0)) 128 n
-    ∙ ap (firstOf n noRawPlace) (sym (map-from placeAgain (λ p. rawPlaceAt b (p * 3)) 128 0))
+    read-first recOf blankPlace (placeFrom b) (λ p. placeAgain (rawPlaceAt b (p * placeSize)))
+    (λ p. place-by (getD b (p * placeSize) 0) (getD b (p * placeSize + 1) 0) (getD b (p * placeSize + 2) 0)) maxPlaces n
+    ∙ ap (firstOf n noRawPlace) (sym (map-from placeAgain (λ p. rawPlaceAt b (p * placeSize)) maxPlaces 0))
 
 calls-read : (b : List ℕ) (n : ℕ) → firstOf n noRawCall (callRecords (callsFrom b n)) ≡ firstOf n noRawCall (map callAgain (rawCalls b))
 unfolding callsFrom rawCalls
-calls-read b n = read-first callRec blankCall (callFrom b) (λ j. callAgain (rawCallAt b (j * 4))) (λ j. refl) 256 n
-    ∙ ap (firstOf n noRawCall) (sym (map-from callAgain (λ j. rawCallAt b (j * 4)) 256 0))
+calls-read b n = read-first callRec blankCall (callFrom b) (λ j. callAgain (rawCallAt b (j * callSize))) (λ j. refl) maxCalls n
+    ∙ ap (firstOf n noRawCall) (sym (map-from callAgain (λ j. rawCallAt b (j * callSize)) maxCalls 0))
 
 place-same : (x : RawPlace) → So (ltb (x .code) 2) → placeAgain x ≡ x
 place-same x h = go (x .code) (x .first) (x .second) (ltb-true (x .code) 2 h)

@@ -3,10 +3,11 @@ use mathlib.Core.List.{List}
 use Prim.Native.Nat.{ℕ, _+_, _*_}
 use lib.ListN.{getD}
 use Rattle.spec_model.specs.Basics.{from}
-use Rattle.spec_model.specs.Requests.{Cell as Cellᵐ}
+use Rattle.spec_model.specs.Requests.{Cell as Cellᵐ, maxCells, maxCalls}
 use Rattle.spec_model.specs.Check.{RawPlace, RawCall, RawSystem}
-use Rattle.table_record.specs.declared.Counts.{Counts}
+use Rattle.spec_model.specs.Crossing.{maxPlaces}
 use Rattle.table_record.specs.Layout.{rawTable}
+pub use Rattle.table_record.specs.Layout.{countsIn}
 
 -- all that a caller lends of a state
 pub record Flat : Type 0 where
@@ -20,11 +21,7 @@ pub record Flat : Type 0 where
 abbrev pub flat : List ℕ → List ℕ → List ℕ → List ℕ → List ℕ → List ℕ → Flat
 flat types links cells places calls counts = record { types = types; links = links; cells = cells; places = places; calls = calls; counts = counts }
 
--- the counts of a table: five numbers in a row, in this order (B12)
-abbrev pub countsIn : List ℕ → Counts
-countsIn n = record { subjects = getD n 0 0; methods = getD n 1 0; cats = getD n 2 0; sheet = getD n 3 0; types = getD n 4 0 }
-
--- and behind them those of cells, places and calls (B29)
+-- behind the counts of its table (`countsIn`) those of cells, places and calls (B29)
 abbrev pub cellCount : List ℕ → ℕ
 cellCount n = getD n 5 0
 
@@ -33,6 +30,25 @@ placeCount n = getD n 6 0
 
 abbrev pub callCount : List ℕ → ℕ
 callCount n = getD n 7 0
+
+-- the bytes of one record: of a cell, a place and a call; and those of all of them
+abbrev pub cellSize : ℕ
+cellSize = 3
+
+abbrev pub placeSize : ℕ
+placeSize = 3
+
+abbrev pub callSize : ℕ
+callSize = 4
+
+abbrev pub cellsSize : ℕ
+cellsSize = maxCells * cellSize
+
+abbrev pub placesSize : ℕ
+placesSize = maxPlaces * placeSize
+
+abbrev pub callsSize : ℕ
+callsSize = maxCalls * callSize
 
 -- the record whose bytes start at `at` (B26 to B28)
 abbrev pub rawCellAt : List ℕ → ℕ → Cellᵐ
@@ -46,13 +62,13 @@ rawCallAt b at = record { caller = getD b at 0; cell = getD b (at + 1) 0; method
 
 -- the records that the bytes hold
 unfoldable pub rawCells : List ℕ → List Cellᵐ
-rawCells b = from 256 0 (λ k. rawCellAt b (k * 3))
+rawCells b = from maxCells 0 (λ k. rawCellAt b (k * cellSize))
 
 unfoldable pub rawPlaces : List ℕ → List RawPlace
-rawPlaces b = from 128 0 (λ p. rawPlaceAt b (p * 3))
+rawPlaces b = from maxPlaces 0 (λ p. rawPlaceAt b (p * placeSize))
 
 unfoldable pub rawCalls : List ℕ → List RawCall
-rawCalls b = from 256 0 (λ j. rawCallAt b (j * 4))
+rawCalls b = from maxCalls 0 (λ j. rawCallAt b (j * callSize))
 
 -- the state that is handed in
 abbrev pub rawFlat : Flat → RawSystem

@@ -7,11 +7,14 @@ ghost use mathlib.Core.List.{List, [], _∷_};
 ghost use Prim.Native.Nat.{ℕ, _*_, _<_};
 ghost use lib.ListN.{length};
 ghost use lib.Seq.{sets};
-ghost use Rattle.spec_model.specs.Relations.{bit};
+ghost use Rattle.spec_model.specs.Crossing.{maxPlaces};
+ghost use Rattle.spec_model.specs.Requests.{maxCells, maxCalls};
 ghost use Rattle.state_record.specs.Whole.{whole};
-ghost use Rattle.state_bytes.specs.Flat.{flat, countsIn, cellCount, placeCount, callCount};
+ghost use Rattle.state_bytes.specs.Flat.{flat, countsIn, cellCount, placeCount, callCount, cellSize, placeSize, callSize, cellsSize, placesSize};
 ghost use Rattle.state_bytes.specs.Records.{cellFrom, placeFrom, callFrom, cellsFrom, placesFrom, callsFrom, stateFrom, placeCodes};
 ghost use Rattle.state_bytes.specs.Records.{callCodes, placeBy, cellBytes, placeBytes, callBytes, CellsTo, PlacesTo, CallsTo};
+ghost use Rattle.state_bytes.specs.Flat.{callsSize};
+use base_numbers::bit_of;
 use base_numbers::least;
 use state_record::Call;
 use state_record::Calls;
@@ -24,22 +27,28 @@ use state_record::State;
 use table_record::Counts;
 use table_record::LINK_BYTES;
 
-// The bytes of all cells, places and calls.
-pub const CELL_BYTES: usize = 768;
+// The bytes of a cell, a place and a call (B26 to B28), and of all of them.
+const CELL_SIZE: usize = 3;
 
-pub const PLACE_BYTES: usize = 384;
+const PLACE_SIZE: usize = 3;
 
-pub const CALL_BYTES: usize = 1024;
+const CALL_SIZE: usize = 4;
+
+pub const CELL_BYTES: usize = State::CELLS * CELL_SIZE;
+
+pub const PLACE_BYTES: usize = State::PLACES * PLACE_SIZE;
+
+pub const CALL_BYTES: usize = State::CALLS * CALL_SIZE;
 
 // A cell (B26).
 fn cell_from(b: &[u8; CELL_BYTES], k: usize) -> Cell
-    requires { ⌜ k < 256 ⌝ }
+    requires { ⌜ k < maxCells ⌝ }
     ensures { λ r. ⌜ r ≡ cellFrom (now (b .entry)) k ⌝ }
 {
-    let at = k * 3;
+    let at = k * CELL_SIZE;
     Cell {
         holder: b[at],
-        sort: b[at + 1],
+        ty: b[at + 1],
         place: b[at + 2],
     }
 }
@@ -49,7 +58,7 @@ pub fn cells_from(b: &[u8; CELL_BYTES], count: usize) -> Cells
 {
     let blank = Cell {
         holder: 0,
-        sort: 0,
+        ty: 0,
         place: 0,
     };
     let mut list = [blank; State::CELLS];
@@ -79,10 +88,10 @@ fn place_by(code: u8, first: u8, second: u8) -> Place
 }
 
 fn place_from(b: &[u8; PLACE_BYTES], p: usize) -> PlaceRec
-    requires { ⌜ p < 128 ⌝ }
+    requires { ⌜ p < maxPlaces ⌝ }
     ensures { λ r. ⌜ r ≡ placeFrom (now (b .entry)) p ⌝ }
 {
-    let at = p * 3;
+    let at = p * PLACE_SIZE;
     let place = place_by(b[at], b[at + 1], b[at + 2]);
     PlaceRec { place }
 }
@@ -105,10 +114,10 @@ pub fn places_from(b: &[u8; PLACE_BYTES], count: usize) -> Places
 
 // A call (B28).
 fn call_from(b: &[u8; CALL_BYTES], j: usize) -> Call
-    requires { ⌜ j < 256 ⌝ }
+    requires { ⌜ j < maxCalls ⌝ }
     ensures { λ r. ⌜ r ≡ callFrom (now (b .entry)) j ⌝ }
 {
-    let at = j * 4;
+    let at = j * CALL_SIZE;
     let answered = b[at + 3] == 1;
     Call {
         caller: b[at],
@@ -146,7 +155,7 @@ fn place_codes(b: &[u8; PLACE_BYTES], count: usize) -> bool
         if p == State::PLACES {
             return true;
         }
-        if 1 < b[p * 3] {
+        if 1 < b[p * PLACE_SIZE] {
             return false;
         }
         p += 1;
@@ -163,7 +172,7 @@ fn call_codes(b: &[u8; CALL_BYTES], count: usize) -> bool
         if j == State::CALLS {
             return true;
         }
-        if 1 < b[j * 4 + 3] {
+        if 1 < b[j * CALL_SIZE + 3] {
             return false;
         }
         j += 1;
@@ -182,25 +191,25 @@ pub fn codes_fit(places: &[u8; PLACE_BYTES], calls: &[u8; CALL_BYTES], pn: usize
 
 // An array that is held has its length, of a lent one nothing says it; the copy goes when these are inlined.
 fn cell_bytes(b: [u8; CELL_BYTES])
-    ensures { λ _. ⌜ length b ≡ 768 ⌝ }
+    ensures { λ _. ⌜ length b ≡ cellsSize ⌝ }
 {}
 
 fn place_bytes(b: [u8; PLACE_BYTES])
-    ensures { λ _. ⌜ length b ≡ 384 ⌝ }
+    ensures { λ _. ⌜ length b ≡ placesSize ⌝ }
 {}
 
 fn call_bytes(b: [u8; CALL_BYTES])
-    ensures { λ _. ⌜ length b ≡ 1024 ⌝ }
+    ensures { λ _. ⌜ length b ≡ callsSize ⌝ }
 {}
 
 // The bytes of a cell, at its place in the array.
 fn put_cell(b: &mut [u8; CELL_BYTES], k: usize, c: Cell)
-    requires { ⌜ k < 256 ⌝ }
-    ensures { λ _. ⌜ now (b .exit) ≡ sets (now (b .entry)) (k * 3) (cellBytes c) ⌝ }
+    requires { ⌜ k < maxCells ⌝ }
+    ensures { λ _. ⌜ now (b .exit) ≡ sets (now (b .entry)) (k * cellSize) (cellBytes c) ⌝ }
 {
-    let at = k * 3;
+    let at = k * CELL_SIZE;
     b[at] = c.holder;
-    b[at + 1] = c.sort;
+    b[at + 1] = c.ty;
     b[at + 2] = c.place;
 }
 
@@ -219,10 +228,10 @@ pub fn cells_to(b: &mut [u8; CELL_BYTES], cs: Cells)
 }
 
 fn put_three(b: &mut [u8; PLACE_BYTES], p: usize, code: u8, first: u8, second: u8)
-    requires { ⌜ p < 128 ⌝ }
-    ensures { λ _. ⌜ now (b .exit) ≡ sets (now (b .entry)) (p * 3) (code ∷ first ∷ second ∷ []) ⌝ }
+    requires { ⌜ p < maxPlaces ⌝ }
+    ensures { λ _. ⌜ now (b .exit) ≡ sets (now (b .entry)) (p * placeSize) (code ∷ first ∷ second ∷ []) ⌝ }
 {
-    let at = p * 3;
+    let at = p * PLACE_SIZE;
     b[at] = code;
     b[at + 1] = first;
     b[at + 2] = second;
@@ -230,8 +239,8 @@ fn put_three(b: &mut [u8; PLACE_BYTES], p: usize, code: u8, first: u8, second: u
 
 // The bytes of a place.
 fn put_place(b: &mut [u8; PLACE_BYTES], p: usize, x: Place)
-    requires { ⌜ p < 128 ⌝ }
-    ensures { λ _. ⌜ now (b .exit) ≡ sets (now (b .entry)) (p * 3) (placeBytes x) ⌝ }
+    requires { ⌜ p < maxPlaces ⌝ }
+    ensures { λ _. ⌜ now (b .exit) ≡ sets (now (b .entry)) (p * placeSize) (placeBytes x) ⌝ }
 {
     match x {
         Place::Object { class, owner } => put_three(b, p, 0, class, owner),
@@ -254,25 +263,16 @@ pub fn places_to(b: &mut [u8; PLACE_BYTES], ps: Places)
     }
 }
 
-fn flag(answered: bool) -> u8
-    ensures { λ r. ⌜ r ≡ bit answered ⌝ }
-{
-    if answered {
-        return 1;
-    }
-    0
-}
-
 // The bytes of a call.
 fn put_call(b: &mut [u8; CALL_BYTES], j: usize, c: Call)
-    requires { ⌜ j < 256 ⌝ }
-    ensures { λ _. ⌜ now (b .exit) ≡ sets (now (b .entry)) (j * 4) (callBytes c) ⌝ }
+    requires { ⌜ j < maxCalls ⌝ }
+    ensures { λ _. ⌜ now (b .exit) ≡ sets (now (b .entry)) (j * callSize) (callBytes c) ⌝ }
 {
-    let at = j * 4;
+    let at = j * CALL_SIZE;
     b[at] = c.caller;
     b[at + 1] = c.cell;
     b[at + 2] = c.method;
-    b[at + 3] = flag(c.answered);
+    b[at + 3] = bit_of(c.answered);
 }
 
 // The counted calls; every byte behind them stays.
@@ -297,7 +297,8 @@ pub fn state_from(
     calls: &[u8; CALL_BYTES],
     counts: [usize; 8],
 ) -> State
-    ensures { λ r. ⌜ ((t : List ℕ) → whole t r ≡ stateFrom (flat t (now (links .entry)) (now (cells .entry)) (now (places .entry)) (now (calls .entry)) counts)) ⌝ }
+    ensures { λ r. ⌜ ((t : List ℕ)
+        → whole t r ≡ stateFrom (flat t (now (links .entry)) (now (cells .entry)) (now (places .entry)) (now (calls .entry)) counts)) ⌝ }
 {
     let l = *links;
     let n = Counts {

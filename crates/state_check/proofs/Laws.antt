@@ -132,7 +132,7 @@ module _ (s : State) where
       (leb (s .cells .count) maxCells) (leb (s .places .count) maxPlaces) (leb (s .calls .count) maxCalls) _ records (λ e. records-are s (accepted-limits (s .types) (s .links) (s .counts) e)))
 
 -- counts that are accepted
-pub sizes-are : (cells places calls : ℕ) → sizesAccepted cells places calls ≡ true → (cells ≤ 256) × (places ≤ 128) × (calls ≤ 256)
+pub sizes-are : (cells places calls : ℕ) → sizesAccepted cells places calls ≡ true → (cells ≤ maxCells) × (places ≤ maxPlaces) × (calls ≤ maxCalls)
 sizes-are cells places calls e =
     let f = second (leb cells maxCells) _ e in
-    (leb-true cells 256 (first (leb cells maxCells) _ e), leb-true places 128 (first (leb places maxPlaces) _ f), leb-true calls 256 (second (leb places maxPlaces) _ f))
+    (leb-true cells maxCells (first (leb cells maxCells) _ e), leb-true places maxPlaces (first (leb places maxPlaces) _ f), leb-true calls maxCalls (second (leb places maxPlaces) _ f))

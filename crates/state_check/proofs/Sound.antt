@@ -17,6 +17,7 @@ use Rattle.law_model.proofs.Checked.{SystemFitting, system-fitting}
 use Rattle.table_record.specs.Limits.{Checked}
 use Rattle.table_record.specs.Store.{tableIn, rawTable}
 use Rattle.table_record.proofs.Tables.{size-is}
+use Rattle.table_record.specs.Layout.{typesSize}
 use Rattle.table_check.proofs.Accepted.{accepted-checked}
 use Rattle.state_record.specs.Whole.{Whole as State}
 use Rattle.state_record.specs.View.{cellsIn, placesIn, callsIn, rawState, systemIn, isObject, behindOf, withTypes}
@@ -25,9 +26,9 @@ use Rattle.state_record.proofs.Laws.{cells-length, places-length, calls-length,
 use Rattle.state_check.specs.Parts.{sizesAccepted}
 use Rattle.state_check.proofs.Laws.{accepted-is, sizes-are}
 
-falls : (s : System) (p : ℕ) (x : Placeᵐ) → So (placeFits s p x) → isObject x ≡ false → behindOf x < p
-falls s p (object k o) h e = never (sym e)
-falls s p (adapter b k) h e = ltb-so (first (ltb b p) _ h)
+descends : (s : System) (p : ℕ) (x : Placeᵐ) → So (placeFits s p x) → isObject x ≡ false → behindOf x < p
+descends s p (object k o) h e = never (sym e)
+descends s p (adapter b k) h e = ltb-so (first (ltb b p) _ h)
 
 typed : (s : System) (p : ℕ) (x : Placeᵐ) → s .table .sheet ≤ size (s .table) → So (placeFits s p x) → placeType x < size (s .table)
 typed s p (object k o) l h =
@@ -61,14 +62,14 @@ module _ (s : State) (h : So (systemAccepted (rawState s))) where
   sheet-below = subst (λ (n : ℕ). s .counts .sheet ≤ n) (sym (size-is (s .types) (s .links) (s .counts))) (checked .limits .counted)
 
   -- beside any bytes of the types' length, for a caller who has none of his own
-  pub accepted-beside : (t : List ℕ) → length t ≡ 16384 → Sound (withTypes s t)
+  pub accepted-beside : (t : List ℕ) → length t ≡ typesSize → Sound (withTypes s t)
   unfolding tableIn tableOf
   accepted-beside t long =
       let z = sizes-are (s .cells .count) (s .places .count) (s .calls .count) (by-parts .0) in
       record {
         long = long;
         checked = checked;
-        falling = record { count = z .1; behind = λ p l. falls m p (placeAt (placesIn (s .places)) p) (place-fits p l) };
+        descending = record { count = z .1; behind = λ p l. descends m p (placeAt (placesIn (s .places)) p) (place-fits p l) };
         typed = λ p l. subst (λ (n : ℕ). placeType (placeAt (placesIn (s .places)) p) < n) (size-is (s .types) (s .links) (s .counts))
             (typed m p (placeAt (placesIn (s .places)) p) sheet-below (place-fits p l));
         cellCount = z .0;
@@ -92,5 +93,5 @@ module _ (s : State) (h : So (systemAccepted (rawState s))) where
             };
       }
 
-  pub accepted-sound : length (s .types) ≡ 16384 → Sound s
+  pub accepted-sound : length (s .types) ≡ typesSize → Sound s
   accepted-sound long = accepted-beside (s .types) long

@@ -5,22 +5,20 @@ use mathlib.Core.List.{List}
 use Prim.Native.Nat.{ℕ}
 use lib.Dec.{ltb, leb}
 use lib.ListN.{getD}
-use Rattle.spec_model.specs.Table.{isRef, isSettled}
+use Rattle.spec_model.specs.Table.{isSettled}
 use Rattle.spec_model.specs.Crossing.{Place as Placeᵐ, object, adapter, maxPlaces}
 use Rattle.spec_model.specs.Requests.{Cell as Cellᵐ, Call as Callᵐ, maxCells, maxCalls}
-use Rattle.spec_model.specs.Check.{RawType, noRawType, noRawMethod, repOf, stateOf}
+use Rattle.spec_model.specs.Check.{RawType, noRawType, noRawMethod, stateOf}
 use Rattle.table_record.specs.declared.Counts.{Counts}
 use Rattle.table_record.specs.Store.{mayStandAs}
+pub use Rattle.table_record.specs.Store.{refAs}
 use Rattle.table_check.specs.Parts.{eachFrom}
 use Rattle.state_record.specs.declared.Cells.{Cells}
 use Rattle.state_record.specs.declared.Places.{Places}
 use Rattle.state_record.specs.declared.Calls.{Calls}
 use Rattle.state_record.specs.View.{cellOf, placeOf, callOf, blankCell, blankPlace, blankCall}
 
--- a reference type, and a class (T16), as they are stored
-abbrev pub refAs : RawType → Bool
-refAs x = isRef (repOf (x .rep))
-
+-- a class (T16), as it is stored
 unfoldable pub settledAs : ℕ → RawType → Bool
 unfolding eachFrom
 settledAs ms x = eachFrom ms 0 (λ j. isSettled (stateOf (getD (x .methods) j noRawMethod .state)))

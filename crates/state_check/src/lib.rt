@@ -1,14 +1,17 @@
-// The check of a state that is handed in (H1 to H11): any counts and any records. Counts first, so that every index is below its array's length, then the table, then cells,
-// places and calls.
+// The check of a state that is handed in (H1 to H11): any counts and any records. Counts first, so that every index is below its array's length, then the
+// table, then cells, places and calls.
 ghost use mathlib.Core.Path.{_≡_};
 ghost use Prim.Native.Nat.{_≤_, _<_};
 ghost use lib.ListN.{getD};
 ghost use Rattle.spec_model.specs.Check.{noRawType, systemAccepted};
+ghost use Rattle.spec_model.specs.Table.{maxMethods, maxTypes};
+ghost use Rattle.spec_model.specs.Crossing.{maxPlaces};
+ghost use Rattle.spec_model.specs.Requests.{maxCells, maxCalls};
 ghost use Rattle.table_record.specs.Limits.{Limits};
 ghost use Rattle.table_record.specs.Store.{typesIn};
 ghost use Rattle.state_record.specs.Whole.{whole};
 ghost use Rattle.state_record.specs.View.{cellOf, placeOf, callOf, rawState};
-ghost use Rattle.state_check.specs.Parts.{settledAs, classAs, refAs, cellAccepted, cellsAccepted, objectAccepted};
+ghost use Rattle.state_check.specs.Parts.{settledAs, classAs, cellAccepted, cellsAccepted, objectAccepted};
 ghost use Rattle.state_check.specs.Parts.{adapterAccepted, placeAccepted, placesAccepted, callAccepted, callsAccepted, sizesAccepted, recordsAccepted};
 use state_record::Call;
 use state_record::Calls;
@@ -18,22 +21,12 @@ use state_record::PlaceRec;
 use state_record::Places;
 use state_record::State;
 use table_record::Counts;
-use table_record::Head;
 use table_record::Method;
 use table_record::TYPE_BYTES;
 
-// Whether type i is a reference type.
-pub fn is_ref(b: &[u8; TYPE_BYTES], i: usize) -> bool
-    requires { ⌜ i < 128 ⌝ }
-    ensures { λ r. ⌜ r ≡ refAs (getD (typesIn (now (b .entry))) i noRawType) ⌝ }
-{
-    let h = table_record::get_head(b, i);
-    h.rep == Head::REF
-}
-
 // Whether every method of type i is avail or unavail.
 fn settled(b: &[u8; TYPE_BYTES], methods: usize, i: usize) -> bool
-    requires { ⌜ (methods ≤ 16) × (i < 128) ⌝ }
+    requires { ⌜ (methods ≤ maxMethods) × (i < maxTypes) ⌝ }
     ensures { λ r. ⌜ r ≡ settledAs methods (getD (typesIn (now (b .entry))) i noRawType) ⌝ }
 {
     let mut j: usize = 0;
@@ -49,10 +42,10 @@ fn settled(b: &[u8; TYPE_BYTES], methods: usize, i: usize) -> bool
 
 // Whether type i is a class (T16), in a table of so many methods.
 pub fn is_class(b: &[u8; TYPE_BYTES], methods: usize, i: usize) -> bool
-    requires { ⌜ (methods ≤ 16) × (i < 128) ⌝ }
+    requires { ⌜ (methods ≤ maxMethods) × (i < maxTypes) ⌝ }
     ensures { λ r. ⌜ r ≡ classAs methods (getD (typesIn (now (b .entry))) i noRawType) ⌝ }
 {
-    if !is_ref(b, i) {
+    if !table_record::is_ref(b, i) {
         return false;
     }
     if !table_record::may_stand(b, i) {
@@ -72,15 +65,15 @@ fn cell_fits(b: &[u8; TYPE_BYTES], c: Counts, places: usize, x: Cell) -> bool
     if places <= base_numbers::wide(x.place) {
         return false;
     }
-    let i = base_numbers::wide(x.sort);
+    let i = base_numbers::wide(x.ty);
     if c.sheet <= i {
         return false;
     }
-    is_ref(b, i)
+    table_record::is_ref(b, i)
 }
 
 fn cells_fit(b: &[u8; TYPE_BYTES], c: Counts, places: usize, cs: Cells) -> bool
-    requires { ⌜ Limits c × (cs .count ≤ 256) ⌝ }
+    requires { ⌜ Limits c × (cs .count ≤ maxCells) ⌝ }
     ensures { λ r. ⌜ r ≡ cellsAccepted (typesIn (now (b .entry))) c places cs ⌝ }
 {
     let n = cs.count;
@@ -120,7 +113,7 @@ fn adapter_fits(b: &[u8; TYPE_BYTES], c: Counts, p: usize, behind: usize, closed
     if c.types <= closed {
         return false;
     }
-    is_ref(b, closed)
+    table_record::is_ref(b, closed)
 }
 
 fn place_fits(b: &[u8; TYPE_BYTES], c: Counts, p: usize, x: PlaceRec) -> bool
@@ -135,7 +128,7 @@ fn place_fits(b: &[u8; TYPE_BYTES], c: Counts, p: usize, x: PlaceRec) -> bool
 }
 
 fn places_fit(b: &[u8; TYPE_BYTES], c: Counts, ps: Places) -> bool
-    requires { ⌜ Limits c × (ps .count ≤ 128) ⌝ }
+    requires { ⌜ Limits c × (ps .count ≤ maxPlaces) ⌝ }
     ensures { λ r. ⌜ r ≡ placesAccepted (typesIn (now (b .entry))) c ps ⌝ }
 {
     let n = ps.count;
@@ -164,7 +157,7 @@ fn call_fits(c: Counts, cells: usize, x: Call) -> bool
 }
 
 fn calls_fit(c: Counts, cells: usize, js: Calls) -> bool
-    requires { ⌜ js .count ≤ 256 ⌝ }
+    requires { ⌜ js .count ≤ maxCalls ⌝ }
     ensures { λ r. ⌜ r ≡ callsAccepted c cells js ⌝ }
 {
     let n = js.count;
@@ -194,7 +187,7 @@ fn sizes_fit(cells: usize, places: usize, calls: usize) -> bool
 
 // Cells, places and calls, in a table that is accepted.
 fn records_fit(b: &[u8; TYPE_BYTES], c: Counts, cs: Cells, ps: Places, js: Calls) -> bool
-    requires { ⌜ Limits c × (cs .count ≤ 256) × (ps .count ≤ 128) × (js .count ≤ 256) ⌝ }
+    requires { ⌜ Limits c × (cs .count ≤ maxCells) × (ps .count ≤ maxPlaces) × (js .count ≤ maxCalls) ⌝ }
     ensures { λ r. ⌜ r ≡ recordsAccepted (typesIn (now (b .entry))) c cs ps js ⌝ }
 {
     let places = ps.count;

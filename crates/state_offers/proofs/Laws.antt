@@ -19,8 +19,10 @@ use Rattle.spec_model.specs.Check.{noRawType, noRawMethod, stateOf, methodOf, s
 use Rattle.table_record.specs.declared.Counts.{Counts}
 use Rattle.table_record.specs.declared.Method.{Method}
 use Rattle.table_record.specs.Store.{typesIn, tableIn, rawMethod}
+use Rattle.table_record.specs.Layout.{typesSize}
 use Rattle.spec_model.specs.Check.{tableOf}
 use Rattle.spec_model.proofs.Codes.{code-back}
+use Rattle.spec_model.specs.Refusals.{outOfRange}
 use Rattle.derive_record.specs.Begins.{refIn}
 use Rattle.derive_sub_sup.proofs.Ends.{ref-table}
 use Rattle.state_record.specs.Whole.{Whole as State}
@@ -164,11 +166,11 @@ module _ (s : State) (z : ℤ) (w : List ℤ) (k : ℕ) (e : k ≡ indexOf z (s 
 
 -- any bytes of the types' length: what is known of the rest of a state asks for no others
 unfoldable pub blank : List ℕ
-blank = replicate 16384 0
+blank = replicate typesSize 0
 
-pub blank-long : length blank ≡ 16384
+pub blank-long : length blank ≡ typesSize
 unfolding blank
-blank-long = length-replicate {A = ℕ} 16384 0
+blank-long = length-replicate {A = ℕ} typesSize 0
 
 -- its place is one of the state's
 pub place-known : (s : State) → Sound s → (k : ℕ) → k < s .cells .count → (x : Cell) → x ≡ getD (cellsIn (s .cells)) k noCell → (p : ℕ) → p ≡ x .place → p < s .places .count
@@ -178,8 +180,8 @@ place-known s h k low x is p e = subst (λ (n : ℕ). n < s .places .count) (sym
 module _ (s : State) (z : ℤ) (w : List ℤ) where
   pub handed-unfit : systemAccepted (rawState s) ≡ false → offeredAs Unfit ≡ offersHanded (rawState s) z w
   unfolding offersHanded
-  handed-unfit h = sym (ap (λ (q : Bool). need q 2 (λ _. ok (offersNamed (systemOf (rawState s)) z w))) h)
+  handed-unfit h = sym (ap (λ (q : Bool). need q outOfRange (λ _. ok (offersNamed (systemOf (rawState s)) z w))) h)
 
   pub handed-fit : systemAccepted (rawState s) ≡ true → (q : Bool) → q ≡ offersNamed (systemIn s) z w → ok q ≡ offersHanded (rawState s) z w
   unfolding offersHanded systemIn
-  handed-fit h q y = sym (ap (λ (k : Bool). need k 2 (λ _. ok (offersNamed (systemOf (rawState s)) z w))) h ∙ ap (λ (k : Bool). ok k) (sym y))
+  handed-fit h q y = sym (ap (λ (k : Bool). need k outOfRange (λ _. ok (offersNamed (systemOf (rawState s)) z w))) h ∙ ap (λ (k : Bool). ok k) (sym y))

@@ -8,6 +8,7 @@ use Rattle.spec_model.specs.Table.{Table}
 use Rattle.spec_model.specs.Requests.{System}
 use Rattle.spec_model.specs.Chains.{offered}
 use Rattle.spec_model.specs.Check.{RawSystem, systemOf, systemAccepted}
+use Rattle.spec_model.specs.Refusals.{outOfRange}
 use Rattle.state_offers.specs.declared.Offered.{Offered}
 use Rattle.state_offers.specs.declared.Offered.the-variants.{Unfit, Yes, No}
 
@@ -23,10 +24,10 @@ offersNamed s k w = names k (length (s .cells)) && (methodsNamed (s .table) w &&
 -- 2 before all else.
 unfoldable pub offersHanded : RawSystem → ℤ → List ℤ → Res Bool
 unfolding systemAccepted systemOf offersNamed
-offersHanded r k w = need (systemAccepted r) 2 λ _. ok (offersNamed (systemOf r) k w)
+offersHanded r k w = need (systemAccepted r) outOfRange λ _. ok (offersNamed (systemOf r) k w)
 
 -- what each answer of the code says
 abbrev pub offeredAs : Offered → Res Bool
-offeredAs Unfit = refuse 2
+offeredAs Unfit = refuse outOfRange
 offeredAs Yes = ok true
 offeredAs No = ok false

@@ -1,11 +1,12 @@
-// Whether a cell of a state offers a chain of methods (L15 to L18, E11): so that demand 3 can be watched on what runs. What this answers is the definition `offersHanded` in
-// specs/Chained.antt.
+// Whether a cell of a state offers a chain of methods (L15 to L18, E11): so that demand 3 can be watched on what runs. What this answers is the definition
+// `offersHanded` in specs/Chained.antt.
 ghost use mathlib.Core.Path.{_≡_};
 ghost use mathlib.Core.List.{List};
 ghost use Prim.Native.Nat.{ℕ};
 ghost use lib.ListN.{length};
 ghost use Rattle.table_record.specs.Limits.{Limits};
 ghost use Rattle.table_record.specs.Store.{tableIn};
+ghost use Rattle.table_record.specs.Layout.{typesSize};
 ghost use Rattle.state_record.specs.Whole.{whole};
 ghost use Rattle.state_record.specs.View.{rawState, systemIn};
 ghost use Rattle.state_record.specs.Sound.{Sound};
@@ -69,7 +70,7 @@ fn type_permits(types: &[u8; TYPE_BYTES], c: Counts, t: usize, chain: &[i64]) ->
 
 // Of a state that passes the check: the type of the cell and the type of its place both permit the chain (L18).
 fn cell_offers(types: &[u8; TYPE_BYTES], s: State, cell: i64, chain: &[i64]) -> bool
-    requires { ⌜ ((t : List ℕ) → length t ≡ 16384 → Sound (whole t s)) ⌝ }
+    requires { ⌜ ((t : List ℕ) → length t ≡ typesSize → Sound (whole t s)) ⌝ }
     ensures { λ r. ⌜ r ≡ offersNamed (systemIn (whole (now (types .entry)) s)) cell (now (chain .entry)) ⌝ }
 {
     let cells = s.cells;
@@ -80,10 +81,10 @@ fn cell_offers(types: &[u8; TYPE_BYTES], s: State, cell: i64, chain: &[i64]) -> 
     let x = state_record::cell_at(cells, k);
     let places = s.places;
     let p = state_record::place_at(places, wide(x.place));
-    let cell_type = wide(x.sort);
+    let ty = wide(x.ty);
     let place_type = state_record::place_type(p);
     let c = s.counts;
-    if !type_permits(types, c, cell_type, chain) {
+    if !type_permits(types, c, ty, chain) {
         return false;
     }
     type_permits(types, c, place_type, chain)

@@ -11,13 +11,13 @@ use Rattle.spec_model.specs.Requests.{layers, layersOf}
 use Rattle.spec_model.proofs.Rules.{never}
 use Rattle.state_record.specs.View.{isObject, behindOf}
 
-module _ (ps : List Placeᵐ) (falls : (p : ℕ) → p < length ps → isObject (placeAt ps p) ≡ false → behindOf (placeAt ps p) < p) where
+module _ (ps : List Placeᵐ) (descends : (p : ℕ) → p < length ps → isObject (placeAt ps p) ≡ false → behindOf (placeAt ps p) < p) where
   -- more steps than the place's number change nothing
   base-enough : (f g p : ℕ) → p < length ps → p < f → p < g → base f ps p ≡ base g ps p
   unfolding base
   base-enough zero g p h a b = absurd (not-suc-le-zero a)
   base-enough (suc f) zero p h a b = absurd (not-suc-le-zero b)
-  base-enough (suc f) (suc g) p h a b = go (placeAt ps p) (falls p h) (λ q k c d. base-enough f g q k c d)
+  base-enough (suc f) (suc g) p h a b = go (placeAt ps p) (descends p h) (λ q k c d. base-enough f g q k c d)
     where
       go : (x : Placeᵐ) → (isObject x ≡ false → behindOf x < p) → ((q : ℕ) → q < length ps → q < f → q < g → base f ps q ≡ base g ps q)
           → _≡_ {A = ℕ} (elim x [ object c o ↦ p | adapter b c ↦ base f ps b ]) (elim x [ object c o ↦ p | adapter b c ↦ base g ps b ])
@@ -46,13 +46,13 @@ module _ (ps : List Placeᵐ) (falls : (p : ℕ) → p < length ps → isObject 
 
       go : (f : ℕ) → p < f → base f ps p ≡ baseOf ps (behindOf (placeAt ps p))
       go zero l = absurd (not-suc-le-zero l)
-      go (suc f) l = at f (placeAt ps p) l e (falls p h e)
+      go (suc f) l = at f (placeAt ps p) l e (descends p h e)
 
   layers-enough : (f g p : ℕ) → p < length ps → p < f → p < g → layers f ps p ≡ layers g ps p
   unfolding layers
   layers-enough zero g p h a b = absurd (not-suc-le-zero a)
   layers-enough (suc f) zero p h a b = absurd (not-suc-le-zero b)
-  layers-enough (suc f) (suc g) p h a b = go (placeAt ps p) (falls p h) (λ q k c d. layers-enough f g q k c d)
+  layers-enough (suc f) (suc g) p h a b = go (placeAt ps p) (descends p h) (λ q k c d. layers-enough f g q k c d)
     where
       go : (x : Placeᵐ) → (isObject x ≡ false → behindOf x < p) → ((q : ℕ) → q < length ps → q < f → q < g → layers f ps q ≡ layers g ps q)
           → _≡_ {A = List ℕ} (elim x [ object c o ↦ c ∷ [] | adapter b c ↦ c ∷ layers f ps b ]) (elim x [ object c o ↦ c ∷ [] | adapter b c ↦ c ∷ layers g ps b ])
@@ -82,4 +82,4 @@ module _ (ps : List Placeᵐ) (falls : (p : ℕ) → p < length ps → isObject 
 
       go : (f : ℕ) → p < f → layers f ps p ≡ placeType (placeAt ps p) ∷ layersOf ps (behindOf (placeAt ps p))
       go zero l = absurd (not-suc-le-zero l)
-      go (suc f) l = at f (placeAt ps p) l e (falls p h e)
+      go (suc f) l = at f (placeAt ps p) l e (descends p h e)

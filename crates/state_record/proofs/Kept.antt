@@ -8,13 +8,14 @@ use native.Mathlib.Omega.{arith}
 use native.Mathlib.Decide.{decLt}
 use lib.ListN.{length, getD, List·getD-append}
 use lib.Seq.{getD-at}
-use Rattle.spec_model.specs.Crossing.{Place as Placeᵐ, noPlace, placeAt, placeType}
+use Rattle.spec_model.specs.Crossing.{Place as Placeᵐ, noPlace, placeAt, placeType, maxPlaces}
 use Rattle.table_record.specs.declared.Counts.{Counts}
 use Rattle.table_record.specs.Limits.{Checked}
+use Rattle.table_record.specs.Layout.{typesSize}
 use Rattle.state_record.specs.declared.Places.{Places}
 use Rattle.state_record.specs.Whole.{Whole, whole}
 use Rattle.state_record.specs.View.{placesIn, isObject, behindOf, stateLoaded, withTypes}
-use Rattle.state_record.specs.Sound.{Falling, Typed, Sound}
+use Rattle.state_record.specs.Sound.{Descending, Typed, Sound}
 use Rattle.state_record.proofs.Laws.{places-length}
 
 -- what holds of every element of a list and of one more
@@ -34,18 +35,18 @@ module _ (ps qs : Places) (x : Placeᵐ) (count : qs .count ≡ ps .count + 1) (
       let n : length (placesIn ps) ≡ ps .count = places-length ps in
       subst (λ xs. P p (placeAt xs p)) (sym e) (more noPlace P (placesIn ps) x (λ i h. each i (omega arith)) (subst (λ k. P k x) (sym n) new) p (omega arith))
 
-  pub falling-more : Falling ps → ps .count < 128 → (isObject x ≡ false → behindOf x < ps .count) → Falling qs
-  falling-more h room new = record { count = omega (arith, count, room); behind = each-more (λ p y. isObject y ≡ false → behindOf y < p) (h .behind) new }
+  pub descending-more : Descending ps → ps .count < maxPlaces → (isObject x ≡ false → behindOf x < ps .count) → Descending qs
+  descending-more h room new = record { count = omega (arith, count, room); behind = each-more (λ p y. isObject y ≡ false → behindOf y < p) (h .behind) new }
 
   pub typed-more : (c : Counts) → Typed ps c → placeType x < c .types → Typed qs c
   typed-more c h new = each-more (λ p y. placeType y < c .types) h new
 
 -- the state of a loaded sheet
-pub loaded-sound : (types links : List ℕ) (counts : Counts) → length types ≡ 16384 → Checked links counts → Sound (whole types (stateLoaded links counts))
+pub loaded-sound : (types links : List ℕ) (counts : Counts) → length types ≡ typesSize → Checked links counts → Sound (whole types (stateLoaded links counts))
 loaded-sound types links counts long h = record {
   long = long;
   checked = h;
-  falling = record { count = omega arith; behind = λ p l. absurd (not-suc-le-zero l) };
+  descending = record { count = omega arith; behind = λ p l. absurd (not-suc-le-zero l) };
   typed = λ p l. absurd (not-suc-le-zero l);
   cellCount = omega arith;
   callCount = omega arith;
@@ -54,11 +55,11 @@ loaded-sound types links counts long h = record {
 }
 
 -- nothing of soundness is in the bytes of the types
-pub sound-types : (s : Whole) (b : List ℕ) → length b ≡ 16384 → Sound s → Sound (withTypes s b)
+pub sound-types : (s : Whole) (b : List ℕ) → length b ≡ typesSize → Sound s → Sound (withTypes s b)
 sound-types s b long h = record {
   long = long;
   checked = h .checked;
-  falling = h .falling;
+  descending = h .descending;
   typed = h .typed;
   cellCount = h .cellCount;
   callCount = h .callCount;

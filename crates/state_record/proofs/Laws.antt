@@ -21,7 +21,7 @@ use Rattle.state_record.specs.declared.Calls.{Calls}
 use Rattle.state_record.specs.Whole.{Whole as State}
 use Rattle.state_record.specs.View.{cellOf, placeOf, callOf, blankCell, blankPlace, blankCall, cellsIn, placesIn, callsIn, cellAdded, placeAdded, callAdded, callAnswered, answeredAs}
 use Rattle.state_record.specs.View.{systemIn, isObject, behindOf}
-use Rattle.state_record.specs.Sound.{Falling, BaseAt}
+use Rattle.state_record.specs.Sound.{Descending, BaseAt}
 use Rattle.state_record.proofs.Lists.{seen-length, seen-at, seen-added, seen-set}
 use Rattle.state_record.proofs.Going as go
 
@@ -87,12 +87,12 @@ pub based : (ps : Places) (p q : ℕ) → baseOf (placesIn ps) p ≡ baseOf (pla
 based ps p q e b = record { is = b .is ∙ sym e; below = b .below; object = b .object }
 
 -- Going behind in the counted places.
-module _ (ps : Places) (h : Falling ps) where
+module _ (ps : Places) (h : Descending ps) where
   inside : (p : ℕ) → p < ps .count → p < length (placesIn ps)
   inside p l = subst (λ (n : ℕ). p < n) (sym (places-length ps)) l
 
-  falls : (p : ℕ) → p < length (placesIn ps) → isObject (placeAt (placesIn ps) p) ≡ false → behindOf (placeAt (placesIn ps) p) < p
-  falls p l = h .behind p (subst (λ (n : ℕ). p < n) (places-length ps) l)
+  descends : (p : ℕ) → p < length (placesIn ps) → isObject (placeAt (placesIn ps) p) ≡ false → behindOf (placeAt (placesIn ps) p) < p
+  descends p l = h .behind p (subst (λ (n : ℕ). p < n) (places-length ps) l)
 
   -- the place x at p, as it was read
   module _ (p : ℕ) (l : p < ps .count) (x : Placeᵐ) (e : x ≡ placeAt (placesIn ps) p) where
@@ -100,13 +100,13 @@ module _ (ps : Places) (h : Falling ps) where
     goes-below o = rw e (h .behind p l (rw (← e) o))
 
     pub base-ends : isObject x ≡ true → BaseAt ps p p
-    base-ends o = record { is = sym (go.base-here (placesIn ps) falls p (inside p l) (rw (← e) o)); below = l; object = rw (← e) o }
+    base-ends o = record { is = sym (go.base-here (placesIn ps) descends p (inside p l) (rw (← e) o)); below = l; object = rw (← e) o }
 
     pub base-goes : isObject x ≡ false → baseOf (placesIn ps) p ≡ baseOf (placesIn ps) (behindOf x)
-    base-goes o = rw e (go.base-behind (placesIn ps) falls p (inside p l) (rw (← e) o))
+    base-goes o = rw e (go.base-behind (placesIn ps) descends p (inside p l) (rw (← e) o))
 
     pub layers-end : isObject x ≡ true → layersOf (placesIn ps) p ≡ placeType x ∷ []
-    layers-end o = rw e (go.layers-here (placesIn ps) falls p (inside p l) (rw (← e) o))
+    layers-end o = rw e (go.layers-here (placesIn ps) descends p (inside p l) (rw (← e) o))
 
     pub layers-go : isObject x ≡ false → layersOf (placesIn ps) p ≡ placeType x ∷ layersOf (placesIn ps) (behindOf x)
-    layers-go o = rw e (go.layers-behind (placesIn ps) falls p (inside p l) (rw (← e) o))
+    layers-go o = rw e (go.layers-behind (placesIn ps) descends p (inside p l) (rw (← e) o))

@@ -7,26 +7,26 @@ use native.Mathlib.Numerals.{add-one}
 use native.Mathlib.Omega.{arith}
 use lib.ListN.{length, set, take, length-set}
 use lib.Seq.{take-suc-set, append-snoc, length-take-le}
-use Rattle.spec_model.specs.Crossing.{Place as Placeᵐ, placeAt, placeType}
+use Rattle.spec_model.specs.Crossing.{Place as Placeᵐ, placeAt, placeType, maxPlaces}
 use Rattle.spec_model.specs.Requests.{layersOf}
 use Rattle.state_record.specs.declared.Places.{Places}
 use Rattle.state_record.specs.View.{placesIn, isObject, behindOf}
-use Rattle.state_record.specs.Sound.{Falling, LayersAt}
+use Rattle.state_record.specs.Sound.{Descending, LayersAt}
 use Rattle.state_record.proofs.Laws.{goes-below, layers-end, layers-go}
 
 pub record Walk (ps : Places) (p : ℕ) (list : List ℕ) (count q : ℕ) : Type 0 where
   pub inside : q < ps .count
   pub room : q + count ≤ p
-  pub slots : length list ≡ 128
+  pub slots : length list ≡ maxPlaces
   pub rest : layersOf (placesIn ps) p ≡ take count list ++ layersOf (placesIn ps) q
 
-module _ (ps : Places) (h : Falling ps) (p : ℕ) (pl : p < ps .count) where
-  pub walk-starts : (list : List ℕ) → length list ≡ 128 → Walk ps p list 0 p
+module _ (ps : Places) (h : Descending ps) (p : ℕ) (pl : p < ps .count) where
+  pub walk-starts : (list : List ℕ) → length list ≡ maxPlaces → Walk ps p list 0 p
   walk-starts list e = record { inside = pl; room = omega arith; slots = e; rest = refl }
 
   -- the place q is reached, x is read there, and its type v stored
   module _ (list : List ℕ) (count q : ℕ) (w : Walk ps p list count q) (x : Placeᵐ) (e : x ≡ placeAt (placesIn ps) q) (v : ℕ) (t : v ≡ placeType x) where
-    few : count < 128
+    few : count < maxPlaces
     few = omega (arith, w .room, pl, h .count)
 
     stored : (xs : List ℕ) → take (count + 1) (set list count v) ++ xs ≡ take count list ++ (placeType x ∷ xs)

@@ -3,8 +3,8 @@ use mathlib.Core.Bool.{false}
 use mathlib.Core.List.{List, map}
 use Prim.Native.Nat.{ℕ}
 use lib.ListN.{replicate}
-use Rattle.spec_model.specs.Crossing.{Place as Placeᵐ, object, adapter}
-use Rattle.spec_model.specs.Requests.{Cell as Cellᵐ, Call as Callᵐ, System}
+use Rattle.spec_model.specs.Crossing.{Place as Placeᵐ, object, adapter, maxPlaces}
+use Rattle.spec_model.specs.Requests.{Cell as Cellᵐ, Call as Callᵐ, System, maxCells, maxCalls}
 use Rattle.spec_model.specs.Check.{RawSystem, systemOf}
 use Rattle.spec_model.specs.Handed.{placeRecord, callRecord}
 use Rattle.table_record.specs.declared.Counts.{Counts}
@@ -21,7 +21,7 @@ use Rattle.state_record.specs.declared.State.{State as Rest}
 use Rattle.state_record.specs.Whole.{Whole as State}
 
 abbrev pub cellOf : Cell → Cellᵐ
-cellOf c = record { holder = c .holder; type = c .sort; place = c .place }
+cellOf c = record { holder = c .holder; type = c .ty; place = c .place }
 
 abbrev pub placeOf : Place → Placeᵐ
 placeOf (Object class owner) = object class owner
@@ -32,7 +32,7 @@ callOf c = record { caller = c .caller; cell = c .cell; method = c .method; answ
 
 -- what stands past the end of a list of the code's
 abbrev pub blankCell : Cell
-blankCell = record { holder = 0; sort = 0; place = 0 }
+blankCell = record { holder = 0; ty = 0; place = 0 }
 
 abbrev pub blankPlace : PlaceRec
 blankPlace = record { place = Object 0 0 }
@@ -58,13 +58,13 @@ systemIn s = systemOf (rawState s)
 
 -- nothing held, made or called yet (Q10)
 abbrev pub noCells : Cells
-noCells = record { list = replicate 256 blankCell; count = 0 }
+noCells = record { list = replicate maxCells blankCell; count = 0 }
 
 abbrev pub noPlaces : Places
-noPlaces = record { list = replicate 128 blankPlace; count = 0 }
+noPlaces = record { list = replicate maxPlaces blankPlace; count = 0 }
 
 abbrev pub noCalls : Calls
-noCalls = record { list = replicate 256 blankCall; count = 0 }
+noCalls = record { list = replicate maxCalls blankCall; count = 0 }
 
 abbrev pub stateLoaded : List ℕ → Counts → Rest
 stateLoaded links counts = record { links = links; counts = counts; cells = noCells; places = noPlaces; calls = noCalls }

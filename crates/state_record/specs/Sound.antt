@@ -9,13 +9,14 @@ use Rattle.spec_model.specs.Crossing.{maxPlaces, placeAt, placeType, baseOf}
 use Rattle.spec_model.specs.Requests.{Cell as Cellᵐ, Call as Callᵐ, noCell, noCall, maxCells, maxCalls, layersOf, adapterCount}
 use Rattle.table_record.specs.declared.Counts.{Counts}
 use Rattle.table_record.specs.Limits.{Checked}
+use Rattle.table_record.specs.Layout.{typesSize}
 use Rattle.state_record.specs.declared.Places.{Places}
 use Rattle.state_record.specs.declared.Layers.{Layers}
 use Rattle.state_record.specs.Whole.{Whole as State}
 use Rattle.state_record.specs.View.{cellsIn, placesIn, callsIn, isObject, behindOf}
 
--- at most 128 places (Q8), and what is behind lies below (Q2)
-pub record Falling (ps : Places) : Type 0 where
+-- the limit of places (Q8), and what is behind lies below (Q2)
+pub record Descending (ps : Places) : Type 0 where
   pub count : ps .count ≤ maxPlaces
   pub behind : (p : ℕ) → p < ps .count → isObject (placeAt (placesIn ps) p) ≡ false → behindOf (placeAt (placesIn ps) p) < p
 
@@ -48,9 +49,9 @@ pub record CallIn (s : State) (c : Callᵐ) : Type 0 where
   pub method : c .method < s .counts .methods
 
 pub record Sound (s : State) : Type 0 where
-  pub long : length (s .types) ≡ 16384
+  pub long : length (s .types) ≡ typesSize
   pub checked : Checked (s .links) (s .counts)
-  pub falling : Falling (s .places)
+  pub descending : Descending (s .places)
   pub typed : Typed (s .places) (s .counts)
   pub cellCount : s .cells .count ≤ maxCells
   pub callCount : s .calls .count ≤ maxCalls

@@ -12,6 +12,7 @@ use Rattle.state_record.specs.declared.Call.{Call}
 use Rattle.state_record.specs.declared.Cells.{Cells}
 use Rattle.state_record.specs.declared.Places.{Places}
 use Rattle.state_record.specs.declared.Calls.{Calls}
+use Rattle.state_record.specs.declared.State.{State as Rest}
 use Rattle.state_record.specs.Whole.{Whole as State}
 pub use Rattle.state_record.specs.Meaning.{cellOf, placeOf, callOf, blankCell, blankPlace, blankCall, rawState, noCells, noPlaces, noCalls, stateLoaded}
 unfoldable pub use Rattle.state_record.specs.Meaning.{systemIn}
@@ -54,3 +55,7 @@ callAnswered js j = record { list = set (js .list) j (answeredAs (getD (js .list
 -- other bytes beside the same rest
 abbrev pub withTypes : State → List ℕ → State
 withTypes s b = record { types = b; links = s .links; counts = s .counts; cells = s .cells; places = s .places; calls = s .calls }
+
+-- the same rest with other calls
+abbrev pub stateCalls : Rest → Calls → Rest
+stateCalls s js = record { links = s .links; counts = s .counts; cells = s .cells; places = s .places; calls = js }

@@ -1,22 +1,22 @@
-// What the four requests work on: cells, places and calls, beside the table (Q1 to Q10). A record has a byte for each number; a count may be any number where a state
-// is handed in. Contracts speak of the model's lists (specs/View.antt); functions take the part that they need, so that the table is not copied.
+// What the four requests work on: cells, places and calls, beside the table (Q1 to Q10). A record has a byte for each number; a count may be any number where a
+// state is handed in. Contracts speak of the model's lists (specs/View.antt); functions take the part that they need, so that the table is not copied.
 ghost use mathlib.Core.Path.{_≡_};
 ghost use mathlib.Core.Bool.{true};
 ghost use mathlib.Core.List.{[], _∷_, _++_};
 ghost use Prim.Native.Nat.{_≤_, _<_};
 ghost use lib.ListN.{length, getD, set};
-ghost use Rattle.spec_model.specs.Crossing.{placeAt, placeType, ownerOf, baseOwner};
-ghost use Rattle.spec_model.specs.Requests.{noCell, noCall, flagged, adapterCount};
+ghost use Rattle.spec_model.specs.Crossing.{placeAt, placeType, ownerOf, baseOwner, maxPlaces};
+ghost use Rattle.spec_model.specs.Requests.{noCell, noCall, flagged, adapterCount, maxCells, maxCalls};
 ghost use Rattle.state_record.specs.View.{cellOf, placeOf, callOf, cellsIn, placesIn, callsIn, blankCell, blankPlace, blankCall};
-ghost use Rattle.state_record.specs.View.{noCells, noPlaces, noCalls, stateLoaded, cellAdded, placeAdded, callAdded, callAnswered, isObject, behindOf};
-ghost use Rattle.state_record.specs.Sound.{Falling, BaseAt, LayersAt};
+ghost use Rattle.state_record.specs.View.{noCells, noPlaces, noCalls, stateLoaded, stateCalls, cellAdded, placeAdded, callAdded, callAnswered, isObject, behindOf};
+ghost use Rattle.state_record.specs.Sound.{Descending, BaseAt, LayersAt};
 use table_record::Counts;
 use table_record::LINK_BYTES;
 
 // A cell: a reference as a subject holds it. Its holder, the sheet type by which it is held, and the place it leads to.
 pub struct Cell {
     pub holder: u8,
-    pub sort: u8,
+    pub ty: u8,
     pub place: u8,
 }
 
@@ -85,14 +85,14 @@ fn append(cells: &mut [Cell], count: usize, c: Cell)
 
 // The same for an array by value, which is lent here, so that no caller has a reference to a record.
 fn looked_up(cells: [Cell; State::CELLS], k: usize) -> Cell
-    requires { ⌜ k < 256 ⌝ }
+    requires { ⌜ k < maxCells ⌝ }
     ensures { λ r. ⌜ r ≡ getD cells k blankCell ⌝ }
 {
     lookup(&cells, k)
 }
 
 fn appended(cells: [Cell; State::CELLS], count: usize, c: Cell) -> [Cell; State::CELLS]
-    requires { ⌜ count < 256 ⌝ }
+    requires { ⌜ count < maxCells ⌝ }
     ensures { λ r. ⌜ r ≡ set cells count c ⌝ }
 {
     let mut a = cells;
@@ -106,7 +106,7 @@ impl Cells {
     {
         let c = Cell {
             holder: 0,
-            sort: 0,
+            ty: 0,
             place: 0,
         };
         Self {
@@ -117,7 +117,7 @@ impl Cells {
 
     // one more cell (Q6)
     pub fn add(self, c: Cell) -> Self
-        requires { ⌜ self .count < 256 ⌝ }
+        requires { ⌜ self .count < maxCells ⌝ }
         ensures { λ r. ⌜ (r ≡ cellAdded self c) × (cellsIn r ≡ cellsIn self ++ (cellOf c ∷ [])) ⌝ }
     {
         let list = self.list;
@@ -145,7 +145,7 @@ impl Places {
 
     // one more place (Q6)
     pub fn add(self, p: PlaceRec) -> Self
-        requires { ⌜ self .count < 128 ⌝ }
+        requires { ⌜ self .count < maxPlaces ⌝ }
         ensures { λ r. ⌜ (r ≡ placeAdded self p) × (placesIn r ≡ placesIn self ++ (placeOf (p .place) ∷ [])) ⌝ }
     {
         let mut ps = self;
@@ -174,7 +174,7 @@ impl Calls {
 
     // one more call (Q6)
     pub fn add(self, c: Call) -> Self
-        requires { ⌜ self .count < 256 ⌝ }
+        requires { ⌜ self .count < maxCalls ⌝ }
         ensures { λ r. ⌜ (r ≡ callAdded self c) × (callsIn r ≡ callsIn self ++ (callOf c ∷ [])) ⌝ }
     {
         let mut js = self;
@@ -186,7 +186,7 @@ impl Calls {
 
     // call j is answered: the flag of its record, and nothing else (Q15)
     pub fn answered(self, j: usize) -> Self
-        requires { ⌜ (j < self .count) × (self .count ≤ 256) ⌝ }
+        requires { ⌜ (j < self .count) × (self .count ≤ maxCalls) ⌝ }
         ensures { λ r. ⌜ (r ≡ callAnswered self j) × (callsIn r ≡ set (callsIn self) j (flagged (getD (callsIn self) j noCall) true)) ⌝ }
     {
         let mut js = self;
@@ -224,11 +224,28 @@ impl State {
             calls,
         }
     }
+
+    // the same with other calls
+    pub fn with_calls(self, calls: Calls) -> Self
+        ensures { λ r. ⌜ r ≡ stateCalls self calls ⌝ }
+    {
+        let links = self.links;
+        let counts = self.counts;
+        let cells = self.cells;
+        let places = self.places;
+        Self {
+            links,
+            counts,
+            cells,
+            places,
+            calls,
+        }
+    }
 }
 
 // The record of a cell, of a place and of a call, by its number.
 pub fn cell_at(cs: Cells, k: usize) -> Cell
-    requires { ⌜ k < 256 ⌝ }
+    requires { ⌜ k < maxCells ⌝ }
     ensures { λ r. ⌜ (r ≡ getD (cs .list) k blankCell) × (k < cs .count → cellOf r ≡ getD (cellsIn cs) k noCell) ⌝ }
 {
     let list = cs.list;
@@ -236,14 +253,14 @@ pub fn cell_at(cs: Cells, k: usize) -> Cell
 }
 
 pub fn place_at(ps: Places, p: usize) -> PlaceRec
-    requires { ⌜ p < 128 ⌝ }
+    requires { ⌜ p < maxPlaces ⌝ }
     ensures { λ r. ⌜ (r ≡ getD (ps .list) p blankPlace) × (p < ps .count → placeOf (r .place) ≡ placeAt (placesIn ps) p) ⌝ }
 {
     ps.list[p]
 }
 
 pub fn call_at(js: Calls, j: usize) -> Call
-    requires { ⌜ j < 256 ⌝ }
+    requires { ⌜ j < maxCalls ⌝ }
     ensures { λ r. ⌜ (r ≡ getD (js .list) j blankCall) × (j < js .count → callOf r ≡ getD (callsIn js) j noCall) ⌝ }
 {
     js.list[j]
@@ -324,7 +341,7 @@ pub fn is_object(p: PlaceRec) -> bool
 
 // The base of place p (Q2): what is behind lies below, so it is reached.
 pub fn base_of(ps: Places, p: usize) -> usize
-    requires { ⌜ Falling ps × (p < ps .count) ⌝ }
+    requires { ⌜ Descending ps × (p < ps .count) ⌝ }
     ensures { λ r. ⌜ BaseAt ps p r ⌝ }
 {
     let mut base = p;
@@ -335,7 +352,7 @@ pub fn base_of(ps: Places, p: usize) -> usize
 }
 
 pub fn base_owner(ps: Places, p: usize) -> usize
-    requires { ⌜ Falling ps × (p < ps .count) ⌝ }
+    requires { ⌜ Descending ps × (p < ps .count) ⌝ }
     ensures { λ r. ⌜ (r ≡ baseOwner (placesIn ps) p) × (r < 256) ⌝ }
 {
     let base = base_of(ps, p);
@@ -344,7 +361,7 @@ pub fn base_owner(ps: Places, p: usize) -> usize
 
 // The layers of place p (C9).
 pub fn layers_of(ps: Places, p: usize) -> Layers
-    requires { ⌜ Falling ps × (p < ps .count) ⌝ }
+    requires { ⌜ Descending ps × (p < ps .count) ⌝ }
     ensures { λ r. ⌜ LayersAt ps p r ⌝ }
 {
     let mut list = [0u8; State::PLACES];
@@ -365,7 +382,7 @@ pub fn layers_of(ps: Places, p: usize) -> Layers
 
 // How many adapters stand between place p and its base (C19).
 pub fn adapters_of(ps: Places, p: usize) -> usize
-    requires { ⌜ Falling ps × (p < ps .count) ⌝ }
+    requires { ⌜ Descending ps × (p < ps .count) ⌝ }
     ensures { λ r. ⌜ r ≡ adapterCount (placesIn ps) p ⌝ }
 {
     let l = layers_of(ps, p);

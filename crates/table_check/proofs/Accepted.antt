@@ -13,7 +13,7 @@ use Rattle.law_model.proofs.Fitting.{TableFitting, table-fitting, every-at, all
 use Rattle.spec_model.proofs.Largest.{getD-from}
 use Rattle.table_record.specs.declared.Counts.{Counts}
 use Rattle.table_record.specs.Store.{rawTable, tableIn, broaderOf}
-use Rattle.table_record.specs.Limits.{Limits, Falls, Checked}
+use Rattle.table_record.specs.Limits.{Limits, Descends, Checked}
 use Rattle.table_record.proofs.Tables.{cats-length}
 use Rattle.table_check.proofs.Laws.{counts-limits, counts-are}
 
@@ -21,7 +21,7 @@ module _ (b l : List ℕ) (c : Counts) (f : TableFitting (tableIn b l c)) where
   pub fitting-limits : Limits c
   fitting-limits = counts-limits c (sym (counts-are b l c) ∙ f .counts)
 
-  links : Falls l c
+  links : Descends l c
   unfolding tableIn tableOf
   links zero p q = absurd (not-suc-le-zero p)
   links (suc k) p q =
@@ -32,7 +32,7 @@ module _ (b l : List ℕ) (c : Counts) (f : TableFitting (tableIn b l c)) where
       all-below (suc k) (broaderOf l (suc k)) (second (between 1 2 (length (broaderOf l (suc k)))) _ v)
 
   pub fitting-checked : Checked l c
-  fitting-checked = record { limits = fitting-limits; falls = links }
+  fitting-checked = record { limits = fitting-limits; descends = links }
 
 module _ (b l : List ℕ) (c : Counts) (h : So (tableAccepted (rawTable b l c))) where
   accepted-fitting : TableFitting (tableIn b l c)

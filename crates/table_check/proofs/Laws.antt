@@ -10,7 +10,8 @@ use lib.Dec.{eqb, ltb, leb}
 use lib.ListN.{length, getD, take, length-take}
 use borrow.Author.Tests.{ltb-true, ltb-false, leb-true, le-leb, eq-eqb}
 use Rattle.spec_model.specs.Basics.{_⇒_, all, every, from, unlessMissing}
-use Rattle.spec_model.specs.Table.{mayStand, maxSubjects, maxMethods, maxCategories, maxSheetTypes, maxTypes, Rep, ref, w32, w64, Key, Method, Ty, Table, size, isRef, permit, between, countsFit}
+use Rattle.spec_model.specs.Table.{mayStand, maxSubjects, maxMethods, maxCategories, maxSheetTypes, maxTypes, maxArguments, Rep, ref, w32, w64, Key, Method, Ty, Table, size, isRef, permit}
+use Rattle.spec_model.specs.Table.{between, countsFit}
 use Rattle.spec_model.specs.Table.{linksFit, standsIn, isNil, isNone, signatureFits, methodCount, keyFits, typeFits, tableFits}
 use Rattle.spec_model.specs.Check.{RawMethod, RawType, RawLinks, noRawType, noRawMethod, noRawLinks, stateOf, answerOf, kindOf, methodOf, typeOf, linksOf, tableOf, rawMethodFits, rawTypeFits}
 use Rattle.spec_model.specs.Check.{codesFit, tableAccepted}
@@ -141,9 +142,9 @@ module _ (b l : List ℕ) (c : Counts) where
 
     method-is : (n : ℕ) → n ≤ c .types → (m : RawMethod) → (rawMethodFits m && signatureFits (tableIn b l c) n (methodOf m)) ≡ methodAccepted rs n m
     method-is n h m =
-        method-parts (standsIn (tableIn b l c) n) (standsAs rs n) (stands-same n h) (ltb (m .state) 4) (permit (stateOf (m .state))) (leb (m .count) 2) 2
+        method-parts (standsIn (tableIn b l c) n) (standsAs rs n) (stands-same n h) (ltb (m .state) 4) (permit (stateOf (m .state))) (leb (m .count) maxArguments) maxArguments
         (take (m .count) (m .args)) (methodOf m .args) (answerOf (m .answer)) (methodOf m .answer)
-        (λ e. (rw e, rw e)) (λ e. (rw e, rw e)) (take-fits (m .count) 2 (m .args))
+        (λ e. (rw e, rw e)) (λ e. (rw e, rw e)) (take-fits (m .count) maxArguments (m .args))
 
     methods-are : (n : ℕ) → n ≤ c .types → (x : RawType)
         → (all rawMethodFits (from (c .methods) 0 (λ j. getD (x .methods) j noRawMethod)) && all (signatureFits (tableIn b l c) n)

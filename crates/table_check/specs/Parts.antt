@@ -8,6 +8,7 @@ use lib.ListN.{getD, take}
 use Rattle.spec_model.specs.Basics.{_⇒_, all, unlessMissing}
 use Rattle.spec_model.specs.Table.{maxSubjects, maxMethods, maxCategories, maxSheetTypes, maxTypes, maxArguments, isRef, permit, between, linksFit}
 use Rattle.spec_model.specs.Check.{RawMethod, RawType, RawLinks, noRawType, noRawMethod, noRawLinks, stateOf, repOf, answerOf, linksOf}
+use Rattle.spec_model.specs.Table.{maxBroader}
 use Rattle.table_record.specs.declared.Counts.{Counts}
 use Rattle.table_record.specs.declared.Head.{Head}
 use Rattle.table_record.specs.Store.{headOf, mayStandAs}
@@ -24,7 +25,7 @@ countsAccepted c = between 1 maxSubjects (c .subjects) && (between 1 maxMethods 
 
 -- T6: category k names one or two categories below it
 abbrev pub linkAccepted : ℕ → RawLinks → Bool
-linkAccepted k x = between 1 2 (x .count) && linksFit k (linksOf x)
+linkAccepted k x = between 1 maxBroader (x .count) && linksFit k (linksOf x)
 
 -- Type a may stand in a signature whose types are the first n.
 abbrev pub standsAs : List RawType → ℕ → ℕ → Bool

@@ -1,11 +1,12 @@
-// The check of a table that is handed in (H1 to H8, of the table's part), for any bytes and any counts: counts first, so that every index is below its count, then
-// the broader links, then each type with its signatures.
+// The check of a table that is handed in (H1 to H8, of the table's part), for any bytes and any counts: counts first, so that every index is below its count,
+// then the broader links, then each type with its signatures.
 ghost use mathlib.Core.Path.{_≡_};
 ghost use mathlib.Core.Bool.{true};
-ghost use Prim.Native.Nat.{_≤_, _<_};
+ghost use Prim.Native.Nat.{suc, _≤_, _<_};
 ghost use lib.ListN.{getD};
-ghost use Rattle.spec_model.specs.Table.{between};
+ghost use Rattle.spec_model.specs.Table.{between, maxMethods, maxCategories, maxTypes};
 ghost use Rattle.spec_model.specs.Check.{noRawType, noRawLinks, tableAccepted};
+ghost use Rattle.spec_model.specs.Records.{argumentSlots};
 ghost use Rattle.table_record.specs.Store.{typesIn, linksIn, rawTable, rawMethod};
 ghost use Rattle.table_record.specs.Limits.{Limits};
 ghost use Rattle.table_check.specs.Parts.{countsAccepted, linkAccepted, linksAccepted, standsAs, signatureAccepted, methodAccepted};
@@ -50,14 +51,14 @@ fn counts_fit(c: Counts) -> bool
 
 // T6: category k names one or two categories below it.
 fn link_fits(l: &[u8; LINK_BYTES], k: usize) -> bool
-    requires { ⌜ k < 32 ⌝ }
+    requires { ⌜ k < suc maxCategories ⌝ }
     ensures { λ r. ⌜ r ≡ linkAccepted k (getD (linksIn (now (l .entry))) k noRawLinks) ⌝ }
 {
     let x = table_record::get_links(l, k);
     let count = base_numbers::wide(x.count);
     let first = base_numbers::wide(x.first);
     let second = base_numbers::wide(x.second);
-    if !within(1, 2, count) {
+    if !within(1, Counts::BROADER, count) {
         return false;
     }
     if k <= first {
@@ -70,7 +71,7 @@ fn link_fits(l: &[u8; LINK_BYTES], k: usize) -> bool
 }
 
 fn links_fit(l: &[u8; LINK_BYTES], cats: usize) -> bool
-    requires { ⌜ cats ≤ 31 ⌝ }
+    requires { ⌜ cats ≤ maxCategories ⌝ }
     ensures { λ r. ⌜ r ≡ linksAccepted cats (linksIn (now (l .entry))) ⌝ }
 {
     let mut k: usize = 1;
@@ -85,7 +86,7 @@ fn links_fit(l: &[u8; LINK_BYTES], cats: usize) -> bool
 
 // Whether type a may stand in a signature whose types are the first n (T14).
 fn stands_in(b: &[u8; TYPE_BYTES], n: usize, a: usize) -> bool
-    requires { ⌜ n ≤ 128 ⌝ }
+    requires { ⌜ n ≤ maxTypes ⌝ }
     ensures { λ r. ⌜ r ≡ standsAs (typesIn (now (b .entry))) n a ⌝ }
 {
     if n <= a {
@@ -96,7 +97,7 @@ fn stands_in(b: &[u8; TYPE_BYTES], n: usize, a: usize) -> bool
 
 // The argument types of a method.
 fn args_fit(b: &[u8; TYPE_BYTES], n: usize, m: Method) -> bool
-    requires { ⌜ (n ≤ 128) × (m .count ≤ 4) ⌝ }
+    requires { ⌜ (n ≤ maxTypes) × (m .count ≤ argumentSlots) ⌝ }
     ensures { λ r. ⌜ r ≡ argsAccepted (typesIn (now (b .entry))) n (rawMethod m) ⌝ }
 {
     let count = base_numbers::wide(m.count);
@@ -113,7 +114,7 @@ fn args_fit(b: &[u8; TYPE_BYTES], n: usize, m: Method) -> bool
 
 // T13: the arguments and the answer of a signature whose types are the first n.
 fn signature_fits(b: &[u8; TYPE_BYTES], n: usize, m: Method) -> bool
-    requires { ⌜ n ≤ 128 ⌝ }
+    requires { ⌜ n ≤ maxTypes ⌝ }
     ensures { λ r. ⌜ r ≡ signatureAccepted (typesIn (now (b .entry))) n (rawMethod m) ⌝ }
 {
     let count = base_numbers::wide(m.count);
@@ -132,7 +133,7 @@ fn signature_fits(b: &[u8; TYPE_BYTES], n: usize, m: Method) -> bool
 
 // T12: only optional and avail have a signature. What stands beside another state is not looked at (H15).
 fn method_fits(b: &[u8; TYPE_BYTES], n: usize, m: Method) -> bool
-    requires { ⌜ n ≤ 128 ⌝ }
+    requires { ⌜ n ≤ maxTypes ⌝ }
     ensures { λ r. ⌜ r ≡ methodAccepted (typesIn (now (b .entry))) n (rawMethod m) ⌝ }
 {
     if Method::UNAVAIL < m.state {
@@ -149,7 +150,7 @@ fn method_fits(b: &[u8; TYPE_BYTES], n: usize, m: Method) -> bool
 
 // The methods of type i, whose signatures hold types below n.
 fn methods_fit(b: &[u8; TYPE_BYTES], i: usize, n: usize, methods: usize) -> bool
-    requires { ⌜ (i < 128) × (n ≤ 128) × (methods ≤ 16) ⌝ }
+    requires { ⌜ (i < maxTypes) × (n ≤ maxTypes) × (methods ≤ maxMethods) ⌝ }
     ensures { λ r. ⌜ r ≡ methodsAccepted (typesIn (now (b .entry))) n methods (getD (typesIn (now (b .entry))) i noRawType) ⌝ }
 {
     let mut j: usize = 0;
@@ -193,7 +194,7 @@ fn head_fits(h: Head, c: Counts, i: usize) -> bool
 // T15: the types that may stand in the signatures of type i are the first so many.
 fn bound(c: Counts, i: usize) -> usize
     requires { ⌜ Limits c ⌝ }
-    ensures { λ r. ⌜ (r ≡ boundOf c i) × (r ≤ 128) ⌝ }
+    ensures { λ r. ⌜ (r ≡ boundOf c i) × (r ≤ maxTypes) ⌝ }
 {
     if i < c.sheet {
         return c.sheet;

@@ -10,47 +10,51 @@ use lib.ListN.{length, getD, set, length-set, take, length-map, List·getD-appen
 use lib.Seq.{sets, ext-getD, getD-set-same, getD-set-other, length-sets, getD-append-add, length-take-le}
 use Rattle.spec_model.specs.Basics.{from}
 use Rattle.spec_model.specs.Check.{RawMethod, RawType, RawLinks, noRawType, noRawMethod}
+use Rattle.spec_model.specs.Table.{maxMethods, maxCategories, maxTypes}
+use Rattle.spec_model.specs.Records.{argumentSlots}
 use Rattle.table_record.specs.declared.Method.{Method}
 use Rattle.table_record.specs.declared.Head.{Head}
 use Rattle.table_record.specs.Store.{headOf, rawMethodAt, rawMethodsAt, rawTypeAt, rawLinksAt, typesIn, linksIn, rawMethod, rawOf, methodBytes, methodsBytes, headBytes, spareBytes}
 use Rattle.table_record.specs.Store.{recordBytes, Shaped, Put}
 use Rattle.table_record.proofs.Lists.{lt-or-ge, same-or, length-from, from-first, from-same, is-from, sets-append, getD-sets-below, getD-sets-above, getD-sets-in}
+use Rattle.table_record.specs.Layout.{typeSize, headSize, methodSize, linkSize, typesSize}
 
 -- Where a type, its methods and the links of a category stand.
-pub types-length : (b : List ℕ) → length (typesIn b) ≡ 128
+pub types-length : (b : List ℕ) → length (typesIn b) ≡ maxTypes
 unfolding typesIn
-types-length b = length-from (λ i. rawTypeAt b (i * 128)) 128 0
+types-length b = length-from (λ i. rawTypeAt b (i * typeSize)) maxTypes 0
 
-pub type-in : (b : List ℕ) (i : ℕ) (d : RawType) → i < 128 → getD (typesIn b) i d ≡ rawTypeAt b (i * 128)
+pub type-in : (b : List ℕ) (i : ℕ) (d : RawType) → i < maxTypes → getD (typesIn b) i d ≡ rawTypeAt b (i * typeSize)
 unfolding typesIn
-type-in b i d h = from-first (λ i. rawTypeAt b (i * 128)) 128 i d h
+type-in b i d h = from-first (λ i. rawTypeAt b (i * typeSize)) maxTypes i d h
 
-pub methods-length : (b : List ℕ) (i : ℕ) → i < 128 → length (getD (typesIn b) i noRawType .methods) ≡ 16
+pub methods-length : (b : List ℕ) (i : ℕ) → i < maxTypes → length (getD (typesIn b) i noRawType .methods) ≡ maxMethods
 unfolding rawMethodsAt
-methods-length b i h = ap (λ (t : RawType). length (t .methods)) (type-in b i noRawType h) ∙ length-from (λ j. rawMethodAt b (i * 128 + 16 + j * 7)) 16 0
+methods-length b i h = ap (λ (t : RawType). length (t .methods)) (type-in b i noRawType h) ∙ length-from (λ j. rawMethodAt b (i * typeSize + headSize + j * methodSize)) maxMethods 0
 
-pub method-in : (b : List ℕ) (i j : ℕ) → i < 128 → j < 16 → getD (getD (typesIn b) i noRawType .methods) j noRawMethod ≡ rawMethodAt b (i * 128 + 16 + j * 7)
+pub method-in : (b : List ℕ) (i j : ℕ) → i < maxTypes → j < maxMethods → getD (getD (typesIn b) i noRawType .methods) j noRawMethod ≡ rawMethodAt b (i * typeSize + headSize + j * methodSize)
 unfolding rawMethodsAt
-method-in b i j p q = ap (λ (t : RawType). getD (t .methods) j noRawMethod) (type-in b i noRawType p) ∙ from-first (λ j. rawMethodAt b (i * 128 + 16 + j * 7)) 16 j noRawMethod q
+method-in b i j p q = ap (λ (t : RawType). getD (t .methods) j noRawMethod) (type-in b i noRawType p) ∙ from-first (λ j. rawMethodAt b (i * typeSize + headSize + j * methodSize))
+    maxMethods j noRawMethod q
 
-pub links-length : (l : List ℕ) → length (linksIn l) ≡ 32
+pub links-length : (l : List ℕ) → length (linksIn l) ≡ suc maxCategories
 unfolding linksIn
-links-length l = length-from (λ k. rawLinksAt l (k * 3)) 32 0
+links-length l = length-from (λ k. rawLinksAt l (k * linkSize)) (suc maxCategories) 0
 
-pub links-in : (l : List ℕ) (k : ℕ) (d : RawLinks) → k < 32 → getD (linksIn l) k d ≡ rawLinksAt l (k * 3)
+pub links-in : (l : List ℕ) (k : ℕ) (d : RawLinks) → k < suc maxCategories → getD (linksIn l) k d ≡ rawLinksAt l (k * linkSize)
 unfolding linksIn
-links-in l k d h = from-first (λ k. rawLinksAt l (k * 3)) 32 k d h
+links-in l k d h = from-first (λ k. rawLinksAt l (k * linkSize)) (suc maxCategories) k d h
 
 -- what stands for a method past the end of a list of the code's
 abbrev pub absent : Method
 absent = record { state = 0; count = 0; args = []; answer = 0 }
 
 -- methods of the code that are those of a record
-pub methods-are : (ms : List Method) (rs : List RawMethod) → length ms ≡ 16 → length rs ≡ 16 → ((k : ℕ) → k < 16 → rawMethod (getD ms k absent) ≡ getD rs k noRawMethod)
+pub methods-are : (ms : List Method) (rs : List RawMethod) → length ms ≡ maxMethods → length rs ≡ maxMethods → ((k : ℕ) → k < maxMethods → rawMethod (getD ms k absent) ≡ getD rs k noRawMethod)
     → map rawMethod ms ≡ rs
 methods-are ms rs e f h =
     ext-getD noRawMethod (map rawMethod ms) rs (length-map ms rawMethod ∙ e ∙ sym f)
-    (λ k p. let q : k < 16 = subst (λ (n : ℕ). k < n) (length-map ms rawMethod ∙ e) p in List·getD-map rawMethod ms k absent ∙ h k q)
+    (λ k p. let q : k < maxMethods = subst (λ (n : ℕ). k < n) (length-map ms rawMethod ∙ e) p in List·getD-map rawMethod ms k absent ∙ h k q)
 
 -- a type of the code, put together from a record's head and methods, is the record
 pub read-is : (x : RawType) (h : Head) (ms : List Method) → h ≡ headOf x → map rawMethod ms ≡ x .methods → rawOf (record { head = h; methods = ms }) ≡ x
@@ -64,26 +68,26 @@ bytes-snoc [] j h = absurd (not-suc-le-zero h)
 bytes-snoc (m ∷ ms) zero h = refl
 bytes-snoc (m ∷ ms) (suc j) h = ap (λ l. methodBytes m ++ l) (bytes-snoc ms j (le-of-suc-le-suc h))
 
-pub bytes-length : (ms : List RawMethod) → length (methodsBytes ms) ≡ length ms * 7
+pub bytes-length : (ms : List RawMethod) → length (methodsBytes ms) ≡ length ms * methodSize
 bytes-length [] = refl
-bytes-length (m ∷ ms) = let e : length (methodsBytes ms) ≡ length ms * 7 = bytes-length ms in omega arith
+bytes-length (m ∷ ms) = let e : length (methodsBytes ms) ≡ length ms * methodSize = bytes-length ms in omega arith
 
 -- one method more is stored behind those before it
 pub run-more : (b : List ℕ) (at : ℕ) (ms : List RawMethod) (j : ℕ) (now next : List ℕ) → j < length ms → now ≡ sets b at (methodsBytes (take j ms))
-    → next ≡ sets now (at + j * 7) (methodBytes (getD ms j noRawMethod)) → next ≡ sets b at (methodsBytes (take (j + 1) ms))
+    → next ≡ sets now (at + j * methodSize) (methodBytes (getD ms j noRawMethod)) → next ≡ sets b at (methodsBytes (take (j + 1) ms))
 run-more b at ms j now next h e f =
-    let k : length (methodsBytes (take j ms)) ≡ j * 7 = bytes-length (take j ms) ∙ ap (λ (n : ℕ). n * 7) (length-take-le j ms (omega arith)) in
-    f ∙ ap (λ (x : List ℕ). sets x (at + j * 7) (methodBytes (getD ms j noRawMethod))) e
+    let k : length (methodsBytes (take j ms)) ≡ j * methodSize = bytes-length (take j ms) ∙ ap (λ (n : ℕ). n * methodSize) (length-take-le j ms (omega arith)) in
+    f ∙ ap (λ (x : List ℕ). sets x (at + j * methodSize) (methodBytes (getD ms j noRawMethod))) e
     ∙ ap (λ (n : ℕ). sets (sets b at (methodsBytes (take j ms))) (at + n) (methodBytes (getD ms j noRawMethod))) (sym k)
     ∙ sym (sets-append b at (methodsBytes (take j ms)) (methodBytes (getD ms j noRawMethod)))
     ∙ ap (sets b at) (sym (bytes-snoc ms j h)) ∙ ap (λ (n : ℕ). sets b at (methodsBytes (take n ms))) (sym (add-one j))
 
-bytes-at : (ms : List RawMethod) (j k : ℕ) → j < length ms → k < 7 → getD (methodsBytes ms) (j * 7 + k) 0 ≡ getD (methodBytes (getD ms j noRawMethod)) k 0
+bytes-at : (ms : List RawMethod) (j k : ℕ) → j < length ms → k < methodSize → getD (methodsBytes ms) (j * methodSize + k) 0 ≡ getD (methodBytes (getD ms j noRawMethod)) k 0
 bytes-at [] j k h l = absurd (not-suc-le-zero h)
-bytes-at (m ∷ ms) zero k h l = let e : 0 * 7 + k ≡ k = omega arith in ap (λ (x : ℕ). getD (methodBytes m ++ methodsBytes ms) x 0) e ∙ List·getD-append (methodBytes m) (methodsBytes ms) 0 k l
+bytes-at (m ∷ ms) zero k h l = let e : 0 * methodSize + k ≡ k = omega arith in ap (λ (x : ℕ). getD (methodBytes m ++ methodsBytes ms) x 0) e ∙ List·getD-append (methodBytes m) (methodsBytes ms) 0 k l
 bytes-at (m ∷ ms) (suc j) k h l =
-    let e : suc j * 7 + k ≡ 7 + (j * 7 + k) = omega arith in
-    ap (λ (x : ℕ). getD (methodBytes m ++ methodsBytes ms) x 0) e ∙ getD-append-add (methodBytes m) (methodsBytes ms) (j * 7 + k) 0 ∙ bytes-at ms j k (le-of-suc-le-suc h) l
+    let e : suc j * methodSize + k ≡ methodSize + (j * methodSize + k) = omega arith in
+    ap (λ (x : ℕ). getD (methodBytes m ++ methodsBytes ms) x 0) e ∙ getD-append-add (methodBytes m) (methodsBytes ms) (j * methodSize + k) 0 ∙ bytes-at ms j k (le-of-suc-le-suc h) l
 
 -- Records by their parts.
 unfoldable pub mk : ℕ → ℕ → ℕ → ℕ → ℕ → ℕ → ℕ → RawMethod
@@ -124,17 +128,18 @@ unfolding Agree mk
 method-agree b at b′ at′ h =
     mk-eq (agree-first b at b′ at′ 7 h (omega arith)) (h 1 (omega arith)) (h 2 (omega arith)) (h 3 (omega arith)) (h 4 (omega arith)) (h 5 (omega arith)) (h 6 (omega arith))
 
-pub type-agree : (b : List ℕ) (at : ℕ) (b′ : List ℕ) (at′ : ℕ) → Agree b at b′ at′ 128 → rawTypeAt b at ≡ rawTypeAt b′ at′
+pub type-agree : (b : List ℕ) (at : ℕ) (b′ : List ℕ) (at′ : ℕ) → Agree b at b′ at′ typeSize → rawTypeAt b at ≡ rawTypeAt b′ at′
 unfolding Agree mkT rawMethodsAt
 type-agree b at b′ at′ h =
-    mkT-eq (agree-first b at b′ at′ 128 h (omega arith)) (h 1 (omega arith)) (h 2 (omega arith)) (h 3 (omega arith)) (h 4 (omega arith)) (h 5 (omega arith))
-    (from-same (λ j. rawMethodAt b (at + 16 + j * 7)) (λ j. rawMethodAt b′ (at′ + 16 + j * 7)) 16 0
-    (λ j p l. let e : at + 16 + j * 7 ≡ at + (16 + j * 7) = omega arith in
-    let e′ : at′ + 16 + j * 7 ≡ at′ + (16 + j * 7) = omega arith in
-    ap (rawMethodAt b) e ∙ method-agree b (at + (16 + j * 7)) b′ (at′ + (16 + j * 7)) (agree-part b at b′ at′ 128 (16 + j * 7) 7 (omega arith) h) ∙ ap (rawMethodAt b′) (sym e′)))
+    mkT-eq (agree-first b at b′ at′ typeSize h (omega arith)) (h 1 (omega arith)) (h 2 (omega arith)) (h 3 (omega arith)) (h 4 (omega arith)) (h 5 (omega arith))
+    (from-same (λ j. rawMethodAt b (at + headSize + j * methodSize)) (λ j. rawMethodAt b′ (at′ + headSize + j * methodSize)) maxMethods 0
+    (λ j p l. let e : at + headSize + j * methodSize ≡ at + (headSize + j * methodSize) = omega arith in
+    let e′ : at′ + headSize + j * methodSize ≡ at′ + (headSize + j * methodSize) = omega arith in
+    ap (rawMethodAt b) e ∙ method-agree b (at + (headSize + j * methodSize)) b′ (at′ + (headSize + j * methodSize))
+    (agree-part b at b′ at′ typeSize (headSize + j * methodSize) methodSize (omega arith) h) ∙ ap (rawMethodAt b′) (sym e′)))
 
 -- A type's own bytes, read back.
-pub four : (l : List ℕ) → length l ≡ 4 → getD l 0 0 ∷ getD l 1 0 ∷ getD l 2 0 ∷ getD l 3 0 ∷ [] ≡ l
+pub four : (l : List ℕ) → length l ≡ argumentSlots → getD l 0 0 ∷ getD l 1 0 ∷ getD l 2 0 ∷ getD l 3 0 ∷ [] ≡ l
 four l e = ext-getD 0 (getD l 0 0 ∷ getD l 1 0 ∷ getD l 2 0 ∷ getD l 3 0 ∷ []) l (sym e) go
   where
     go : (i : ℕ) → i < 4 → getD (getD l 0 0 ∷ getD l 1 0 ∷ getD l 2 0 ∷ getD l 3 0 ∷ []) i 0 ≡ getD l i 0
@@ -144,7 +149,7 @@ four l e = ext-getD 0 (getD l 0 0 ∷ getD l 1 0 ∷ getD l 2 0 ∷ getD l 3 0 �
     go (suc (suc (suc zero))) p = refl
     go (suc (suc (suc (suc i)))) p = absurd (not-suc-le-zero (le-of-suc-le-suc (le-of-suc-le-suc (le-of-suc-le-suc (le-of-suc-le-suc p)))))
 
-method-own : (m : RawMethod) → length (m .args) ≡ 4 → rawMethodAt (methodBytes m) 0 ≡ m
+method-own : (m : RawMethod) → length (m .args) ≡ argumentSlots → rawMethodAt (methodBytes m) 0 ≡ m
 method-own m e = ap (λ (l : List ℕ). let r : RawMethod = record { state = m .state; count = m .count; args = l; answer = m .answer } in r) (four (m .args) e)
 
 -- head, spare bytes and methods stored one behind the other are the record stored
@@ -158,19 +163,19 @@ record-parts b at x =
     ∙ sym (sets-append (sets b at h) (at + 6) spareBytes m) ∙ sym (sets-append b at h (spareBytes ++ m))
 
 module _ (x : RawType) (s : Shaped x) where
-  pub record-length : length (recordBytes x) ≡ 128
+  pub record-length : length (recordBytes x) ≡ typeSize
   unfolding recordBytes
-  record-length = let e : length (methodsBytes (x .methods)) ≡ 112 = bytes-length (x .methods) ∙ ap (λ (n : ℕ). n * 7) (s .methods) in omega arith
+  record-length = let e : length (methodsBytes (x .methods)) ≡ 112 = bytes-length (x .methods) ∙ ap (λ (n : ℕ). n * methodSize) (s .methods) in omega arith
 
-  own-method : (j : ℕ) → j < 16 → rawMethodAt (recordBytes x) (16 + j * 7) ≡ getD (x .methods) j noRawMethod
+  own-method : (j : ℕ) → j < maxMethods → rawMethodAt (recordBytes x) (headSize + j * methodSize) ≡ getD (x .methods) j noRawMethod
   unfolding recordBytes Agree
   own-method j h =
       let f : List ℕ = headBytes (headOf x) ++ spareBytes in
       let q : j < length (x .methods) = omega (arith, s .methods) in
-      method-agree (recordBytes x) (16 + j * 7) (methodBytes (getD (x .methods) j noRawMethod)) 0
-      (λ p l. let g : 16 + j * 7 + p ≡ 16 + (j * 7 + p) = omega arith in
+      method-agree (recordBytes x) (headSize + j * methodSize) (methodBytes (getD (x .methods) j noRawMethod)) 0
+      (λ p l. let g : headSize + j * methodSize + p ≡ headSize + (j * methodSize + p) = omega arith in
       let z : 0 + p ≡ p = omega arith in
-      ap (λ (k : ℕ). getD (recordBytes x) k 0) g ∙ getD-append-add f (methodsBytes (x .methods)) (j * 7 + p) 0 ∙ bytes-at (x .methods) j p q l
+      ap (λ (k : ℕ). getD (recordBytes x) k 0) g ∙ getD-append-add f (methodsBytes (x .methods)) (j * methodSize + p) 0 ∙ bytes-at (x .methods) j p q l
       ∙ ap (λ (k : ℕ). getD (methodBytes (getD (x .methods) j noRawMethod)) k 0) (sym z))
       ∙ method-own (getD (x .methods) j noRawMethod) (s .slots j h)
 
@@ -179,48 +184,48 @@ module _ (x : RawType) (s : Shaped x) where
   unfolding recordBytes mkT rawMethodsAt
   record-own =
       mkT-eq refl refl refl refl refl refl
-      (is-from (λ j. rawMethodAt (recordBytes x) (0 + 16 + j * 7)) 16 noRawMethod (x .methods) (s .methods) (λ j l. sym (own-method j l)))
+      (is-from (λ j. rawMethodAt (recordBytes x) (0 + headSize + j * methodSize)) maxMethods noRawMethod (x .methods) (s .methods) (λ j l. sym (own-method j l)))
 
 -- A record's bytes stored at `at`: it stands there, and nothing else changes.
 module _ (b : List ℕ) (at : ℕ) (x : RawType) (s : Shaped x) where
   below : (k : ℕ) → k < at → getD (sets b at (recordBytes x)) k 0 ≡ getD b k 0
   below k h = getD-sets-below b at (recordBytes x) k 0 h
 
-  above : (k : ℕ) → at + 128 ≤ k → getD (sets b at (recordBytes x)) k 0 ≡ getD b k 0
-  above k h = let e : length (recordBytes x) ≡ 128 = record-length x s in getD-sets-above b at (recordBytes x) k 0 (omega arith)
+  above : (k : ℕ) → at + typeSize ≤ k → getD (sets b at (recordBytes x)) k 0 ≡ getD b k 0
+  above k h = let e : length (recordBytes x) ≡ typeSize = record-length x s in getD-sets-above b at (recordBytes x) k 0 (omega arith)
 
-  stands : at + 128 ≤ length b → rawTypeAt (sets b at (recordBytes x)) at ≡ x
+  stands : at + typeSize ≤ length b → rawTypeAt (sets b at (recordBytes x)) at ≡ x
   unfolding Agree
   stands room =
-      let e : length (recordBytes x) ≡ 128 = record-length x s in
+      let e : length (recordBytes x) ≡ typeSize = record-length x s in
       type-agree (sets b at (recordBytes x)) at (recordBytes x) 0
       (λ p l. let z : 0 + p ≡ p = omega arith in getD-sets-in b at (recordBytes x) p 0 (omega arith) (omega arith) ∙ ap (λ (k : ℕ). getD (recordBytes x) k 0) (sym z))
       ∙ record-own x s
 
 -- Storing a record is storing it in the list of records.
-pub stored : (b : List ℕ) (i : ℕ) (x : RawType) → length b ≡ 16384 → i < 128 → Shaped x → typesIn (sets b (i * 128) (recordBytes x)) ≡ set (typesIn b) i x
+pub stored : (b : List ℕ) (i : ℕ) (x : RawType) → length b ≡ typesSize → i < maxTypes → Shaped x → typesIn (sets b (i * typeSize) (recordBytes x)) ≡ set (typesIn b) i x
 unfolding typesIn Agree
 stored b i x eb hi s =
-    let b′ : List ℕ = sets b (i * 128) (recordBytes x) in
-    let f : ℕ → RawType = λ k. rawTypeAt b (k * 128) in
-    let own : rawTypeAt b′ (i * 128) ≡ x = stands b (i * 128) x s (omega arith) in
-    let other : (k : ℕ) → (k ≡ i → ⊥) → rawTypeAt b (k * 128) ≡ rawTypeAt b′ (k * 128) =
-    λ k ne. type-agree b (k * 128) b′ (k * 128)
+    let b′ : List ℕ = sets b (i * typeSize) (recordBytes x) in
+    let f : ℕ → RawType = λ k. rawTypeAt b (k * typeSize) in
+    let own : rawTypeAt b′ (i * typeSize) ≡ x = stands b (i * typeSize) x s (omega arith) in
+    let other : (k : ℕ) → (k ≡ i → ⊥) → rawTypeAt b (k * typeSize) ≡ rawTypeAt b′ (k * typeSize) =
+    λ k ne. type-agree b (k * typeSize) b′ (k * typeSize)
     (λ p l. ⊎-elim
-    (λ (lt : k < i). sym (below b (i * 128) x s (k * 128 + p) (omega arith)))
-    (λ (ge : i ≤ k). let gt : i < k = omega (arith, ne) in sym (above b (i * 128) x s (k * 128 + p) (omega arith)))
+    (λ (lt : k < i). sym (below b (i * typeSize) x s (k * typeSize + p) (omega arith)))
+    (λ (ge : i ≤ k). let gt : i < k = omega (arith, ne) in sym (above b (i * typeSize) x s (k * typeSize + p) (omega arith)))
     (lt-or-ge k i)) in
-    is-from (λ k. rawTypeAt b′ (k * 128)) 128 x (set (from 128 0 f) i x) (length-set (from 128 0 f) i x ∙ length-from f 128 0)
+    is-from (λ k. rawTypeAt b′ (k * typeSize)) maxTypes x (set (from maxTypes 0 f) i x) (length-set (from maxTypes 0 f) i x ∙ length-from f maxTypes 0)
     (λ k l. ⊎-elim
-    (λ (e : k ≡ i). ap (λ (n : ℕ). getD (set (from 128 0 f) i x) n x) e ∙ getD-set-same (from 128 0 f) i x x (rw (length-from f 128 0) hi) ∙ sym own
-    ∙ ap (λ (n : ℕ). rawTypeAt b′ (n * 128)) (sym e))
-    (λ (ne : k ≡ i → ⊥). getD-set-other (from 128 0 f) i k x x ne ∙ from-first f 128 k x l ∙ other k ne)
+    (λ (e : k ≡ i). ap (λ (n : ℕ). getD (set (from maxTypes 0 f) i x) n x) e ∙ getD-set-same (from maxTypes 0 f) i x x (rw (length-from f maxTypes 0) hi) ∙ sym own
+    ∙ ap (λ (n : ℕ). rawTypeAt b′ (n * typeSize)) (sym e))
+    (λ (ne : k ≡ i → ⊥). getD-set-other (from maxTypes 0 f) i k x x ne ∙ from-first f maxTypes k x l ∙ other k ne)
     (same-or k i))
 
 -- What `put_type` promises, as its callers use it.
 module _ {b : List ℕ} {i : ℕ} {x : RawType} {b′ : List ℕ} (w : Put b i x b′) where
   pub put-length : length b′ ≡ length b
-  put-length = ap length (w .bytes) ∙ length-sets b (i * 128) (recordBytes x)
+  put-length = ap length (w .bytes) ∙ length-sets b (i * typeSize) (recordBytes x)
 
-  pub put-types : length b ≡ 16384 → i < 128 → typesIn b′ ≡ set (typesIn b) i x
+  pub put-types : length b ≡ typesSize → i < maxTypes → typesIn b′ ≡ set (typesIn b) i x
   put-types e h = ap typesIn (w .bytes) ∙ stored b i x e h (w .shaped)

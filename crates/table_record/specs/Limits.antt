@@ -15,10 +15,10 @@ pub record Limits (c : Counts) : Type 0 where
   pub types : c .types ≤ maxTypes
 
 -- every category, from 1 on, names only categories below it
-abbrev pub Falls : List ℕ → Counts → Type 0
-Falls l c = (k : ℕ) → 0 < k → k ≤ c .cats → AllBelow k (broaderOf l k)
+abbrev pub Descends : List ℕ → Counts → Type 0
+Descends l c = (k : ℕ) → 0 < k → k ≤ c .cats → AllBelow k (broaderOf l k)
 
 -- What the relations ask of a table: nothing of its types, since a number in a signature that names no type makes a pair unrelated, in the model as in the code.
 pub record Checked (l : List ℕ) (c : Counts) : Type 0 where
   pub limits : Limits c
-  pub falls : Falls l c
+  pub descends : Descends l c

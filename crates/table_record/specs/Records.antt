@@ -5,13 +5,13 @@ use lib.ListN.{length, replicate}
 use Rattle.spec_model.specs.Table.{Table, Ty, size}
 use Rattle.spec_model.specs.Records.{typeRecord, linksRecord}
 use Rattle.table_record.specs.declared.Counts.{Counts}
-use Rattle.table_record.specs.Layout.{recordBytes, linksBytes}
+use Rattle.table_record.specs.Layout.{recordBytes, linksBytes, typesSize, linksSize}
 
 -- n bytes, of which the first are xs
 unfoldable pub padded : ℕ → List ℕ → List ℕ
 padded n xs = xs ++ replicate (n - length xs) 0
 
--- the 128 bytes of a type, and the three of a category's broader ones
+-- the bytes of a type, and those of a category's broader ones
 abbrev pub bytesOf : Ty → List ℕ
 bytesOf x = recordBytes (typeRecord x)
 
@@ -20,12 +20,12 @@ linkBytesOf xs = linksBytes (linksRecord xs)
 
 unfoldable pub typeBytes : List Ty → List ℕ
 unfolding padded
-typeBytes xs = padded 16384 (flatten (map bytesOf xs))
+typeBytes xs = padded typesSize (flatten (map bytesOf xs))
 
 -- category 0, which names none, in front: its bytes are 0
 unfoldable pub linkBytes : List (List ℕ) → List ℕ
 unfolding padded
-linkBytes cs = padded 96 (flatten (map linkBytesOf ([] ∷ cs)))
+linkBytes cs = padded linksSize (flatten (map linkBytesOf ([] ∷ cs)))
 
 abbrev pub countsOf : Table → Counts
 countsOf t = record { subjects = t .subjects; methods = t .methods; cats = length (t .cats); sheet = t .sheet; types = size t }

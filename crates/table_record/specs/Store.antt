@@ -7,14 +7,15 @@ use mathlib.Core.List.{List, [], _∷_, map}
 use lib.ListN.{length, getD, replicate}
 use lib.Seq.{sets}
 use Rattle.spec_model.specs.Basics.{from}
-use Rattle.spec_model.specs.Table.{Ty, isRef}
+use Rattle.spec_model.specs.Table.{Ty, isRef, maxMethods}
 use Rattle.spec_model.specs.Table.{Method as Methodᵐ}
 use Rattle.spec_model.specs.Check.{RawMethod, RawType, RawLinks, noRawType, noRawMethod, noRawLinks, methodOf, typeOf, repOf, linksOf}
 use Rattle.table_record.specs.declared.Method.{Method}
 use Rattle.table_record.specs.declared.TypeRec.{TypeRec}
 use Rattle.table_record.specs.declared.Links.{Links}
-use Rattle.spec_model.specs.Records.{methodRecord, typeRecord}
+use Rattle.spec_model.specs.Records.{methodRecord, typeRecord, argumentSlots}
 pub use Rattle.table_record.specs.Layout.{rawMethodAt, rawTypeAt, rawLinksAt, headOf, rawTable, withCount, methodBytes, headBytes, spareBytes, methodsBytes, linksBytes, emptyCounts}
+pub use Rattle.table_record.specs.Layout.{typeSize, headSize, methodSize, linkSize, typesSize, linksSize}
 unfoldable pub use Rattle.table_record.specs.Layout.{rawMethodsAt, typesIn, linksIn, tableIn, recordBytes, emptyTypes, emptyLinks}
 
 -- The code's records as the model's.
@@ -38,6 +39,10 @@ methodIn b i j = methodOf (getD (getD (typesIn b) i noRawType .methods) j noRawM
 abbrev pub broaderOf : List ℕ → ℕ → List ℕ
 broaderOf l k = linksOf (getD (linksIn l) k noRawLinks)
 
+-- a reference type, as it is stored
+abbrev pub refAs : RawType → Bool
+refAs x = isRef (repOf (x .rep))
+
 -- own=yes: only a reference type has the flag
 abbrev pub ownOf : RawType → Bool
 ownOf x = isRef (repOf (x .rep)) && eqb (x .own) 1
@@ -46,21 +51,21 @@ ownOf x = isRef (repOf (x .rep)) && eqb (x .own) 1
 abbrev pub mayStandAs : RawType → Bool
 mayStandAs x = not (ownOf x)
 
--- sixteen methods of four argument slots each, as the arrays of the code have
+-- as many methods, with as many argument slots each, as the arrays of the code have
 pub record Shaped (x : RawType) : Type 0 where
-  pub methods : length (x .methods) ≡ 16
-  pub slots : (j : ℕ) → j < 16 → length (getD (x .methods) j noRawMethod .args) ≡ 4
+  pub methods : length (x .methods) ≡ maxMethods
+  pub slots : (j : ℕ) → j < maxMethods → length (getD (x .methods) j noRawMethod .args) ≡ argumentSlots
 
 -- b′ is b with the record x as type i, every byte of it.
 pub record Put (b : List ℕ) (i : ℕ) (x : RawType) (b′ : List ℕ) : Type 0 where
-  pub bytes : b′ ≡ sets b (i * 128) (recordBytes x)
+  pub bytes : b′ ≡ sets b (i * typeSize) (recordBytes x)
   pub shaped : Shaped x
 
 abbrev pub emptyMethod : Method
 emptyMethod = record { state = 0; count = 0; args = 0 ∷ 0 ∷ 0 ∷ 0 ∷ []; answer = 0 }
 
 abbrev pub emptyType : TypeRec
-emptyType = record { head = record { rep = 0; cat = 0; own = 0; kind = 0; left = 0; right = 0 }; methods = replicate 16 emptyMethod }
+emptyType = record { head = record { rep = 0; cat = 0; own = 0; kind = 0; left = 0; right = 0 }; methods = replicate maxMethods emptyMethod }
 
 -- A stored record is exact if it is the one that stands for what it means.
 abbrev pub MethodExact : RawMethod → Type 0

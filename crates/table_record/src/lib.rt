@@ -2,17 +2,18 @@
 // by crate `table_store`: these two alone know where in the bytes a record stands. Contracts speak of the list of records that the bytes hold
 // (specs/Layout.antt).
 ghost use mathlib.Core.Path.{_≡_};
-ghost use Prim.Native.Nat.{_<_};
+ghost use Prim.Native.Nat.{suc, _<_};
 ghost use lib.ListN.{length, getD};
-ghost use Rattle.spec_model.specs.Table.{permit};
+ghost use Rattle.spec_model.specs.Table.{permit, maxMethods, maxCategories, maxTypes};
+ghost use Rattle.spec_model.specs.Records.{argumentSlots};
 ghost use Rattle.spec_model.specs.Check.{noRawType, noRawMethod, noRawLinks, stateOf};
 ghost use Rattle.table_record.specs.Store.{typesIn, linksIn, rawMethod, rawOf, headOf, rawLinks};
-ghost use Rattle.table_record.specs.Store.{mayStandAs, emptyCounts, emptyMethod, emptyType, emptyTypes, emptyLinks};
+ghost use Rattle.table_record.specs.Store.{refAs, mayStandAs, withCount, emptyCounts, emptyMethod, emptyType, emptyTypes, emptyLinks};
 
-// The bytes of the types of a table, and of its broader links.
-pub const TYPE_BYTES: usize = 16384;
+// The bytes of the types of a table, and of its broader links: those of category 0, which names none, are there too.
+pub const TYPE_BYTES: usize = Counts::TYPES * TypeRec::BYTES;
 
-pub const LINK_BYTES: usize = 96;
+pub const LINK_BYTES: usize = (Counts::CATEGORIES + 1) * Links::BYTES;
 
 // How many of each kind a table has. In a table handed in a count may be any number.
 pub struct Counts {
@@ -23,7 +24,7 @@ pub struct Counts {
     pub types: usize,
 }
 
-// The limits of a table, and of the arguments of a signature.
+// The limits of a table, of the arguments of a signature, and of what a category names.
 impl Counts {
     pub const SUBJECTS: usize = 16;
 
@@ -35,7 +36,9 @@ impl Counts {
 
     pub const TYPES: usize = 128;
 
-    pub const ARGUMENTS: usize = 2;
+    pub const ARGUMENTS: usize = 4;
+
+    pub const BROADER: usize = 2;
 
     // the counts of a table that holds nothing
     pub fn empty() -> Self
@@ -49,6 +52,19 @@ impl Counts {
             types: 0,
         }
     }
+
+    // the same with so many types
+    pub fn with_types(self, types: usize) -> Self
+        ensures { λ r. ⌜ r ≡ withCount self types ⌝ }
+    {
+        Self {
+            subjects: self.subjects,
+            methods: self.methods,
+            cats: self.cats,
+            sheet: self.sheet,
+            types,
+        }
+    }
 }
 
 // A method of a type: the state's code, and the signature. `count` arguments are used; `answer` is 0 for none, else the type's number plus 1.
@@ -59,9 +75,11 @@ pub struct Method {
     pub answer: u8,
 }
 
-// The codes of the four states, and the argument slots of a record.
+// The argument slots of a record, its bytes, and the codes of the four states.
 impl Method {
     pub const SLOTS: usize = 4;
+
+    pub const BYTES: usize = 7;
 
     pub const DENIED: u8 = 0;
 
@@ -82,6 +100,15 @@ impl Method {
             answer: 0,
         }
     }
+
+    // what argument slot i holds, whether it is used or not
+    pub fn argument(self, i: usize) -> usize
+        requires { ⌜ i < argumentSlots ⌝ }
+        ensures { λ r. ⌜ (r ≡ getD (self .args) i 0) × (r < 256) × (length (self .args) ≡ argumentSlots) ⌝ }
+    {
+        let args = self.args;
+        base_numbers::wide(args[i])
+    }
 }
 
 // A type without its methods: codes of representation, category and own; of a derived type its kind, left and right, else 0.
@@ -94,8 +121,10 @@ pub struct Head {
     pub right: u8,
 }
 
-// The codes of the three representations, and of own=yes.
+// The bytes of a head with the spare ones, the codes of the three representations, and of own=yes.
 impl Head {
+    pub const BYTES: usize = 16;
+
     pub const REF: u8 = 0;
 
     pub const W32: u8 = 1;
@@ -112,6 +141,9 @@ pub struct TypeRec {
 }
 
 impl TypeRec {
+    // the bytes of a record
+    pub const BYTES: usize = 128;
+
     // a reference type of no category that denies every method
     pub fn empty() -> Self
         ensures { λ r. ⌜ r ≡ emptyType ⌝ }
@@ -153,6 +185,11 @@ pub struct Links {
     pub second: u8,
 }
 
+impl Links {
+    // the bytes of a record
+    pub const BYTES: usize = 3;
+}
+
 // Optional and avail permit a method.
 pub fn permits(state: u8) -> bool
     ensures { λ r. ⌜ r ≡ permit (stateOf state) ⌝ }
@@ -178,10 +215,10 @@ pub fn empty_links() -> [u8; LINK_BYTES]
 
 // The broader categories of category k.
 pub fn get_links(l: &[u8; LINK_BYTES], k: usize) -> Links
-    requires { ⌜ k < 32 ⌝ }
+    requires { ⌜ k < suc maxCategories ⌝ }
     ensures { λ r. ⌜ rawLinks r ≡ getD (linksIn (now (l .entry))) k noRawLinks ⌝ }
 {
-    let at = k * 3;
+    let at = k * Links::BYTES;
     Links {
         count: l[at],
         first: l[at + 1],
@@ -191,10 +228,10 @@ pub fn get_links(l: &[u8; LINK_BYTES], k: usize) -> Links
 
 // Type i without its methods.
 pub fn get_head(b: &[u8; TYPE_BYTES], i: usize) -> Head
-    requires { ⌜ i < 128 ⌝ }
+    requires { ⌜ i < maxTypes ⌝ }
     ensures { λ r. ⌜ r ≡ headOf (getD (typesIn (now (b .entry))) i noRawType) ⌝ }
 {
-    let at = i * 128;
+    let at = i * TypeRec::BYTES;
     Head {
         rep: b[at],
         cat: b[at + 1],
@@ -207,10 +244,10 @@ pub fn get_head(b: &[u8; TYPE_BYTES], i: usize) -> Head
 
 // Method j of type i.
 pub fn get_method(b: &[u8; TYPE_BYTES], i: usize, j: usize) -> Method
-    requires { ⌜ (i < 128) × (j < 16) ⌝ }
+    requires { ⌜ (i < maxTypes) × (j < maxMethods) ⌝ }
     ensures { λ r. ⌜ rawMethod r ≡ getD (getD (typesIn (now (b .entry))) i noRawType .methods) j noRawMethod ⌝ }
 {
-    let at = i * 128 + 16 + j * 7;
+    let at = i * TypeRec::BYTES + Head::BYTES + j * Method::BYTES;
     let args = [b[at + 2], b[at + 3], b[at + 4], b[at + 5]];
     Method {
         state: b[at],
@@ -220,9 +257,18 @@ pub fn get_method(b: &[u8; TYPE_BYTES], i: usize, j: usize) -> Method
     }
 }
 
+// Whether type i is a reference type.
+pub fn is_ref(b: &[u8; TYPE_BYTES], i: usize) -> bool
+    requires { ⌜ i < maxTypes ⌝ }
+    ensures { λ r. ⌜ r ≡ refAs (getD (typesIn (now (b .entry))) i noRawType) ⌝ }
+{
+    let h = get_head(b, i);
+    h.rep == Head::REF
+}
+
 // Whether type i may stand in a signature: a type without own, which a number type always is.
 pub fn may_stand(b: &[u8; TYPE_BYTES], i: usize) -> bool
-    requires { ⌜ i < 128 ⌝ }
+    requires { ⌜ i < maxTypes ⌝ }
     ensures { λ r. ⌜ r ≡ mayStandAs (getD (typesIn (now (b .entry))) i noRawType) ⌝ }
 {
     let h = get_head(b, i);
@@ -234,15 +280,15 @@ pub fn may_stand(b: &[u8; TYPE_BYTES], i: usize) -> bool
 
 // Type i.
 pub fn get_type(b: &[u8; TYPE_BYTES], i: usize) -> TypeRec
-    requires { ⌜ i < 128 ⌝ }
+    requires { ⌜ i < maxTypes ⌝ }
     ensures is { λ r. ⌜ rawOf r ≡ getD (typesIn (now (b .entry))) i noRawType ⌝ }
-    ensures shape { λ r. ⌜ length (r .methods) ≡ 16 ⌝ }
+    ensures shape { λ r. ⌜ length (r .methods) ≡ maxMethods ⌝ }
 {
     let head = get_head(b, i);
     let none = Method::empty();
     let mut methods = [none; Counts::METHODS];
     let mut j: usize = 0;
-    while j < 16 {
+    while j < Counts::METHODS {
         let m = get_method(b, i, j);
         methods[j] = m;
         j += 1;

@@ -1,10 +1,14 @@
 // Records of types and of broader links stored in the bytes of a table, whole (B13). What stands where in the bytes is said in
 // crates/table_record/specs/Layout.antt.
 ghost use mathlib.Core.Path.{_≡_};
-ghost use Prim.Native.Nat.{_+_, _*_, _≤_, _<_};
+ghost use Prim.Native.Nat.{suc, _+_, _*_, _≤_, _<_};
 ghost use lib.ListN.{length};
 ghost use lib.Seq.{sets};
 ghost use Rattle.table_record.specs.Store.{rawMethod, rawOf, rawLinks, methodBytes, headBytes, spareBytes, linksBytes, Put};
+ghost use Rattle.table_record.specs.Layout.{methodSize, linkSize, typesSize, linksSize};
+ghost use Rattle.spec_model.specs.Table.{maxCategories, maxTypes};
+ghost use Rattle.spec_model.specs.Records.{argumentSlots};
+use table_record::Counts;
 use table_record::Head;
 use table_record::LINK_BYTES;
 use table_record::Links;
@@ -14,19 +18,19 @@ use table_record::TypeRec;
 
 // Store the broader categories of category k.
 pub fn put_links(l: &mut [u8; LINK_BYTES], k: usize, x: Links)
-    requires { ⌜ (k < 32) × (length (now l) ≡ 96) ⌝ }
-    ensures { λ _. ⌜ now (l .exit) ≡ sets (now (l .entry)) (k * 3) (linksBytes (rawLinks x)) ⌝ }
+    requires { ⌜ (k < suc maxCategories) × (length (now l) ≡ linksSize) ⌝ }
+    ensures { λ _. ⌜ now (l .exit) ≡ sets (now (l .entry)) (k * linkSize) (linksBytes (rawLinks x)) ⌝ }
 {
-    let at = k * 3;
+    let at = k * Links::BYTES;
     l[at] = x.count;
     l[at + 1] = x.first;
     l[at + 2] = x.second;
 }
 
 fn put_method(b: &mut [u8; TYPE_BYTES], at: usize, m: Method)
-    requires { ⌜ at + 7 ≤ 16384 ⌝ }
+    requires { ⌜ at + methodSize ≤ typesSize ⌝ }
     ensures bytes { λ _. ⌜ now (b .exit) ≡ sets (now (b .entry)) at (methodBytes (rawMethod m)) ⌝ }
-    ensures shape { λ _. ⌜ length (m .args) ≡ 4 ⌝ }
+    ensures shape { λ _. ⌜ length (m .args) ≡ argumentSlots ⌝ }
 {
     b[at] = m.state;
     b[at + 1] = m.count;
@@ -38,7 +42,7 @@ fn put_method(b: &mut [u8; TYPE_BYTES], at: usize, m: Method)
 }
 
 fn put_head(b: &mut [u8; TYPE_BYTES], at: usize, h: Head)
-    requires { ⌜ at + 6 ≤ 16384 ⌝ }
+    requires { ⌜ at + 6 ≤ typesSize ⌝ }
     ensures { λ _. ⌜ now (b .exit) ≡ sets (now (b .entry)) at (headBytes h) ⌝ }
 {
     b[at] = h.rep;
@@ -51,7 +55,7 @@ fn put_head(b: &mut [u8; TYPE_BYTES], at: usize, h: Head)
 
 // The spare bytes of a record are 0.
 fn put_spare(b: &mut [u8; TYPE_BYTES], at: usize)
-    requires { ⌜ at + 10 ≤ 16384 ⌝ }
+    requires { ⌜ at + 10 ≤ typesSize ⌝ }
     ensures { λ _. ⌜ now (b .exit) ≡ sets (now (b .entry)) at spareBytes ⌝ }
 {
     let mut j: usize = 0;
@@ -63,16 +67,16 @@ fn put_spare(b: &mut [u8; TYPE_BYTES], at: usize)
 
 // Store t as type i: its whole record, the spare bytes too.
 pub fn put_type(b: &mut [u8; TYPE_BYTES], i: usize, t: TypeRec)
-    requires { ⌜ (i < 128) × (length (now b) ≡ 16384) ⌝ }
+    requires { ⌜ (i < maxTypes) × (length (now b) ≡ typesSize) ⌝ }
     ensures { λ _. ⌜ Put (now (b .entry)) i (rawOf t) (now (b .exit)) ⌝ }
 {
-    let at = i * 128;
+    let at = i * TypeRec::BYTES;
     put_head(b, at, t.head);
     put_spare(b, at + 6);
     let mut j: usize = 0;
-    while j < 16 {
+    while j < Counts::METHODS {
         let m = t.methods[j];
-        put_method(b, at + 16 + j * 7, m);
+        put_method(b, at + Head::BYTES + j * Method::BYTES, m);
         j += 1;
     }
 }

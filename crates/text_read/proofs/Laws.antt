@@ -2,22 +2,26 @@
 use mathlib.Core.Path.{_≡_, refl, sym, ap, _∙_, subst}
 use mathlib.Core.Bool.{Bool, true, false, _&&_, cond}
 use mathlib.Core.List.{List, [], _∷_, _++_}
-use Prim.Native.Nat.{ℕ, suc, _+_, _-_, _*_, _≤_, _<_}
+use Prim.Native.Nat.{ℕ, zero, suc, _+_, _-_, _*_, _≤_, _<_}
 use native.Mathlib.Omega.{arith}
 use native.Mathlib.Numerals.{add-one}
 use lib.Dec.{eqb, leb}
 use lib.ListN.{length, getD, set, take, drop, drop-of-length-le, length-append}
-use lib.Seq.{take-suc-set}
+use lib.Seq.{take-suc-set, getD-set-other}
 use borrow.Author.Tests.{le-leb, lt-leb, eq-eqb, ne-eqb}
 use Rattle.spec_model.specs.Basics.{Res, refuse, ok, try, need}
-use Rattle.spec_model.specs.Table.{between}
+use Rattle.spec_model.specs.Table.{between, maxSheetTypes}
+use Rattle.spec_model.specs.Refusals.{form, outOfRange}
 use Rattle.spec_sheet.specs.Lines.{Row, row, cut, split, refused, got, line, lineAt, firstLine, starts, same, keyed}
 use Rattle.spec_sheet.specs.Numbers.{Scan, fail, took, bindScan, whole, isDigit, top, limit, digits, number, comma, numbers}
 use Rattle.spec_sheet.specs.Sheet.{numberLine}
+use Rattle.spec_model.proofs.Rules.{never}
 use Rattle.spec_sheet.proofs.Steps.{refuse-ok}
 use Rattle.spec_sheet.proofs.Numbers.{isDigit-of}
 use Rattle.spec_sheet.proofs.Lines.{starts-sound}
-use Rattle.text_read.specs.View.{scanned, scanBy, ScanWithin, valueBy, AtMost, readBy, GotAtMost, result, reading, passedBy}
+use Rattle.text_read.specs.View.{scanned, scanBy, ScanWithin, valueBy, AtMost, readBy, GotAtMost, result, reading, passedBy, maxNumbers}
+use Rattle.text_read.specs.View.{itemsOf, numbersOf, RestEmpty, noNumbers}
+use Rattle.text_read.specs.declared.Numbers.{Numbers}
 use Rattle.text_read.specs.declared.Value.{Value}
 use Rattle.text_read.specs.declared.Value.the-variants.{Refused, Is}
 use Rattle.text_read.specs.declared.Got.{Got}
@@ -74,7 +78,7 @@ word-short word l h = go (starts word l) refl
     go false e = refl
 
 -- Digits.
-low-digit : (b : ℕ) → b < 48 → isDigit b ≡ false
+low-digit : (b : ℕ) → b < maxSheetTypes → isDigit b ≡ false
 low-digit b h = ap (λ z. z && leb b 57) (lt-leb 48 b h)
 
 high-digit : (b : ℕ) → 48 ≤ b → 57 < b → isDigit b ≡ false
@@ -91,7 +95,7 @@ module _ (l : List ℕ) (i n b : ℕ) (h : i < length l) (e : b ≡ getD l i 0) 
   digits-stop : isDigit b ≡ false → took n (drop i l) ≡ digits n (drop i l)
   digits-stop d = sym (digits-here ∙ ap (λ z. cond z (digits (limit (n * 10 + (b - 48))) (drop (i + 1) l)) (took n (drop i l))) d)
 
-  pub digits-low : b < 48 → took n (drop i l) ≡ digits n (drop i l)
+  pub digits-low : b < maxSheetTypes → took n (drop i l) ≡ digits n (drop i l)
   digits-low k = digits-stop (low-digit b k)
 
   pub digits-high : 48 ≤ b → 57 < b → took n (drop i l) ≡ digits n (drop i l)
@@ -122,7 +126,7 @@ module _ (l : List ℕ) (at b : ℕ) (h : at < length l) (e : b ≡ getD l at 0)
   other : (b ≡ 48 → ⊥) → number (drop at l) ≡ cond (isDigit b) (digits (b - 48) (drop (at + 1) l)) fail
   other q = number-here ∙ ap (λ z. cond z (took 0 (drop (at + 1) l)) (cond (isDigit b) (digits (b - 48) (drop (at + 1) l)) fail)) (ne-eqb b 48 q)
 
-  pub number-low : (b ≡ 48 → ⊥) → b < 48 → fail ≡ number (drop at l)
+  pub number-low : (b ≡ 48 → ⊥) → b < maxSheetTypes → fail ≡ number (drop at l)
   number-low q k = sym (other q ∙ ap (λ z. cond z (digits (b - 48) (drop (at + 1) l)) fail) (low-digit b k))
 
   pub number-high : (b ≡ 48 → ⊥) → 48 ≤ b → 57 < b → fail ≡ number (drop at l)
@@ -150,66 +154,88 @@ module _ {A : Type 0} (l : List ℕ) (right : Bool) (x : A) (next : ℕ) (S : Sc
   pub scan-wrong : right ≡ false → fail ≡ S
   scan-wrong e = ap (λ z. scanned l z x next) (sym e) ∙ is
 
-pub scan-none : {A : Type 0} (l : List ℕ) (right : Bool) (x : A) (next : ℕ) (S : Scan A) → right ≡ false → fail ≡ S → scanned l right x next ≡ S
-scan-none l right x next S e q = ap (λ z. scanned l z x next) e ∙ q
-
--- Several numbers: `count` of them are read, the rest begins at i.
-module _ (l items : List ℕ) (max count i : ℕ) (R : Scan (List ℕ)) (inv : numbers (max - count) (take count items) (drop i l) ≡ R) where
+-- Several numbers: `count` of them are read, xs, and the rest begins at i.
+module _ (l xs : List ℕ) (max count i : ℕ) (R : Scan (List ℕ)) (inv : numbers (max - count) xs (drop i l) ≡ R) where
   pub numbers-many : max ≤ count → fail ≡ R
   unfolding numbers
-  numbers-many h = let e : max - count ≡ 0 = omega arith in ap (λ z. numbers z (take count items) (drop i l)) (sym e) ∙ inv
+  numbers-many h = let e : max - count ≡ 0 = omega arith in ap (λ z. numbers z xs (drop i l)) (sym e) ∙ inv
 
   module _ (h : count < max) where
-    numbers-step : bindScan (number (drop i l)) (λ a r. comma (take count items ++ a ∷ []) (λ q. numbers (max - (count + 1)) (take count items ++ a ∷ []) q) r) ≡ R
+    numbers-step : bindScan (number (drop i l)) (λ a r. comma (xs ++ a ∷ []) (λ q. numbers (max - (count + 1)) (xs ++ a ∷ []) q) r) ≡ R
     unfolding numbers
-    numbers-step = let e : max - count ≡ suc (max - (count + 1)) = omega arith in ap (λ z. numbers z (take count items) (drop i l)) (sym e) ∙ inv
+    numbers-step = let e : max - count ≡ suc (max - (count + 1)) = omega arith in ap (λ z. numbers z xs (drop i l)) (sym e) ∙ inv
 
     pub numbers-fail : fail ≡ number (drop i l) → fail ≡ R
-    numbers-fail q = ap (λ z. bindScan z (λ a r. comma (take count items ++ a ∷ []) (λ q. numbers (max - (count + 1)) (take count items ++ a ∷ []) q) r)) q ∙ numbers-step
+    numbers-fail q = ap (λ z. bindScan z (λ a r. comma (xs ++ a ∷ []) (λ q. numbers (max - (count + 1)) (xs ++ a ∷ []) q) r)) q ∙ numbers-step
 
-    module _ (k : count < length items) (n e : ℕ) (q : took n (drop e l) ≡ number (drop i l)) where
-      kept : take (count + 1) (set items count n) ≡ take count items ++ n ∷ []
-      kept = ap (λ z. take z (set items count n)) (add-one count) ∙ take-suc-set items count n k
-
-      after : comma (take (count + 1) (set items count n)) (λ q. numbers (max - (count + 1)) (take (count + 1) (set items count n)) q) (drop e l) ≡ R
+    -- with one more they are ys
+    module _ (ys : List ℕ) (n e : ℕ) (kept : ys ≡ xs ++ n ∷ []) (q : took n (drop e l) ≡ number (drop i l)) where
+      after : comma ys (λ q. numbers (max - (count + 1)) ys q) (drop e l) ≡ R
       after =
           ap (λ z. comma z (λ q. numbers (max - (count + 1)) z q) (drop e l)) kept
-          ∙ ap (λ z. bindScan z (λ a r. comma (take count items ++ a ∷ []) (λ q. numbers (max - (count + 1)) (take count items ++ a ∷ []) q) r)) q ∙ numbers-step
+          ∙ ap (λ z. bindScan z (λ a r. comma (xs ++ a ∷ []) (λ q. numbers (max - (count + 1)) (xs ++ a ∷ []) q) r)) q ∙ numbers-step
 
-      pub numbers-end : e ≡ length l → took (take (count + 1) (set items count n)) (drop e l) ≡ R
-      numbers-end b =
-          let d : drop e l ≡ [] = at-end l e (omega arith) in
-          ap (λ z. took (take (count + 1) (set items count n)) z) d
-          ∙ ap (λ z. comma (take (count + 1) (set items count n)) (λ q. numbers (max - (count + 1)) (take (count + 1) (set items count n)) q) z) (sym d) ∙ after
+      pub numbers-end : e ≡ length l → took ys (drop e l) ≡ R
+      numbers-end b = let d : drop e l ≡ [] = at-end l e (omega arith) in ap (took ys) d ∙ ap (comma ys (λ q. numbers (max - (count + 1)) ys q)) (sym d) ∙ after
 
-      byte : e < length l → cond (eqb (getD l e 0) 44) (numbers (max - (count + 1)) (take (count + 1) (set items count n)) (drop (e + 1) l))
-          (took (take (count + 1) (set items count n)) (getD l e 0 ∷ drop (e + 1) l)) ≡ R
-      byte b = ap (λ z. comma (take (count + 1) (set items count n)) (λ q. numbers (max - (count + 1)) (take (count + 1) (set items count n)) q) z) (sym (from-here l e b)) ∙ after
+      byte : e < length l → cond (eqb (getD l e 0) 44) (numbers (max - (count + 1)) ys (drop (e + 1) l)) (took ys (getD l e 0 ∷ drop (e + 1) l)) ≡ R
+      byte b = ap (comma ys (λ q. numbers (max - (count + 1)) ys q)) (sym (from-here l e b)) ∙ after
 
-      pub numbers-other : e < length l → (getD l e 0 ≡ 44 → ⊥) → took (take (count + 1) (set items count n)) (drop e l) ≡ R
+      pub numbers-other : e < length l → (getD l e 0 ≡ 44 → ⊥) → took ys (drop e l) ≡ R
       numbers-other b w =
-          ap (took (take (count + 1) (set items count n))) (from-here l e b)
-          ∙ ap (λ z. cond z (numbers (max - (count + 1)) (take (count + 1) (set items count n)) (drop (e + 1) l))
-          (took (take (count + 1) (set items count n)) (getD l e 0 ∷ drop (e + 1) l))) (sym (ne-eqb (getD l e 0) 44 w)) ∙ byte b
+          ap (took ys) (from-here l e b)
+          ∙ ap (λ z. cond z (numbers (max - (count + 1)) ys (drop (e + 1) l)) (took ys (getD l e 0 ∷ drop (e + 1) l))) (sym (ne-eqb (getD l e 0) 44 w)) ∙ byte b
 
-      pub numbers-comma : e < length l → getD l e 0 ≡ 44 → numbers (max - (count + 1)) (take (count + 1) (set items count n)) (drop (e + 1) l) ≡ R
-      numbers-comma b w =
-          ap (λ z. cond z (numbers (max - (count + 1)) (take (count + 1) (set items count n)) (drop (e + 1) l)) (took (take (count + 1) (set items count n)) (getD l e 0 ∷ drop (e + 1) l)))
-          (sym (eq-eqb (getD l e 0) 44 w)) ∙ byte b
+      pub numbers-comma : e < length l → getD l e 0 ≡ 44 → numbers (max - (count + 1)) ys (drop (e + 1) l) ≡ R
+      numbers-comma b w = ap (λ z. cond z (numbers (max - (count + 1)) ys (drop (e + 1) l)) (took ys (getD l e 0 ∷ drop (e + 1) l))) (sym (eq-eqb (getD l e 0) 44 w)) ∙ byte b
+
+-- One number more of those that there is room for: it stands behind the others, and what is not there is 0 as before.
+module _ (t r : Numbers) (n : ℕ) (few : t .count < maxNumbers) (items : itemsOf r ≡ set (itemsOf t) (t .count) n) (count : r .count ≡ t .count + 1) where
+  pub more-numbers : numbersOf r ≡ numbersOf t ++ n ∷ []
+  more-numbers = ap (λ z. take z (itemsOf r)) (count ∙ add-one (t .count)) ∙ ap (take (suc (t .count))) items ∙ take-suc-set (itemsOf t) (t .count) n few
+
+  pub more-empty : RestEmpty t → RestEmpty r
+  more-empty h k e =
+      ap (λ z. getD z k 0) items ∙ getD-set-other (itemsOf t) (t .count) k n 0 (λ q. let s : k ≡ t .count = q in omega arith) ∙ h k (omega arith)
+
+pub none-empty : (next : ℕ) → RestEmpty (noNumbers next)
+none-empty next zero h = refl
+none-empty next (suc zero) h = refl
+none-empty next (suc (suc zero)) h = refl
+none-empty next (suc (suc (suc zero))) h = refl
+none-empty next (suc (suc (suc (suc k)))) h = refl
+
+-- What is handed out: no numbers, and those that are read.
+module _ (l : List ℕ) (max : ℕ) where
+  abbrev Within : Numbers → Type 0
+  Within r = (r .next ≤ length l) × (r .count ≤ max) × RestEmpty r × (r .right ≡ true → 1 ≤ r .count)
+
+  abbrev Scanned : Numbers → Scan (List ℕ) → Type 0
+  Scanned r S = (scanned l (r .right) (numbersOf r) (r .next) ≡ S) × Within r
+
+  pub none-scanned : (at : ℕ) (r : Numbers) → r ≡ noNumbers at → at ≤ length l → (S : Scan (List ℕ)) → fail ≡ S → Scanned r S
+  none-scanned at r e h S q = subst (λ (t : Numbers). Scanned t S) (sym e) (q, (h, omega arith, none-empty at, λ k. never k))
+
+  pub one-scanned : (r : Numbers) (count next : ℕ) → r .right ≡ true → r .count ≡ count + 1 → r .next ≡ next → next ≤ length l → count < max → RestEmpty r
+      → (S : Scan (List ℕ)) → took (numbersOf r) (drop next l) ≡ S → Scanned r S
+  one-scanned r count next e k i h m z S q = (
+    ap (λ b. scanned l b (numbersOf r) (r .next)) e ∙ ap (λ n. took (numbersOf r) (drop n l)) i ∙ q,
+    (omega arith, omega arith, z, λ b. omega arith),
+  )
 
 -- A line of a key and a number.
 module _ (key l : List ℕ) (low high : ℕ) where
   ranged : ℕ → Res ℕ
-  ranged n = need (between low high n) 2 λ _. ok n
+  ranged n = need (between low high n) outOfRange λ _. ok n
 
   after-key : Bool → Res ℕ
-  after-key b = try (need b 1 λ _. ok (drop (length key) l)) λ r. try (whole (number r)) ranged
+  after-key b = try (need b form λ _. ok (drop (length key) l)) λ r. try (whole (number r)) ranged
 
   line-of : after-key (starts key l) ≡ numberLine key low high l
   unfolding numberLine keyed after-key ranged
   line-of = refl
 
-  pub number-key : starts key l ≡ false → refuse 1 ≡ numberLine key low high l
+  pub number-key : starts key l ≡ false → refuse form ≡ numberLine key low high l
   unfolding after-key
   number-key e = ap after-key (sym e) ∙ line-of
 
@@ -218,33 +244,33 @@ module _ (key l : List ℕ) (low high : ℕ) where
     unfolding after-key
     behind-key = ap after-key (sym h) ∙ line-of
 
-    pub number-wrong : fail ≡ number (drop (length key) l) → refuse 1 ≡ numberLine key low high l
+    pub number-wrong : fail ≡ number (drop (length key) l) → refuse form ≡ numberLine key low high l
     number-wrong e = ap (λ z. try (whole z) ranged) e ∙ behind-key
 
     module _ (n e : ℕ) (q : took n (drop e l) ≡ number (drop (length key) l)) where
       taken : try (whole (took n (drop e l))) ranged ≡ numberLine key low high l
       taken = ap (λ z. try (whole z) ranged) q ∙ behind-key
 
-      pub number-behind : e < length l → refuse 1 ≡ numberLine key low high l
+      pub number-behind : e < length l → refuse form ≡ numberLine key low high l
       number-behind k = ap (λ z. try (whole (took n z)) ranged) (sym (from-here l e k)) ∙ taken
 
       alone : length l ≤ e → ranged n ≡ numberLine key low high l
       alone k = ap (λ z. try (whole (took n z)) ranged) (sym (at-end l e k)) ∙ taken
 
-      pub number-below : length l ≤ e → n < low → refuse 2 ≡ numberLine key low high l
+      pub number-below : length l ≤ e → n < low → refuse outOfRange ≡ numberLine key low high l
       unfolding ranged
-      number-below k j = ap (λ z. need (z && leb n high) 2 λ _. ok n) (sym (lt-leb low n j)) ∙ alone k
+      number-below k j = ap (λ z. need (z && leb n high) outOfRange λ _. ok n) (sym (lt-leb low n j)) ∙ alone k
 
-      pub number-above : length l ≤ e → low ≤ n → high < n → refuse 2 ≡ numberLine key low high l
+      pub number-above : length l ≤ e → low ≤ n → high < n → refuse outOfRange ≡ numberLine key low high l
       unfolding ranged
-      number-above k i j = ap (λ z. need z 2 λ _. ok n) (sym (lt-leb n high j)) ∙ ap (λ z. need (z && leb n high) 2 λ _. ok n) (sym (le-leb low n i)) ∙ alone k
+      number-above k i j = ap (λ z. need z outOfRange λ _. ok n) (sym (lt-leb n high j)) ∙ ap (λ z. need (z && leb n high) outOfRange λ _. ok n) (sym (le-leb low n i)) ∙ alone k
 
       pub number-good : length l ≤ e → low ≤ n → n ≤ high → ok n ≡ numberLine key low high l
       unfolding ranged
-      number-good k i j = ap (λ z. need z 2 λ _. ok n) (sym (le-leb n high j)) ∙ ap (λ z. need (z && leb n high) 2 λ _. ok n) (sym (le-leb low n i)) ∙ alone k
+      number-good k i j = ap (λ z. need z outOfRange λ _. ok n) (sym (le-leb n high j)) ∙ ap (λ z. need (z && leb n high) outOfRange λ _. ok n) (sym (le-leb low n i)) ∙ alone k
 
 -- The one law of reading a line: what f gives of the line at `at` is the reading there, for every f that refuses an empty line with 1. `next` is where the cursor is behind it.
-module _ {A : Type 0} (f : List ℕ → Res A) (empty : f [] ≡ refuse 1) (s : List ℕ) (at next : ℕ) (p : next ≡ past at (split (drop at s))) (l : List ℕ) (h : LineAt s at l) where
+module _ {A : Type 0} (f : List ℕ → Res A) (empty : f [] ≡ refuse form) (s : List ℕ) (at next : ℕ) (p : next ≡ past at (split (drop at s))) (l : List ℕ) (h : LineAt s at l) where
   by-first : (rs : List Row) → l ≡ firstLine rs → (k : ℕ) → refuse k ≡ f l → refused k at ≡ line f at rs
   by-first [] e k q = ap (λ z. lineAt z at [] []) (q ∙ ap f e ∙ empty)
   by-first (cut m ∷ rs) e k q = ap (λ z. lineAt z at [] []) (q ∙ ap f e ∙ empty)
@@ -281,7 +307,7 @@ module _ {A : Type 0} (f : List ℕ → Res A) (empty : f [] ≡ refuse 1) (s : 
           ap (λ z. cond z (got x to (split (drop to s))) (refused nr to)) h ∙ ap (λ (z : ℕ). refused nr z) n ∙ line-refused nr a
 
 -- and for one whose number g reads
-module _ {A : Type 0} (f : List ℕ → Res A) (empty : f [] ≡ refuse 1) (s : List ℕ) (c d : Cursor)
+module _ {A : Type 0} (f : List ℕ → Res A) (empty : f [] ≡ refuse form) (s : List ℕ) (c d : Cursor)
     (p : d .at ≡ past (c .at) (split (drop (c .at) s))) (l : List ℕ) (h : LineAt s (c .at) l) (g : ℕ → A) where
   pub line-read : (v : Value) (r : Got) → valueBy g v ≡ f l → r ≡ passedBy v d → readBy g s (c .at) r ≡ line f (c .at) (split (drop (c .at) s))
   line-read (Refused k) r q e = ap (readBy g s (c .at)) e ∙ line-refused f empty s (c .at) (d .at) p l h k q
@@ -291,7 +317,7 @@ pub passed-at-most : (high : ℕ) (d : Cursor) (v : Value) (r : Got) → AtMost 
 passed-at-most high d (Refused k) r h e = subst (GotAtMost high) (sym e) h
 passed-at-most high d (Is n) r h e = subst (GotAtMost high) (sym e) h
 
-pub number-empty : (key : List ℕ) (low high : ℕ) → numberLine key low high [] ≡ refuse 1
+pub number-empty : (key : List ℕ) (low high : ℕ) → numberLine key low high [] ≡ refuse form
 unfolding numberLine keyed starts number
 number-empty [] low high = refl
 number-empty (b ∷ key) low high = refl

@@ -1,19 +1,25 @@
 -- What the answers of code that reads text say, in the words of crate `spec_sheet`: scans, answers for a line, and readings of the lines from an offset on.
-use mathlib.Core.Bool.{Bool, cond}
-use mathlib.Core.List.{List}
+use mathlib.Core.Path.{_≡_}
+use mathlib.Core.Bool.{Bool, false, cond}
+use mathlib.Core.List.{List, [], _∷_}
 use Prim.Native.Nat.{ℕ, _≤_, _<_}
 use lib.Dec.{eqb}
-use lib.ListN.{drop}
+use lib.ListN.{getD, take, drop}
 use Rattle.spec_model.specs.Basics.{Res, refuse, ok}
 use Rattle.spec_sheet.specs.Lines.{Reading, refused, got, split}
 use Rattle.spec_sheet.specs.Numbers.{Scan, fail, took, top}
 use Rattle.text_cursor.specs.declared.Cursor.{Cursor}
 use Rattle.text_read.specs.declared.Number.{Number}
 use Rattle.text_read.specs.declared.Number.the-variants.{Wrong, Right}
+use Rattle.text_read.specs.declared.Numbers.{Numbers}
 use Rattle.text_read.specs.declared.Value.{Value}
 use Rattle.text_read.specs.declared.Value.the-variants.{Refused as Refusedᵛ, Is}
 use Rattle.text_read.specs.declared.Got.{Got}
 use Rattle.text_read.specs.declared.Got.the-variants.{Refused as Refusedᵍ, At}
+
+-- the longest list of numbers in a line
+abbrev pub maxNumbers : ℕ
+maxNumbers = 4
 
 -- A scan of l that holds a list: whether the form is right, the value, and where the bytes behind it start.
 abbrev pub scanned : {A : Type 0} → List ℕ → Bool → A → ℕ → Scan A
@@ -27,6 +33,19 @@ scanBy f l (Right n next) = took (f n) (drop next l)
 abbrev pub ScanWithin : ℕ → Number → Type 0
 ScanWithin size Wrong = Unit {0}
 ScanWithin size (Right n next) = (next ≤ size) × (n ≤ top)
+
+-- Several numbers: the four that there is room for, those that are there, and that the others are 0.
+abbrev pub itemsOf : Numbers → List ℕ
+itemsOf t = t .first ∷ t .second ∷ t .third ∷ t .fourth ∷ []
+
+abbrev pub numbersOf : Numbers → List ℕ
+numbersOf t = take (t .count) (itemsOf t)
+
+abbrev pub RestEmpty : Numbers → Type 0
+RestEmpty t = (k : ℕ) → t .count ≤ k → getD (itemsOf t) k 0 ≡ 0
+
+abbrev pub noNumbers : ℕ → Numbers
+noNumbers next = record { right = false; count = 0; first = 0; second = 0; third = 0; fourth = 0; next = next }
 
 -- The answer for one line; f says what the line's number means.
 abbrev pub valueBy : {A : Type 0} → (ℕ → A) → Value → Res A

@@ -1,15 +1,17 @@
 // Words, decimals and what becomes of a line (docs/SPEC.md S20, S21), for every program that reads text. Crate `text_cursor` finds the lines.
 // Contracts say what is read in the words of crate `spec_sheet`: scans of a line, and readings of the lines from a byte offset on (specs/View.antt).
 ghost use mathlib.Core.Path.{_≡_};
-ghost use mathlib.Core.Bool.{true, false, cond};
+ghost use mathlib.Core.Bool.{true, cond};
 ghost use mathlib.Core.List.{[]};
 ghost use Prim.Native.Nat.{_+_, _*_, _≤_, _<_};
 ghost use lib.Dec.{eqb};
-ghost use lib.ListN.{length, take, drop};
+ghost use lib.ListN.{length, set, drop};
 ghost use Rattle.spec_sheet.specs.Lines.{split, line, starts, same};
 ghost use Rattle.spec_sheet.specs.Numbers.{top, limit, digits, number, numbers};
 ghost use Rattle.spec_sheet.specs.Sheet.{numberLine};
-ghost use Rattle.text_read.specs.View.{scanned, scanBy, ScanWithin, valueBy, AtMost, readBy, GotAtMost, passedBy};
+ghost use Rattle.text_read.specs.View.{scanned, scanBy, ScanWithin, valueBy, AtMost, readBy, GotAtMost, passedBy, itemsOf};
+ghost use Rattle.text_read.specs.View.{numbersOf, RestEmpty, noNumbers, maxNumbers};
+use base_numbers::refusal;
 use base_numbers::wide;
 use text_cursor::Cursor;
 use text_cursor::between;
@@ -21,14 +23,15 @@ pub enum Number {
     Right(usize, usize),
 }
 
-// The longest list of numbers.
-pub const NUMBERS: usize = 4;
-
-// Up to four numbers with commas between, scanned: whether the form is right, how many, and where the bytes behind them start.
+// Up to four numbers with commas between, scanned: whether the form is right, how many, the numbers, and where the bytes behind them start. Those that are not
+// there are 0. They are no array: what is stored by an index and then read as a whole has to wait for its stores.
 pub struct Numbers {
     pub right: bool,
     pub count: usize,
-    pub items: [usize; NUMBERS],
+    pub first: usize,
+    pub second: usize,
+    pub third: usize,
+    pub fourth: usize,
     pub next: usize,
 }
 
@@ -132,49 +135,65 @@ pub fn number_at(l: &[u8], at: usize) -> Number
     digits_at(l, at + 1, b - 48)
 }
 
-// no list of numbers
+// no numbers: the form is wrong, or none is read yet
 pub fn no_numbers(next: usize) -> Numbers
-    ensures { λ r. ⌜ (r .right ≡ false) × (r .count ≡ 0) × (r .next ≡ next) × (length (r .items) ≡ 4) ⌝ }
+    ensures { λ r. ⌜ r ≡ noNumbers next ⌝ }
 {
     Numbers {
         right: false,
         count: 0,
-        items: [0usize; NUMBERS],
+        first: 0,
+        second: 0,
+        third: 0,
+        fourth: 0,
         next,
     }
 }
 
+// One number more, behind which the bytes go on at `next`.
+fn with_number(t: Numbers, n: usize, next: usize) -> Numbers
+    requires { ⌜ t .count < maxNumbers ⌝ }
+    ensures { λ r. ⌜ (itemsOf r ≡ set (itemsOf t) (t .count) n) × (r .count ≡ t .count + 1) × (r .right ≡ true) × (r .next ≡ next) ⌝ }
+{
+    let mut r = t;
+    r.right = true;
+    r.count = t.count + 1;
+    r.next = next;
+    if t.count == 0 {
+        r.first = n;
+        return r;
+    }
+    if t.count == 1 {
+        r.second = n;
+        return r;
+    }
+    if t.count == 2 {
+        r.third = n;
+        return r;
+    }
+    r.fourth = n;
+    r
+}
+
 // One number or more with commas between, at most max: one too many is a fault of form (S11).
 pub fn numbers_at(l: &[u8], at: usize, max: usize) -> Numbers
-    requires { ⌜ (at ≤ length (now l)) × (max ≤ 4) ⌝ }
-    ensures is { λ r. ⌜ scanned (now (l .entry)) (r .right) (take (r .count) (r .items)) (r .next) ≡ numbers max [] (drop at (now (l .entry))) ⌝ }
-    ensures within { λ r. ⌜ (r .next ≤ length (now (l .entry))) × (r .count ≤ max) × (length (r .items) ≡ 4) × (r .right ≡ true → 1 ≤ r .count) ⌝ }
+    requires { ⌜ (at ≤ length (now l)) × (max ≤ maxNumbers) ⌝ }
+    ensures is { λ r. ⌜ scanned (now (l .entry)) (r .right) (numbersOf r) (r .next) ≡ numbers max [] (drop at (now (l .entry))) ⌝ }
+    ensures within { λ r. ⌜ (r .next ≤ length (now (l .entry))) × (r .count ≤ max) × RestEmpty r × (r .right ≡ true → 1 ≤ r .count) ⌝ }
 {
     let mut i = at;
-    let mut items = [0usize; NUMBERS];
-    let mut count: usize = 0;
-    while count < max {
-        let t = number_at(l, i);
-        let Number::Right(n, e) = t else {
+    let mut t = no_numbers(at);
+    while t.count < max {
+        let w = number_at(l, i);
+        let Number::Right(n, e) = w else {
             return no_numbers(at);
         };
-        items[count] = n;
-        count += 1;
+        t = with_number(t, n, e);
         if e == l.len() {
-            return Numbers {
-                right: true,
-                count,
-                items,
-                next: e,
-            };
+            return t;
         }
         if l[e] != b',' {
-            return Numbers {
-                right: true,
-                count,
-                items,
-                next: e,
-            };
+            return t;
         }
         i = e + 1;
     }
@@ -207,27 +226,28 @@ pub fn read_number(l: &[u8], key: &[u8], low: usize, high: usize) -> Value
     ensures within { λ r. ⌜ AtMost high r ⌝ }
 {
     if !begins(l, key) {
-        return Value::Refused(1);
+        return Value::Refused(refusal::FORM);
     }
     let t = number_at(l, key.len());
     let Number::Right(n, next) = t else {
-        return Value::Refused(1);
+        return Value::Refused(refusal::FORM);
     };
     if next < l.len() {
-        return Value::Refused(1);
+        return Value::Refused(refusal::FORM);
     }
     if n < low {
-        return Value::Refused(2);
+        return Value::Refused(refusal::OUT_OF_RANGE);
     }
     if high < n {
-        return Value::Refused(2);
+        return Value::Refused(refusal::OUT_OF_RANGE);
     }
     Value::Is(n)
 }
 
 // The next line: a key and one number from low to high.
 pub fn next_number(s: &[u8], c: Cursor, key: &[u8], low: usize, high: usize) -> Got
-    ensures is { λ r. ⌜ readBy (λ n. n) (now (s .entry)) (c .at) r ≡ line (numberLine (now (key .entry)) low high) (c .at) (split (drop (c .at) (now (s .entry)))) ⌝ }
+    ensures is { λ r. ⌜ readBy (λ n. n) (now (s .entry)) (c .at) r
+        ≡ line (numberLine (now (key .entry)) low high) (c .at) (split (drop (c .at) (now (s .entry)))) ⌝ }
     ensures within { λ r. ⌜ GotAtMost high r ⌝ }
 {
     let d = next_line(s, c);

@@ -1,6 +1,7 @@
-// Bytes, decimals and lines, written in front of a buffer that is lent: `put_..` writes a piece of a line, `write_..` whole lines with their LF. A writer is total:
-// it says how long its text is, and where the buffer has room for it, writes it and leaves the bytes behind it. On an empty part of a buffer it only counts.
-// The rest of the buffer, lent to the next writer, begins at `least` of what was written and the buffer's length: at its end, where the text was too long.
+// Bytes, decimals and lines, written in front of a buffer that is lent: `put_..` writes a piece of a line, `write_..` whole lines with their LF. A writer is
+// total: it says how long its text is, and where the buffer has room for it, writes it and leaves the bytes behind it. On an empty part of a buffer it only
+// counts. The rest of the buffer, lent to the next writer, begins at `least` of what was written and the buffer's length: at its end, where the text was too
+// long.
 use base_numbers::least;
 ghost use mathlib.Core.Path.{_≡_};
 ghost use mathlib.Core.List.{[], _∷_};
@@ -9,6 +10,26 @@ ghost use lib.ListN.{length};
 ghost use Rattle.spec_sheet.specs.Numbers.{decimal};
 ghost use Rattle.spec_sheet.specs.Text.{numberText};
 ghost use Rattle.text_write.specs.Fill.{Filled, Lined};
+ghost use Rattle.text_write.specs.Written.{wroteAnswer, numberOf, valueOf};
+
+// What comes of a text and a buffer: the number of a refusal, or the text's length. specs/Written.antt says what it stands for.
+pub enum Wrote {
+    Refused(usize),
+    Length(usize),
+}
+
+// What a C function returns for it: the refusal's number, or 0 with the length handed out (E12).
+pub fn wrote_code(w: Wrote, length: &mut usize) -> usize
+    ensures { λ n. ⌜ (n ≡ numberOf (wroteAnswer w)) × (now (length .exit) ≡ valueOf (now (length .entry)) (wroteAnswer w)) ⌝ }
+{
+    match w {
+        Wrote::Refused(n) => n,
+        Wrote::Length(n) => {
+            *length = n;
+            0
+        }
+    }
+}
 
 // One byte.
 pub fn put_byte(buf: &mut [u8], b: u8) -> usize

@@ -14,10 +14,10 @@ use Rattle.spec_model.specs.Basics.{Res, refuse, ok, names, named, _⇒_}
 use Rattle.spec_model.specs.Table.{Table, size, typeAt, methodAt, argumentAt, answerAt, isRef, permit, isAvail, validSheet}
 use Rattle.spec_model.specs.Relations.{conforms, stateLe, sameRep, outerRule, related}
 use Rattle.spec_model.specs.Crossing.{baseOwner}
-use Rattle.spec_model.specs.Requests.{System, loaded, Request, new, move, call, answer, Result, maxCalls, cellAt, callAt, held, wayOf, argumentsHeld, sendArguments, callRequest, give}
+use Rattle.spec_model.specs.Requests.{System, loaded, Request, new, move, call, answer, Result, maxCalls, cellAt, callAt, held, callLayers, argumentsHeld, sendArguments, callRequest, give}
 use Rattle.spec_model.specs.Requests.{answerRequest, serve, after}
 use Rattle.spec_model.specs.Chains.{Permits}
-use Rattle.spec_model.specs.Book.{Note, Book, opened, noteAt, pageAt, pageWay, lastType, copyPage, copyArguments, copyAnswer, enter}
+use Rattle.spec_model.specs.Book.{Note, Book, opened, noteAt, pageAt, pageLayers, lastType, copyPage, copyArguments, copyAnswer, enter}
 use Rattle.spec_model.specs.Claim.{accepted, feed, follow, reached}
 use Rattle.spec_model.proofs.Tests.{ltb-so, so-ltb}
 use Rattle.spec_model.proofs.Rules.{never, both, first, second, applied}
@@ -27,6 +27,7 @@ use Rattle.spec_model.proofs.Order.{same-sort}
 use Rattle.spec_model.proofs.Tests.{beq-so}
 use Rattle.spec_model.proofs.ChainLaws.{steps}
 use Rattle.spec_model.proofs.Growth.{method-same}
+use Rattle.spec_model.specs.Refusals.{unknownSubject, notHeld, notCallable, wrongValues, answeredAlready, callsFull}
 use Rattle.law_model.proofs.Steps.{IfOk, ok-need, ok-try, whatever}
 use Rattle.law_model.proofs.Demand3.{reached-together, names-below}
 use Rattle.law_model.proofs.Sheets.{sheet-fitting, sheet-good}
@@ -64,12 +65,12 @@ pub call-tested : (s : System) (subject k m : ℤ) (vs : List ℤ) → IfOk (ser
 unfolding serve callRequest
 call-tested s subject k m vs =
     let ty = cellAt s (named k) .type in let f = methodAt (s .table) ty (named m) in
-    ok-need _ (names subject (s .table .subjects)) 5 _ λ _.
-    ok-need _ (held s subject k) 6 _ λ h.
-    ok-need _ (names m (s .table .methods) && isAvail (f .state)) 14 _ λ a.
-    ok-need _ (argumentsHeld s subject (f .args) vs) 15 _ λ _.
-    ok-need _ (ltb (length (s .calls)) maxCalls) 18 _ λ _.
-    let sent = sendArguments s (baseOwner (s .places) (cellAt s (named k) .place)) (wayOf s (cellAt s (named k))) (named m) 0 (f .args) vs in
+    ok-need _ (names subject (s .table .subjects)) unknownSubject _ λ _.
+    ok-need _ (held s subject k) notHeld _ λ h.
+    ok-need _ (names m (s .table .methods) && isAvail (f .state)) notCallable _ λ a.
+    ok-need _ (argumentsHeld s subject (f .args) vs) wrongValues _ λ _.
+    ok-need _ (ltb (length (s .calls)) maxCalls) callsFull _ λ _.
+    let sent = sendArguments s (baseOwner (s .places) (cellAt s (named k) .place)) (callLayers s (cellAt s (named k))) (named m) 0 (f .args) vs in
     let z : Tested s k m = record { cell = first (names k (length (s .cells))) _ h; method = first (names m (s .table .methods)) _ a; avail = second (names m (s .table .methods)) _ a } in
     ok-try (λ _. Unit {0}) _ sent _ (whatever sent) λ _ _. z
 
@@ -91,9 +92,9 @@ pub answer-tested : (s : System) (subject j : ℤ) (v : Option ℤ) → IfOk (se
 unfolding serve answerRequest
 answer-tested s subject j v =
     let c = callAt s (named j) in let y = cellAt s (c .cell) in
-    ok-need _ (names subject (s .table .subjects)) 5 _ λ _.
-    ok-need _ (names j (length (s .calls)) && eqb (named subject) (baseOwner (s .places) (y .place))) 6 _ λ h.
-    ok-need _ (not (c .answered)) 17 _ λ _.
+    ok-need _ (names subject (s .table .subjects)) unknownSubject _ λ _.
+    ok-need _ (names j (length (s .calls)) && eqb (named subject) (baseOwner (s .places) (y .place))) notHeld _ λ h.
+    ok-need _ (not (c .answered)) answeredAlready _ λ _.
     go (first (names j (length (s .calls))) _ h) (give s subject (named j) (answerAt (s .table) (c .method) (y .type)) v)
   where
     go : {P : Type 0} → P → (m : Res (System × Result)) → IfOk m (λ _. P)
@@ -143,20 +144,20 @@ either : (ns : List Note) (r : Bool) (x y : Book) → x .calls ≡ ns → y .cal
 either ns true x y p q = p
 either ns false x y p q = q
 
-arguments-note : (b : Book) (way : List ℕ) (m i : ℕ) (xs : List ℕ) (vs : List ℤ) → copyArguments b way m i xs vs .calls ≡ b .calls
+arguments-note : (b : Book) (ls : List ℕ) (m i : ℕ) (xs : List ℕ) (vs : List ℤ) → copyArguments b ls m i xs vs .calls ≡ b .calls
 unfolding copyArguments copyPage
-arguments-note b way m i [] vs = refl
-arguments-note b way m i (a ∷ xs) [] = refl
-arguments-note b way m i (a ∷ xs) (v ∷ vs) = let c = copyPage b (named v) (map (argumentAt (b .table) m i) way) in
-    either (b .calls) (isRef (typeAt (b .table) a .rep)) (copyArguments c way m (suc i) xs vs) (copyArguments b way m (suc i) xs vs) (arguments-note c way m (suc i) xs vs)
-    (arguments-note b way m (suc i) xs vs)
+arguments-note b ls m i [] vs = refl
+arguments-note b ls m i (a ∷ xs) [] = refl
+arguments-note b ls m i (a ∷ xs) (v ∷ vs) = let c = copyPage b (named v) (map (argumentAt (b .table) m i) ls) in
+    either (b .calls) (isRef (typeAt (b .table) a .rep)) (copyArguments c ls m (suc i) xs vs) (copyArguments b ls m (suc i) xs vs) (arguments-note c ls m (suc i) xs vs)
+    (arguments-note b ls m (suc i) xs vs)
 
 answer-note : (b : Book) (n : Note) (due : Option ℕ) (v : Option ℤ) → copyAnswer b n due v .calls ≡ b .calls
 unfolding copyAnswer copyPage
 answer-note b n none v = refl
 answer-note b n (some a) none = refl
 answer-note b n (some a) (some v) =
-    either (b .calls) (isRef (typeAt (b .table) a .rep)) (copyPage b (named v) (reverse (map (answerAt (b .table) (n .method)) (pageWay (pageAt b (n .page)))))) b refl refl
+    either (b .calls) (isRef (typeAt (b .table) a .rep)) (copyPage b (named v) (reverse (map (answerAt (b .table) (n .method)) (pageLayers (pageAt b (n .page)))))) b refl refl
 
 module _ (s : System) (b : Book) (typed : Typed s) (h : Called s (b .calls)) where
   -- nothing is noted
@@ -180,7 +181,7 @@ module _ (s : System) (b : Book) (typed : Typed s) (h : Called s (b .calls)) whe
   entered (new subject class to) a s′ o = same-notes s′ _ o refl
   entered (move subject k receiver to) a s′ o = same-notes s′ _ o refl
   entered (call subject k m vs) a s′ o = let g = pageAt b (named k) in
-      one-note s′ _ k m o a (ap (λ ns. ns ++ (record { page = named k; method = named m } ∷ [])) (arguments-note b (pageWay g) (named m) 0 (methodAt (b .table) (lastType g) (named m) .args) vs))
+      one-note s′ _ k m o a (ap (λ ns. ns ++ (record { page = named k; method = named m } ∷ [])) (arguments-note b (pageLayers g) (named m) 0 (methodAt (b .table) (lastType g) (named m) .args) vs))
   entered (answer subject j v) a s′ o = let n = noteAt b (named j) in same-notes s′ _ o (answer-note b n (answerAt (b .table) (n .method) (lastType (pageAt b (n .page)))) v)
 
   called-on : (q : Request) → Called (after s (serve s q)) (feed b q (accepted (serve s q)) .calls)

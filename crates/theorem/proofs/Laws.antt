@@ -15,6 +15,7 @@ use Rattle.spec_model.specs.Handed.{rawLoaded, counted, storedFrom, handBack, s
 use Rattle.spec_model.specs.Book.{Book, opened}
 use Rattle.spec_model.specs.Claim.{accepted, feed, follow, reached, noteOf, Claim}
 use Rattle.spec_model.proofs.Rules.{never}
+use Rattle.spec_model.specs.Refusals.{outOfRange}
 use Rattle.law_model.proofs.Steps.{IfOk}
 use Rattle.law_model.proofs.Sheets.{demand3}
 use Rattle.law_model.proofs.Returned.{handed-is}
@@ -96,9 +97,9 @@ module _ (t : Table) (v : So (validSheet t)) where
       if-taken : {P : Type 0} (q : Request) → Returns r q o r′ → IfOk (serve (reached t (h .requests) .0) q) (λ _. P) → P
       unfolding serveHanded
       if-taken q w p = last (serve (reached t (h .requests) .0) q) p (subst (λ s. So (accepted (serve s q))) (h .state)
-          (passed (systemAccepted r) (serve (systemOf r) q) (sym (ap taken (w .outcome) ∙ handed-taken r (need (systemAccepted r) 2 λ _. serve (systemOf r) q)) ∙ e)))
+          (passed (systemAccepted r) (serve (systemOf r) q) (sym (ap taken (w .outcome) ∙ handed-taken r (need (systemAccepted r) outOfRange λ _. serve (systemOf r) q)) ∙ e)))
         where
-          passed : (c : Bool) (x : Res (System × Result)) → So (accepted (need c 2 λ _. x)) → So (accepted x)
+          passed : (c : Bool) (x : Res (System × Result)) → So (accepted (need c outOfRange λ _. x)) → So (accepted x)
           passed true x z = z
           passed false x z = never z
 

@@ -16,6 +16,7 @@ use Rattle.spec_model.specs.Check.{RawTable, RawPlace, RawCall, RawSystem, syst
 use Rattle.spec_model.specs.Handed.{rawLoaded, counted}
 use Rattle.spec_model.specs.Book.{Book}
 use Rattle.spec_model.specs.Claim.{feed}
+use Rattle.spec_model.specs.Refusals.{outOfRange}
 use Rattle.law_handed.proofs.Small.{refusal-number}
 use Rattle.table_record.specs.Store.{rawTable}
 use Rattle.spec_sheet.specs.Sheet.{read}
@@ -81,7 +82,7 @@ module _ (words : List ℤ) (n : ℕ) (old new : LentRun) (p : So (systemAccepte
   module _ (w : RunsOut (runHanded (rawFlat x) (room (old .answers)) words) n old new) where
     ran : RanOut os m n old new
     unfolding runHanded
-    ran = subst (λ (c : Bool). RunsOut (need c 2 λ _. ok (os, m)) n old new) p w
+    ran = subst (λ (c : Bool). RunsOut (need c outOfRange λ _. ok (os, m)) n old new) p w
 
     run-returns : RunReturns (rawFlat x) qs os (rawFlat x′)
     run-returns = record { outcomes = refl; records = ran .records }

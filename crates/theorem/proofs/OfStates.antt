@@ -12,6 +12,7 @@ use Rattle.spec_model.specs.Check.{RawSystem, systemOf, systemAccepted}
 use Rattle.spec_model.specs.Handed.{counted}
 use Rattle.spec_model.specs.Book.{Book}
 use Rattle.spec_model.proofs.Rules.{never}
+use Rattle.spec_model.specs.Refusals.{outOfRange}
 use Rattle.sheet_read.specs.declared.Sheet.{Sheet}
 use Rattle.state_record.specs.Whole.{Whole as State}
 use Rattle.state_record.specs.Whole.{whole}
@@ -42,7 +43,7 @@ module _ (s : State) (words old new : List ℤ) (y : Ran) (p : So (systemAccepte
 
   ran : RanAs s old new (runAsked (systemIn s) qs .0) (runAsked (systemIn s) qs .1) y
   unfolding runHanded systemIn
-  ran = let m = runAsked (systemIn s) qs in subst (λ (b : Bool). Runs s old new (need b 2 λ _. ok m) y) p w
+  ran = let m = runAsked (systemIn s) qs in subst (λ (b : Bool). Runs s old new (need b outOfRange λ _. ok m) y) p w
 
   run-returns : RunReturns (rawState s) qs (runAsked (systemIn s) qs .0) (rawState (y .state))
   unfolding systemIn

@@ -10,6 +10,7 @@ use Rattle.spec_model.specs.Requests.{System}
 use Rattle.spec_model.specs.Check.{RawSystem, systemOf}
 use Rattle.spec_model.specs.Book.{Book}
 use Rattle.spec_model.proofs.Rules.{never, first, second, both}
+use Rattle.spec_model.specs.Refusals.{outOfRange}
 use Rattle.law_model.proofs.Demand3.{names-below}
 use Rattle.state_offers.specs.Chained.{methodsNamed, offersNamed, offersHanded}
 use Rattle.theorem.specs.Shown.{Holds, Permitted}
@@ -21,7 +22,7 @@ module _ (r : RawSystem) (b : Book) (x : Holds r b) (k : ℤ) (w : List ℤ) whe
   -- the state passes the check of 2
   pub offers-is : offersHanded r k w ≡ ok (offersNamed s k w)
   unfolding offersHanded
-  offers-is = ap (λ (c : Bool). need c 2 λ _. ok (offersNamed s k w)) (x .passes)
+  offers-is = ap (λ (c : Bool). need c outOfRange λ _. ok (offersNamed s k w)) (x .passes)
 
   offers-to : So (offersNamed s k w) → Permitted b k w
   unfolding offersNamed

@@ -19,6 +19,7 @@ use Rattle.spec_model.specs.Requests.{loaded as start}
 use Rattle.spec_model.specs.Book.{Book, opened}
 use Rattle.spec_model.specs.Claim.{accepted, feed, follow}
 use Rattle.spec_model.proofs.Rules.{never}
+use Rattle.spec_model.specs.Refusals.{shortBuffer}
 use Rattle.law_model.proofs.Steps.{IfOk}
 use Rattle.spec_sheet.specs.Lines.{Row, row, cut, bytes, split, join, starts, firstLine}
 use Rattle.spec_sheet.specs.Clean.{notLF, clean}
@@ -31,7 +32,7 @@ use Rattle.spec_sheet.proofs.Exact.{loaded-valid, loaded-demand3}
 use Rattle.script_read_request.specs.Asked.{requestLine}
 use Rattle.script_write_outcome.specs.Answers.{integerText, outcomeText}
 use Rattle.script_output.specs.Output.{maxInput, sheetPart, requestPart, asked, servedLines, printedLines, scriptOutput}
-use Rattle.script_output.specs.Answer.{writtenOf}
+use Rattle.text_write.specs.Written.{writtenOf}
 use Rattle.export_table.specs.Codes.{WrittenIs}
 use Rattle.script_output.proofs.Short.{output-short, output-fits}
 use Rattle.script_output.proofs.Whole.{lastLine}
@@ -48,7 +49,7 @@ written text old = go (leb (length text) (length old)) refl
     full = record { answer = ok (length text); buffer = text ++ drop (length text) old }
 
     short : Written
-    short = record { answer = refuse 4; buffer = old }
+    short = record { answer = refuse shortBuffer; buffer = old }
 
     go : (b : Bool) → leb (length text) (length old) ≡ b → Fits text old (cond b full short) ⊎ TooShort text old (cond b full short)
     go true e = inl (record {
@@ -223,7 +224,7 @@ written-in text old new n before len = go (leb (length text) (length old))
     full = record { answer = ok (length text); buffer = text ++ drop (length text) old }
 
     short : Written
-    short = record { answer = refuse 4; buffer = old }
+    short = record { answer = refuse shortBuffer; buffer = old }
 
     go : (b : Bool) → WrittenIs (cond b full short) n before len new → writtenIn n len new ≡ cond b full short
     go true w = rw (w .number, w .length, w .bytes)

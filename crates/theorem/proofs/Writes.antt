@@ -14,6 +14,7 @@ use Rattle.spec_model.specs.Book.{Book, opened}
 use Rattle.spec_model.specs.Claim.{reached}
 use Rattle.spec_model.proofs.Rules.{both}
 use Rattle.spec_model.proofs.Growth.{Grown}
+use Rattle.spec_model.specs.Refusals.{outOfRange}
 use Rattle.law_model.proofs.Sheets.{sheet-fitting}
 use Rattle.law_model.proofs.Checked.{system-fitting}
 use Rattle.law_model.proofs.Reached.{reached-fits}
@@ -57,7 +58,7 @@ module _ (t : Table) (v : So (validSheet t)) where
 
     means-writes : (old : List ℕ) → write (r .table) old ≡ writeText (text t) old
     unfolding write
-    means-writes old = ap (λ (c : Bool). cond c (writeText (text (tableOf (r .table))) old) (record { answer = refuse 2; buffer = old })) means-accepted
+    means-writes old = ap (λ (c : Bool). cond c (writeText (text (tableOf (r .table))) old) (record { answer = refuse outOfRange; buffer = old })) means-accepted
         ∙ ap (λ z. writeText z old) (same-text t (tableOf (r .table)) means-grown (sheet-fitting t v .1))
 
 -- from the bytes on

@@ -17,8 +17,8 @@ use Rattle.spec_model.specs.Claim.{feed}
 use Rattle.table_record.specs.Layout.{rawTable}
 use Rattle.spec_sheet.specs.Text.{write, writeText}
 use Rattle.sheet_read.specs.declared.Sheet.{Sheet}
-use Rattle.sheet_write.specs.declared.Wrote.{Wrote}
-use Rattle.sheet_write.specs.Answer.{writtenOf}
+use Rattle.text_write.specs.declared.Wrote.{Wrote}
+use Rattle.text_write.specs.Written.{writtenOf}
 use Rattle.state_record.specs.Whole.{Whole as State}
 use Rattle.state_record.specs.Whole.{whole}
 use Rattle.state_record.specs.Meaning.{rawState, stateLoaded}

@@ -16,14 +16,15 @@ use Rattle.spec_model.specs.Table.{Table}
 use Rattle.spec_model.specs.Requests.{System, Request, call, outcome, serve}
 use Rattle.spec_model.specs.Book.{Book}
 use Rattle.spec_model.specs.Claim.{reached, Claim}
+use Rattle.spec_model.specs.Refusals.{shortBuffer}
 use Rattle.spec_sheet.specs.Lines.{row, bytes, split, join, starts, firstLine}
 use Rattle.spec_sheet.specs.Text.{numberText, Written, writeText}
 use Rattle.spec_sheet.specs.Sheet.{malformed, loaded, read}
 use Rattle.script_read_request.specs.Asked.{requestLine}
 use Rattle.script_write_outcome.specs.Answers.{outcomeText}
 use Rattle.script_output.specs.Output.{maxInput, sheetPart, requestPart, asked, scriptOutput}
-use Rattle.script_output.specs.declared.Wrote.{Wrote}
-use Rattle.script_output.specs.Answer.{writtenOf}
+use Rattle.text_write.specs.declared.Wrote.{Wrote}
+use Rattle.text_write.specs.Written.{writtenOf}
 use Rattle.export_table.specs.Codes.{WrittenIs}
 use Rattle.theorem.specs.Shown.{Permitted}
 
@@ -38,7 +39,7 @@ pub record Fits (text old : List ℕ) (w : Written) : Type 0 where
 -- It does not: 4, and every byte is as it was.
 pub record TooShort (text old : List ℕ) (w : Written) : Type 0 where
   pub short : length old < length text
-  pub answer : w .answer ≡ refuse 4
+  pub answer : w .answer ≡ refuse shortBuffer
   pub untouched : w .buffer ≡ old
 
 -- ---- The lines of an input whose sheet is read as t

@@ -1,23 +1,40 @@
 //! The referee's questions: for each object and method, who can call it or come to, how the references came to them, and which calls were made.
 
+mod document;
+
 use crate::names::{Kind, Names};
 use crate::paint::{Paint, Tone};
-use crate::reach::{Power, MOST_STEPS};
+use crate::reach::Power;
 use crate::scripts::calls::Calls;
 use crate::scripts::follow::Run;
+use crate::scripts::trails::layers;
 use crate::words::under;
-use pilgonca::{CellInfo, Place, PlaceInfo, PlaceKind, Refusal, Sheet, Type};
+use pilgonca::{CellInfo, Place, PlaceInfo, PlaceKind, Refusal, Sheet};
+
+/// In front of all that is told of a saved state.
+const SAVED: &str = "\
+This is a saved state. It has the references, what they lead to, and the calls, not the requests that led to
+it. Who gave a reference to whom and as which types, what a call was given and answered with, and what was
+refused cannot be known from it. The core found it sound. That requests led to it, as what follows takes for
+granted, cannot be seen from its bytes.
+
+";
 
 const HEAD: &str = "\
 Who could call what. Nothing is ever taken away: who held a reference at any time holds it at the end,
-so this covers the whole visit.
+";
 
+const COVERS_ALL: &str = "so this covers the whole visit.\n";
+const COVERS_BEFORE: &str = "so this covers the visit until the state was saved.\n";
+
+const TERMS: &str = "
   can call          the type of the cell lets its holder call the method, given arguments that fit
   can come to call  its holder can hand the reference to itself as the types named, and then call it
   offers            the method is there, and no type that the reference can be handed on as lets it be called
 ";
 
 const WAYS: &str = "how they came, since the object was made or its owner last took it back";
+const LAYERS: &str = "types behind them";
 
 /// What of a run is asked about.
 #[derive(Clone, Copy, Default, PartialEq, Eq, Debug)]
@@ -40,14 +57,18 @@ impl Question {
     }
 
     /// As a question, with its answer.
-    fn answered(&self, names: &Names, yes: bool) -> String {
+    fn answered(&self, names: &Names, answer: Answer) -> String {
         let subject = self.subject.map_or("anybody".to_string(), |number| {
             names.words(Kind::Subject, number as i64)
         });
         let method = self.method.map_or("anything".to_string(), |number| {
             names.words(Kind::Method, number as i64)
         });
-        let answer = if yes { "yes" } else { "no" };
+        let answer = match answer {
+            Answer::Yes => "yes",
+            Answer::No => "no",
+            Answer::Untold => "the state does not tell: it has no room now, and had before",
+        };
         match self.calls {
             true => format!("Did {subject} call {method}? {answer}\n"),
             false => format!("Could {subject} have called {method}? {answer}\n"),
@@ -55,10 +76,27 @@ impl Question {
     }
 }
 
+#[derive(Clone, Copy, PartialEq, Eq, Debug)]
+pub enum Answer {
+    Yes,
+    No,
+    /// A saved state is full: there was room once for ways that can no more be tried.
+    Untold,
+}
+
+impl Answer {
+    fn of(yes: bool) -> Answer {
+        match yes {
+            true => Answer::Yes,
+            false => Answer::No,
+        }
+    }
+}
+
 /// The report, and the answer to the question.
 pub struct Audited {
     pub text: String,
-    pub yes: bool,
+    pub answer: Answer,
 }
 
 /// The answer for a whole run. What a cell offers, and what its holder can come to call, is asked of the core.
@@ -67,6 +105,7 @@ pub fn audit(
     question: Question,
     names: &Names,
     paint: Paint,
+    json: bool,
 ) -> Result<Audited, Refusal> {
     let sheet = run.visit.sheet();
     let sheet = &sheet;
@@ -77,28 +116,41 @@ pub fn audit(
         names,
         paint,
     };
-    let cut = cut_short(run).map_or(String::new(), |cut| cut + "\n");
-    let (report, yes) = match question.calls {
-        true => (String::new(), calls.count() > 0),
-        false => {
-            let powers = run.powers()?;
-            let auditor = Auditor {
-                run,
-                sheet,
-                question,
-                names,
-                paint,
-                powers,
-            };
-            (auditor.told() + "\n", auditor.any())
-        }
+    let auditor = match question.calls {
+        true => None,
+        false => Some(Auditor {
+            run,
+            sheet,
+            question,
+            names,
+            paint,
+            powers: run.powers()?,
+        }),
     };
-    let answer = match question.is_asked() {
-        true => format!("\n{}", question.answered(names, yes)),
+    let answer = match &auditor {
+        Some(auditor) => auditor.answer(),
+        None => Answer::of(calls.count() > 0),
+    };
+    let text = match json {
+        true => document::document(auditor.as_ref(), &calls, answer).to_string(),
+        false => report(auditor.as_ref(), &calls, answer),
+    };
+    Ok(Audited { text, answer })
+}
+
+/// The whole in words; there is no auditor where only calls are asked for.
+fn report(auditor: Option<&Auditor>, calls: &Calls, answer: Answer) -> String {
+    let (run, question) = (calls.run, calls.question);
+    let before = match run.saved {
+        true => SAVED.to_string(),
+        false => cut_short(run).map_or(String::new(), |cut| cut + "\n"),
+    };
+    let objects = auditor.map_or(String::new(), |auditor| auditor.told() + "\n");
+    let answered = match question.is_asked() {
+        true => format!("\n{}", question.answered(calls.names, answer)),
         false => String::new(),
     };
-    let text = format!("{cut}{report}{}{answer}", calls.told());
-    Ok(Audited { text, yes })
+    format!("{before}{objects}{}{answered}", calls.told())
 }
 
 /// In the report itself: it may go on without what went to standard error.
@@ -125,9 +177,14 @@ impl Auditor<'_> {
     fn told(&self) -> String {
         let visit = &self.run.visit;
         let objects: String = visit.places().map(|place| self.object(&place)).collect();
+        let covers = match self.run.saved {
+            true => COVERS_BEFORE,
+            false => COVERS_ALL,
+        };
+        let head = format!("{HEAD}{covers}{TERMS}");
         match objects.is_empty() {
-            true => format!("{HEAD}\nNo object was made.\n"),
-            false => HEAD.to_string() + &objects,
+            true => format!("{head}\nNo object was made.\n"),
+            false => head + &objects,
         }
     }
 
@@ -144,12 +201,18 @@ impl Auditor<'_> {
             .collect()
     }
 
-    fn any(&self) -> bool {
-        (0..self.sheet.methods()).any(|method| {
-            self.asked(None, method)
-                .iter()
-                .any(|(_, power)| power.is_yes())
-        })
+    fn answer(&self) -> Answer {
+        let any = |test: fn(&Power) -> bool| {
+            (0..self.sheet.methods()).any(|method| {
+                let asked = self.asked(None, method);
+                asked.iter().any(|(_, power)| test(power))
+            })
+        };
+        let full = |power: &Power| matches!(power, Power::NoRoom(_));
+        match any(Power::is_yes) {
+            false if self.run.saved && any(full) => Answer::Untold,
+            yes => Answer::of(yes),
+        }
     }
 
     /// All about one object; nothing for an adapter.
@@ -205,40 +268,34 @@ impl Auditor<'_> {
     }
 
     fn power(&self, power: &Power) -> String {
-        let path = |types: &[Type]| {
-            let types = types.iter();
-            let types = types.map(|one| self.names.numbered(Kind::Type, one.0));
-            types.collect::<Vec<String>>().join(" and then as ")
+        let before = match power {
+            Power::NoRoom(_) if self.run.saved => {
+                "; whether there was one while there was room, the state does not tell"
+            }
+            _ => "",
         };
-        match power {
-            Power::Now => "can call".to_string(),
-            Power::Alone(types) => format!("can come to call alone: to itself as {}", path(types)),
-            Power::Once(types, refusal) => {
-                let path = path(types);
-                format!("could come to call alone, to itself as {path}, while there was room; now {refusal}")
-            }
-            Power::NoRoom(refusal) => {
-                format!("offers: no way to call it was found, and {refusal} for further ones")
-            }
-            Power::Unsettled => {
-                format!("offers: whether its holder can come to call it is not settled in {MOST_STEPS} steps")
-            }
-            Power::Never => "offers: no type of the sheet lets it be called".to_string(),
+        power.words(self.names) + before
+    }
+
+    fn way(&self, cell: &CellInfo) -> String {
+        let (run, sheet, names) = (self.run, self.sheet, self.names);
+        match run.trails.of(cell.number) {
+            Some(trail) => trail.words(sheet, names),
+            None => layers(&run.visit, sheet, cell, names),
         }
     }
 
-    /// How cells came to their holders.
+    /// How cells came to their holders, or of a saved state what is left of it.
     fn ways(&self, cells: &[CellInfo]) -> String {
-        let mut text = String::new();
-        for cell in cells {
-            if let Some(trail) = self.run.trails.of(cell.number) {
-                let head = format!("    cell {:<3}  ", cell.number);
-                text += &under(&head, &trail.words(self.sheet, self.names));
-            }
-        }
-        match text.is_empty() {
-            true => text,
-            false => format!("  {WAYS}\n{text}"),
+        let title = if self.run.saved { LAYERS } else { WAYS };
+        let rows = cells.iter().map(|cell| {
+            let head = format!("    cell {:<3}  ", cell.number);
+            under(&head, &self.way(cell))
+        });
+        let rows: String = rows.collect();
+        match rows.is_empty() {
+            true => rows,
+            false => format!("  {title}\n{rows}"),
         }
     }
 }

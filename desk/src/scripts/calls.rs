@@ -1,12 +1,13 @@
 //! The calls of a run: who called what through which cell, which types stand behind it, and whether it is answered.
 
-use crate::described::Described;
+mod document;
+
 use crate::names::{Kind, Names};
 use crate::paint::{Paint, Tone};
 use crate::scripts::audit::Question;
 use crate::scripts::follow::{Got, Run, Step};
 use crate::scripts::requests::Request;
-use crate::scripts::trails::behind;
+use crate::scripts::trails::layers;
 use crate::words::under;
 use pilgonca::{CallInfo, Sheet};
 
@@ -67,15 +68,12 @@ impl Calls<'_> {
             + &under(&margin, &self.answer(call))
     }
 
-    /// The types that the call goes through: the cell's, those of adapters, the class (C9).
     fn layers(&self, call: &CallInfo) -> String {
-        let Some(cell) = self.run.visit.cell_info(call.cell) else {
-            return String::new();
-        };
-        let (behind, _) = behind(&self.run.visit, &cell);
-        let layers = std::iter::once(cell.type_).chain(behind);
-        let layers = layers.map(|one| Described::of(self.sheet, one).short(self.names));
-        layers.collect::<Vec<String>>().join(" > ")
+        let visit = &self.run.visit;
+        let cell = visit.cell_info(call.cell);
+        cell.map_or(String::new(), |cell| {
+            layers(visit, self.sheet, &cell, self.names)
+        })
     }
 
     fn answer(&self, call: &CallInfo) -> String {

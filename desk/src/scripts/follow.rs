@@ -13,7 +13,7 @@ use pilgonca::{
 use std::ops::Range;
 
 /// What an accepted request came to.
-#[derive(Clone, Copy, PartialEq, Eq, Debug)]
+#[derive(Clone, PartialEq, Eq, Debug)]
 pub enum Got {
     Held(Held),
     Called(Called),
@@ -51,23 +51,15 @@ pub struct Run<'a> {
     pub trails: Trails,
     /// The state behind each request that made cells, and how many cells there were then: earlier states have more room.
     pub earlier: Vec<(usize, Visit)>,
+    /// Whether it begins with a saved state: nothing is known of the requests before.
+    pub saved: bool,
 }
 
 /// Runs the requests of a script up to the first line that is none.
 pub fn follow(input: &[u8]) -> Result<Run<'_>, SheetRefused> {
-    let (sheet, requests) = split(input);
-    let mut run = Run {
-        visit: Visit::load(sheet)?,
-        steps: Vec::new(),
-        malformed: None,
-        trails: Trails::default(),
-        earlier: Vec::new(),
-    };
-    let first = sheet.iter().filter(|byte| **byte == b'\n').count() + 1;
-    for (index, whole) in requests.split_inclusive(|byte| *byte == b'\n').enumerate() {
-        let line_number = first + index;
-        let line = whole.strip_suffix(b"\n").unwrap_or(whole);
-        match request(whole) {
+    let mut run = Run::begun(Visit::load(split(input).0)?, false);
+    for (line_number, line, request) in requests(input) {
+        match request {
             Ok(request) => run.step(line_number, line, request),
             Err(flaw) => {
                 run.malformed = Some(Malformed {
@@ -82,6 +74,31 @@ pub fn follow(input: &[u8]) -> Result<Run<'_>, SheetRefused> {
     Ok(run)
 }
 
+/// The first line behind a script's sheet that is no request.
+pub fn malformed(input: &[u8]) -> Option<Malformed<'_>> {
+    requests(input).find_map(|(line_number, line, request)| {
+        let flaw = request.err()?;
+        Some(Malformed {
+            line_number,
+            line,
+            flaw,
+        })
+    })
+}
+
+/// A line behind a sheet: its number, itself without its LF, and what it asks.
+type Line<'a> = (usize, &'a [u8], Result<Request, Flaw>);
+
+fn requests(input: &[u8]) -> impl Iterator<Item = Line<'_>> {
+    let (sheet, requests) = split(input);
+    let first = sheet.iter().filter(|byte| **byte == b'\n').count() + 1;
+    let lines = requests.split_inclusive(|byte| *byte == b'\n').enumerate();
+    lines.map(move |(index, whole)| {
+        let line = whole.strip_suffix(b"\n").unwrap_or(whole);
+        (first + index, line, request(whole))
+    })
+}
+
 /// A line with its LF as a request.
 fn request(whole: &[u8]) -> Result<Request, Flaw> {
     let Some(line) = whole.strip_suffix(b"\n") else {
@@ -94,6 +111,18 @@ fn request(whole: &[u8]) -> Result<Request, Flaw> {
 }
 
 impl<'a> Run<'a> {
+    /// No request yet, on the state of a sheet or on one that was saved.
+    pub fn begun(visit: Visit, saved: bool) -> Run<'a> {
+        Run {
+            visit,
+            steps: Vec::new(),
+            malformed: None,
+            trails: Trails::default(),
+            earlier: Vec::new(),
+            saved,
+        }
+    }
+
     /// What the holder of each cell can do with each method, or could while there was room; none where it has nothing to do with it.
     pub fn powers(&self) -> Result<Vec<Vec<Option<Power>>>, Refusal> {
         let mut all = Reach::of_visit(&self.visit)?;

@@ -1,6 +1,6 @@
 //! The requests of a script, read as the core reads them (P2, P5 to P11); `follow` holds what came of them against the core's own run.
 
-use crate::reader::{Flaw, Reader};
+use crate::reader::{Flaw, Reader, LEADING_ZERO};
 
 /// A request with its operands.
 #[derive(Clone, PartialEq, Eq, Debug)]
@@ -68,7 +68,7 @@ pub fn split(input: &[u8]) -> (&[u8], &[u8]) {
 pub fn read(line: &[u8]) -> Result<Request, Flaw> {
     let mut reader = Reader::new(line);
     if !reader.take("do=") {
-        return Err(reader.flaw(line.len(), "a request begins with do= and a word"));
+        return Err(reader.flaw(line.len(), "this is no request: it does not begin with do="));
     }
     let length = reader.count(|byte| byte != b' ' && byte != b'\r');
     let word = &reader.rest()[..length];
@@ -77,12 +77,7 @@ pub fn read(line: &[u8]) -> Result<Request, Flaw> {
         b"move" => moved,
         b"call" => call,
         b"answer" => answer,
-        _ => {
-            return Err(reader.flaw(
-                length,
-                "there is no such request: they are new, move, call and answer",
-            ))
-        }
+        _ => return Err(reader.flaw(length, "there is no such request")),
     };
     reader.skip(length);
     let request = request(&mut reader)?;
@@ -151,11 +146,11 @@ fn operand(reader: &mut Reader, what: &str) -> Result<i64, Flaw> {
         return Err(reader.flaw(0, format!("the line ends where its {what} is due")));
     }
     if !reader.take(" ") {
-        return Err(reader.flaw(1, format!("a space is due here, in front of the {what}")));
+        return Err(reader.flaw(1, format!("no space stands here, in front of the {what}")));
     }
     let length = reader.count(|byte| byte.is_ascii_digit() || byte == b'-');
     let number = whole(&reader.rest()[..length]).map_err(|wrong| {
-        let wrong = wrong.unwrap_or_else(|| format!("a number is due here: the {what}"));
+        let wrong = wrong.unwrap_or_else(|| format!("this is no number, and the {what} is due"));
         reader.flaw(length.max(1), wrong)
     })?;
     reader.skip(length);
@@ -169,8 +164,8 @@ fn whole(word: &[u8]) -> Result<i64, Option<String>> {
         return Err(None);
     }
     let wrong = match digits {
-        [b'0'] if word != digits => "0 has no sign",
-        [b'0', _, ..] => "a number has no leading zeros",
+        [b'0'] if word != digits => "a sign stands in front of 0",
+        [b'0', _, ..] => LEADING_ZERO,
         _ => "this number does not fit 64 bits",
     };
     let text = std::str::from_utf8(word).ok();

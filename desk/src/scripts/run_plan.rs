@@ -1,52 +1,39 @@
-//! Where the references of a run stand in its picture. Every object is the root of a tree: holders of references on the left, adapters between, the
-//! object on the right. A cell has a row of its own and what is behind it stands in the middle of its rows, so that no lines cross.
+//! Where the references of a run stand in its picture. Holders are on the left, objects on the right, adapters between. A row is a kind of reference, and what
+//! it leads to stands beside its rows, so that no lines cross. Of the adapters in front of another, the one with most in front of it stands below that, the
+//! others one column further left. Each of these has less than half of the boxes, so columns are few however deep the nesting: 8 at most for the 128 places of
+//! a state.
 
-use crate::names::{Kind, Names};
-use crate::reach::Power;
-use crate::scripts::follow::Run;
-use crate::svg::{text_width, BELOW_TITLE};
-use pilgonca::{CellInfo, MethodInfo, PlaceInfo, PlaceKind, Refusal, TypeInfo};
+use crate::scripts::run_tree::Tree;
+use crate::scripts::run_words::{PlaceWords, RowWords, Writer};
+use crate::svg::BELOW_TITLE;
 
-/// From one row to the next.
-const ROW: usize = 52;
-/// Between two objects.
-const APART: usize = 20;
-/// No list of methods is longer, in characters.
-const LISTED: usize = 60;
+/// Between two rows.
+const ROWS: usize = 6;
+/// More, between two objects or two adapters in front of one place, and for an arrow that goes up.
+const APART: usize = 12;
 
-/// Two lines of words in a box.
-pub struct Words {
-    pub first: String,
-    pub second: String,
-}
-
-impl Words {
-    pub fn width(&self) -> usize {
-        text_width(&self.first, 12, true).max(text_width(&self.second, 12, false)) + 24
-    }
-}
-
-/// A cell in its row.
+/// Cells in their row.
 pub struct Leaf {
-    pub words: Words,
-    /// The methods that its holder can call, and below those that it can come to call, and those that are only there.
-    pub calls: String,
-    pub comes: String,
-    pub place: usize,
-    /// The middle of its row.
+    pub words: RowWords,
+    /// The index of what they lead to.
+    pub node: usize,
+    /// The middle of the row, and its height.
     pub y: usize,
+    pub height: usize,
 }
 
-/// An object or an adapter.
+/// Objects or adapters.
 pub struct Node {
-    pub words: Words,
-    /// What is behind an adapter.
+    pub words: PlaceWords,
+    /// The index of what is behind adapters.
     pub behind: Option<usize>,
-    /// How many adapters there are from it to its object, itself among them.
-    pub depth: usize,
+    /// From the right: the objects' is 0.
+    pub column: usize,
     pub y: usize,
+    pub height: usize,
 }
 
+/// Everything, with its place.
 pub struct Plan {
     pub leaves: Vec<Leaf>,
     pub nodes: Vec<Node>,
@@ -54,149 +41,149 @@ pub struct Plan {
     pub bottom: usize,
 }
 
-/// The plan of the references at the end of a run.
-pub fn plan(run: &Run, names: &Names) -> Result<Plan, Refusal> {
-    let types: Vec<TypeInfo> = run.visit.types().collect();
-    let cells = run.visit.cells().zip(run.powers()?);
-    let leaves = cells
-        .map(|(cell, powers)| leaf(names, &cell, &powers))
-        .collect();
-    let mut plan = Plan {
-        leaves,
-        nodes: Vec::new(),
-        bottom: BELOW_TITLE,
-    };
-    for place in run.visit.places() {
-        let node = plan.node(&place, &types, names);
-        plan.nodes.push(node);
-    }
-    for index in 0..plan.nodes.len() {
-        if plan.nodes[index].behind.is_none() {
-            plan.stack(index);
+impl Plan {
+    pub fn of(forest: &[Tree], writer: &Writer) -> Plan {
+        let mut plan = Plan {
+            leaves: Vec::new(),
+            nodes: Vec::new(),
+            bottom: BELOW_TITLE,
+        };
+        for tree in forest {
+            let at = At {
+                behind: None,
+                column: 0,
+                places: 0,
+            };
+            plan.stack(tree, writer, at, 0);
             plan.bottom += APART;
         }
+        plan
     }
-    Ok(plan)
-}
 
-impl Plan {
-    /// A place, whose number is above those of what is behind it (Q2).
-    fn node(&self, place: &PlaceInfo, types: &[TypeInfo], names: &Names) -> Node {
-        let number = place.number;
-        let (first, second, behind) = match &place.kind {
-            PlaceKind::Object { class, owner } => {
-                let (class, owner) = (
-                    names.label(Kind::Type, class.0),
-                    names.label(Kind::Subject, owner.0),
-                );
-                (
-                    format!("object, place {number}"),
-                    format!("class {class}, owner {owner}"),
-                    None,
-                )
-            }
-            PlaceKind::Adapter { behind, closed } => {
-                let info = types.iter().find(|info| info.number == *closed);
-                let through = listed(&avail(info), names);
-                (
-                    format!("adapter, place {number}"),
-                    format!("lets through {through}"),
-                    Some(behind.0 as usize),
-                )
-            }
-        };
-        let depth = behind
-            .and_then(|behind| self.nodes.get(behind))
-            .map_or(0, |node| node.depth + 1);
-        Node {
-            words: Words { first, second },
-            behind,
-            depth,
+    /// Puts a tree below what is there, in front of a node, with a first row of at least this height. Its index.
+    fn stack(&mut self, tree: &Tree, writer: &Writer, at: At, least: usize) -> usize {
+        let words = writer.place(tree, at.places);
+        let height = words.height();
+        let (index, column) = (self.nodes.len(), at.column);
+        self.nodes.push(Node {
+            words,
+            behind: at.behind,
+            column,
             y: 0,
-        }
-    }
-
-    /// Gives rows to the cells of a place and of the adapters in front of it, and puts it in their middle.
-    fn stack(&mut self, place: usize) {
-        let mut rows = Vec::new();
-        for index in 0..self.leaves.len() {
-            if self.leaves[index].place == place {
-                self.leaves[index].y = self.row();
-                rows.push(self.leaves[index].y);
-            }
-        }
-        for front in place + 1..self.nodes.len() {
-            if self.nodes[front].behind == Some(place) {
-                self.stack(front);
-                rows.push(self.nodes[front].y);
-            }
-        }
-        self.nodes[place].y = match (rows.first(), rows.last()) {
-            (Some(first), Some(last)) => (first + last) / 2,
-            _ => self.row(),
+            height,
+        });
+        let in_front = |column: usize| At {
+            behind: Some(index),
+            column,
+            places: tree.places.len(),
         };
-    }
-
-    /// The middle of the next row.
-    fn row(&mut self) -> usize {
-        self.bottom += ROW;
-        self.bottom - ROW / 2
-    }
-}
-
-/// A cell, and what its holder can do with each method.
-fn leaf(names: &Names, cell: &CellInfo, powers: &[Option<Power>]) -> Leaf {
-    let of = |test: fn(&Power) -> bool| {
-        let powers = powers.iter().enumerate();
-        let powers = powers.filter(move |(_, power)| power.as_ref().is_some_and(test));
-        powers.map(|(method, _)| method).collect::<Vec<usize>>()
-    };
-    let now = of(|power| *power == Power::Now);
-    let comes = of(|power| power.is_yes() && *power != Power::Now);
-    let only = of(Power::is_no);
-    let below = [("comes to call ", comes), ("offers ", only)];
-    let below = below.iter().filter(|(_, methods)| !methods.is_empty());
-    let below: Vec<String> = below
-        .map(|(word, methods)| word.to_string() + &listed(methods, names))
-        .collect();
-    let type_ = names.label(Kind::Type, cell.type_.0);
-    Leaf {
-        words: Words {
-            first: names.words(Kind::Subject, cell.holder.0),
-            second: format!("cell {} as type {type_}", cell.number),
-        },
-        calls: format!("calls {}", listed(&now, names)),
-        comes: below.join("; "),
-        place: cell.place.0 as usize,
-        y: 0,
-    }
-}
-
-/// The methods that an adapter's type lets through.
-fn avail(info: Option<&TypeInfo>) -> Vec<usize> {
-    let methods = info.map_or(&[][..], |info| &info.methods);
-    let methods = methods.iter().enumerate();
-    methods
-        .filter(|(_, method)| matches!(method, MethodInfo::Avail(_)))
-        .map(|(number, _)| number)
-        .collect()
-}
-
-/// Methods by name or number; of too many, how many more there are.
-fn listed(methods: &[usize], names: &Names) -> String {
-    if methods.is_empty() {
-        return "nothing".to_string();
-    }
-    let mut text = String::new();
-    for (index, number) in methods.iter().enumerate() {
-        let name = names
-            .name(Kind::Method, *number)
-            .map_or(number.to_string(), str::to_string);
-        if index > 0 && text.chars().count() + name.chars().count() > LISTED {
-            return format!("{text} and {} more", methods.len() - index);
+        let (beside, below) = fronts(tree, column);
+        let mut least = least.max(height);
+        if !tree.rows.is_empty() || beside.is_empty() {
+            self.nodes[index].y = self.rows(tree, writer, index, least);
+            least = 0;
         }
-        let comma = if index > 0 { ", " } else { "" };
-        text = text + comma + &name;
+        for (number, front) in beside.into_iter().enumerate() {
+            self.bottom += if number > 0 { APART } else { 0 };
+            let front = self.stack(front, writer, in_front(column + 1), least);
+            if least > 0 {
+                // without a row of its own it stands in the first row of what is in front of it
+                self.nodes[index].y = self.nodes[front].y;
+                least = 0;
+            }
+        }
+        if let Some(front) = below {
+            let end = self.nodes[index].y + height / 2;
+            self.bottom = self.bottom.max(end + APART);
+            self.stack(front, writer, in_front(column), 0);
+        }
+        index
     }
-    text
+
+    /// The rows of a node, which take at least so much together. Their middle.
+    fn rows(&mut self, tree: &Tree, writer: &Writer, node: usize, least: usize) -> usize {
+        let rows = tree.rows.iter();
+        let rows: Vec<RowWords> = rows.map(|row| writer.row(row, tree.places.len())).collect();
+        let gaps = ROWS * rows.len().saturating_sub(1);
+        let all = rows.iter().map(RowWords::height).sum::<usize>() + gaps;
+        let (top, room) = (self.bottom, all.max(least));
+        let mut y = top + (room - all) / 2;
+        for words in rows {
+            let height = words.height();
+            self.leaves.push(Leaf {
+                words,
+                node,
+                y: y + height / 2,
+                height,
+            });
+            y += height + ROWS;
+        }
+        self.bottom = top + room + ROWS;
+        top + room / 2
+    }
+}
+
+/// Where a tree goes.
+struct At {
+    behind: Option<usize>,
+    column: usize,
+    /// How many places are behind it.
+    places: usize,
+}
+
+/// What stands beside a tree of this column, and what stands below. In front of an object nothing does.
+fn fronts(tree: &Tree, column: usize) -> (Vec<&Tree>, Option<&Tree>) {
+    let mut fronts: Vec<&Tree> = tree.fronts.iter().collect();
+    if column == 0 {
+        return (fronts, None);
+    }
+    let largest = (0..fronts.len()).max_by_key(|index| fronts[*index].size());
+    let below = largest.map(|index| fronts.remove(index));
+    (fronts, below)
+}
+
+#[cfg(test)]
+mod tests {
+    use super::*;
+    use crate::names::Names;
+    use crate::scripts::run_tree::trees;
+    use pilgonca::{Cell, CellInfo, Place, PlaceInfo, PlaceKind, Sheet, Subject, Type, EXAMPLE};
+
+    /// How many columns 128 places take: an object, and 127 adapters, each in front of the place that is given by its number. No two are alike, since their
+    /// cells are of different types.
+    fn columns(behind: fn(i64) -> i64) -> usize {
+        let place = |number: i64| PlaceInfo {
+            number: Place(number),
+            kind: match number {
+                0 => PlaceKind::Object {
+                    class: Type(1),
+                    owner: Subject(0),
+                },
+                _ => PlaceKind::Adapter {
+                    behind: Place(behind(number)),
+                    closed: Type(1),
+                },
+            },
+        };
+        let cell = |number: i64| CellInfo {
+            number: Cell(number),
+            holder: Subject(0),
+            type_: Type(number),
+            place: Place(number),
+        };
+        let places: Vec<PlaceInfo> = (0..128).map(place).collect();
+        let cells: Vec<_> = (0..128).map(|number| (cell(number), Vec::new())).collect();
+        let sheet = &Sheet::read(EXAMPLE).expect("a sheet");
+        let names = &Names::default();
+        let plan = Plan::of(&trees(&places, &cells), &Writer { sheet, names });
+        assert_eq!((plan.nodes.len(), plan.leaves.len()), (128, 128));
+        1 + plan.nodes.iter().map(|node| node.column).max().unwrap_or(0)
+    }
+
+    #[test]
+    fn columns_are_few() {
+        assert_eq!(columns(|number| number - 1), 2, "one in front of the other");
+        assert_eq!(columns(|_| 0), 2, "all in front of the object");
+        assert_eq!(columns(|number| number / 2), 8, "two in front of each");
+    }
 }

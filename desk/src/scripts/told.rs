@@ -1,5 +1,7 @@
 //! A run in words: each request, and what it came to.
 
+mod document;
+
 use crate::described::{methods, permitted};
 use crate::explain::refused;
 use crate::names::{Kind, Names};
@@ -112,7 +114,7 @@ impl Teller<'_> {
     }
 
     fn called(&self, called: &Called, step: &Step) -> String {
-        let Called { call, adapters } = called;
+        let Called { call, adapters, .. } = called;
         let way = match adapters {
             0 => "with no adapter between".to_string(),
             1 => "through 1 adapter".to_string(),

@@ -231,6 +231,14 @@ impl Layers {
     }
 }
 
+/// The types that a call through a cell goes through, in words: the cell's, those of adapters, the class (C9).
+pub fn layers(visit: &Visit, sheet: &Sheet, cell: &CellInfo, names: &Names) -> String {
+    let (behind, _) = behind(visit, cell);
+    let layers = std::iter::once(cell.type_).chain(behind);
+    let layers = layers.map(|one| Described::of(sheet, one).short(names));
+    layers.collect::<Vec<String>>().join(" > ")
+}
+
 /// The types behind a cell's own, that of the outermost adapter first, the class last; and who owns the object.
 pub fn behind(visit: &Visit, cell: &CellInfo) -> (Vec<Type>, Subject) {
     let places: Vec<PlaceKind> = visit.places().map(|info| info.kind).collect();

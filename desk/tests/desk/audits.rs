@@ -3,10 +3,10 @@
 use crate::files::{accepted, read, run, with_file, NAMES, SCRIPT, SHEET};
 use desk::scripts::requests::split;
 use pilgonca::Visit;
-use reference::gen::{generate, Profile};
+use reference::generators::{generate, Profile};
 
 /// Case P, where the printer was lent the log as a type in which mark is optional.
-const OPTIONAL: &str = "examples/optional.script";
+pub const OPTIONAL: &str = "examples/optional.script";
 
 #[test]
 fn what_is_optional_can_be_come_to() {
@@ -97,7 +97,7 @@ fn calls_are_listed() {
 }
 
 /// What is asked of OPTIONAL, the status, and the answer.
-const ASKED: [(&[&str], i32, &str); 7] = [
+pub const ASKED: [(&[&str], i32, &str); 7] = [
     (
         &["--subject", "printer", "--method", "mark"],
         0,

@@ -6,7 +6,7 @@ use desk::diagnosis::diagnose;
 use desk::names::Names;
 use desk::scripts::requests::split;
 use pilgonca::{Sheet, SheetRefused};
-use reference::gen::{generate, Profile};
+use reference::generators::{generate, Profile};
 
 /// How often each number was met; 0 stands for accepted.
 type Counts = [usize; 4];
@@ -47,6 +47,29 @@ fn fits(text: &[u8], counts: &mut Counts) {
         "{mark:?}: {shown}"
     );
     assert!(!found.flaw.wrong.is_empty() && !found.right.is_empty());
+    is_no_rule(&found.flaw.wrong);
+}
+
+/// What is wrong is told, and not what would be right everywhere: that stands behind `right:`.
+fn is_no_rule(wrong: &str) {
+    for rule in [
+        " at most",
+        " may ",
+        " has no ",
+        " have no ",
+        "lines end",
+        "every line",
+        "they are",
+        "allowed",
+        "only ",
+        " are\n",
+    ] {
+        assert!(!wrong.contains(rule), "{rule:?}: {wrong}");
+    }
+    assert!(
+        !wrong.ends_with(" are") && !wrong.ends_with(" is"),
+        "{wrong}"
+    );
 }
 
 /// Every number is met, and damage that leaves a sheet right is rare.
@@ -82,28 +105,71 @@ fn generated_sheets_have_words() {
 
 /// Line 7 of a sheet with three categories is `under=1,2`, line 15 `own=no`, line 16 an m= line; what each is changed to, the part of it that is
 /// marked, and words that are said.
-const WORDS: [(usize, &str, &str, &str); 17] = [
-    (1, "guide=2", "2", "only 1 is"),
-    (2, "subjects=007", "007", "no leading zeros"),
-    (3, "methods=+1", "+", "no sign"),
-    (4, "cats=3 ", " ", "no space stands at the end"),
-    (7, "under=0,1,2", ",2", "two broader ones at most"),
-    (7, "under=0,3", "3", "a lower number than its own"),
-    (7, "under=9,3", "9", "0 to 3 are"),
-    (15, "own=yes\r", "\r", "carriage return"),
-    (15, "own=maybe", "maybe", "yes, no"),
+const WORDS: [(usize, &str, &str, &str); 25] = [
+    (1, "guide=2", "2", "there is no form 2 of a sheet"),
+    (
+        2,
+        "subjects=007",
+        "007",
+        "a zero stands in front of the number",
+    ),
+    (2, "subjects=17", "17", "17 is too many subjects"),
+    (2, "subjects=0", "0", "0 is too few subjects"),
+    (3, "methods=+1", "+", "a sign stands in front of the number"),
+    (3, "methods=x", "x", "this is no number"),
+    (4, "cats=3 ", " ", "a space stands at the end"),
+    (
+        4,
+        "cats=99999999999999999999",
+        "99999999999999999999",
+        "a number past 64 bits is too many categories",
+    ),
+    (
+        7,
+        "under=0,1,2",
+        ",2",
+        "a third broader category stands here",
+    ),
+    (
+        7,
+        "under=0,3",
+        "3",
+        "category 3 is given here as broader than itself",
+    ),
+    (7, "under=9,3", "9", "9 names no category of this sheet"),
+    (9, "type=3", "3", "type 3 begins here, and type 0 is next"),
+    (15, "own=yes\r", "\r", "the line ends with CR LF"),
+    (15, "own=maybe", "maybe", "this word is not yes or no"),
     (
         15,
         "end=sheet",
         "end=sheet",
         "where the own= line of type 1 is due",
     ),
-    (16, "m=avail(0,0,0)0", ",0", "two arguments at most"),
-    (16, "m=avail(0;0)0", ";0", "a ) is due here"),
+    (
+        16,
+        "m=avail(0,0,0,0,0)0",
+        ",0",
+        "one argument too many stands here",
+    ),
+    (
+        16,
+        "m=avail(0,0,99)0",
+        "99",
+        "99 names no type of this sheet",
+    ),
+    (16, "m=avail(0,0,0;0)0", ";0", "no ) stands here"),
+    (16, "m=avail(0;0)0", ";0", "no ) stands here"),
     (16, "m=avail()", "", "the answer is missing"),
     (16, "m=optional", "", "the signature is missing"),
-    (16, "m=denied()-", "()-", "have no signature"),
-    (16, "m=avail(0)99", "99", "0 to 4 are"),
+    (16, "m=denied()-", "()-", "a signature stands behind denied"),
+    (
+        16,
+        "m=allowed",
+        "allowed",
+        "this word is not denied, unavail, avail or optional",
+    ),
+    (16, "m=avail(0)99", "99", "99 names no type of this sheet"),
     (
         18,
         "m=denied",

@@ -8,6 +8,9 @@ pub const SHEET: &str = "examples/case-p.sheet";
 pub const SCRIPT: &str = "examples/case-p.script";
 pub const NAMES: &str = "examples/case-p.names";
 
+/// The variable that says how desk is called.
+pub const CALLED: &str = "DESK_COMMAND";
+
 pub fn desk(words: &[&str]) -> Command {
     program(Path::new(env!("CARGO_BIN_EXE_desk")), words)
 }
@@ -15,6 +18,7 @@ pub fn desk(words: &[&str]) -> Command {
 pub fn program(path: &Path, words: &[&str]) -> Command {
     let mut command = Command::new(path);
     command.args(words).current_dir(root()).stdin(Stdio::null());
+    command.env_remove(CALLED);
     command
 }
 
@@ -36,12 +40,37 @@ pub fn accepted(words: &[&str]) -> String {
     out
 }
 
+/// A question that is answered with no.
+pub fn no(words: &[&str]) -> String {
+    let (status, out, error) = run(words);
+    assert_eq!((status, error.as_str()), (1, ""), "{words:?}");
+    out
+}
+
 /// Words that are understood, with input that is not.
 pub fn refused(words: &[&str]) -> String {
+    failed(words, 1)
+}
+
+/// What ends with this status and a message: its own, or one about a place in a file.
+pub fn failed(words: &[&str], expected: i32) -> String {
     let (status, _, error) = run(words);
-    assert_eq!(status, 1, "{words:?}: {error}");
-    assert!(error.starts_with("desk: "), "{words:?}: {error}");
+    assert_eq!(status, expected, "{words:?}: {error}");
+    let first = error.lines().next().unwrap_or("");
+    assert!(is_message(first), "{words:?}: {error}");
     error
+}
+
+pub fn is_message(line: &str) -> bool {
+    line.starts_with("desk: ") || place(line).is_some()
+}
+
+/// `FILE:LINE:COLUMN: ` in front of a message.
+pub fn place(line: &str) -> Option<(&str, usize, usize)> {
+    let (place, _) = line.split_once(": ")?;
+    let mut parts = place.rsplitn(3, ':');
+    let (column, line) = (parts.next()?.parse().ok()?, parts.next()?.parse().ok()?);
+    Some((parts.next()?, line, column))
 }
 
 /// A file of this test run alone.

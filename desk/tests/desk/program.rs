@@ -1,14 +1,17 @@
 //! The program itself: what it prints, its exit status, and that nothing makes it panic.
 
-use crate::files::{accepted, desk, read, refused, run, told, with_file, NAMES, SCRIPT, SHEET};
-use reference::gen::{generate, Profile};
+use crate::files::{
+    accepted, desk, failed, is_message, no, read, refused, run, told, with_file, NAMES, SCRIPT,
+    SHEET,
+};
+use reference::generators::{generate, Profile};
 use std::fs::File;
 use std::io::Write;
 use std::process::Stdio;
 
 #[test]
 fn wrong_words_are_told_apart_from_bad_input() {
-    let wrong: [&[&str]; 17] = [
+    let wrong: [&[&str]; 27] = [
         &["chek"],
         &["check"],
         &["check", "a", "b"],
@@ -26,31 +29,61 @@ fn wrong_words_are_told_apart_from_bad_input() {
         &["run", SCRIPT, "--calls"],
         &["powers", SHEET, SHEET],
         &["diff", SHEET],
+        &["check", SHEET, "-x"],
+        &["check", SHEET, "--json=yes"],
+        &["check", SHEET, "--names", NAMES, "--no-names"],
+        &["check", SHEET, "--names", NAMES, "--names=x"],
+        &["explain", "8", "--json"],
+        &["fix", SHEET, "--json"],
+        &["check", SHEET, "--out", "x"],
+        &["pairs", SHEET, "--plain", "--json"],
+        &["pairs", SHEET, "--svg", "-", "--json"],
+        &["check", "--", SHEET, "--no-names"],
     ];
     for words in wrong {
         let (status, out, error) = run(words);
         assert_eq!((status, out.as_str()), (2, ""), "{words:?}");
-        assert!(error.contains("desk check SHEET"), "{words:?}: {error}");
+        assert!(
+            error.starts_with("desk: ") && error.lines().count() == 1,
+            "{words:?}: {error}"
+        );
+        assert!(
+            error.ends_with("; desk --help says what there is\n"),
+            "{words:?}: {error}"
+        );
     }
-    for words in [&[][..], &["help"], &["--help"], &["check", "--help"]] {
+    let help = [
+        &[][..],
+        &["help"],
+        &["--help"],
+        &["-h"],
+        &["check", "--help"],
+        &["chek", "-h"],
+        &["pairs", SHEET, "--svg", "--help"],
+    ];
+    for words in help {
         assert!(accepted(words).contains("desk explain N"), "{words:?}");
     }
 }
 
 #[test]
-fn files_that_cannot_be_read() {
-    for command in ["check", "pairs", "run", "audit", "powers"] {
+fn files_that_cannot_be_read_or_written() {
+    for command in ["check", "fix", "pairs", "run", "audit", "powers"] {
         for path in ["no/such/file", "examples", "/"] {
-            let error = refused(&[command, path]);
+            let error = failed(&[command, path], 3);
             assert!(error.contains(path), "{error}");
-            refused(&[command, SHEET, "--names", path]);
+            failed(&[command, SHEET, "--names", path], 3);
         }
-        refused(&[command, "/dev/zero"]);
+        failed(&[command, "/dev/zero"], 3);
         assert!(refused(&[command, "/dev/null"]).contains("the file ends here"));
     }
-    for words in [["pairs", SHEET], ["run", SCRIPT]] {
-        let words = [&words[..], &["--svg", "no/such/folder/x.svg"]].concat();
-        assert!(refused(&words).contains("cannot write"));
+    for words in [
+        ["pairs", SHEET, "--svg"],
+        ["run", SCRIPT, "--svg"],
+        ["fix", SHEET, "--out"],
+    ] {
+        let words = [&words[..], &["no/such/folder/x"]].concat();
+        assert!(failed(&words, 3).contains("cannot write"));
     }
 }
 
@@ -68,29 +101,31 @@ fn any_bytes_get_an_answer() {
         &[b'9'; 40_000],
     ];
     texts.extend(odd.map(<[u8]>::to_vec));
+    texts.push([b"guide=", "3D".repeat(200_000).as_bytes()].concat());
     for text in texts {
         with_file("any", &text, |path| {
             let with_names = ["check", SHEET, "--names", path];
             for words in [
                 &["check", path][..],
                 &["pairs", path],
-                &["compare", path, "0", "1"],
+                &["fix", path],
                 &["run", path],
                 &["audit", path],
                 &["powers", path],
                 &with_names,
             ] {
                 let (status, _, error) = run(words);
-                assert_eq!(
-                    status == 1,
-                    error.starts_with("desk: "),
-                    "{words:?}: {error}"
-                );
+                let is_fix = words[0] == "fix";
+                let message = error.lines().next().is_some_and(is_message);
+                assert_eq!(status == 1 || is_fix, message, "{words:?}: {error}");
                 assert!(
                     status < 2 && !error.contains("panicked"),
                     "{words:?}: {error}"
                 );
             }
+            let (status, _, error) = run(&["compare", path, "0", "1"]);
+            let message = error.lines().next().is_some_and(is_message);
+            assert_eq!(message, status == 3, "{error}");
         });
     }
 }
@@ -119,7 +154,7 @@ fn a_reader_may_go_away() {
     let (status, _, error) = unread(&["run", "examples/refused-01.script"]);
     assert_eq!(status, 1);
     assert!(
-        error.contains("0 has no sign") && !error.contains("cannot print"),
+        error.contains("a sign stands in front of 0") && !error.contains("cannot print"),
         "{error}"
     );
     let mut child = desk(&["check", "no/such/file"])
@@ -127,7 +162,7 @@ fn a_reader_may_go_away() {
         .spawn()
         .expect("desk runs");
     drop(child.stderr.take());
-    assert_eq!(child.wait().expect("it ends").code(), Some(1));
+    assert_eq!(child.wait().expect("it ends").code(), Some(3));
 }
 
 #[test]
@@ -138,7 +173,7 @@ fn what_cannot_be_printed_is_told() {
         .expect("a device");
     let output = desk(&["help"]).stdout(full).output().expect("desk runs");
     let (status, _, error) = told(output);
-    assert_eq!(status, 1);
+    assert_eq!(status, 3);
     assert!(error.contains("cannot print"), "{error}");
 }
 
@@ -153,7 +188,7 @@ fn standard_input_is_a_file() {
     input.write_all(&read(SCRIPT)).expect("it reads");
     drop(input);
     let (status, out, _) = told(child.wait_with_output().expect("it ends"));
-    assert_eq!((status, out), (0, accepted(&["run", SCRIPT])));
+    assert_eq!((status, out), (0, accepted(&["run", SCRIPT, "--no-names"])));
 }
 
 #[test]
@@ -198,30 +233,38 @@ fn the_matrix_and_a_comparison() {
     for row in [
         "3 forwarder (ref)  . # + # # -",
         "5 marker (ref)     . # - o # #",
-        "4 whole log (own)  . + - - # -",
+        "4 whole log (own)  . * * * * *",
     ] {
         assert!(matrix.contains(row), "{row}: {matrix}");
     }
-    let numbers = accepted(&["compare", SHEET, "3", "2"]);
+    let numbers = accepted(&["compare", SHEET, "2", "3", "--no-names"]);
     assert!(
-        numbers.contains("subtype  no") && numbers.contains("strict   yes"),
+        numbers.starts_with("from  S is type 2\nto    T is type 3\n")
+            && numbers.contains("subtype  no")
+            && numbers.contains("strict   yes"),
         "{numbers}"
     );
-    let names = accepted(&["compare", SHEET, "forwarder", "2", "--names", NAMES]);
+    let names = accepted(&["compare", SHEET, "2", "forwarder"]);
     assert!(
-        names.starts_with("T is type 3 (forwarder), S is type 2 (reader)"),
+        names.starts_with("from  S is type 2 (reader)\nto    T is type 3 (forwarder)\n"),
         "{names}"
     );
-    let own = accepted(&["compare", SHEET, "4", "2"]);
+    let own = accepted(&["compare", SHEET, "2", "4"]);
     assert!(own.contains("for the owner of its object alone"), "{own}");
-    let mixed = accepted(&["compare", SHEET, "0", "2"]);
+    let mixed = no(&["compare", SHEET, "2", "0"]);
     assert!(mixed.contains("never becomes"), "{mixed}");
+    let hidden = no(&["compare", SHEET, "reader", "marker"]);
+    assert!(
+        hidden.contains("type 2 (reader) cannot become type 5 (marker): refused with 8"),
+        "{hidden}"
+    );
     for (unknown, words) in [("6", ["6", "0"]), ("-1", ["0", "-1"])] {
-        let error = refused(&["compare", SHEET, words[0], words[1]]);
+        let error = failed(&["compare", SHEET, words[0], words[1]], 2);
         let why = format!("refused with 7: there is no type {unknown}: the sheet has types 0 to 5");
         assert!(error.contains(&why), "{error}");
     }
-    assert!(refused(&["compare", SHEET, "log", "0"]).contains("no type is named \"log\""));
+    let unnamed = failed(&["compare", SHEET, "log", "0", "--no-names"], 2);
+    assert!(unnamed.contains("no type is named \"log\""), "{unnamed}");
 }
 
 #[test]
@@ -235,7 +278,7 @@ fn every_refusal_is_explained() {
         );
     }
     for number in ["0", "20", "-1", "four", "99999999999999999999"] {
-        assert!(refused(&["explain", number]).contains("1 to 19"));
+        assert!(failed(&["explain", number], 2).contains("1 to 19"));
     }
 }
 
@@ -268,7 +311,7 @@ fn a_run_and_its_audit() {
     let ended = run(&["run", "examples/refused-01.script"]);
     assert_eq!(ended.0, 1);
     assert!(
-        ended.1.contains("got=1 0") && ended.2.contains("0 has no sign"),
+        ended.1.contains("got=1 0") && ended.2.contains("a sign stands in front of 0"),
         "{ended:?}"
     );
 }

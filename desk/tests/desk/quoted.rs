@@ -1,6 +1,6 @@
 //! README.md and docs/GUIDE.md quote commands, each behind `$`, with what they print: it is what they print.
 
-use crate::files::{read, run, SCRIPT};
+use crate::files::{desk, read, told, CALLED, SCRIPT};
 
 /// The quoted commands of a text, each with the lines under it, in blocks that are set in by four spaces.
 fn quoted(text: &str) -> Vec<(String, String)> {
@@ -31,7 +31,9 @@ fn printed(command: &str) -> String {
     match &words[..] {
         ["./run"] => String::from_utf8(pilgonca::script(&read(SCRIPT))).expect("ASCII"),
         ["./run", "desk", words @ ..] => {
-            let (_, out, error) = run(words);
+            let mut command = desk(words);
+            command.env(CALLED, "./run desk");
+            let (_, out, error) = told(command.output().expect("desk runs"));
             out + &error
         }
         _ => panic!("{command} is no command that is tested here"),

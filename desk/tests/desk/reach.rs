@@ -8,7 +8,7 @@ use desk::scripts::trails::Hands;
 use pilgonca::{
     Cell, CellInfo, Method, MethodInfo, PlaceKind, Refusal, Subject, Type, TypeInfo, Visit,
 };
-use reference::gen::{generate, Profile};
+use reference::generators::{generate, Profile};
 
 fn avail(info: &TypeInfo, method: usize) -> bool {
     matches!(info.methods.get(method), Some(MethodInfo::Avail(_)))

@@ -1,10 +1,10 @@
 //! Where a relation fails, desk names a rule that is broken: exactly where the core says no, and what it says of the types is so.
 
-use crate::files::{accepted, with_file, SHEET};
+use crate::files::{accepted, no, with_file, SHEET};
 use desk::reasons::{Broken, Part, Reason, Reasons, Relation, Says};
 use desk::scripts::requests::split;
-use pilgonca::{Answers, Sheet, Type};
-use reference::gen::{generate, Profile, PROFILES};
+use pilgonca::{Comparison, Sheet, Type};
+use reference::generators::{generate, Profile, PROFILES};
 use reference::relations::{self, state_le, Relations};
 use reference::table::{MethodState, Table};
 use std::collections::BTreeMap;
@@ -16,7 +16,7 @@ const RELATIONS: [Relation; 4] = [
     Relation::Free,
 ];
 
-fn answer(answers: &Answers, relation: Relation) -> bool {
+fn answer(answers: &Comparison, relation: Relation) -> bool {
     match relation {
         Relation::Subtype => answers.subtype,
         Relation::Strict => answers.strict,
@@ -165,7 +165,7 @@ const CATEGORIES: &str = "guide=1\nsubjects=1\nmethods=1\ncats=2\nunder=0\nunder
 
 #[test]
 fn a_comparison_says_what_is_so() {
-    let mixed = accepted(&["compare", SHEET, "0", "2"]);
+    let mixed = no(&["compare", SHEET, "2", "0"]);
     assert_eq!(
         mixed
             .matches("no   T is a number and S a reference")
@@ -174,7 +174,7 @@ fn a_comparison_says_what_is_so() {
         "{mixed}"
     );
     assert!(!mixed.contains(" or "), "{mixed}");
-    let lacks = accepted(&["compare", SHEET, "5", "2"]);
+    let lacks = no(&["compare", SHEET, "2", "5", "--no-names"]);
     assert_eq!(
         lacks
             .matches("no   of method 1 T says avail and S says denied")
@@ -183,12 +183,12 @@ fn a_comparison_says_what_is_so() {
         "{lacks}"
     );
     with_file("categories", CATEGORIES.as_bytes(), |path| {
-        let finer = accepted(&["compare", path, "1", "2"]);
+        let finer = accepted(&["compare", path, "2", "1"]);
         assert!(
             finer.contains("strict   no   T is of category 1 and S of none"),
             "{finer}"
         );
-        let inside = accepted(&["compare", path, "3", "1"]);
+        let inside = no(&["compare", path, "1", "3"]);
         assert!(
             inside.contains("free     no   in the answer of method 0: type 1 is a reference and type 0 a number"),
             "{inside}"

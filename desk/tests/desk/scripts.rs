@@ -7,7 +7,7 @@ use desk::scripts::follow::{follow, output, Got, Run, Step};
 use desk::scripts::requests::{split, Request};
 use desk::scripts::trails::Hands;
 use pilgonca::{raw, CellInfo, Method, MethodInfo, PlaceKind, Refusal, Subject, Type, TypeInfo};
-use reference::gen::{generate, Profile, PROFILES};
+use reference::generators::{generate, Profile, PROFILES};
 
 /// Runs a script here and by the core. None where it is too long or its sheet is refused.
 pub fn same(input: &[u8]) -> Option<Run<'_>> {
@@ -188,7 +188,10 @@ fn moves_come_true(run: &Run) -> usize {
     let (pairs, cells): (_, Vec<CellInfo>) = (sheet.pairs(), run.visit.cells().collect());
     let mut moves = 0;
     for step in &run.steps {
-        let early = step.outcome.is_err_and(|refusal| refusal.number() < 8);
+        let early = step
+            .outcome
+            .as_ref()
+            .is_err_and(|refusal| refusal.number() < 8);
         if let (Request::Move { cell, to, .. }, false) = (&step.request, early) {
             let (cell, t) = (&cells[*cell as usize], sheet.type_info(Type(*to)));
             let t = t.expect("a type");

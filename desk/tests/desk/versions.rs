@@ -2,7 +2,7 @@
 
 use crate::files::{accepted, read, run, with_file, NAMES, SHEET};
 use desk::scripts::requests::split;
-use reference::gen::{generate, Profile};
+use reference::generators::{generate, Profile};
 
 #[test]
 fn powers_of_case_p() {

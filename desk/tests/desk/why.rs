@@ -9,7 +9,7 @@ use desk::scripts::trial::{served, why};
 use desk::scripts::why::{Cross, Full, Given, Layer, LeadsTo, NoClass, Operand, Why};
 use pilgonca::raw::State;
 use pilgonca::{Cell, MethodInfo, PlaceKind, Refusal, Representation, Subject, Type, Visit};
-use reference::gen::{generate, Profile, PROFILES};
+use reference::generators::{generate, Profile, PROFILES};
 use reference::hostile;
 use reference::raw::RawState;
 use reference::requests;
@@ -300,13 +300,13 @@ fn ours(request: requests::Request) -> Request {
         requests::Request::New {
             subject,
             class,
-            cell_type: to,
+            type_: to,
         } => Request::New { subject, class, to },
         requests::Request::Move {
             subject,
             cell,
             receiver,
-            cell_type: to,
+            type_: to,
         } => Request::Move {
             subject,
             cell,

@@ -7,33 +7,56 @@ use crate::records::{numbered, record};
 /// A cell: who holds it, by which type, and to which place it leads (Q4).
 #[derive(Clone, Copy, PartialEq, Eq, Debug)]
 pub struct CellInfo {
+    /// Its number.
     pub number: Cell,
+    /// Who holds it.
     pub holder: Subject,
+    /// The type that its reference is seen by.
     pub type_: Type,
+    /// What the reference leads to.
     pub place: Place,
 }
 
 /// What stands at a place (Q1).
 #[derive(Clone, Copy, PartialEq, Eq, Debug)]
 pub enum PlaceKind {
-    Object { class: Type, owner: Subject },
-    Adapter { behind: Place, closed: Type },
+    /// An object.
+    Object {
+        /// What it is made of.
+        class: Type,
+        /// Who made it.
+        owner: Subject,
+    },
+    /// What lets through only what its own type permits.
+    Adapter {
+        /// The place that it stands in front of.
+        behind: Place,
+        /// Its type, a derived one.
+        closed: Type,
+    },
 }
 
 /// A place.
 #[derive(Clone, Copy, PartialEq, Eq, Debug)]
 pub struct PlaceInfo {
+    /// Its number.
     pub number: Place,
+    /// What stands there.
     pub kind: PlaceKind,
 }
 
 /// A call (Q5).
 #[derive(Clone, Copy, PartialEq, Eq, Debug)]
 pub struct CallInfo {
+    /// Its number.
     pub number: Call,
+    /// Who called.
     pub caller: Subject,
+    /// Through which cell.
     pub cell: Cell,
+    /// What.
     pub method: Method,
+    /// Whether the owner has answered.
     pub answered: bool,
 }
 

@@ -2,9 +2,9 @@
 
 mod declarations;
 
-use declarations::{Functions, Header, Passed, between, rust_functions};
-use pilgonca::Refusal;
+use declarations::{between, rust_functions, Functions, Header, Passed};
 use pilgonca::raw;
+use pilgonca::Refusal;
 use std::path::{Path, PathBuf};
 
 fn root() -> PathBuf {
@@ -37,17 +37,50 @@ fn source(name: &str) -> String {
 /// The value of a constant of a crate.
 fn constant(name: &str, constant: &str) -> usize {
     let source = source(name);
-    let found = between(&source, &format!("pub const {constant}: usize = "), ";");
+    let found = between(&source, &format!("const {constant}: usize = "), ";");
     let (value, _) = found.unwrap_or_else(|| panic!("{name} has no {constant}"));
-    value.parse().expect("a number")
+    value_of(name, value)
 }
 
-/// The crates of C functions: those of crates.txt that build.rs links.
+/// What sums and products of numbers and constants come to; only a sum in front of a product stands in brackets.
+fn value_of(name: &str, text: &str) -> usize {
+    let bracket = text
+        .strip_prefix('(')
+        .and_then(|rest| rest.split_once(") * "));
+    if let Some((sum, factor)) = bracket {
+        return value_of(name, sum) * value_of(name, factor);
+    }
+    if let Some((left, right)) = text.split_once(" + ") {
+        return value_of(name, left) + value_of(name, right);
+    }
+    if let Some((left, right)) = text.split_once(" * ") {
+        return value_of(name, left) * value_of(name, right);
+    }
+    match text.split_once("::") {
+        Some((owner, word)) => member(owner, word),
+        None => text.parse().unwrap_or_else(|_| constant(name, text)),
+    }
+}
+
+/// A constant of a type, as `Counts::TYPES`.
+fn member(owner: &str, word: &str) -> usize {
+    let found = ["table_record", "state_record"]
+        .into_iter()
+        .find_map(|name| {
+            let source = source(name);
+            let (block, _) = between(&source, &format!("\nimpl {owner} {{\n"), "\n}\n")?;
+            let (value, _) = between(block, &format!("const {word}: usize = "), ";")?;
+            Some(value_of(name, value))
+        });
+    found.unwrap_or_else(|| panic!("no {owner}::{word}"))
+}
+
+/// The crates of C functions.
 fn exporting() -> Vec<String> {
-    let files = env!("PILGONCA_LIBRARIES").split(':').map(Path::new);
-    let stems = files.map(|file| file.file_stem().expect("a name").to_string_lossy());
-    let names = stems.map(|stem| stem.strip_prefix("lib").expect("lib").to_string());
-    names.collect()
+    let crates = read(&root().join("crates.txt"));
+    let names = crates.lines().filter_map(|line| line.split(':').next());
+    let exporting = names.filter(|name| name.starts_with("export_"));
+    exporting.map(String::from).collect()
 }
 
 /// Every C function of the Rattle source.
@@ -141,6 +174,34 @@ fn a_state_is_changed_by_requests_alone() {
         .collect();
     let steps = ["answer", "call", "load", "move", "new", "read", "run"];
     assert_eq!(storing, steps.map(|step| format!("pilgonca_{step}")));
+}
+
+/// Cargo.toml says the version once for every package; C callers have it from the header.
+#[test]
+fn the_version_is_the_workspaces() {
+    let header = read(&root().join("include/pilgonca.h"));
+    let (version, _) = between(&header, "#define PILGONCA_VERSION \"", "\"\n").expect("a version");
+    assert_eq!(version, pilgonca::VERSION);
+    let manifest = read(&root().join("Cargo.toml"));
+    let (said, _) = between(&manifest, "[workspace.package]\n", "\n\n").expect("a section");
+    assert!(
+        said.contains(&format!("version = \"{version}\"\n")),
+        "{said}"
+    );
+}
+
+/// Every package takes version, edition and Rust version from the workspace.
+#[test]
+fn packages_inherit_what_is_said_once() {
+    let manifest = read(&root().join("Cargo.toml"));
+    let (members, _) = between(&manifest, "members = [", "]").expect("the members");
+    for member in members.split(", ").map(|name| name.trim_matches('"')) {
+        let package = read(&root().join(member).join("Cargo.toml"));
+        for word in ["version", "edition", "rust-version"] {
+            let line = format!("\n{word}.workspace = true\n");
+            assert!(package.contains(&line), "{member}: {word}");
+        }
+    }
 }
 
 /// The numbers of the header by the crate that has each, and those of this crate.

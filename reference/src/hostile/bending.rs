@@ -7,7 +7,7 @@ use crate::table::*;
 /// Changes one thing that a loaded sheet would not lead to. Mostly the check
 /// is still passed.
 pub fn bend(random: &mut Random, state: &mut State) {
-    match random.below(14) {
+    match random.below(16) {
         0 => bend_cell(random, state),
         1 | 2 => bend_adapter(random, state),
         3 => bend_place(random, state),
@@ -21,6 +21,7 @@ pub fn bend(random: &mut Random, state: &mut State) {
             let kind = random.below(3);
             fill(random, state, kind);
         }
+        13 | 14 => other_length(random, state),
         _ => add_cell_and_call(random, state),
     }
 }
@@ -50,8 +51,8 @@ fn bend_cell(random: &mut Random, state: &mut State) {
     let Some(cell) = random.index(state.cells.len()) else {
         return;
     };
-    if let Some(cell_type) = some_sheet_ref(random, &state.table) {
-        state.cells[cell].cell_type = cell_type;
+    if let Some(type_) = some_sheet_ref(random, &state.table) {
+        state.cells[cell].type_ = type_;
     }
     state.cells[cell].place = random.below(state.places.len());
 }
@@ -133,6 +134,33 @@ fn bend_derived(random: &mut Random, state: &mut State) {
             table.types[number].methods[method] = any_state(random, table, count);
         }
         _ => {}
+    }
+}
+
+/// One argument more or less in one layer of a cell, so that another has fewer (C15) or more (C16).
+fn other_length(random: &mut Random, state: &mut State) {
+    let Some(cell) = random.index(state.cells.len()) else {
+        return;
+    };
+    let layers = state.layers(cell);
+    let table = &mut state.table;
+    let permitted: Vec<usize> = (0..table.methods)
+        .filter(|method| table.types[layers[0]].permits(*method).is_some())
+        .collect();
+    let Some(method) = random.pick_some(&permitted).copied() else {
+        return;
+    };
+    // a sheet type without own may stand in every signature (T14, T15)
+    let more = (0..table.sheet_types).find(|one| !table.types[*one].own);
+    let layer = *random.pick(&layers);
+    let state = table.types[layer].methods.get_mut(method);
+    if let (Some(MethodState::Optional(one) | MethodState::Avail(one)), Some(more)) = (state, more)
+    {
+        if one.arguments.len() < MAX_ARGUMENTS && random.chance(50) {
+            one.arguments.push(more);
+        } else {
+            one.arguments.pop();
+        }
     }
 }
 
@@ -241,13 +269,13 @@ fn add_cell_and_call(random: &mut Random, state: &mut State) {
     let Some(place) = random.index(state.places.len()) else {
         return;
     };
-    let Some(cell_type) = some_sheet_ref(random, &state.table) else {
+    let Some(type_) = some_sheet_ref(random, &state.table) else {
         return;
     };
     if state.cells.len() < MAX_CELLS && state.calls.len() < MAX_CALLS {
         state.cells.push(Cell {
             holder: random.below(state.table.subjects),
-            cell_type,
+            type_,
             place,
         });
         state.calls.push(Call {

@@ -2,9 +2,9 @@
 
 use crate::check::Reason;
 use crate::random::Random;
-use crate::raw::{RawState, RawTable};
+use crate::raw::{RawState, RawTable, METHOD_BYTES};
 use crate::state::{MAX_CALLS, MAX_CELLS, MAX_PLACES};
-use crate::table::{MAX_CATEGORIES, MAX_METHODS, MAX_TYPES};
+use crate::table::{MAX_ARGUMENTS, MAX_CATEGORIES, MAX_METHODS, MAX_TYPES};
 
 /// Breaks the rule behind a reason, where the state has what it needs for it.
 /// Another reason may be met first.
@@ -140,19 +140,31 @@ fn break_signature(random: &mut Random, table: &mut RawTable, reason: Reason) {
     let derived = (sheet_types < types).then(|| random.within((sheet_types, types - 1)));
     let bytes = table.method_mut(number, method);
     if reason != Reason::StateCode && bytes[0] != 1 && bytes[0] != 2 {
-        bytes.copy_from_slice(&[2, 1, 0, 0, 0, 0, 1]);
+        bytes.copy_from_slice(&of_first_type(random));
     }
     match reason {
         Reason::StateCode => bytes[0] = not_below(random, 4),
-        Reason::TooManyArguments => bytes[1] = not_below(random, 3),
+        Reason::TooManyArguments => bytes[1] = not_below(random, MAX_ARGUMENTS + 1),
         Reason::ArgumentUnknown => {
-            bytes[1] = bytes[1].clamp(1, 2);
-            bytes[1 + usize::from(bytes[1])] = not_below(random, types);
+            let slot = used_slot(random, bytes);
+            bytes[slot] = not_below(random, types);
         }
         Reason::AnswerUnknown => bytes[6] = not_below(random, types + 1),
         Reason::OwnInSignature => name(random, bytes, own),
         _ => name(random, bytes, derived),
     }
+}
+
+/// A method that is avail, with one argument or more and an answer, all of type 0.
+fn of_first_type(random: &mut Random) -> [u8; METHOD_BYTES] {
+    let arguments = random.within((1, MAX_ARGUMENTS)) as u8;
+    [2, arguments, 0, 0, 0, 0, 1]
+}
+
+/// Where an argument stands, of those counted; the first is counted if none is.
+fn used_slot(random: &mut Random, bytes: &mut [u8]) -> usize {
+    bytes[1] = bytes[1].clamp(1, MAX_ARGUMENTS as u8);
+    2 + random.below(usize::from(bytes[1]))
 }
 
 /// Names a type in a signature, as an argument or as the answer.
@@ -161,8 +173,8 @@ fn name(random: &mut Random, bytes: &mut [u8], number: Option<usize>) {
         if random.chance(50) {
             bytes[6] = number as u8 + 1;
         } else {
-            bytes[1] = bytes[1].clamp(1, 2);
-            bytes[2 + random.below(usize::from(bytes[1]))] = number as u8;
+            let slot = used_slot(random, bytes);
+            bytes[slot] = number as u8;
         }
     }
 }

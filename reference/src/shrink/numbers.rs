@@ -96,7 +96,7 @@ fn references(request: &Request, state: &State) -> Vec<bool> {
         .and_then(|cell| state.cells.get(cell))
         .and_then(|cell| {
             let method = usize::try_from(*method).ok()?;
-            state.table.types[cell.cell_type].permits(method)
+            state.table.types[cell.type_].permits(method)
         });
     signature.map_or(Vec::new(), |signature| {
         signature
@@ -132,8 +132,8 @@ fn lower(request: &mut Request, made: &Made, state: &State) {
                 .ok()
                 .and_then(|call| state.calls.get(call))
                 .and_then(|call| {
-                    let cell_type = state.cells[call.cell].cell_type;
-                    state.table.types[cell_type].permits(call.method)?.answer
+                    let type_ = state.cells[call.cell].type_;
+                    state.table.types[type_].permits(call.method)?.answer
                 });
             if due.is_some_and(|due| state.table.types[due].is_ref()) {
                 if let Some(value) = value {

@@ -27,13 +27,11 @@ fn without_type(parts: &Parts, gone: usize) -> Parts {
     }
     for request in &mut parts.requests {
         match request {
-            Request::New {
-                class, cell_type, ..
-            } => {
+            Request::New { class, type_, .. } => {
                 renumber_type(class, gone);
-                renumber_type(cell_type, gone);
+                renumber_type(type_, gone);
             }
-            Request::Move { cell_type, .. } => renumber_type(cell_type, gone),
+            Request::Move { type_, .. } => renumber_type(type_, gone),
             _ => {}
         }
     }

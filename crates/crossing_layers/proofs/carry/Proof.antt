@@ -7,6 +7,7 @@ use mathlib.Core.Path.{_≡_, refl}
 use Rattle.crossing_layers.proofs.Carrying.{Goes, goes-starts, goes-ready, goes-ends, goes-stops, goes-next}
 use Rattle.crossing_layers.proofs.carry.Statement.{statement}
 use Rattle.crossing_layers.proofs.carry.Tie as tie
+use Rattle.crossing_layers.specs.Carried.{maxLayers}
 
 abbrev Inv-loop : tie.InvT-loop
 Inv-loop types₀ links c s p r targets x₀ n i₀ types x i = Goes types₀ links c (x₀ .places) s p r (targets .list) (targets .count) types x i
@@ -15,7 +16,7 @@ abbrev μ-loop : tie.MeasureT-loop
 μ-loop types₀ links c s p r targets x₀ n i₀ types x i = targets .count - i
 
 -- the array has 129 elements
-long : (c : tie.Start Inv-loop μ-loop) → length (c .args .t7 .list) ≡ 129
+long : (c : tie.Start Inv-loop μ-loop) → length (c .args .t7 .list) ≡ maxLayers
 long c = search needs
 
 loop-holds : tie.Need-loop-holds Inv-loop μ-loop

@@ -12,6 +12,7 @@ use Rattle.table_record.specs.Store.{tableIn}
 use Rattle.crossing_layers.proofs.Laws.{PassRest, pass-starts, pass-stops, pass-next, pass-ends}
 use Rattle.crossing_layers.proofs.pass.Statement.{statement}
 use Rattle.crossing_layers.proofs.pass.Tie as tie
+use Rattle.crossing_layers.specs.Carried.{maxLayers}
 
 abbrev Inv-loop : tie.InvT-loop
 Inv-loop types c v targets n i₀ i = (i ≤ targets .count) × ((l : List ℕ) → PassRest (tableIn types l c) (toZ w64 v) (targets .list) (targets .count) i)
@@ -20,7 +21,7 @@ abbrev μ-loop : tie.MeasureT-loop
 μ-loop types c v targets n i₀ i = targets .count - i
 
 -- the array has 129 elements
-long : (c : tie.Start Inv-loop μ-loop) → length (c .args .t4 .list) ≡ 129
+long : (c : tie.Start Inv-loop μ-loop) → length (c .args .t4 .list) ≡ maxLayers
 long c = search needs
 
 loop-holds : tie.Need-loop-holds Inv-loop μ-loop

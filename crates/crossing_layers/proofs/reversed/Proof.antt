@@ -8,15 +8,16 @@ use lib.ListN.{length, take, length-set}
 use Rattle.crossing_layers.proofs.Laws.{back-starts, back-next, back-ends}
 use Rattle.crossing_layers.proofs.reversed.Statement.{statement}
 use Rattle.crossing_layers.proofs.reversed.Tie as tie
+use Rattle.crossing_layers.specs.Carried.{maxLayers}
 
 abbrev Inv-loop : tie.InvT-loop
-Inv-loop x n list₀ i₀ list i = (i ≤ x .count) × (length list ≡ 129) × ((k : ℕ) → i + k ≡ x .count → take i list ++ reverse (take k (x .list)) ≡ reverse (take (x .count) (x .list)))
+Inv-loop x n list₀ i₀ list i = (i ≤ x .count) × (length list ≡ maxLayers) × ((k : ℕ) → i + k ≡ x .count → take i list ++ reverse (take k (x .list)) ≡ reverse (take (x .count) (x .list)))
 
 abbrev μ-loop : tie.MeasureT-loop
 μ-loop x n list₀ i₀ list i = x .count - i
 
 -- the array has 129 elements
-long : (c : tie.Start Inv-loop μ-loop) → length (c .args .t1 .list) ≡ 129
+long : (c : tie.Start Inv-loop μ-loop) → length (c .args .t1 .list) ≡ maxLayers
 long c = search needs
 
 loop-holds : tie.Need-loop-holds Inv-loop μ-loop

@@ -8,19 +8,19 @@ use lib.ListN.{length, take, length-set}
 use Rattle.spec_model.specs.Check.{answerOf}
 use Rattle.spec_model.specs.Records.{answerCode}
 use Rattle.table_record.specs.Store.{tableIn}
-use Rattle.crossing_layers.specs.Carried.{slotAt}
+use Rattle.crossing_layers.specs.Carried.{slotAt, maxLayers}
 use Rattle.crossing_layers.proofs.Laws.{targets-next, targets-end}
 use Rattle.crossing_layers.proofs.targets_of.Statement.{statement}
 use Rattle.crossing_layers.proofs.targets_of.Tie as tie
 
 abbrev Inv-loop : tie.InvT-loop
-Inv-loop types c m s w n list₀ i₀ list i = (i ≤ w .count) × (length list ≡ 129) × ((l : List ℕ) → map answerOf (take i list) ≡ map (slotAt (tableIn types l c) m s) (take i (w .list)))
+Inv-loop types c m s w n list₀ i₀ list i = (i ≤ w .count) × (length list ≡ maxLayers) × ((l : List ℕ) → map answerOf (take i list) ≡ map (slotAt (tableIn types l c) m s) (take i (w .list)))
 
 abbrev μ-loop : tie.MeasureT-loop
 μ-loop types c m s w n list₀ i₀ list i = w .count - i
 
 -- the array has 129 elements
-long : (c : tie.Start Inv-loop μ-loop) → length (c .args .t5 .list) ≡ 129
+long : (c : tie.Start Inv-loop μ-loop) → length (c .args .t5 .list) ≡ maxLayers
 long c = search needs
 
 loop-holds : tie.Need-loop-holds Inv-loop μ-loop

@@ -19,14 +19,14 @@ add-requires c κs = subst (Room (c .before .before .before .args .ps)) (c .befo
 
 returns : tie.Need-returns
 returns c = let a = c .before .before .before .args in let e = c .before .x .given .1 in (
-  sym (ap (λ (x : Landing). landed (a .ps) (a .sort) x (a .types)) e),
+  sym (ap (λ (x : Landing). landed (a .ps) (a .ty) x (a .types)) e),
   sym (ap (placesWith (placesIn (a .ps))) e),
 )
 
 returns-2 : tie.Need-returns-2
 returns-2 c = let a = c .before .before .before .before .args in let e = c .before .before .x2 .given .1 in (
-  ap (λ (qs : Places). record { refusal = 0; sort = a .sort; place = a .ps .count; places = qs; types = a .types }) (c .add .ensures .0)
-      ∙ sym (ap (λ (x : Landing). landed (a .ps) (a .sort) x (a .types)) e),
+  ap (λ (qs : Places). record { refusal = 0; ty = a .ty; place = a .ps .count; places = qs; types = a .types }) (c .add .ensures .0)
+      ∙ sym (ap (λ (x : Landing). landed (a .ps) (a .ty) x (a .types)) e),
   c .add .ensures .1 ∙ sym (ap (placesWith (placesIn (a .ps))) e),
 )
 

@@ -47,7 +47,7 @@ abbrev room : tie.Else3 → tie.After-closed
 room c = c .before .before .before
 
 place-at-requires : tie.Need-place-at-requires
-place-at-requires c κs = omega (arith, c .pre .1 .place, c .pre .1 .falling .count)
+place-at-requires c κs = omega (arith, c .pre .1 .place, c .pre .1 .descending .count)
 
 place-type-requires : tie.Need-place-type-requires
 place-type-requires c κs = search needs
@@ -60,7 +60,7 @@ land-requires c κs = search needs
 
 returns : tie.Need-returns
 returns c = let v = c .before .before .before .before in let a = v .before .before .args in let h = v .before .before .pre in
-    meets-passes (a .types .now) (a .links .now) (a .c) (h .0) (a .ps) (h .1 .falling) (a .to) (a .right) (a .p) (h .1 .place) (kind v) (kind-is v)
+    meets-passes (a .types .now) (a .links .now) (a .c) (h .0) (a .ps) (h .1 .descending) (a .to) (a .right) (a .p) (h .1 .place) (kind v) (kind-is v)
     (sym (c .before .if1 .taken) ∙ c .before .before .asked .ensures) (c .land .result) (c .land .ensures .0)
 
 asked-requires-2 : tie.Need-asked-requires-2
@@ -71,12 +71,12 @@ refused-requires c κs = search needs
 
 returns-2 : tie.Need-returns-2
 returns-2 c = let e = c .before .before .before .before in let v = met-type e in let a = v .before .before .args in let h = v .before .before .pre in
-    meets-10 (a .types .now) (a .links .now) (a .c) (h .0) (a .ps) (h .1 .falling) (a .to) (a .right) (a .p) (h .1 .place) (kind v) (kind-is v) (less e)
+    meets-10 (a .types .now) (a .links .now) (a .c) (h .0) (a .ps) (h .1 .descending) (a .to) (a .right) (a .p) (h .1 .place) (kind v) (kind-is v) (less e)
     (sym (not-true (c .before .before .asked2 .result) (c .before .if2 .taken)) ∙ c .before .before .asked2 .ensures) (c .refused .result) (c .refused .ensures)
 
 closed-any-requires : tie.Need-closed-any-requires
 closed-any-requires c κs = let e = c .before in let v = met-type (first e) in let a = v .before .before .args in let h = v .before .before .pre in
-    closable (a .types .now) (a .links .now) (a .c) (h .0) (a .ps) (h .1 .falling) (a .to) (a .right) (a .p) (h .1 .place) (kind v) (kind-is v)
+    closable (a .types .now) (a .links .now) (a .c) (h .0) (a .ps) (h .1 .descending) (a .to) (a .right) (a .p) (h .1 .place) (kind v) (kind-is v)
     (less (first e)) (met e)
 
 enum-known-closed : tie.Need-enum-known-closed
@@ -90,7 +90,7 @@ refused-requires-2 c κs = search needs
 
 returns-3 : tie.Need-returns-3
 returns-3 c = let d = c .before .before .before in let v = met-type (first (second d)) in let a = v .before .before .args in let h = v .before .before .pre in
-    meets-11 (a .types .now) (a .links .now) (a .c) (h .0) (a .ps) (h .1 .falling) (a .to) (a .right) (a .p) (h .1 .place) (kind v) (kind-is v)
+    meets-11 (a .types .now) (a .links .now) (a .c) (h .0) (a .ps) (h .1 .descending) (a .to) (a .right) (a .p) (h .1 .place) (kind v) (kind-is v)
     (less (first (second d))) (met (second d)) (d .closed-any .last .0) (d .closed-any .result) (d .closed-any .ensures) (c .before .enum-told .given .1) (c .refused2 .result) (c .refused2 .ensures)
 
 refused-requires-3 : tie.Need-refused-requires-3
@@ -98,16 +98,16 @@ refused-requires-3 c κs = search needs
 
 returns-4 : tie.Need-returns-4
 returns-4 c = let k = c .before .before .before .before in let d = derived k in let v = met-type (first (second d)) in let a = v .before .before .args in let h = v .before .before .pre in
-    meets-12 (a .types .now) (a .links .now) (a .c) (h .0) (a .ps) (h .1 .falling) (a .to) (a .right) (a .p) (h .1 .place) (kind v) (kind-is v)
+    meets-12 (a .types .now) (a .links .now) (a .c) (h .0) (a .ps) (h .1 .descending) (a .to) (a .right) (a .p) (h .1 .place) (kind v) (kind-is v)
     (less (first (second d))) (met (second d)) (d .closed-any .last .0) (d .closed-any .result) (d .closed-any .ensures) _ _ (k .closed .given .1) (c .before .if3 .taken) (c .refused3 .result)
     (c .refused3 .ensures)
 
 narrow-requires : tie.Need-narrow-requires
-narrow-requires c κs = let h = met-type (first (second (derived (room c)))) .before .before .pre .1 in omega (arith, h .place, h .falling .count)
+narrow-requires c κs = let h = met-type (first (second (derived (room c)))) .before .before .pre .1 in omega (arith, h .place, h .descending .count)
 
 narrow-requires-2 : tie.Need-narrow-requires-2
 narrow-requires-2 c κs = let k = room (c .before) in let d = derived k in let v = met-type (first (second d)) in let a = v .before .before .args in let h = v .before .before .pre in
-    closed-byte (a .types .now) (a .links .now) (a .c) (h .0) (a .ps) (h .1 .falling) (a .to) (a .right) (a .p) (h .1 .place) (kind v) (kind-is v)
+    closed-byte (a .types .now) (a .links .now) (a .c) (h .0) (a .ps) (h .1 .descending) (a .to) (a .right) (a .p) (h .1 .place) (kind v) (kind-is v)
     (less (first (second d))) (met (second d)) (d .closed-any .last .0) (d .closed-any .result) (d .closed-any .ensures) _ _ (k .closed .given .1)
 
 land-requires-2 : tie.Need-land-requires-2
@@ -115,7 +115,7 @@ land-requires-2 c κs = omega (arith, c .before .before .if3 .left)
 
 returns-5 : tie.Need-returns-5
 returns-5 c = let e = c .before .before .before in let k = room e in let d = derived k in let v = met-type (first (second d)) in let a = v .before .before .args in let h = v .before .before .pre in
-    meets-adapts (a .types .now) (a .links .now) (a .c) (h .0) (a .ps) (h .1 .falling) (a .to) (a .right) (a .p) (h .1 .place) (kind v) (kind-is v)
+    meets-adapts (a .types .now) (a .links .now) (a .c) (h .0) (a .ps) (h .1 .descending) (a .to) (a .right) (a .p) (h .1 .place) (kind v) (kind-is v)
     (less (first (second d))) (met (second d)) (d .closed-any .last .0) (d .closed-any .result) (d .closed-any .ensures) _ _ (k .closed .given .1) (omega (arith, e .if3 .left)) _ _
     (c .before .before .narrow .ensures) (c .before .narrow2 .ensures) (c .land2 .result) (c .land2 .ensures)
 

@@ -36,7 +36,7 @@ refused-requires c κs = search needs
 
 returns : tie.Need-returns
 returns c = let b = c .before .before .before .before in let a = b .args in let h = b .pre in
-    restrict-8 (a .types .now) (a .links .now) (a .c) (h .0) (a .ps) (a .x) (h .1 .falling) (h .1 .place) (h .2)
+    restrict-8 (a .types .now) (a .links .now) (a .c) (h .0) (a .ps) (a .x) (h .1 .descending) (h .1 .place) (h .2)
     (sym (not-true (c .before .before .asked .result) (c .before .if1 .taken)) ∙ c .before .before .asked .ensures) (c .refused .result) (c .refused .ensures)
 
 asked-requires-2 : tie.Need-asked-requires-2
@@ -47,7 +47,7 @@ land-requires c κs = search needs
 
 returns-2 : tie.Need-returns-2
 returns-2 c = let e = c .before .before .before .before in let b = start e in let a = b .args in let h = b .pre in
-    restrict-stays (a .types .now) (a .links .now) (a .c) (h .0) (a .ps) (a .x) (h .1 .falling) (h .1 .place) (h .2) (met e)
+    restrict-stays (a .types .now) (a .links .now) (a .c) (h .0) (a .ps) (a .x) (h .1 .descending) (h .1 .place) (h .2) (met e)
     (sym (c .before .if2 .taken) ∙ c .before .before .asked2 .ensures) (c .land .result) (c .land .ensures .0)
 
 sub-type-requires : tie.Need-sub-type-requires
@@ -65,23 +65,24 @@ refused-requires-2 c κs = search needs
 
 returns-3 : tie.Need-returns-3
 returns-3 c = let d = c .before .before .before in let b = start (first (second d)) in let a = b .args in let h = b .pre in
-    restrict-11 (a .types .now) (a .links .now) (a .c) (h .0) (a .ps) (a .x) (h .1 .falling) (h .1 .place) (h .2)
+    restrict-11 (a .types .now) (a .links .now) (a .c) (h .0) (a .ps) (a .x) (h .1 .descending) (h .1 .place) (h .2)
     (met (first (second d))) (less (second d)) (d .sub-type .last .0) (d .sub-type .result) (d .sub-type .ensures) (c .before .enum-told .given .1) (c .refused2 .result) (c .refused2 .ensures)
 
-grown-requires : tie.Need-grown-requires
-grown-requires c κs = search needs
+with-types-requires : tie.Need-with-types-requires
+with-types-requires c κs = search needs
 
 meet-requires : tie.Need-meet-requires
 meet-requires c κs = let k = c .before .before .before in let d = derived k in let b = start (first (second d)) in let a = b .args in let h = b .pre in (
-  restrict-ready (a .types .now) (a .links .now) (a .c) (h .0) (a .ps) (a .x) (h .1 .falling) (h .1 .place) (h .2)
-      (met (first (second d))) (less (second d)) (d .sub-type .last .0) (d .sub-type .result) (d .sub-type .ensures) _ _ (k .right .given .1) (c .grown .result) (c .grown .ensures),
+  restrict-ready (a .types .now) (a .links .now) (a .c) (h .0) (a .ps) (a .x) (h .1 .descending) (h .1 .place) (h .2)
+      (met (first (second d))) (less (second d)) (d .sub-type .last .0) (d .sub-type .result) (d .sub-type .ensures) _ _ (k .right .given .1) (c .with-types .result) (c .with-types .ensures),
   h .1,
 )
 
 returns-4 : tie.Need-returns-4
 returns-4 c = let k = c .before .before .before .before in let d = derived k in let m = c .meet in let b = start (first (second d)) in let a = b .args in let h = b .pre in
-    restrict-meets (a .types .now) (a .links .now) (a .c) (h .0) (a .ps) (a .x) (h .1 .falling) (h .1 .place) (h .2)
-    (met (first (second d))) (less (second d)) (d .sub-type .last .0) (d .sub-type .result) (d .sub-type .ensures) _ _ (k .right .given .1) (c .before .grown .result) (c .before .grown .ensures)
+    restrict-meets (a .types .now) (a .links .now) (a .c) (h .0) (a .ps) (a .x) (h .1 .descending) (h .1 .place) (h .2)
+    (met (first (second d))) (less (second d)) (d .sub-type .last .0) (d .sub-type .result) (d .sub-type .ensures) _ _ (k .right .given .1) (c .before .with-types .result)
+    (c .before .with-types .ensures)
     (m .last .0) (m .result) (m .ensures .0) (m .ensures .1)
 
 pub restrict-to-spec : {M : Type 1} → statement M
@@ -99,6 +100,6 @@ restrict-to-spec =
     enum-told
     refused-requires-2
     returns-3
-    grown-requires
+    with-types-requires
     meet-requires
     returns-4)

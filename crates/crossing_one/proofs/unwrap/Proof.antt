@@ -31,7 +31,7 @@ returns c = let b = c .before .before .before .before in let a = b .args in let 
     (sym (not-true (c .before .before .asked .result) (c .before .if1 .taken)) ∙ c .before .before .asked .ensures) (c .refused .result) (c .refused .ensures)
 
 base-owner-requires : tie.Need-base-owner-requires
-base-owner-requires c κs = let h = start c .pre in (h .1 .falling, h .1 .place)
+base-owner-requires c κs = let h = start c .pre in (h .1 .descending, h .1 .place)
 
 refused-requires-2 : tie.Need-refused-requires-2
 refused-requires-2 c κs = search needs
@@ -42,10 +42,10 @@ returns-2 c = let e = c .before .before .before in let o = c .before .before .ba
     (c .refused2 .result) (c .refused2 .ensures)
 
 base-of-requires : tie.Need-base-of-requires
-base-of-requires c κs = let h = start (first c) .pre in (h .1 .falling, h .1 .place)
+base-of-requires c κs = let h = start (first c) .pre in (h .1 .descending, h .1 .place)
 
 meet-requires : tie.Need-meet-requires
-meet-requires c κs = let h = start (first (c .before .before)) .pre in (h .0, record { falling = h .1 .falling; place = c .before .base-of .ensures .below })
+meet-requires c κs = let h = start (first (c .before .before)) .pre in (h .0, record { descending = h .1 .descending; place = c .before .base-of .ensures .below })
 
 returns-3 : tie.Need-returns-3
 returns-3 c = let e = c .before .before .before in let o = e .before .base-owner in let base = c .before .before .base-of in let m = c .meet in

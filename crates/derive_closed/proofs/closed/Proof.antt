@@ -6,6 +6,7 @@ use borrow.Author.Needs.{needs}
 use Rattle.spec_model.specs.Table.{closed}
 use Rattle.base_numbers.proofs.narrow.Reads as narrow-reads
 use Rattle.derive_slots.proofs.slot_at.Reads as slot-at-reads
+use Rattle.derive_slots.specs.Slots.{methodSlots}
 use Rattle.derive_record.proofs.Begins.{closed-begins}
 use Rattle.derive_sub_sup.proofs.Ends.{Started, started, settled, new-ready, start-loop, slot-ready, slot-read, finish-ready, new-full, new-at}
 use Rattle.derive_sub_sup.proofs.Turns.{Loop, Turn, turn-empty, argument-ready, argument-full, argument-low, argument-turn, answer-ready, answer-full, answer-low, answer-turn}
@@ -54,7 +55,7 @@ begun c = started (c .before .before .before .before .before .before .pre .0) re
 -- the slot as it is read from the bytes
 turn : (c : lts.After-slot-at calls reads.Pre reads.Post Inv-loop μ-loop)
     → let a = c .before .before .before .before .before .before .before .before .before .before .before .args in let st = c .before .before .before .before .before .start in
-    let l = c .before .before .before .loop in Turn closed (a .c) (a .c .types) (st .result) (st .last .0) (l .b) (a .c .methods * 5) (l .bytes) (l .m) (l .k) (c .slot-at .result)
+    let l = c .before .before .before .loop in Turn closed (a .c) (a .c .types) (st .result) (st .last .0) (l .b) (a .c .methods * methodSlots) (l .bytes) (l .m) (l .k) (c .slot-at .result)
 turn c = record {
   now = c .before .before .before .loop .inv;
   test = c .before .before .loop-test .taken;

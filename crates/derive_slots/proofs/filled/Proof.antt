@@ -4,6 +4,7 @@ use Prim.Native.Nat.{ℕ}
 use lib.ListN.{length}
 use borrow.Author.Tests.{not-true, not-false}
 use Rattle.spec_model.specs.Check.{kindOf}
+use Rattle.spec_model.specs.Records.{argumentSlots}
 use Rattle.table_record.specs.Store.{rawMethod}
 use Rattle.derive_slots.specs.Slots.{signedMethod}
 use Rattle.derive_slots.proofs.Laws.{Made, bare-made, signed-made}
@@ -34,9 +35,9 @@ signed-requires c κs = search needs
 
 returns-2 : tie.Need-returns-2
 returns-2 c = let a = c .before .before .before .before .before .args in let s = c .before .before .before .before .state-of in
-    let l : length (a .args) ≡ 4 = search needs in
-    let lp : length (a .p .args) ≡ 4 = search needs in
-    let lq : length (a .q .args) ≡ 4 = search needs in
+    let l : length (a .args) ≡ argumentSlots = search needs in
+    let lp : length (a .p .args) ≡ argumentSlots = search needs in
+    let lq : length (a .q .args) ≡ argumentSlots = search needs in
     subst (Made (kindOf (a .kind)) (rawMethod (a .p)) (rawMethod (a .q)) (s .result) (s .ensures .0) (s .ensures .1) (a .args) (a .answer))
     (ap (λ (n : ℕ). signedMethod (s .result) n (a .args) (a .answer)) (sym (c .before .shared-count .ensures)) ∙ sym (c .signed .ensures))
     (signed-made (kindOf (a .kind)) (rawMethod (a .p)) (rawMethod (a .q)) (s .result) (s .ensures .0) (s .ensures .1) (a .args) (a .answer)

@@ -4,7 +4,7 @@ use Prim.Native.Nat.{_/_, _%_}
 use Rattle.spec_model.specs.Table.{Method}
 use Rattle.spec_model.specs.Check.{kindOf, methodOf}
 use Rattle.table_record.specs.Store.{rawMethod}
-use Rattle.derive_slots.specs.Slots.{slotOf, methodAt}
+use Rattle.derive_slots.specs.Slots.{slotOf, methodAt, methodSlots}
 use borrow.Author.Needs.{needs}
 use Rattle.derive_slots.proofs.slot_at.Statement.{statement}
 use Rattle.derive_slots.proofs.slot_at.Tie as tie
@@ -20,8 +20,8 @@ slot-of-requires c κs = search needs
 
 returns : tie.Need-returns
 returns c = let a = c .before .before .before .args in let d = kindOf (a .key .kind) in (
-  c .slot-of .ensures .0 ∙ ap (λ (m : Method). slotOf d m (methodOf (rawMethod (c .before .get-method2 .result))) (a .k % 5)) (ap methodOf (c .before .before .get-method .ensures))
-      ∙ ap (λ (m : Method). slotOf d (methodAt (a .b .now) (a .key .left) (a .k / 5)) m (a .k % 5)) (ap methodOf (c .before .get-method2 .ensures)),
+  c .slot-of .ensures .0 ∙ ap (λ (m : Method). slotOf d m (methodOf (rawMethod (c .before .get-method2 .result))) (a .k % methodSlots)) (ap methodOf (c .before .before .get-method .ensures))
+      ∙ ap (λ (m : Method). slotOf d (methodAt (a .b .now) (a .key .left) (a .k / methodSlots)) m (a .k % methodSlots)) (ap methodOf (c .before .get-method2 .ensures)),
   c .slot-of .ensures .1,
 )
 

@@ -6,9 +6,10 @@ use native.Mathlib.Omega.{arith}
 use borrow.Author.Needs.{needs}
 use borrow.Fn.Kinds.{In}
 use borrow.Fn.PlainCycle.{Measures, is, falls, and}
-use Rattle.spec_model.specs.Table.{sub, sup}
+use Rattle.spec_model.specs.Table.{sub, sup, maxTypes}
 use Rattle.base_numbers.proofs.narrow.Reads as narrow-reads
 use Rattle.derive_slots.proofs.slot_at.Reads as slot-at-reads
+use Rattle.derive_slots.specs.Slots.{methodSlots}
 use Rattle.derive_sub_sup.proofs.Ends.{Started, started, settled, new-ready, start-loop, slot-ready, slot-read, finish-ready, new-full, new-at}
 use Rattle.derive_sub_sup.proofs.Turns.{Loop, Turn, turn-empty, argument-ready, argument-full, argument-low, argument-turn, answer-ready, answer-full, answer-low, answer-turn}
 use Rattle.derive_sub_sup.proofs.sub.Reads as sub-reads
@@ -24,10 +25,10 @@ use Rattle.derive_sub_sup.proofs.+sub+sup.{statement}
 use Rattle.derive_sub_sup.proofs.+sub+sup.Tie.{close}
 
 abbrev μ-sub : Measures 1 sub-kinds.ps ℕ
-μ-sub κs a = 128 - a .1 .1 .0
+μ-sub κs a = maxTypes - a .1 .1 .0
 
 abbrev μ-sup : Measures 1 sup-kinds.ps ℕ
-μ-sup κs a = 128 - a .1 .1 .0
+μ-sup κs a = maxTypes - a .1 .1 .0
 
 abbrev sub-at : ℕ → In 1 sub-kinds.ps
 sub-at t = and 1 sub-kinds.ps (is 1 sub-kinds.ps μ-sub t) sub-reads.Pre
@@ -74,7 +75,7 @@ sub-started t c = started (c .before .before .before .before .before .before .pr
 -- the slot as it is read from the bytes
 sub-turn : (t : ℕ) (c : sub-lts.After-slot-at (sub-calls t) (sub-at t) sub-reads.Post sub-Inv-loop sub-μ-loop)
     → let a = c .before .before .before .before .before .before .before .before .before .before .before .args in let st = c .before .before .before .before .before .start in
-    let l = c .before .before .before .loop in Turn sub (a .c) (a .n) (st .result) (st .last .0) (l .b) (a .c .methods * 5) (l .bytes) (l .m) (l .k) (c .slot-at .result)
+    let l = c .before .before .before .loop in Turn sub (a .c) (a .n) (st .result) (st .last .0) (l .b) (a .c .methods * methodSlots) (l .bytes) (l .m) (l .k) (c .slot-at .result)
 sub-turn t c = record {
   now = c .before .before .before .loop .inv;
   test = c .before .before .loop-test .taken;
@@ -265,7 +266,7 @@ sup-started t c = started (c .before .before .before .before .before .before .pr
 -- the slot as it is read from the bytes
 sup-turn : (t : ℕ) (c : sup-lts.After-slot-at (sup-calls t) (sup-at t) sup-reads.Post sup-Inv-loop sup-μ-loop)
     → let a = c .before .before .before .before .before .before .before .before .before .before .before .args in let st = c .before .before .before .before .before .start in
-    let l = c .before .before .before .loop in Turn sup (a .c) (a .n) (st .result) (st .last .0) (l .b) (a .c .methods * 5) (l .bytes) (l .m) (l .k) (c .slot-at .result)
+    let l = c .before .before .before .loop in Turn sup (a .c) (a .n) (st .result) (st .last .0) (l .b) (a .c .methods * methodSlots) (l .bytes) (l .m) (l .k) (c .slot-at .result)
 sup-turn t c = record {
   now = c .before .before .before .loop .inv;
   test = c .before .before .loop-test .taken;

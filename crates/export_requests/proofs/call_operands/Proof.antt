@@ -1,13 +1,14 @@
 -- The loop has put i arguments behind the first three operands. A signed number is kept as 64 bits (`toZ-ofZ`, `is-read`).
 use mathlib.Core.Path.{_≡_, refl, _∙_}
 use mathlib.Core.List.{_∷_}
-use Prim.Native.Nat.{_+_, _-_, _≤_}
+use Prim.Native.Nat.{suc, _+_, _-_, _≤_}
 use mir.Facts.{toZ-ofZ}
 use mir.Syntax.{w64}
 use mir.Val.{toZ}
 use lib.ListN.{length, take, length-set}
 use native.Mathlib.Omega.{arith}
 use borrow.Author.Needs.{needs}
+use Rattle.spec_model.specs.Table.{maxArguments}
 use Rattle.request_by_code.proofs.Words.{is-read}
 use Rattle.export_requests.proofs.Listing.{listed-all, listed-cut, listed-next}
 use Rattle.export_requests.proofs.call_operands.Statement.{statement}
@@ -15,10 +16,10 @@ use Rattle.export_requests.proofs.call_operands.Tie as tie
 
 abbrev Inv-loop : tie.InvT-loop
 Inv-loop subject cell method arguments items₀ i₀ items i =
-    (i ≤ 3) × (i ≤ length arguments) × (length items ≡ 6) × (take (3 + i) items ≡ toZ w64 subject ∷ toZ w64 cell ∷ toZ w64 method ∷ take i arguments)
+    (i ≤ suc maxArguments) × (i ≤ length arguments) × (length items ≡ 3 + suc maxArguments) × (take (3 + i) items ≡ toZ w64 subject ∷ toZ w64 cell ∷ toZ w64 method ∷ take i arguments)
 
 abbrev μ-loop : tie.MeasureT-loop
-μ-loop subject cell method arguments items₀ i₀ items i = 3 - i
+μ-loop subject cell method arguments items₀ i₀ items i = suc maxArguments - i
 
 array-set-from-items : tie.Need-array-set-from-items Inv-loop μ-loop
 array-set-from-items c = search needs
@@ -63,7 +64,7 @@ loop-less c = search needs
 
 loop-again : tie.Need-loop-again Inv-loop μ-loop
 loop-again c = let a = c .before .before .before .before .args in let p = c .before .before .before .loop in let w = a .arguments .now in
-    let more : p .i ≤ 2 = omega (arith, c .before .before .loop-test .taken) in
+    let more : p .i ≤ maxArguments = omega (arith, c .before .before .loop-test .taken) in
     rw (is-read w (p .i) (c .items .given)) (
       omega arith,
       omega arith,

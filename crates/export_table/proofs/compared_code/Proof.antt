@@ -15,8 +15,8 @@ enum-told-2 c = search needs
 enum-known-r : tie.Need-enum-known-r
 enum-known-r c = search needs
 
-answers-code-requires : tie.Need-answers-code-requires
-answers-code-requires c κs = search needs
+comparison-code-requires : tie.Need-comparison-code-requires
+comparison-code-requires c κs = search needs
 
 returns : tie.Need-returns
 returns c = search needs
@@ -25,9 +25,9 @@ returns-2 : tie.Need-returns-2
 returns-2 c = search needs
 
 returns-3 : tie.Need-returns-3
-returns-3 c = c .answers-code .ensures ∙ sym (ap (λ x. comparedCode (comparedOf x)) (c .before .before .r .given .1))
+returns-3 c = c .comparison-code .ensures ∙ sym (ap (λ x. comparedCode (comparedOf x)) (c .before .before .r .given .1))
 
 pub compared-code-spec : {M : Type 1} → statement M
 compared-code-spec =
     tie.close
-    (tie.spec enum-told enum-told-2 enum-known-r answers-code-requires returns returns-2 returns-3)
+    (tie.spec enum-told enum-told-2 enum-known-r comparison-code-requires returns returns-2 returns-3)

@@ -33,17 +33,17 @@ add-a c = search needs
 least-requires-2 : tie.Need-least-requires-2
 least-requires-2 c κs = search needs
 
-sub-put-answers : tie.Need-sub-put-answers
-sub-put-answers c = search needs
+sub-put-comparison : tie.Need-sub-put-comparison
+sub-put-comparison c = search needs
 
-part-put-answers-start : tie.Need-part-put-answers-start
-part-put-answers-start c = search needs
+part-put-comparison-start : tie.Need-part-put-comparison-start
+part-put-comparison-start c = search needs
 
-part-put-answers-end : tie.Need-part-put-answers-end
-part-put-answers-end c = search needs
+part-put-comparison-end : tie.Need-part-put-comparison-end
+part-put-comparison-end c = search needs
 
-put-answers-requires : tie.Need-put-answers-requires
-put-answers-requires c κs = search needs
+put-comparison-requires : tie.Need-put-comparison-requires
+put-comparison-requires c κs = search needs
 
 add-result : tie.Need-add-result
 add-result c = search needs
@@ -59,7 +59,7 @@ returns c =
     (fill-rest
     (fill-rest (c .before .before .before .before .before .before .before .before .before .before .before .before .before .put-decimal .ensures .0)
     (c .before .before .before .before .before .before .before .before .before .before .least .ensures .0) (c .before .before .before .before .before .before .before .put-number .ensures .0))
-    (c .before .before .before .before .least2 .ensures .0) (c .before .before .put-answers .ensures .0)) in (
+    (c .before .before .before .before .least2 .ensures .0) (c .before .before .put-comparison .ensures .0)) in (
       ended f,
       omega (
         arith,
@@ -82,10 +82,10 @@ pair-line-spec =
     put-number-requires
     add-a
     least-requires-2
-    sub-put-answers
-    part-put-answers-start
-    part-put-answers-end
-    put-answers-requires
+    sub-put-comparison
+    part-put-comparison-start
+    part-put-comparison-end
+    put-comparison-requires
     add-result
     same-length
     returns)

@@ -34,8 +34,8 @@ returns-2 c =
     compare-right (tableIn (a .b .now) (a .l .now) (a .c)) (a .t) (a .s) (index-of .result) (rw e (rw (toZ-ofZ (fits .t)) at (index-of .ensures))) (rw e (if1 .left))
     (index-of2 .result) (rw e (rw (toZ-ofZ (fits .s)) at (index-of2 .ensures))) (rw e (if2 .taken))
 
-answers-at-requires : tie.Need-answers-at-requires
-answers-at-requires c κs = c .before .before .before .before .before .before .pre
+comparison-at-requires : tie.Need-comparison-at-requires
+comparison-at-requires c κs = c .before .before .before .before .before .before .pre
 
 returns-3 : tie.Need-returns-3
 returns-3 c =
@@ -44,7 +44,7 @@ returns-3 c =
     let fits = c .before .before .before .before .before .before .before .fits in
     let if1 = c .before .before .before .before .if1 in
     let index-of2 = c .before .before .before .index-of2 in
-    let f = c .answers-at in
+    let f = c .comparison-at in
     let if2 = c .before .if2 in
     let e = size-is (a .b .now) (a .l .now) (a .c) in
     compare-all (tableIn (a .b .now) (a .l .now) (a .c)) (a .t) (a .s) (index-of .result) (rw e (rw (toZ-ofZ (fits .t)) at (index-of .ensures))) (rw e (if1 .left))
@@ -53,4 +53,4 @@ returns-3 c =
 pub compare-checked-spec : {M : Type 1} → statement M
 compare-checked-spec =
     tie.close
-    (tie.spec index-of-requires returns index-of-requires-2 returns-2 answers-at-requires returns-3)
+    (tie.spec index-of-requires returns index-of-requires-2 returns-2 comparison-at-requires returns-3)

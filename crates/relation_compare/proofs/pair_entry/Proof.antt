@@ -14,8 +14,8 @@ returns-2 c =
     let if2 = c .if2 in
     entry-right (a .b .now) (a .l .now) (a .c) (a .t) (a .s) (if1 .left) (if2 .taken)
 
-answers-at-requires : tie.Need-answers-at-requires
-answers-at-requires c κs = c .before .before .before .before .pre
+comparison-at-requires : tie.Need-comparison-at-requires
+comparison-at-requires c κs = c .before .before .before .before .pre
 
 pair-code-requires : tie.Need-pair-code-requires
 pair-code-requires c κs = search needs
@@ -25,8 +25,8 @@ returns-3 c =
     let a = c .before .before .before .before .before .before .args in
     let if1 = c .before .before .before .before .if1 in
     let if2 = c .before .before .if2 in
-    entry-all (a .b .now) (a .l .now) (a .c) (a .t) (a .s) (c .before .answers-at .result) (c .pair-code .result) (if1 .left) (if2 .left) (c .before .answers-at .ensures) (c .pair-code .ensures)
+    entry-all (a .b .now) (a .l .now) (a .c) (a .t) (a .s) (c .before .comparison-at .result) (c .pair-code .result) (if1 .left) (if2 .left) (c .before .comparison-at .ensures) (c .pair-code .ensures)
 
 pub pair-entry-spec : {M : Type 1} → statement M
 pair-entry-spec =
-    tie.close (tie.spec returns returns-2 answers-at-requires pair-code-requires returns-3)
+    tie.close (tie.spec returns returns-2 comparison-at-requires pair-code-requires returns-3)

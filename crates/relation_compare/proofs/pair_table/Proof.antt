@@ -7,16 +7,17 @@ use lib.ListN.{length, getD, length-set}
 use borrow.Author.Needs.{needs}
 use Rattle.table_record.specs.Store.{tableIn}
 use Rattle.table_record.proofs.Lists.{set-next}
-use Rattle.relation_compare.specs.Pairs.{pairEntry}
+use Rattle.relation_compare.specs.Pairs.{pairEntry, pairsSize}
 use Rattle.relation_compare.proofs.Laws.{pairs-all}
 use Rattle.relation_compare.proofs.pair_table.Statement.{statement}
 use Rattle.relation_compare.proofs.pair_table.Tie as tie
+use Rattle.spec_model.specs.Table.{maxSheetTypes}
 
 abbrev Inv-loop : tie.InvT-loop
-Inv-loop b l c out₀ p₀ out p = (p ≤ 2304) × (length out ≡ 2304) × ((k : ℕ) → k < p → getD out k 0 ≡ pairEntry (tableIn b l c) (k / 48) (k % 48))
+Inv-loop b l c out₀ p₀ out p = (p ≤ pairsSize) × (length out ≡ pairsSize) × ((k : ℕ) → k < p → getD out k 0 ≡ pairEntry (tableIn b l c) (k / maxSheetTypes) (k % maxSheetTypes))
 
 abbrev μ-loop : tie.MeasureT-loop
-μ-loop b l c out₀ p₀ out p = 2304 - p
+μ-loop b l c out₀ p₀ out p = pairsSize - p
 
 loop-holds : tie.Need-loop-holds Inv-loop μ-loop
 loop-holds c = (omega arith, refl, λ k h. absurd (not-suc-le-zero h))
@@ -42,7 +43,7 @@ loop-again c =
       omega (arith, loop-test .taken),
       length-set (loop .out) (loop .p) (pair-entry .result) ∙ loop .inv .1,
       set-next
-          (λ k v. v ≡ pairEntry (tableIn (a .b .now) (a .l .now) (a .c)) (k / 48) (k % 48)) (loop .out) (loop .p) (pair-entry .result) 0
+          (λ k v. v ≡ pairEntry (tableIn (a .b .now) (a .l .now) (a .c)) (k / maxSheetTypes) (k % maxSheetTypes)) (loop .out) (loop .p) (pair-entry .result) 0
           (omega (arith, loop .inv .1, loop-test .taken)) (loop .inv .2) (pair-entry .ensures),
     )
 

@@ -1,13 +1,14 @@
 -- Invariant: `done` has the answers for the categories below x. Rests on `next-order`, and `far-order` for a category above the last.
 use mathlib.Core.Path.{_≡_, refl, _∙_}
 use mathlib.Core.Bool.{false}
-use Prim.Native.Nat.{ℕ, _≤_, _<_, _-_}
+use Prim.Native.Nat.{ℕ, suc, _≤_, _<_, _-_}
 use native.Mathlib.Nat.{not-suc-le-zero}
 use native.Mathlib.Omega.{arith}
 use lib.ListN.{length, getD, length-set}
 use borrow.Author.Tests.{eq-eqb, ne-eqb}
 use borrow.Author.Needs.{needs}
 use Rattle.spec_model.specs.Relations.{reaches}
+use Rattle.spec_model.specs.Table.{maxCategories}
 use Rattle.table_record.proofs.Lists.{set-next}
 use Rattle.relation_rule.specs.Parts.{broaderIn}
 use Rattle.relation_rule.proofs.Categories.{order-is, next-order, far-order}
@@ -15,7 +16,7 @@ use Rattle.relation_rule.proofs.category_le.Statement.{statement}
 use Rattle.relation_rule.proofs.category_le.Tie as tie
 
 abbrev Inv-loop : tie.InvT-loop
-Inv-loop l c a b done₀ x₀ done x = (x ≤ b) × (length done ≡ 32) × ((k : ℕ) → k < x → getD done k false ≡ reaches 32 (broaderIn l c) a k)
+Inv-loop l c a b done₀ x₀ done x = (x ≤ b) × (length done ≡ suc maxCategories) × ((k : ℕ) → k < x → getD done k false ≡ reaches (suc maxCategories) (broaderIn l c) a k)
 
 abbrev μ-loop : tie.MeasureT-loop
 μ-loop l c a b done₀ x₀ done x = b - x
@@ -64,10 +65,10 @@ loop-again c =
     let loop = c .before .before .before .loop in
     let if1 = c .before .before .before .before .if1 in
     let loop-test = c .before .before .loop-test in
-    let small : loop .x < 32 = omega (arith, pre .limits .cats, if1 .left, loop-test .taken) in (
+    let small : loop .x < suc maxCategories = omega (arith, pre .limits .cats, if1 .left, loop-test .taken) in (
       omega arith,
       length-set (loop .done) (loop .x) (category-next .result) ∙ loop .inv .1,
-      set-next (λ k v. v ≡ reaches 32 (broaderIn (a .l .now) (a .c)) (a .a) k) (loop .done)
+      set-next (λ k v. v ≡ reaches (suc maxCategories) (broaderIn (a .l .now) (a .c)) (a .a) k) (loop .done)
           (loop .x) (category-next .result) false (omega (arith, loop .inv .1)) (loop .inv .2)
           (category-next .ensures ∙ next-order (a .l .now) (a .c) pre (loop .done) (a .a) (loop .x) small (loop .inv .2)),
     )

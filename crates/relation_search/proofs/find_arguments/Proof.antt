@@ -5,6 +5,7 @@ use native.Mathlib.Omega.{arith}
 use lib.ListN.{length, take}
 use borrow.Author.Needs.{needs}
 use Rattle.spec_model.specs.Relations.{argsRule}
+use Rattle.spec_model.specs.Records.{argumentSlots}
 use Rattle.relation_search.specs.Found.{Grew, marksIn, queueIn}
 use Rattle.relation_search.proofs.Steps.{arguments-differ, arguments-start, arguments-broke, arguments-more, arguments-end}
 use Rattle.relation_search.proofs.find_arguments.Statement.{statement}
@@ -26,8 +27,8 @@ slots-used-requires-2 c κs = search needs
 returns : tie.Need-returns Inv-loop μ-loop
 returns c =
     let a = c .before .before .before .before .args in
-    let lx : length (a .t4 .args) ≡ 4 = search needs in
-    let ly : length (a .t5 .args) ≡ 4 = search needs in
+    let lx : length (a .t4 .args) ≡ argumentSlots = search needs in
+    let ly : length (a .t5 .args) ≡ argumentSlots = search needs in
     let used = c .before .before .slots-used in
     let other = c .before .slots-used2 in
     arguments-differ (a .n) (a .t4 .args) (a .t5 .args) lx ly (a .t4 .count) (a .t5 .count) (used .result) (other .result) (used .ensures .0) (other .ensures .0)
@@ -68,8 +69,8 @@ same-length c =
 returns-2 : tie.Need-returns-2 Inv-loop μ-loop
 returns-2 c =
     let a = c .before .before .before .before .before .before .before .before .before .before .before .before .before .before .before .before .args in
-    let lx : length (a .t4 .args) ≡ 4 = search needs in
-    let ly : length (a .t5 .args) ≡ 4 = search needs in
+    let lx : length (a .t4 .args) ≡ argumentSlots = search needs in
+    let ly : length (a .t5 .args) ≡ argumentSlots = search needs in
     let used = c .before .before .before .before .before .before .before .before .before .before .before .before .before .before .slots-used in
     let other = c .before .before .before .before .before .before .before .before .before .before .before .before .before .slots-used2 in
     let loop = c .before .before .before .before .before .before .before .before .before .before .before .loop in
@@ -90,8 +91,8 @@ loop-less c = search needs
 loop-again : tie.Need-loop-again Inv-loop μ-loop
 loop-again c =
     let a = c .before .before .before .before .before .before .before .before .before .before .before .before .before .before .before .before .before .args in
-    let lx : length (a .t4 .args) ≡ 4 = search needs in
-    let ly : length (a .t5 .args) ≡ 4 = search needs in
+    let lx : length (a .t4 .args) ≡ argumentSlots = search needs in
+    let ly : length (a .t5 .args) ≡ argumentSlots = search needs in
     let used = c .before .before .before .before .before .before .before .before .before .before .before .before .before .before .before .slots-used in
     let other = c .before .before .before .before .before .before .before .before .before .before .before .before .before .before .slots-used2 in
     let loop = c .before .before .before .before .before .before .before .before .before .before .before .before .loop in
@@ -116,8 +117,8 @@ same-length-2 c = c .before .loop .inv .2
 returns-3 : tie.Need-returns-3 Inv-loop μ-loop
 returns-3 c =
     let a = c .before .before .before .before .before .before .args in
-    let lx : length (a .t4 .args) ≡ 4 = search needs in
-    let ly : length (a .t5 .args) ≡ 4 = search needs in
+    let lx : length (a .t4 .args) ≡ argumentSlots = search needs in
+    let ly : length (a .t5 .args) ≡ argumentSlots = search needs in
     let used = c .before .before .before .before .slots-used in
     let other = c .before .before .before .slots-used2 in
     let loop = c .before .loop in

@@ -9,6 +9,7 @@ use Rattle.relation_search.proofs.Pairs.{pair-left, pair-right, pair-kn
 use Rattle.relation_search.proofs.Buffer.{mark-at, buffer-length, pair-added}
 use Rattle.relation_search.proofs.find_pair.Statement.{statement}
 use Rattle.relation_search.proofs.find_pair.Tie as tie
+use Rattle.spec_model.specs.Table.{maxTypes}
 
 returns : tie.Need-returns
 returns c = let a = c .before .before .args in pair-left (a .n) (a .x) (a .y) (c .if1 .taken)
@@ -42,7 +43,7 @@ returns-3 c =
     let if2 = c .before .before .before .if2 in
     let is-found = c .before .is-found in
     let if3 = c .if3 in
-    let known = mark-at (a .found .now) (a .x * 128 + a .y) (is-found .result) true (is-found .ensures) (if3 .taken) in
+    let known = mark-at (a .found .now) (a .x * maxTypes + a .y) (is-found .result) true (is-found .ensures) (if3 .taken) in
     pair-known (a .n) (marksIn (a .found .now)) (queueIn (a .found .now)) (a .tail) (a .x) (a .y) pre (if1 .left) (if2 .left) known
 
 add-pair-requires : tie.Need-add-pair-requires
@@ -51,12 +52,12 @@ add-pair-requires c κs =
     let pre = c .before .before .before .before .before .before .before .pre in
     let is-found = c .before .before .is-found in
     let if3 = c .before .if3 in
-    let new = mark-at (a .found .now) (a .x * 128 + a .y) (is-found .result) false (is-found .ensures) (if3 .left) in
+    let new = mark-at (a .found .now) (a .x * maxTypes + a .y) (is-found .result) false (is-found .ensures) (if3 .left) in
     let e = buffer-length (a .found .now) in
     let if1 = c .before .before .before .before .before .if1 in
     let if2 = c .before .before .before .before .if2 in
-    let at : a .x * 128 + a .y < length (marksIn (a .found .now)) = omega (arith, pre .slots, pre .small, if1 .left, if2 .left) in
-    let r = room (a .n) (marksIn (a .found .now)) (queueIn (a .found .now)) (a .tail) (a .x * 128 + a .y) pre at new in
+    let at : a .x * maxTypes + a .y < length (marksIn (a .found .now)) = omega (arith, pre .slots, pre .small, if1 .left, if2 .left) in
+    let r = room (a .n) (marksIn (a .found .now)) (queueIn (a .found .now)) (a .tail) (a .x * maxTypes + a .y) pre at new in
     (omega arith, omega arith, omega (arith, pre .few))
 
 same-length : tie.Need-same-length
@@ -71,7 +72,7 @@ returns-4 c =
     let is-found = c .before .before .before .before .before .is-found in
     let if3 = c .before .before .before .before .if3 in
     let add-pair = c .before .before .add-pair in
-    let new = mark-at (a .found .now) (a .x * 128 + a .y) (is-found .result) false (is-found .ensures) (if3 .left) in
+    let new = mark-at (a .found .now) (a .x * maxTypes + a .y) (is-found .result) false (is-found .ensures) (if3 .left) in
     pair-added (a .n) (a .found .now) (a .tail) (a .x) (a .y) pre (if1 .left) (if2 .left) new (add-pair .last .0) (add-pair .result) (add-pair .ensures)
 
 pub find-pair-spec : {M : Type 1} → statement M

@@ -7,7 +7,7 @@ use borrow.Author.Needs.{needs}
 use Rattle.table_record.specs.Store.{tableIn}
 use Rattle.table_record.proofs.Tables.{size-is}
 use Rattle.relation_rule.specs.Asked.{relationOf}
-use Rattle.relation_search.specs.Found.{marksIn, queueIn}
+use Rattle.relation_search.specs.Found.{marksIn, queueIn, maxPairs}
 use Rattle.relation_search.proofs.Pairs.{fits}
 use Rattle.relation_search.proofs.Loop.{Going, start-at, again, broken, ended}
 use Rattle.relation_search.proofs.search_in.Statement.{statement}
@@ -17,7 +17,7 @@ abbrev Inv-loop : tie.InvT-loop
 Inv-loop b l found₀ c k square t s tail₀ head₀ found tail head = (length found ≡ length found₀) × Going (relationOf k) (tableIn b l c) (c .types) t s (marksIn found) (queueIn found) tail head
 
 abbrev μ-loop : tie.MeasureT-loop
-μ-loop b l found₀ c k square t s tail₀ head₀ found tail head = 16384 - head
+μ-loop b l found₀ c k square t s tail₀ head₀ found tail head = maxPairs - head
 
 mul-add-pair : tie.Need-mul-add-pair Inv-loop μ-loop
 mul-add-pair c = let pre = c .before .before .pre in omega (arith, pre .1 .limits .types, pre .2)

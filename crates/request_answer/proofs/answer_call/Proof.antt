@@ -4,7 +4,7 @@ use mathlib.Core.Path.{ap}
 use borrow.Author.Needs.{needs}
 use Rattle.state_record.specs.Whole.{whole}
 use Rattle.request_common.specs.Served.{done}
-use Rattle.request_answer.proofs.Laws.{cell-low, called, owner-6, answered-17, call-gives}
+use Rattle.request_answer.proofs.Laws.{keeps-same, cell-low, called, owner-6, answered-17, call-gives}
 use Rattle.request_answer.specs.Given.{givenAs}
 use Rattle.request_answer.proofs.answer_call.Statement.{statement}
 use Rattle.request_answer.proofs.answer_call.Tie as tie
@@ -31,42 +31,48 @@ base-owner-requires c κs =
     let l = cell-low s (h .0) (a .j) (h .1) (y .result) (y .ensures .1 (h .1)) (c .before .before .before .wide .result) (c .before .before .before .wide .ensures .0) in
     let k = called s (h .0) (a .j) (h .1) (y .result) (y .ensures .1 (h .1)) (c .before .before .before .wide .result) (c .before .before .before .wide .ensures .0)
     (c .before .before .cell-at .result) (c .before .before .cell-at .ensures .1 l) in
-    (h .0 .falling, omega (arith, k .place, c .wide2 .ensures .0))
+    (h .0 .descending, omega (arith, k .place, c .wide2 .ensures .0))
 
 refused-requires : tie.Need-refused-requires
 refused-requires c κs = search needs
 
 returns : tie.Need-returns
-returns c = λ subject w.
-    let a = c .before .before .before .before .before .before .before .before .args in let s = whole (a .types .now) (a .s) in
-    let h = c .before .before .before .before .before .before .before .before .pre in
-    let y = c .before .before .before .before .before .before .before .call-at in
-    let l = cell-low s (h .0) (a .j) (h .1) (y .result) (y .ensures .1 (h .1)) (c .before .before .before .before .before .before .wide .result)
-    (c .before .before .before .before .before .before .wide .ensures .0) in
-    let k = called s (h .0) (a .j) (h .1) (y .result) (y .ensures .1 (h .1)) (c .before .before .before .before .before .before .wide .result)
-    (c .before .before .before .before .before .before .wide .ensures .0) (c .before .before .before .before .before .cell-at .result)
-    (c .before .before .before .before .before .cell-at .ensures .1 l) in
-    owner-6 s (h .0) subject (a .j) (givenAs (a .given)) (y .result) (c .before .before .before .before .before .cell-at .result) k (c .before .before .before .wide2 .result)
-    (c .before .before .base-owner .result) (a .who) (c .before .before .before .wide2 .ensures .0) (c .before .before .base-owner .ensures .0) w (c .before .if1 .taken)
-    (done (a .types .now) (c .refused .result)) (ap (done (a .types .now)) (c .refused .ensures))
+returns c = (
+  λ subject w.
+      let a = c .before .before .before .before .before .before .before .before .args in let s = whole (a .types .now) (a .s) in
+      let h = c .before .before .before .before .before .before .before .before .pre in
+      let y = c .before .before .before .before .before .before .before .call-at in
+      let l = cell-low s (h .0) (a .j) (h .1) (y .result) (y .ensures .1 (h .1)) (c .before .before .before .before .before .before .wide .result)
+      (c .before .before .before .before .before .before .wide .ensures .0) in
+      let k = called s (h .0) (a .j) (h .1) (y .result) (y .ensures .1 (h .1)) (c .before .before .before .before .before .before .wide .result)
+      (c .before .before .before .before .before .before .wide .ensures .0) (c .before .before .before .before .before .cell-at .result)
+      (c .before .before .before .before .before .cell-at .ensures .1 l) in
+      owner-6 s (h .0) subject (a .j) (givenAs (a .given)) (y .result) (c .before .before .before .before .before .cell-at .result) k (c .before .before .before .wide2 .result)
+      (c .before .before .base-owner .result) (a .who) (c .before .before .before .wide2 .ensures .0) (c .before .before .base-owner .ensures .0) w (c .before .if1 .taken)
+      (done (a .types .now) (c .refused .result)) (ap (done (a .types .now)) (c .refused .ensures)),
+  keeps-same (c .before .before .before .before .before .before .before .before .args .given) (c .before .before .before .before .before .before .before .before .args .types .now),
+)
 
 refused-requires-2 : tie.Need-refused-requires-2
 refused-requires-2 c κs = search needs
 
 returns-2 : tie.Need-returns-2
-returns-2 c = λ subject w.
-    let a = c .before .before .before .before .before .before .before .before .before .args in let s = whole (a .types .now) (a .s) in
-    let h = c .before .before .before .before .before .before .before .before .before .pre in
-    let y = c .before .before .before .before .before .before .before .before .call-at in
-    let l = cell-low s (h .0) (a .j) (h .1) (y .result) (y .ensures .1 (h .1)) (c .before .before .before .before .before .before .before .wide .result)
-    (c .before .before .before .before .before .before .before .wide .ensures .0) in
-    let k = called s (h .0) (a .j) (h .1) (y .result) (y .ensures .1 (h .1)) (c .before .before .before .before .before .before .before .wide .result)
-    (c .before .before .before .before .before .before .before .wide .ensures .0) (c .before .before .before .before .before .before .cell-at .result)
-    (c .before .before .before .before .before .before .cell-at .ensures .1 l) in
-    answered-17 s (h .0) subject (a .j) (givenAs (a .given)) (y .result) (c .before .before .before .before .before .before .cell-at .result) k
-    (c .before .before .before .before .wide2 .result) (c .before .before .before .base-owner .result) (a .who) (c .before .before .before .before .wide2 .ensures .0)
-    (c .before .before .before .base-owner .ensures .0) w (c .before .before .if1 .left) (c .before .if2 .taken) (done (a .types .now) (c .refused2 .result))
-    (ap (done (a .types .now)) (c .refused2 .ensures))
+returns-2 c = (
+  λ subject w.
+      let a = c .before .before .before .before .before .before .before .before .before .args in let s = whole (a .types .now) (a .s) in
+      let h = c .before .before .before .before .before .before .before .before .before .pre in
+      let y = c .before .before .before .before .before .before .before .before .call-at in
+      let l = cell-low s (h .0) (a .j) (h .1) (y .result) (y .ensures .1 (h .1)) (c .before .before .before .before .before .before .before .wide .result)
+      (c .before .before .before .before .before .before .before .wide .ensures .0) in
+      let k = called s (h .0) (a .j) (h .1) (y .result) (y .ensures .1 (h .1)) (c .before .before .before .before .before .before .before .wide .result)
+      (c .before .before .before .before .before .before .before .wide .ensures .0) (c .before .before .before .before .before .before .cell-at .result)
+      (c .before .before .before .before .before .before .cell-at .ensures .1 l) in
+      answered-17 s (h .0) subject (a .j) (givenAs (a .given)) (y .result) (c .before .before .before .before .before .before .cell-at .result) k
+      (c .before .before .before .before .wide2 .result) (c .before .before .before .base-owner .result) (a .who) (c .before .before .before .before .wide2 .ensures .0)
+      (c .before .before .before .base-owner .ensures .0) w (c .before .before .if1 .left) (c .before .if2 .taken) (done (a .types .now) (c .refused2 .result))
+      (ap (done (a .types .now)) (c .refused2 .ensures)),
+  keeps-same (c .before .before .before .before .before .before .before .before .before .args .given) (c .before .before .before .before .before .before .before .before .before .args .types .now),
+)
 
 give-requires : tie.Need-give-requires
 give-requires c κs =
@@ -82,19 +88,22 @@ give-requires c κs =
     )
 
 returns-3 : tie.Need-returns-3
-returns-3 c = λ subject w.
-    let a = c .before .before .before .before .before .before .before .before .before .before .args in let s = whole (a .types .now) (a .s) in
-    let h = c .before .before .before .before .before .before .before .before .before .before .pre in
-    let y = c .before .before .before .before .before .before .before .before .before .call-at in
-    let l = cell-low s (h .0) (a .j) (h .1) (y .result) (y .ensures .1 (h .1)) (c .before .before .before .before .before .before .before .before .wide .result)
-    (c .before .before .before .before .before .before .before .before .wide .ensures .0) in
-    let k = called s (h .0) (a .j) (h .1) (y .result) (y .ensures .1 (h .1)) (c .before .before .before .before .before .before .before .before .wide .result)
-    (c .before .before .before .before .before .before .before .before .wide .ensures .0) (c .before .before .before .before .before .before .before .cell-at .result)
-    (c .before .before .before .before .before .before .before .cell-at .ensures .1 l) in
-    call-gives s (h .0) subject (a .j) (givenAs (a .given)) (y .result) (c .before .before .before .before .before .before .before .cell-at .result) k
-    (c .before .before .before .before .before .wide2 .result) (c .before .before .before .before .base-owner .result) (a .who) (c .before .before .before .before .before .wide2 .ensures .0)
-    (c .before .before .before .before .base-owner .ensures .0) w (c .before .before .before .if1 .left) (c .before .before .if2 .left) (done (c .give .last .0) (c .give .result))
-    (c .give .ensures subject w)
+returns-3 c = (
+  λ subject w.
+      let a = c .before .before .before .before .before .before .before .before .before .before .args in let s = whole (a .types .now) (a .s) in
+      let h = c .before .before .before .before .before .before .before .before .before .before .pre in
+      let y = c .before .before .before .before .before .before .before .before .before .call-at in
+      let l = cell-low s (h .0) (a .j) (h .1) (y .result) (y .ensures .1 (h .1)) (c .before .before .before .before .before .before .before .before .wide .result)
+      (c .before .before .before .before .before .before .before .before .wide .ensures .0) in
+      let k = called s (h .0) (a .j) (h .1) (y .result) (y .ensures .1 (h .1)) (c .before .before .before .before .before .before .before .before .wide .result)
+      (c .before .before .before .before .before .before .before .before .wide .ensures .0) (c .before .before .before .before .before .before .before .cell-at .result)
+      (c .before .before .before .before .before .before .before .cell-at .ensures .1 l) in
+      call-gives s (h .0) subject (a .j) (givenAs (a .given)) (y .result) (c .before .before .before .before .before .before .before .cell-at .result) k
+      (c .before .before .before .before .before .wide2 .result) (c .before .before .before .before .base-owner .result) (a .who) (c .before .before .before .before .before .wide2 .ensures .0)
+      (c .before .before .before .before .base-owner .ensures .0) w (c .before .before .before .if1 .left) (c .before .before .if2 .left) (done (c .give .last .0) (c .give .result))
+      (c .give .ensures .0 subject w),
+  c .give .ensures .1,
+)
 
 pub answer-call-spec : {M : Type 1} → statement M
 answer-call-spec =

@@ -42,7 +42,7 @@ give-reference-requires c κs = let h = c .before .before .before .before .befor
   h .0,
   h .1 .number,
   omega (arith, h .1 .place),
-  omega (arith, h .1 .sort),
+  omega (arith, h .1 .ty),
   c .before .before .before .before .before .before .before .before .wide .ensures .1,
   c .before .before .before .before .before .before .answers-met .ensures .1,
 )

@@ -23,7 +23,7 @@ answer-step-requires c κs = search needs
 returns : tie.Need-returns
 returns c = let a = c .before .before .before .before .before .args in let s = whole (a .types .now) (a .s) in let w = a .ops .now in
     step-as (sym (nothing-is (systemIn s) w (c .before .before .before .before .if1 .taken)))
-    (rw (is-read w 0 (c .before .before .answer-step-arg2 .given), is-read w 1 (c .before .answer-step-arg3 .given)) at (c .answer-step .ensures))
+    (rw (is-read w 0 (c .before .before .answer-step-arg2 .given), is-read w 1 (c .before .answer-step-arg3 .given)) at (c .answer-step .ensures .0))
 
 refused-requires : tie.Need-refused-requires
 refused-requires c κs = search needs
@@ -49,7 +49,7 @@ returns-3 : tie.Need-returns-3
 returns-3 c = let a = c .before .before .before .before .before .before .before .args in let s = whole (a .types .now) (a .s) in let w = a .ops .now in
     step-as (sym (answer-is (systemIn s) w (c .before .before .before .before .before .before .if1 .left) (c .before .before .before .before .before .if2 .left)))
     (rw (is-read w 0 (c .before .before .answer-step-arg5 .given), is-read w 1 (c .before .answer-step-arg6 .given), is-read w 2 (c .before .before .before .before .v .given)) at
-    (c .answer-step2 .ensures))
+    (c .answer-step2 .ensures .0))
 
 pub serve-answer-spec : {M : Type 1} → statement M
 serve-answer-spec =

@@ -1,122 +1,53 @@
--- The tests of C1 to C3 in their order; what passed names the subject, the cell and the method.
+-- What is planned of the call says what is left of it.
 use mir.Facts.{toZ-ofZ}
-use mathlib.Core.Path.{refl, sym, _∙_, ap}
-use borrow.Author.Tests.{not-true, not-false}
+use mathlib.Core.Path.{ap}
 use borrow.Author.Needs.{needs}
 use Rattle.state_record.specs.Whole.{whole}
 use Rattle.request_common.specs.Served.{done}
-use Rattle.request_call.proofs.Calling.{step-5, who-named, step-6, cell-here, step-14, step-goes}
+use Rattle.request_common.proofs.Laws.{refuses, step-as}
+use Rattle.request_call.proofs.Calling.{call-byte}
 use Rattle.request_call.proofs.call_step.Statement.{statement}
 use Rattle.request_call.proofs.call_step.Tie as tie
 
-is-subject-requires : tie.Need-is-subject-requires
-is-subject-requires c κs = search needs
+plan-call-requires : tie.Need-plan-call-requires
+plan-call-requires c κs = c .before .pre
 
 refused-requires : tie.Need-refused-requires
 refused-requires c κs = search needs
 
 returns : tie.Need-returns
-returns c = let a = c .before .before .before .before .before .args in let s = whole (a .types .now) (a .s) in let f = c .before .before .before .before .before .fits in
-    step-5 s (c .before .before .before .before .before .pre) (a .subject) (a .cell) (a .method) (a .arguments .now)
-    (sym (rw (toZ-ofZ (f .subject)) at (c .before .before .is-subject .ensures s refl)) ∙ not-true (c .before .before .is-subject .result) (c .before .if1 .taken))
-    (done (a .types .now) (c .refused .result)) (ap (done (a .types .now)) (c .refused .ensures))
+returns c = let a = c .before .before .before .before .before .args in let f = c .before .before .before .before .before .fits in let p = rw
+    (toZ-ofZ (f .subject), toZ-ofZ (f .cell), toZ-ofZ (f .method)) at (c .before .before .before .plan-call .ensures) in
+    refuses (c .before .before .before .before .before .pre) (p .stops (c .before .if1 .taken)) (ap (done (a .types .now)) (c .refused .ensures))
 
-index-of-requires : tie.Need-index-of-requires
-index-of-requires c κs = search needs
-
-is-held-requires : tie.Need-is-held-requires
-is-held-requires c κs = c .before .before .before .before .before .pre .cellCount
-
-refused-requires-2 : tie.Need-refused-requires-2
-refused-requires-2 c κs = search needs
+call-through-requires : tie.Need-call-through-requires
+call-through-requires c κs = let low = c .before .before .before .before .before .plan-call .ensures .fits (c .before .before .before .if1 .left) in
+    (c .before .before .before .before .before .before .before .pre, low .0, low .1, low .2, low .3)
 
 returns-2 : tie.Need-returns-2
-returns-2 c = let a = c .before .before .before .before .before .before .before .before .args in let s = whole (a .types .now) (a .s) in
-    let f = c .before .before .before .before .before .before .before .before .fits in
-    let known = sym (rw (toZ-ofZ (f .subject)) at (c .before .before .before .before .before .is-subject .ensures s refl)) ∙ not-false
-    (c .before .before .before .before .before .is-subject .result) (c .before .before .before .before .if1 .left) in
-    let who = rw (toZ-ofZ (f .subject)) at (c .before .before .before .index-of .ensures) in
-    let w = who-named s (c .before .before .before .before .before .before .before .before .pre) (a .subject) (a .cell) (a .method) (a .arguments .now) known
-    (c .before .before .before .index-of .result) who in
-    step-6 s (c .before .before .before .before .before .before .before .before .pre) (a .subject) (a .cell) (a .method) (a .arguments .now) known
-    (c .before .before .before .index-of .result) who
-    (sym (rw (toZ-ofZ (f .cell)) at (c .before .before .is-held .ensures s (a .subject) refl (w .0))) ∙ not-true (c .before .before .is-held .result) (c .before .if2 .taken))
-    (done (a .types .now) (c .refused2 .result)) (ap (done (a .types .now)) (c .refused2 .ensures))
+returns-2 c = let f = c .before .before .before .before .before .before .before .before .fits in let p = rw (toZ-ofZ (f .subject), toZ-ofZ (f .cell), toZ-ofZ (f .method)) at
+    (c .before .before .before .before .before .before .plan-call .ensures) in
+    step-as (p .goes (c .before .before .before .before .if1 .left)) (c .call-through .ensures)
 
-index-of-requires-2 : tie.Need-index-of-requires-2
-index-of-requires-2 c κs = search needs
-
-index-of-requires-3 : tie.Need-index-of-requires-3
-index-of-requires-3 c κs = search needs
-
-refused-requires-3 : tie.Need-refused-requires-3
-refused-requires-3 c κs = search needs
+add-call-requires : tie.Need-add-call-requires
+add-call-requires c κs = let a = c .before .before .before .before .before .args in let q = c .before .before .before .plan-call in let low = q .ensures .fits (c .before .if1 .left) in
+    let b = call-byte (whole (a .types .now) (a .s)) (c .before .before .before .before .before .pre) (low .0) (q .result .who) (q .result .cell) (q .result .method) 0 (low .2) (low .3) in
+    (low .0, low .1, b .0, b .1)
 
 returns-3 : tie.Need-returns-3
-returns-3 c =
-    let a = c .before .before .before .before .before .before .before .before .before .before .before .before .args in let s = whole (a .types .now) (a .s) in
-    let f = c .before .before .before .before .before .before .before .before .before .before .before .before .fits in
-    let known = sym (rw (toZ-ofZ (f .subject)) at (c .before .before .before .before .before .before .before .before .before .is-subject .ensures s refl)) ∙ not-false
-    (c .before .before .before .before .before .before .before .before .before .is-subject .result) (c .before .before .before .before .before .before .before .before .if1 .left) in
-    let who = rw (toZ-ofZ (f .subject)) at (c .before .before .before .before .before .before .before .index-of .ensures) in
-    let w = who-named s (c .before .before .before .before .before .before .before .before .before .before .before .before .pre) (a .subject) (a .cell) (a .method)
-    (a .arguments .now) known (c .before .before .before .before .before .before .before .index-of .result) who in
-    let has = sym (rw (toZ-ofZ (f .cell)) at (c .before .before .before .before .before .before .is-held .ensures s (a .subject) refl (w .0))) ∙ not-false
-    (c .before .before .before .before .before .before .is-held .result) (c .before .before .before .before .before .if2 .left) in
-    step-14 s (c .before .before .before .before .before .before .before .before .before .before .before .before .pre) (a .subject) (a .cell) (a .method) (a .arguments .now) known
-    (c .before .before .before .before .before .before .before .index-of .result) who has (c .before .before .before .before .index-of2 .result)
-    (rw (toZ-ofZ (f .cell)) at (c .before .before .before .before .index-of2 .ensures))
-    (c .before .before .before .index-of3 .result) (rw (toZ-ofZ (f .method)) at (c .before .before .before .index-of3 .ensures)) (c .before .if3 .taken)
-    (done (a .types .now) (c .refused3 .result)) (ap (done (a .types .now)) (c .refused3 .ensures))
-
-call-held-requires : tie.Need-call-held-requires
-call-held-requires c κs =
-    let a = c .before .before .before .before .before .before .before .before .before .before .before .before .args in let s = whole (a .types .now) (a .s) in
-    let f = c .before .before .before .before .before .before .before .before .before .before .before .before .fits in
-    let known = sym (rw (toZ-ofZ (f .subject)) at (c .before .before .before .before .before .before .before .before .before .is-subject .ensures s refl)) ∙ not-false
-    (c .before .before .before .before .before .before .before .before .before .is-subject .result) (c .before .before .before .before .before .before .before .before .if1 .left) in
-    let who = rw (toZ-ofZ (f .subject)) at (c .before .before .before .before .before .before .before .index-of .ensures) in
-    let w = who-named s (c .before .before .before .before .before .before .before .before .before .before .before .before .pre) (a .subject) (a .cell) (a .method) (a .arguments .now) known
-    (c .before .before .before .before .before .before .before .index-of .result) who in
-    let has = sym (rw (toZ-ofZ (f .cell)) at (c .before .before .before .before .before .before .is-held .ensures s (a .subject) refl (w .0))) ∙ not-false
-    (c .before .before .before .before .before .before .is-held .result) (c .before .before .before .before .before .if2 .left) in
-    let k = cell-here s (c .before .before .before .before .before .before .before .before .before .before .before .before .pre) (a .subject) (a .cell) (a .method) (a .arguments .now) known
-    (c .before .before .before .before .before .before .before .index-of .result) who has (c .before .before .before .before .index-of2 .result)
-    (rw (toZ-ofZ (f .cell)) at (c .before .before .before .before .index-of2 .ensures))
-    (c .before .before .before .index-of3 .result) (rw (toZ-ofZ (f .method)) at (c .before .before .before .index-of3 .ensures)) in
-    (c .before .before .before .before .before .before .before .before .before .before .before .before .pre, w .1, k .1, c .before .if3 .left)
-
-returns-4 : tie.Need-returns-4
-returns-4 c =
-    let a = c .before .before .before .before .before .before .before .before .before .before .before .before .before .args in let s = whole (a .types .now) (a .s) in
-    let f = c .before .before .before .before .before .before .before .before .before .before .before .before .before .fits in
-    let known = sym (rw (toZ-ofZ (f .subject)) at (c .before .before .before .before .before .before .before .before .before .before .is-subject .ensures s refl)) ∙ not-false
-    (c .before .before .before .before .before .before .before .before .before .before .is-subject .result) (c .before .before .before .before .before .before .before .before .before .if1 .left) in
-    let who = rw (toZ-ofZ (f .subject)) at (c .before .before .before .before .before .before .before .before .index-of .ensures) in
-    let w = who-named s (c .before .before .before .before .before .before .before .before .before .before .before .before .before .pre) (a .subject) (a .cell) (a .method)
-    (a .arguments .now) known (c .before .before .before .before .before .before .before .before .index-of .result) who in
-    let has = sym (rw (toZ-ofZ (f .cell)) at (c .before .before .before .before .before .before .before .is-held .ensures s (a .subject) refl (w .0))) ∙ not-false
-    (c .before .before .before .before .before .before .before .is-held .result) (c .before .before .before .before .before .before .if2 .left) in
-    step-goes s (c .before .before .before .before .before .before .before .before .before .before .before .before .before .pre) (a .subject) (a .cell) (a .method) (a .arguments .now) known
-    (c .before .before .before .before .before .before .before .before .index-of .result) who has (c .before .before .before .before .before .index-of2 .result)
-    (rw (toZ-ofZ (f .cell)) at (c .before .before .before .before .before .index-of2 .ensures))
-    (c .before .before .before .before .index-of3 .result) (rw (toZ-ofZ (f .method)) at (c .before .before .before .before .index-of3 .ensures)) (c .before .before .if3 .left)
-    (done (c .call-held .last .0) (c .call-held .result)) (c .call-held .ensures)
+returns-3 c = let a = c .before .before .before .before .before .before .args in let f = c .before .before .before .before .before .before .fits in let p = rw
+    (toZ-ofZ (f .subject), toZ-ofZ (f .cell), toZ-ofZ (f .method)) at (c .before .before .before .before .plan-call .ensures) in
+    let low = p .fits (c .before .before .if1 .left) in
+    step-as (p .adds (c .before .before .if1 .left) (c .before .if2 .left)) (c .add-call .ensures (a .types .now) (c .before .before .before .before .before .before .pre) (low .2) (low .3))
 
 pub call-step-spec : {M : Type 1} → statement M
 call-step-spec =
     tie.close
     (tie.spec
-    is-subject-requires
+    plan-call-requires
     refused-requires
     returns
-    index-of-requires
-    is-held-requires
-    refused-requires-2
+    call-through-requires
     returns-2
-    index-of-requires-2
-    index-of-requires-3
-    refused-requires-3
-    returns-3
-    call-held-requires
-    returns-4)
+    add-call-requires
+    returns-3)

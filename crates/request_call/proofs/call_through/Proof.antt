@@ -6,8 +6,8 @@ use borrow.Author.Needs.{needs}
 use Rattle.state_record.specs.Whole.{whole}
 use Rattle.request_common.specs.Served.{done}
 use Rattle.state_record.specs.Sound.{layersIn}
-use Rattle.crossing_layers.specs.Carried.{wayIn}
-use Rattle.request_call.proofs.Calling.{call-byte, place-here, place-low, way-met, sort-low, through-stops, through-room, through-adds}
+use Rattle.crossing_layers.specs.Carried.{callLayersIn}
+use Rattle.request_call.proofs.Calling.{call-byte, place-here, place-low, call-layers-met, sort-low, through-stops, through-room, through-adds}
 use Rattle.request_value.specs.Sent.{argumentsOf}
 use Rattle.request_call.proofs.call_through.Statement.{statement}
 use Rattle.request_call.proofs.call_through.Tie as tie
@@ -20,20 +20,20 @@ wide-requires c κs = search needs
 
 base-owner-requires : tie.Need-base-owner-requires
 base-owner-requires c κs = let a = c .before .before .before .args in let s = whole (a .types .now) (a .s) in let h = c .before .before .before .pre in (
-  h .0 .falling,
+  h .0 .descending,
   place-low s (h .0) (a .k) (h .3) (c .before .before .cell-at .result) (c .before .before .cell-at .ensures .1 (h .3)) (c .before .wide .result)
       (c .before .wide .ensures .0),
 )
 
 layers-of-requires : tie.Need-layers-of-requires
 layers-of-requires c κs = let a = c .before .before .before .before .args in let s = whole (a .types .now) (a .s) in let h = c .before .before .before .before .pre in (
-  h .0 .falling,
+  h .0 .descending,
   place-low s (h .0) (a .k) (h .3) (c .before .before .before .cell-at .result) (c .before .before .before .cell-at .ensures .1 (h .3))
       (c .before .before .wide .result) (c .before .before .wide .ensures .0),
 )
 
-way-of-requires : tie.Need-way-of-requires
-way-of-requires c κs = c .before .layers-of .ensures .few
+call-layers-requires : tie.Need-call-layers-requires
+call-layers-requires c κs = c .before .layers-of .ensures .few
 
 send-arguments-requires : tie.Need-send-arguments-requires
 send-arguments-requires c κs =
@@ -43,7 +43,7 @@ send-arguments-requires c κs =
     let p = place-low s (h .0) (a .k) (h .3) (y .result) (y .ensures .1 (h .3)) (c .before .before .before .before .before .wide .result)
     (c .before .before .before .before .before .wide .ensures .0) in
     let t = sort-low s (h .0) (a .k) (h .3) (y .result) (y .ensures .1 (h .3)) _ refl in
-    (h .0, omega (arith, p), omega (arith, t), c .before .before .before .base-owner .ensures .1, omega (arith, c .way-of .ensures .1, c .before .before .layers-of .ensures .few))
+    (h .0, omega (arith, p), omega (arith, t), c .before .before .before .base-owner .ensures .1, omega (arith, c .call-layers .ensures .1, c .before .before .layers-of .ensures .few))
 
 accepted-requires : tie.Need-accepted-requires
 accepted-requires c κs = search needs
@@ -55,11 +55,11 @@ returns c =
     let y = c .before .before .before .before .before .before .before .before .before .before .cell-at in
     let z = c .before .before .before .before .before .before .before .before .before .wide in
     let l = c .before .before .before .before .before .before .layers-of in
-    let w = c .before .before .before .before .way-of in
+    let w = c .before .before .before .before .call-layers in
     through-stops s (h .0) (a .who) (a .k) (a .m) (argumentsOf (a .x)) (a .vs .now) (z .result) (place-here s (h .0) (a .k) (h .3) (y .result) (y .ensures .1 (h .3)) (z .result)
     (z .ensures .0))
-    (c .before .before .before .before .before .before .before .base-owner .result) (c .before .before .before .before .before .before .before .base-owner .ensures .0) (wayIn (w .result))
-    (way-met s (h .0) (a .k) (h .3) (y .result) (y .ensures .1 (h .3)) (z .result) (z .ensures .0) (layersIn (l .result)) (wayIn (w .result)) (l .ensures .are) (w .ensures .0))
+    (c .before .before .before .before .before .before .before .base-owner .result) (c .before .before .before .before .before .before .before .base-owner .ensures .0) (callLayersIn (w .result))
+    (call-layers-met s (h .0) (a .k) (h .3) (y .result) (y .ensures .1 (h .3)) (z .result) (z .ensures .0) (layersIn (l .result)) (callLayersIn (w .result)) (l .ensures .are) (w .ensures .0))
     (done (c .before .before .before .send-arguments .last .0) (c .before .before .before .send-arguments .result)) (c .before .before .before .send-arguments .ensures)
     (sym (c .before .accepted .ensures) ∙ not-true (c .before .accepted .result) (c .if1 .taken))
 
@@ -68,7 +68,7 @@ adapters-of-requires c κs =
     let a = c .before .before .before .before .before .before .before .before .before .before .before .args in let s = whole (a .types .now) (a .s) in
     let h = c .before .before .before .before .before .before .before .before .before .before .before .pre in
     let y = c .before .before .before .before .before .before .before .before .before .before .cell-at in (
-      h .0 .falling,
+      h .0 .descending,
       place-low s (h .0) (a .k) (h .3) (y .result) (y .ensures .1 (h .3)) (c .before .before .before .before .before .before .before .before .before .wide .result)
           (c .before .before .before .before .before .before .before .before .before .wide .ensures .0),
     )
@@ -80,12 +80,12 @@ add-call-requires c κs =
     let y = c .before .before .before .before .before .before .before .before .before .before .before .cell-at in
     let z = c .before .before .before .before .before .before .before .before .before .before .wide in
     let l = c .before .before .before .before .before .before .before .layers-of in
-    let w = c .before .before .before .before .before .way-of in
+    let w = c .before .before .before .before .before .call-layers in
     let g = through-room s (h .0) (a .who) (a .k) (a .m) (argumentsOf (a .x)) (a .vs .now) (z .result) (place-here s (h .0) (a .k) (h .3) (y .result) (y .ensures .1 (h .3)) (z .result)
     (z .ensures .0))
     (c .before .before .before .before .before .before .before .before .base-owner .result) (c .before .before .before .before .before .before .before .before .base-owner .ensures .0)
-    (wayIn (w .result))
-    (way-met s (h .0) (a .k) (h .3) (y .result) (y .ensures .1 (h .3)) (z .result) (z .ensures .0) (layersIn (l .result)) (wayIn (w .result)) (l .ensures .are) (w .ensures .0))
+    (callLayersIn (w .result))
+    (call-layers-met s (h .0) (a .k) (h .3) (y .result) (y .ensures .1 (h .3)) (z .result) (z .ensures .0) (layersIn (l .result)) (callLayersIn (w .result)) (l .ensures .are) (w .ensures .0))
     (done (c .before .before .before .before .send-arguments .last .0) (c .before .before .before .before .send-arguments .result))
     (c .before .before .before .before .send-arguments .ensures) (h .1) (h .2) (h .3) (h .4) in
     let b = call-byte (whole (c .before .before .before .before .send-arguments .last .0) (c .before .before .before .before .send-arguments .result .state)) (g .0) (g .1) (a .who)
@@ -99,19 +99,19 @@ returns-2 c =
     let y = c .before .before .before .before .before .before .before .before .before .before .before .before .cell-at in
     let z = c .before .before .before .before .before .before .before .before .before .before .before .wide in
     let l = c .before .before .before .before .before .before .before .before .layers-of in
-    let w = c .before .before .before .before .before .before .way-of in
+    let w = c .before .before .before .before .before .before .call-layers in
     let g = through-room s (h .0) (a .who) (a .k) (a .m) (argumentsOf (a .x)) (a .vs .now) (z .result) (place-here s (h .0) (a .k) (h .3) (y .result) (y .ensures .1 (h .3)) (z .result)
     (z .ensures .0))
     (c .before .before .before .before .before .before .before .before .before .base-owner .result)
-    (c .before .before .before .before .before .before .before .before .before .base-owner .ensures .0) (wayIn (w .result))
-    (way-met s (h .0) (a .k) (h .3) (y .result) (y .ensures .1 (h .3)) (z .result) (z .ensures .0) (layersIn (l .result)) (wayIn (w .result)) (l .ensures .are) (w .ensures .0))
+    (c .before .before .before .before .before .before .before .before .before .base-owner .ensures .0) (callLayersIn (w .result))
+    (call-layers-met s (h .0) (a .k) (h .3) (y .result) (y .ensures .1 (h .3)) (z .result) (z .ensures .0) (layersIn (l .result)) (callLayersIn (w .result)) (l .ensures .are) (w .ensures .0))
     (done (c .before .before .before .before .before .send-arguments .last .0) (c .before .before .before .before .before .send-arguments .result))
     (c .before .before .before .before .before .send-arguments .ensures) (h .1) (h .2) (h .3) (h .4) in
     through-adds s (h .0) (a .who) (a .k) (a .m) (argumentsOf (a .x)) (a .vs .now) (z .result) (place-here s (h .0) (a .k) (h .3) (y .result) (y .ensures .1 (h .3)) (z .result)
     (z .ensures .0))
     (c .before .before .before .before .before .before .before .before .before .base-owner .result) (c .before .before .before .before .before .before .before .before .before .base-owner .ensures .0)
-    (wayIn (w .result))
-    (way-met s (h .0) (a .k) (h .3) (y .result) (y .ensures .1 (h .3)) (z .result) (z .ensures .0) (layersIn (l .result)) (wayIn (w .result)) (l .ensures .are) (w .ensures .0))
+    (callLayersIn (w .result))
+    (call-layers-met s (h .0) (a .k) (h .3) (y .result) (y .ensures .1 (h .3)) (z .result) (z .ensures .0) (layersIn (l .result)) (callLayersIn (w .result)) (l .ensures .are) (w .ensures .0))
     (done (c .before .before .before .before .before .send-arguments .last .0) (c .before .before .before .before .before .send-arguments .result))
     (c .before .before .before .before .before .send-arguments .ensures)
     (sym (c .before .before .before .accepted .ensures) ∙ not-false (c .before .before .before .accepted .result) (c .before .before .if1 .left))
@@ -126,7 +126,7 @@ call-through-spec =
     wide-requires
     base-owner-requires
     layers-of-requires
-    way-of-requires
+    call-layers-requires
     send-arguments-requires
     accepted-requires
     returns

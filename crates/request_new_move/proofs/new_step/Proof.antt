@@ -30,8 +30,8 @@ known c = let b = start c in test.passed _ _ (rw (toZ-ofZ (b .fits .subject)) at
 abbrev second : tie.Else2 → tie.Else1
 second c = c .before .before .before
 
-sort : (c : tie.Else2) → let b = start (second c) in isSheetClass (systemIn (state b) .table) (b .args .class) ≡ true
-sort c = let b = start (second c) in test.passed _ _ (rw (toZ-ofZ (b .fits .class)) at (c .before .is-sheet-class .ensures (state b) refl refl)) (c .if2 .left)
+ty : (c : tie.Else2) → let b = start (second c) in isSheetClass (systemIn (state b) .table) (b .args .class) ≡ true
+ty c = let b = start (second c) in test.passed _ _ (rw (toZ-ofZ (b .fits .class)) at (c .before .is-sheet-class .ensures (state b) refl refl)) (c .if2 .left)
 
 abbrev third : tie.Else3 → tie.Else2
 third c = c .before .before .before
@@ -59,7 +59,7 @@ owner c = let b = begun (c .before) in
 
 class : (c : tie.After-index-of2) → let b = begun (c .before .before) in (c .index-of2 .result ≡ named (b .args .class)) × (c .index-of2 .result < b .args .s .counts .sheet)
 class c = let b = begun (c .before .before) in
-    sheet-at (state b) (b .args .class) _ (rw (toZ-ofZ (b .fits .class)) at (c .index-of2 .ensures)) _ (sort (at-sort (c .before .before)))
+    sheet-at (state b) (b .args .class) _ (rw (toZ-ofZ (b .fits .class)) at (c .index-of2 .ensures)) _ (ty (at-sort (c .before .before)))
 
 type : (c : tie.After-index-of3) → let b = begun (c .before .before .before) in (c .index-of3 .result ≡ named (b .args .to)) × (c .index-of3 .result < b .args .s .counts .sheet)
 type c = let b = begun (c .before .before .before) in
@@ -95,7 +95,7 @@ refused-requires-3 c κs = search needs
 
 returns-3 : tie.Need-returns-3
 returns-3 c = let p = c .before .before .before .before in let b = start (second p) in
-    step-refuses (b .pre) (new-type (state b) (b .args .subject) (b .args .class) (b .args .to) (known (second p)) (sort p)
+    step-refuses (b .pre) (new-type (state b) (b .args .subject) (b .args .class) (b .args .to) (known (second p)) (ty p)
     (test.refused _ _ (rw (toZ-ofZ (b .fits .to)) at (c .before .before .is-sheet-ref .ensures (state b) refl refl)) (c .before .if3 .taken)))
     (c .refused3 .ensures)
 
@@ -104,7 +104,7 @@ refused-requires-4 c κs = search needs
 
 returns-4 : tie.Need-returns-4
 returns-4 c = let p = c .before .before .before .before in let b = start (second (third p)) in
-    step-refuses (b .pre) (new-12 (state b) (b .args .subject) (b .args .class) (b .args .to) (known (second (third p))) (sort (third p)) (target p) (c .before .if4 .taken)) (c .refused4 .ensures)
+    step-refuses (b .pre) (new-12 (state b) (b .args .subject) (b .args .class) (b .args .to) (known (second (third p))) (ty (third p)) (target p) (c .before .if4 .taken)) (c .refused4 .ensures)
 
 index-of-requires : tie.Need-index-of-requires
 index-of-requires c κs = search needs
@@ -117,16 +117,16 @@ index-of-requires-3 c κs = search needs
 
 make-requires : tie.Need-make-requires
 make-requires c κs = let p = c .before .before .before in let h = begun p .pre in
-    (h .falling, p .if4 .left, omega (arith, class (c .before) .1, h .checked .limits .sheet), omega (arith, owner (c .before .before) .1, h .checked .limits .subjects))
+    (h .descending, p .if4 .left, omega (arith, class (c .before) .1, h .checked .limits .sheet), omega (arith, owner (c .before .before) .1, h .checked .limits .subjects))
 
 send-requires : tie.Need-send-requires
 send-requires c κs = let o = c .before .before .before .before in let p = o .before in let b = begun p in
-    new-sends (state b) (b .args .subject) (b .args .class) (b .args .to) (known (at-known p)) (sort (at-sort p)) (target (fourth p)) (b .pre) (p .if4 .left) _ _ _ (owner o .1)
+    new-sends (state b) (b .args .subject) (b .args .class) (b .args .to) (known (at-known p)) (ty (at-sort p)) (target (fourth p)) (b .pre) (p .if4 .left) _ _ _ (owner o .1)
     (class (c .before .before .before) .1) _ (c .before .make .ensures)
 
 returns-5 : tie.Need-returns-5
 returns-5 c = let o = c .before .before .before .before .before in let p = o .before in let b = begun p in
-    step-as (new-goes (state b) (b .args .subject) (b .args .class) (b .args .to) (known (at-known p)) (sort (at-sort p)) (target (fourth p)) (p .if4 .left) _ _ _ (owner o .0)
+    step-as (new-goes (state b) (b .args .subject) (b .args .class) (b .args .to) (known (at-known p)) (ty (at-sort p)) (target (fourth p)) (p .if4 .left) _ _ _ (owner o .0)
     (class (c .before .before .before .before) .0) (type (c .before .before .before) .0) _ (c .before .before .make .ensures)) (c .send .ensures)
 
 pub new-step-spec : {M : Type 1} → statement M

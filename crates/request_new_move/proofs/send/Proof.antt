@@ -2,7 +2,7 @@
 use borrow.Author.Needs.{needs}
 use Rattle.state_record.specs.Whole.{Whole, whole}
 use Rattle.request_common.specs.Served.{Arrives}
-use Rattle.request_common.proofs.Laws.{step-refuses-kept, step-as, sort-byte, place-byte}
+use Rattle.request_common.proofs.Laws.{step-refuses-kept, step-as, ty-byte, place-byte}
 use Rattle.request_new_move.proofs.Laws.{sent-refused, sent-lands, sent-arrives}
 use Rattle.request_new_move.proofs.send.Statement.{statement}
 use Rattle.request_new_move.proofs.send.Tie as tie
@@ -15,7 +15,7 @@ state c = whole (c .args .types .now) (c .args .s)
 abbrev start : tie.Else1 → tie.Start
 start c = c .before .before .before .before .before .before
 
-arrives : (c : tie.Else1) → let y = c .before .before .cross in Arrives (state (start c)) (y .last .0) (y .result .types) (y .result .places) (y .result .sort) (y .result .place)
+arrives : (c : tie.Else1) → let y = c .before .before .cross in Arrives (state (start c)) (y .last .0) (y .result .types) (y .result .places) (y .result .ty) (y .result .place)
 arrives c = let b = start c in let y = c .before .before .cross in
     sent-arrives (state b) (b .args .ps) (b .args .x) (b .pre) (y .last .0) (y .result) (y .ensures .0) (y .ensures .1) (c .if1 .left)
 
@@ -32,7 +32,7 @@ returns c = let b = c .before .before .before .before .before .before .before in
 
 add-cell-requires : tie.Need-add-cell-requires
 add-cell-requires c κs = let b = start (c .before) in let y = c .before .before .before .cross in let w = arrives (c .before) in
-    (b .pre .receiver, sort-byte (state b) (y .last .0) _ _ (b .args .x .receiver) _ _ w, place-byte (state b) (y .last .0) _ _ (b .args .x .receiver) _ _ w)
+    (b .pre .receiver, ty-byte (state b) (y .last .0) _ _ (b .args .x .receiver) _ _ w, place-byte (state b) (y .last .0) _ _ (b .args .x .receiver) _ _ w)
 
 returns-2 : tie.Need-returns-2
 returns-2 c = let e = c .before .before in let b = start e in let y = e .before .before .cross in

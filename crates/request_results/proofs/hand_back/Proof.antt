@@ -9,14 +9,14 @@ use Rattle.request_results.proofs.hand_back.Tie as tie
 accepted-requires : tie.Need-accepted-requires
 accepted-requires c κs = search needs
 
-answer-out-requires : tie.Need-answer-out-requires
-answer-out-requires c κs = search needs
+outcome-out-requires : tie.Need-outcome-out-requires
+outcome-out-requires c κs = search needs
 
 returns : tie.Need-returns
 returns c = λ t l.
     record {
-      number = c .answer-out .ensures .0;
-      values = c .answer-out .ensures .1;
+      number = c .outcome-out .ensures .0;
+      values = c .outcome-out .ensures .1;
       refused = λ _. refl;
       accepted = λ h. never (sym (refused _ _ (c .before .before .before .accepted .ensures) (c .before .before .if1 .taken)) ∙ h);
     }
@@ -24,13 +24,13 @@ returns c = λ t l.
 store-requires : tie.Need-store-requires
 store-requires c κs = search needs
 
-answer-out-requires-2 : tie.Need-answer-out-requires-2
-answer-out-requires-2 c κs = search needs
+outcome-out-requires-2 : tie.Need-outcome-out-requires-2
+outcome-out-requires-2 c κs = search needs
 
 returns-2 : tie.Need-returns-2
 returns-2 c = λ t l. let c8 = c .before .before .before .before .before .before .before .before in record {
-  number = c .answer-out2 .ensures .0;
-  values = c .answer-out2 .ensures .1;
+  number = c .outcome-out2 .ensures .0;
+  values = c .outcome-out2 .ensures .1;
   refused = λ h. never (sym h ∙ passed _ _ (c8 .before .accepted .ensures) (c8 .if1 .left));
   accepted = λ _. c .before .before .store .ensures t l;
 }
@@ -40,8 +40,8 @@ hand-back-spec =
     tie.close
     (tie.spec
     accepted-requires
-    answer-out-requires
+    outcome-out-requires
     returns
     store-requires
-    answer-out-requires-2
+    outcome-out-requires-2
     returns-2)

@@ -41,11 +41,11 @@ accepted-requires c κs = search needs
 either-requires : tie.Need-either-requires Inv-loop μ-loop
 either-requires c κs = search needs
 
-mul-put-answer : tie.Need-mul-put-answer Inv-loop μ-loop
-mul-put-answer c = search needs
+mul-put-outcome : tie.Need-mul-put-outcome Inv-loop μ-loop
+mul-put-outcome c = search needs
 
-put-answer-requires : tie.Need-put-answer-requires Inv-loop μ-loop
-put-answer-requires c κs = let w = c .before .before .before .before .before .before .before .loop in let r = c .before .before .before .serve-at in
+put-outcome-requires : tie.Need-put-outcome-requires Inv-loop μ-loop
+put-outcome-requires c κs = let w = c .before .before .before .before .before .before .before .loop in let r = c .before .before .before .serve-at in
     (search needs, step-small (whole (w .types) (w .state)) _ (done (r .last .0) (r .result)) (w .inv .sound) (r .ensures))
 
 add-served : tie.Need-add-served Inv-loop μ-loop
@@ -65,7 +65,7 @@ loop-again c =
     going-on (whole (a .types .now) (a .s)) (a .words .now) (a .answers .now) (whole (w .types) (w .state)) (w .answers) (w .served) (w .at) (w .any) (w .inv)
     (c .before .before .before .before .before .before .before .before .before .before .loop-test .taken)
     (c .before .before .before .before .before .before .before .before .before .if1 .left) (done (r .last .0) (r .result)) (r .ensures) _
-    (c .before .before .before .put-answer .ensures) (c .next .result) (c .next .ensures .0) (c .next .ensures .2)
+    (c .before .before .before .put-outcome .ensures) (c .next .result) (c .next .ensures .0) (c .next .ensures .2)
     (c .before .before .before .before .before .either .result)
     (c .before .before .before .before .before .either .ensures ∙ ap (λ x. w .any || x) (c .before .before .before .before .before .before .accepted .ensures))
 
@@ -94,8 +94,8 @@ run-checked-spec =
     serve-at-requires
     accepted-requires
     either-requires
-    mul-put-answer
-    put-answer-requires
+    mul-put-outcome
+    put-outcome-requires
     add-served
     next-requires
     loop-less

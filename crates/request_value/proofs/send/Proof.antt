@@ -4,7 +4,7 @@ use mathlib.Core.Path.{ap}
 use borrow.Author.Needs.{needs}
 use Rattle.state_record.specs.Whole.{whole}
 use Rattle.request_common.specs.Served.{done}
-use Rattle.request_common.proofs.Laws.{sort-byte, place-byte}
+use Rattle.request_common.proofs.Laws.{ty-byte, place-byte}
 use Rattle.spec_model.specs.Basics.{named}
 use Rattle.crossing_layers.specs.Carried.{targetsIn}
 use Rattle.request_value.proofs.Sending.{any-cell, send-stands, send-refused, send-arrives, send-adds}
@@ -56,7 +56,7 @@ add-cell-requires c κs =
     (c .before .before .before .wide2 .ensures .0) (c .before .before .carry .last .0) (c .before .before .carry .result) (c .before .before .carry .ensures .0)
     (c .before .before .carry .ensures .1)
     (c .if1 .left) in
-    (h .3, sort-byte s (c .before .before .carry .last .0) _ _ (a .r) _ _ w, place-byte s (c .before .before .carry .last .0) _ _ (a .r) _ _ w)
+    (h .3, ty-byte s (c .before .before .carry .last .0) _ _ (a .r) _ _ w, place-byte s (c .before .before .carry .last .0) _ _ (a .r) _ _ w)
 
 returns-2 : tie.Need-returns-2
 returns-2 c =

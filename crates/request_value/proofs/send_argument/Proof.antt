@@ -5,7 +5,7 @@ use native.Mathlib.Omega.{arith}
 use borrow.Author.Needs.{needs}
 use Rattle.state_record.specs.Whole.{whole}
 use Rattle.request_common.specs.Served.{done}
-use Rattle.crossing_layers.specs.Carried.{wayIn, targetsIn}
+use Rattle.crossing_layers.specs.Carried.{callLayersIn, targetsIn}
 use Rattle.request_value.proofs.Sending.{argument-sent, number-refused, number-passes}
 use Rattle.request_value.proofs.send_argument.Statement.{statement}
 use Rattle.request_value.proofs.send_argument.Tie as tie
@@ -28,7 +28,7 @@ send-requires c κs = let h = c .before .before .before .before .before .before 
 
 returns : tie.Need-returns
 returns c = let a = c .before .before .before .before .before .before .before .before .args in let s = whole (a .types .now) (a .s) in argument-sent s
-    (c .before .before .before .before .before .before .before .before .pre .0) (a .r) (wayIn (a .w)) (a .m) (a .i) (a .a) (a .v)
+    (c .before .before .before .before .before .before .before .before .pre .0) (a .r) (callLayersIn (a .w)) (a .m) (a .i) (a .a) (a .v)
     (targetsIn (c .before .before .before .before .before .targets-of .result)) (c .before .before .before .before .before .targets-of .ensures .0)
     (c .before .before .before .is-ref .result) (c .before .before .before .is-ref .ensures) (c .before .before .if1 .taken) (done (c .send .last .0) (c .send .result))
     (rw (toZ-ofZ (c .before .before .before .before .before .before .before .before .fits .v)) at (c .send .ensures))
@@ -45,7 +45,7 @@ refused-requires c κs = search needs
 
 returns-2 : tie.Need-returns-2
 returns-2 c = let a = c .before .before .before .before .before .before .before .before .before .before .args in let s = whole (a .types .now) (a .s) in number-refused s
-    (c .before .before .before .before .before .before .before .before .before .before .pre .0) (a .r) (wayIn (a .w)) (a .m) (a .i) (a .a) (a .v)
+    (c .before .before .before .before .before .before .before .before .before .before .pre .0) (a .r) (callLayersIn (a .w)) (a .m) (a .i) (a .a) (a .v)
     (targetsIn (c .before .before .before .before .before .before .before .targets-of .result))
     (c .before .before .before .before .before .before .before .targets-of .ensures .0)
     (c .before .before .before .before .before .is-ref .result) (c .before .before .before .before .before .is-ref .ensures)
@@ -55,7 +55,7 @@ returns-2 c = let a = c .before .before .before .before .before .before .before 
 
 returns-3 : tie.Need-returns-3
 returns-3 c = let a = c .before .before .before .before .before .before .before .before .before .args in let s = whole (a .types .now) (a .s) in number-passes s
-    (c .before .before .before .before .before .before .before .before .before .pre .0) (a .r) (wayIn (a .w)) (a .m) (a .i) (a .a) (a .v)
+    (c .before .before .before .before .before .before .before .before .before .pre .0) (a .r) (callLayersIn (a .w)) (a .m) (a .i) (a .a) (a .v)
     (targetsIn (c .before .before .before .before .before .before .targets-of .result))
     (c .before .before .before .before .before .before .targets-of .ensures .0)
     (c .before .before .before .before .is-ref .result) (c .before .before .before .before .is-ref .ensures) (c .before .before .before .if1 .left)

@@ -1,8 +1,8 @@
 -- Where the buffer is surely long enough (`enough`) it is written at once; else the text is counted first, which leaves the buffer as it is.
 use lib.ListN.{length}
 use Rattle.script_output.specs.Output.{scriptOutput}
-use Rattle.script_output.proofs.Buffer.{enough, fits-is, short-is, length-is}
--- x
+use Rattle.text_write.proofs.Written.{fits-is, short-is, length-is}
+use Rattle.script_output.proofs.Buffer.{enough}
 use borrow.Author.Needs.{needs}
 use Rattle.script_output.proofs.script.Statement.{statement}
 use Rattle.script_output.proofs.script.Tie as tie

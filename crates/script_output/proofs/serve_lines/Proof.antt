@@ -34,22 +34,22 @@ serve-asked-requires c κs = let q = c .before .read-request .ensures in (c .bef
 least-requires : tie.Need-least-requires Inv-loop μ-loop
 least-requires c κs = search needs
 
-sub-write-answer : tie.Need-sub-write-answer Inv-loop μ-loop
-sub-write-answer c = search needs
+sub-write-outcome : tie.Need-sub-write-outcome Inv-loop μ-loop
+sub-write-outcome c = search needs
 
-part-write-answer-start : tie.Need-part-write-answer-start Inv-loop μ-loop
-part-write-answer-start c = search needs
+part-write-outcome-start : tie.Need-part-write-outcome-start Inv-loop μ-loop
+part-write-outcome-start c = search needs
 
-part-write-answer-end : tie.Need-part-write-answer-end Inv-loop μ-loop
-part-write-answer-end c = search needs
+part-write-outcome-end : tie.Need-part-write-outcome-end Inv-loop μ-loop
+part-write-outcome-end c = search needs
 
-write-answer-requires : tie.Need-write-answer-requires Inv-loop μ-loop
-write-answer-requires c κs = search needs
+write-outcome-requires : tie.Need-write-outcome-requires Inv-loop μ-loop
+write-outcome-requires c κs = search needs
 
 add-written : tie.Need-add-written Inv-loop μ-loop
 add-written c =
     let inv = c .before .before .before .before .before .before .before .before .before .before .before .loop .inv in
-    let f = c .before .before .write-answer .ensures in
+    let f = c .before .before .write-outcome .ensures in
     let p = c .before .before .before .before .before .before .before .before .before .before .before .before .before .before .pre in record { fits = omega (arith, inv .few, inv .within, f .1, p .1) }
 
 behind-requires : tie.Need-behind-requires Inv-loop μ-loop
@@ -80,7 +80,7 @@ loop-again c =
     let r = c .before .before .before .before .before .before .serve-asked in
     let n = c .behind .ensures ∙ passed-line (a .rest .now) (loop .at) _ h k (q .result) (q .ensures) _
     (c .before .before .before .before .before .before .before .before .before .before .next-line .ensures) in
-    let f = c .before .before .before .write-answer .ensures in
+    let f = c .before .before .before .write-outcome .ensures in
     going-on (whole (a .types .now) (a .s)) (a .rest .now) (a .buf .now) s (loop .buf) (loop .written) (loop .at) (loop .inv) _ h k (q .result) (q .ensures)
     (done (r .last .0) (r .result)) (r .ensures)
     (c .behind .result) n (c .before .before .before .before .before .least .ensures .0) (f .0) (f .1)
@@ -110,10 +110,10 @@ serve-lines-spec =
     read-request-requires
     serve-asked-requires
     least-requires
-    sub-write-answer
-    part-write-answer-start
-    part-write-answer-end
-    write-answer-requires
+    sub-write-outcome
+    part-write-outcome-start
+    part-write-outcome-end
+    write-outcome-requires
     add-written
     behind-requires
     loop-less

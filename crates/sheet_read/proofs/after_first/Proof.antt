@@ -10,6 +10,7 @@ use Rattle.sheet_read.proofs.Stored.{links-count}
 use Rattle.sheet_read.specs.View.{linksTo, answered}
 use Rattle.sheet_read.proofs.after_first.Statement.{statement}
 use Rattle.sheet_read.proofs.after_first.Tie as tie
+use Rattle.spec_model.specs.Table.{maxSheetTypes}
 
 links-into-requires : tie.Need-links-into-requires
 links-into-requires c κs =
@@ -55,7 +56,7 @@ after-count-requires c κs =
     let c3 = c .before .before .before in
     let c5 = c3 .before .before in
     let c13 = c5 .before .before .before .before .before .before .before .before in
-    (c13 .pre .0, c13 .pre .1, got-at-most 48 (c5 .next-number .result) _ _ (c3 .y2 .given .1) (c5 .next-number .ensures .1), c13 .pre .2)
+    (c13 .pre .0, c13 .pre .1, got-at-most maxSheetTypes (c5 .next-number .result) _ _ (c3 .y2 .given .1) (c5 .next-number .ensures .1), c13 .pre .2)
 
 returns-2 : tie.Need-returns-2
 returns-2 c =

@@ -9,6 +9,7 @@ use Rattle.sheet_read.proofs.Readings.{got-no, got-ok, got-at-most, fir
 use Rattle.sheet_read.proofs.first_lines.Statement.{statement}
 use Rattle.sheet_read.proofs.first_lines.Tie as tie
 use Rattle.sheet_read.specs.View.{first₁}
+use Rattle.spec_model.specs.Table.{maxMethods, maxCategories}
 
 start-requires : tie.Need-start-requires
 start-requires c κs = search needs
@@ -172,7 +173,7 @@ returns-5 c =
     let yc = c .before .y2 .given .0 .1 .0 in
     let ye = got-ok (λ n. n) s (mc .at) (y .result) _ (y .ensures .0) yn yc (c .before .y2 .given .1) in (
       step-ok (afterCatsLine un mn) (step-ok (afterMethodsLine un) (step-ok afterSubjectsLine (step-ok first₁ (first-of 0 (split s)) ge) ue) me) ye,
-      (got-at-most 16 (m .result) mn mc (c6 .m2 .given .1) (m .ensures .1), got-at-most 31 (y .result) yn yc (c .before .y2 .given .1) (y .ensures .1)),
+      (got-at-most maxMethods (m .result) mn mc (c6 .m2 .given .1) (m .ensures .1), got-at-most maxCategories (y .result) yn yc (c .before .y2 .given .1) (y .ensures .1)),
     )
 
 pub first-lines-spec : {M : Type 1} → statement M

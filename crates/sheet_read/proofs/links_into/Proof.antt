@@ -7,6 +7,7 @@ use native.Mathlib.Omega.{arith}
 use lib.ListN.{length, drop}
 use borrow.Author.Needs.{needs}
 use Rattle.spec_model.specs.Check.{linksOf}
+use Rattle.spec_model.specs.Table.{maxCategories}
 use Rattle.table_record.proofs.Laws.{links-length}
 use Rattle.table_record.proofs.Linked.{links-put}
 use Rattle.table_record.specs.Records.{linkBytes}
@@ -94,7 +95,7 @@ loop-again c =
     let x = c3 .g2 .given .0 .0 in
     let next = c3 .g2 .given .0 .1 .0 in
     let ls = linksIn (p .l) in
-    let small : p .j < 31 = omega (arith, c9 .pre .0, c6 .loop-test .taken) in
+    let small : p .j < maxCategories = omega (arith, c9 .pre .0, c6 .loop-test .taken) in
     let n : length (linksTo (p .j) ls) ≡ p .j = links-count (p .j) ls in
     let k : p .j + 1 < length ls = omega (arith, links-length (p .l)) in
     let put = ap linksIn (c .put-links .ensures) ∙ links-put (p .l) (p .j + 1) (rawLinks x) (omega arith) (ap length (p .inv .1) ∙ links-room (linksTo (p .j) ls) (omega arith)) in

@@ -12,9 +12,10 @@ use Rattle.sheet_read.proofs.Stored.{methods-add, methods-blank, method
 use Rattle.sheet_read.specs.View.{methodIs, MethodsExact, eachMethod}
 use Rattle.sheet_read.proofs.methods_at.Statement.{statement}
 use Rattle.sheet_read.proofs.methods_at.Tie as tie
+use Rattle.spec_model.specs.Table.{maxMethods}
 
 abbrev Inv-loop : tie.InvT-loop
-Inv-loop s m n list₀ j₀ at₀ list j at = (j ≤ m) × (length list ≡ 16) × MethodsExact j list ×
+Inv-loop s m n list₀ j₀ at₀ list j at = (j ≤ m) × (length list ≡ maxMethods) × MethodsExact j list ×
     (times (eachMethod n) (m - j) j (map methodIs (take j list)) at (split (drop at s)) ≡ times (eachMethod n) m 0 [] at₀ (split (drop at₀ s)))
 
 abbrev μ-loop : tie.MeasureT-loop

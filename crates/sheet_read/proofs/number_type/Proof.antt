@@ -9,6 +9,7 @@ use Rattle.table_record.specs.declared.Head.{Head}
 use Rattle.sheet_read.proofs.Stored.{number-means, methods-blank}
 use Rattle.sheet_read.proofs.number_type.Statement.{statement}
 use Rattle.sheet_read.proofs.number_type.Tie as tie
+use Rattle.spec_model.specs.Table.{maxMethods}
 
 empty-requires : tie.Need-empty-requires
 empty-requires c κs = search needs
@@ -22,7 +23,7 @@ returns c =
     let q = c .before .before .pre in
     let h = c .sheet-head .ensures in
     let none = c .before .empty .result in
-    let x = rawOf (record { head = c .sheet-head .result; methods = replicate 16 none }) in
+    let x = rawOf (record { head = c .sheet-head .result; methods = replicate maxMethods none }) in
     let rep = ap (λ (z : Head). z .rep) h in (
       λ m n i l. number-means m n i x l (a .rep) (a .cat) (q .0) rep (ap (λ (z : Head). z .cat) h),
       λ m n i l. number-exact m n i x refl (sheet-key n i x l (ap (λ (z : Head). z .kind) h) (ap (λ (z : Head). z .left) h) (ap (λ (z : Head). z .right) h))

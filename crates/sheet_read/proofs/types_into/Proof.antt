@@ -7,6 +7,7 @@ use native.Mathlib.Omega.{arith}
 use lib.ListN.{length, drop}
 use borrow.Author.Needs.{needs}
 use Rattle.spec_model.specs.Check.{typeOf}
+use Rattle.spec_model.specs.Table.{maxTypes}
 use Rattle.table_record.proofs.Laws.{types-length, put-types}
 use Rattle.table_record.proofs.Tables.{types-to-length}
 use Rattle.table_record.specs.Records.{typeBytes}
@@ -82,7 +83,7 @@ loop-again c =
     let x = rawOf (g .result .t) in
     let bs = typesIn (p .b) in
     let ts = typesTo (a .m) (a .n) (p .i) bs in
-    let small : p .i < 128 = omega (arith, c10 .pre .2, c7 .loop-test .taken) in
+    let small : p .i < maxTypes = omega (arith, c10 .pre .2, c7 .loop-test .taken) in
     let l : length ts ≡ p .i = types-to-length (a .m) (a .n) bs (p .i) in
     let k : p .i < length bs = omega (arith, types-length (p .b)) in
     let put = put-types (c .put-type .ensures) (ap length (p .inv .1) ∙ types-room ts (omega arith)) small in

@@ -6,6 +6,7 @@ use lib.ListN.{length, take, drop}
 use borrow.Author.Needs.{needs}
 use borrow.Author.Tests.{not-true, not-false}
 use Rattle.spec_model.specs.Basics.{all}
+use Rattle.spec_model.specs.Records.{argumentSlots}
 use Rattle.table_record.specs.Store.{typesIn}
 use Rattle.sheet_read_signatures.proofs.Laws.{args-end, args-broken, args-next, args-done}
 use Rattle.sheet_read_signatures.specs.Signatures.{standsAt}
@@ -13,7 +14,7 @@ use Rattle.sheet_read_signatures.proofs.args_stand.Statement.{statement
 use Rattle.sheet_read_signatures.proofs.args_stand.Tie as tie
 
 abbrev Inv-loop : tie.InvT-loop
-Inv-loop b n m count i₀ i = (i ≤ 4) × (i ≤ count) × (count ≡ m .count) × (length (m .args) ≡ 4) ×
+Inv-loop b n m count i₀ i = (i ≤ argumentSlots) × (i ≤ count) × (count ≡ m .count) × (length (m .args) ≡ argumentSlots) ×
     (all (standsAt (typesIn b) n) (take (m .count) (m .args)) ≡ all (standsAt (typesIn b) n) (drop i (take (m .count) (m .args))))
 
 abbrev μ-loop : tie.MeasureT-loop

@@ -1,5 +1,9 @@
 -- The text is counted first, on an empty part: where the buffer is short it stays as it was (`short-is`), else the text stands in it (`length-is`).
-use Rattle.sheet_write.proofs.Answers.{short-is, length-is}
+use mathlib.Core.Path.{_∙_}
+use Rattle.spec_model.specs.Check.{tableOf}
+use Rattle.spec_sheet.specs.Text.{text}
+use Rattle.text_write.proofs.Written.{short-is, length-is}
+use Rattle.sheet_write.proofs.Answers.{fit-is}
 use Rattle.table_check.proofs.Accepted.{accepted-limits}
 use Rattle.table_record.specs.Store.{rawTable}
 use borrow.Author.Needs.{needs}
@@ -23,7 +27,8 @@ returns c =
     let a′ = c .before .before .before .before .before .before .args in
     let pre = c .before .before .before .before .before .before .pre in
     let put-sheet = c .before .before .before .put-sheet in
-    let a = a′ in short-is (rawTable (a .b .now) (a .l .now) (a .c)) (a .buf .now) (pre) (put-sheet .ensures) (c .if1 .taken)
+    let a = a′ in let r = rawTable (a .b .now) (a .l .now) (a .c) in
+    short-is (text (tableOf r)) (a .buf .now) (put-sheet .ensures) (c .if1 .taken) ∙ fit-is r (a .buf .now) pre
 
 put-sheet-requires-2 : tie.Need-put-sheet-requires-2
 put-sheet-requires-2 c κs =
@@ -41,7 +46,8 @@ returns-2 c =
     let put-sheet = c .before .before .before .before .before .before .before .put-sheet in
     let if1 = c .before .before .before .before .if1 in
     let put-sheet2 = c .before .before .put-sheet2 in
-    let a = a′ in length-is (rawTable (a .b .now) (a .l .now) (a .c)) (a .buf .now) (pre) (put-sheet .ensures) (if1 .left) (put-sheet2 .ensures)
+    let a = a′ in let r = rawTable (a .b .now) (a .l .now) (a .c) in
+    length-is (text (tableOf r)) (a .buf .now) (put-sheet .ensures) (if1 .left) (put-sheet2 .ensures) ∙ fit-is r (a .buf .now) pre
 
 pub write-checked-spec : {M : Type 1} → statement M
 write-checked-spec =

@@ -10,6 +10,7 @@ use native.Mathlib.Omega.{arith}
 use borrow.Author.Needs.{needs}
 use Rattle.sheet_write_line.proofs.put_arguments.Statement.{statement}
 use Rattle.sheet_write_line.proofs.put_arguments.Tie as tie
+use Rattle.spec_model.specs.Records.{argumentSlots}
 
 abbrev Inv-loop : tie.InvT-loop
 Inv-loop buf₀ count args n at₀ i₀ buf at i = (i ≤ n) × (at ≤ 36 * i) × Filled buf₀ buf (commas (take i args)) at
@@ -66,7 +67,7 @@ loop-again c =
     let wide = c .before .before .before .before .before .wide in
     let least2 = c .before .before .before .before .least2 in
     let put-argument = c .before .before .put-argument in
-    let l : length (a .t3) ≡ 4 = search needs in
+    let l : length (a .t3) ≡ argumentSlots = search needs in
     let next = argument-next (a .t3) (loop .i) (wide .result) (omega (arith, least .ensures .2, loop-test .taken)) (wide .ensures .0) in (
       omega arith,
       omega (arith, loop .inv .1, put-argument .ensures .1),
@@ -81,7 +82,7 @@ returns c =
     let a = c .before .before .before .before .args in
     let least = c .before .before .least in
     let loop = c .before .loop in
-    let l : length (a .t3) ≡ 4 = search needs in
+    let l : length (a .t3) ≡ argumentSlots = search needs in
     let n = least .result in
     let e : loop .i ≡ n = omega (arith, loop .inv .0, c .loop-test .left) in
     (fill-is (ap (λ z. commas (take z (a .t3))) e ∙ ap commas (slots (a .t3) (a .count) n l (least .ensures .0))) (loop .inv .2), omega (arith, least .ensures .2, loop .inv .0, loop .inv .1))

@@ -10,9 +10,11 @@ use native.Mathlib.Omega.{arith}
 use borrow.Author.Needs.{needs}
 use Rattle.state_bytes.proofs.call_codes.Statement.{statement}
 use Rattle.state_bytes.proofs.call_codes.Tie as tie
+use Rattle.state_bytes.specs.Flat.{callSize}
+use Rattle.spec_model.specs.Requests.{maxCalls}
 
 abbrev Inv-loop : tie.InvT-loop
-Inv-loop b count j₀ j = (j ≤ count) × (j ≤ 256) × (callCodes b count ≡ eachFrom (count - j) j (CallFits b))
+Inv-loop b count j₀ j = (j ≤ count) × (j ≤ maxCalls) × (callCodes b count ≡ eachFrom (count - j) j (CallFits b))
 
 abbrev μ-loop : tie.MeasureT-loop
 μ-loop b count j₀ j = count - j
@@ -42,7 +44,7 @@ returns-2 c =
     (l .inv .2 ∙ rest-broken (CallFits (c .before .before .before .before .before .args .b .now)) (c .before .before .before .before .before .args .count) (l .j)
     (c .before .before .before .loop-test .taken)
     (call-fits (c .before .before .before .before .before .args .b .now) (l .j) (omega (arith, l .inv .1, c .before .before .if1 .left))
-    ∙ too-large (getD (c .before .before .before .before .before .args .b .now) (c .before .before .before .before .loop .j * 4 + 3) 0) (c .if2 .taken)))
+    ∙ too-large (getD (c .before .before .before .before .before .args .b .now) (c .before .before .before .before .loop .j * callSize + 3) 0) (c .if2 .taken)))
 
 add-j : tie.Need-add-j Inv-loop μ-loop
 add-j c = search needs
@@ -57,7 +59,7 @@ loop-again c = let l = c .before .before .before .before .loop in (
   l .inv .2 ∙ rest-next (CallFits (c .before .before .before .before .before .args .b .now)) (c .before .before .before .before .before .args .count) (l .j)
       (c .before .before .before .loop-test .taken)
       (call-fits (c .before .before .before .before .before .args .b .now) (l .j) (omega (arith, l .inv .1, c .before .before .if1 .left))
-      ∙ small-enough (getD (c .before .before .before .before .before .args .b .now) (c .before .before .before .before .loop .j * 4 + 3) 0) (c .if2 .left)),
+      ∙ small-enough (getD (c .before .before .before .before .before .args .b .now) (c .before .before .before .before .loop .j * callSize + 3) 0) (c .if2 .left)),
 )
 
 returns-3 : tie.Need-returns-3 Inv-loop μ-loop

@@ -8,9 +8,10 @@ use native.Mathlib.Omega.{arith}
 use borrow.Author.Needs.{needs}
 use Rattle.state_bytes.proofs.calls_from.Statement.{statement}
 use Rattle.state_bytes.proofs.calls_from.Tie as tie
+use Rattle.spec_model.specs.Requests.{maxCalls}
 
 abbrev Inv-loop : tie.InvT-loop
-Inv-loop b count list₀ n j₀ list j = (j ≤ n) × Filled blankCall (callFrom b) 256 j list
+Inv-loop b count list₀ n j₀ list j = (j ≤ n) × Filled blankCall (callFrom b) maxCalls j list
 
 abbrev μ-loop : tie.MeasureT-loop
 μ-loop b count list₀ n j₀ list j = n - j
@@ -19,7 +20,7 @@ least-requires : tie.Need-least-requires Inv-loop μ-loop
 least-requires c κs = search needs
 
 loop-holds : tie.Need-loop-holds Inv-loop μ-loop
-loop-holds c = (omega arith, filled-none blankCall (callFrom (c .before .args .b .now)) 256)
+loop-holds c = (omega arith, filled-none blankCall (callFrom (c .before .args .b .now)) maxCalls)
 
 call-from-requires : tie.Need-call-from-requires Inv-loop μ-loop
 call-from-requires c κs = omega (arith, c .loop-test .taken, c .before .before .least .ensures .2)
@@ -39,7 +40,7 @@ loop-less c = search needs
 loop-again : tie.Need-loop-again Inv-loop μ-loop
 loop-again c = let w = c .before .before .loop in (
   omega arith,
-  filled-more blankCall (callFrom (c .before .before .before .before .args .b .now)) 256 (w .j) (w .list) _ (c .call-from .ensures)
+  filled-more blankCall (callFrom (c .before .before .before .before .args .b .now)) maxCalls (w .j) (w .list) _ (c .call-from .ensures)
       (omega (arith, c .before .loop-test .taken, c .before .before .before .least .ensures .2)) (w .inv .1),
 )
 
@@ -49,7 +50,7 @@ returns c =
     let a = c .before .before .before .args in let w = c .before .loop in let m = c .before .before .least in
     let e : w .j ≡ m .result = omega (arith, c .loop-test .left, w .inv .0) in
     ap (λ l. record { list = l; count = a .count })
-    (filled-all blankCall (callFrom (a .b .now)) 256 (a .count) (w .j) (w .list) (e ∙ m .ensures .0) (w .inv .1) (omega (arith, w .inv .0, m .ensures .1)))
+    (filled-all blankCall (callFrom (a .b .now)) maxCalls (a .count) (w .j) (w .list) (e ∙ m .ensures .0) (w .inv .1) (omega (arith, w .inv .0, m .ensures .1)))
 
 pub calls-from-spec : {M : Type 1} → statement M
 calls-from-spec =

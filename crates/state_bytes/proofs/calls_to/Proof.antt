@@ -8,9 +8,11 @@ use native.Mathlib.Omega.{arith}
 use borrow.Author.Needs.{needs}
 use Rattle.state_bytes.proofs.calls_to.Statement.{statement}
 use Rattle.state_bytes.proofs.calls_to.Tie as tie
+use Rattle.state_bytes.specs.Flat.{callSize, callsSize}
+use Rattle.spec_model.specs.Requests.{maxCalls}
 
 abbrev Inv-loop : tie.InvT-loop
-Inv-loop b₀ xs n j₀ b j = (j ≤ n) × Rows 4 (callRow xs) b₀ j b
+Inv-loop b₀ xs n j₀ b j = (j ≤ n) × Rows callSize (callRow xs) b₀ j b
 
 abbrev μ-loop : tie.MeasureT-loop
 μ-loop b₀ xs n j₀ b j = n - j
@@ -43,14 +45,14 @@ loop-again : tie.Need-loop-again Inv-loop μ-loop
 loop-again c =
     let a = c .before .before .before .before .before .before .before .before .args in let w = c .before .before .before .before .loop in (
       omega arith,
-      rows-more 4 (callRow (a .t2)) (a .b .now) (λ i. refl) below-4 next-4 1024 (w .j) (w .b) _ (c .before .before .before .before .before .before .call-bytes .ensures)
+      rows-more callSize (callRow (a .t2)) (a .b .now) (λ i. refl) below-4 next-4 callsSize (w .j) (w .b) _ (c .before .before .before .before .before .before .call-bytes .ensures)
           (omega (arith, c .before .before .before .loop-test .taken, c .before .before .before .before .before .least .ensures .2)) (c .put-call .ensures) (w .inv .1),
     )
 
 returns : tie.Need-returns Inv-loop μ-loop
 returns c =
     let a = c .before .before .before .before .before .args in let w = c .before .loop in let m = c .before .before .least in
-    let l : length (a .t2 .list) ≡ 256 = simp length-map at (c .before .before .before .before .before .good .1 .0 .1 .1 .0 .1 .0 .1) in
+    let l : length (a .t2 .list) ≡ maxCalls = simp length-map at (c .before .before .before .before .before .good .1 .0 .1 .1 .0 .1 .0 .1) in
     let e : w .j ≡ m .result = omega (arith, c .loop-test .left, w .inv .0) in
     calls-written (a .b .now) (w .b) (w .j) (a .t2) l (e ∙ m .ensures .0) (omega (arith, w .inv .0, m .ensures .1)) (w .inv .1)
 

@@ -8,9 +8,11 @@ use native.Mathlib.Omega.{arith}
 use borrow.Author.Needs.{needs}
 use Rattle.state_bytes.proofs.cells_to.Statement.{statement}
 use Rattle.state_bytes.proofs.cells_to.Tie as tie
+use Rattle.state_bytes.specs.Flat.{cellSize, cellsSize}
+use Rattle.spec_model.specs.Requests.{maxCells}
 
 abbrev Inv-loop : tie.InvT-loop
-Inv-loop b₀ xs n k₀ b k = (k ≤ n) × Rows 3 (cellRow xs) b₀ k b
+Inv-loop b₀ xs n k₀ b k = (k ≤ n) × Rows cellSize (cellRow xs) b₀ k b
 
 abbrev μ-loop : tie.MeasureT-loop
 μ-loop b₀ xs n k₀ b k = n - k
@@ -43,14 +45,14 @@ loop-again : tie.Need-loop-again Inv-loop μ-loop
 loop-again c =
     let a = c .before .before .before .before .before .before .before .before .args in let w = c .before .before .before .before .loop in (
       omega arith,
-      rows-more 3 (cellRow (a .t2)) (a .b .now) (λ i. refl) below-3 next-3 768 (w .k) (w .b) _ (c .before .before .before .before .before .before .cell-bytes .ensures)
+      rows-more cellSize (cellRow (a .t2)) (a .b .now) (λ i. refl) below-3 next-3 cellsSize (w .k) (w .b) _ (c .before .before .before .before .before .before .cell-bytes .ensures)
           (omega (arith, c .before .before .before .loop-test .taken, c .before .before .before .before .before .least .ensures .2)) (c .put-cell .ensures) (w .inv .1),
     )
 
 returns : tie.Need-returns Inv-loop μ-loop
 returns c =
     let a = c .before .before .before .before .before .args in let w = c .before .loop in let m = c .before .before .least in
-    let l : length (a .t2 .list) ≡ 256 = simp length-map at (c .before .before .before .before .before .good .1 .0 .1 .1 .0 .1 .0 .1) in
+    let l : length (a .t2 .list) ≡ maxCells = simp length-map at (c .before .before .before .before .before .good .1 .0 .1 .1 .0 .1 .0 .1) in
     let e : w .k ≡ m .result = omega (arith, c .loop-test .left, w .inv .0) in
     cells-written (a .b .now) (w .b) (w .k) (a .t2) l (e ∙ m .ensures .0) (omega (arith, w .inv .0, m .ensures .1)) (w .inv .1)
 

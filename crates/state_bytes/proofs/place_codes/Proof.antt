@@ -10,9 +10,11 @@ use native.Mathlib.Omega.{arith}
 use borrow.Author.Needs.{needs}
 use Rattle.state_bytes.proofs.place_codes.Statement.{statement}
 use Rattle.state_bytes.proofs.place_codes.Tie as tie
+use Rattle.state_bytes.specs.Flat.{placeSize}
+use Rattle.spec_model.specs.Crossing.{maxPlaces}
 
 abbrev Inv-loop : tie.InvT-loop
-Inv-loop b count p₀ p = (p ≤ count) × (p ≤ 128) × (placeCodes b count ≡ eachFrom (count - p) p (PlaceFits b))
+Inv-loop b count p₀ p = (p ≤ count) × (p ≤ maxPlaces) × (placeCodes b count ≡ eachFrom (count - p) p (PlaceFits b))
 
 abbrev μ-loop : tie.MeasureT-loop
 μ-loop b count p₀ p = count - p
@@ -39,7 +41,7 @@ returns-2 c =
     (l .inv .2 ∙ rest-broken (PlaceFits (c .before .before .before .before .before .args .b .now)) (c .before .before .before .before .before .args .count) (l .p)
     (c .before .before .before .loop-test .taken)
     (place-fits (c .before .before .before .before .before .args .b .now) (l .p) (omega (arith, l .inv .1, c .before .before .if1 .left))
-    ∙ too-large (getD (c .before .before .before .before .before .args .b .now) (c .before .before .before .before .loop .p * 3) 0) (c .if2 .taken)))
+    ∙ too-large (getD (c .before .before .before .before .before .args .b .now) (c .before .before .before .before .loop .p * placeSize) 0) (c .if2 .taken)))
 
 add-p : tie.Need-add-p Inv-loop μ-loop
 add-p c = search needs
@@ -54,7 +56,7 @@ loop-again c = let l = c .before .before .before .before .loop in (
   l .inv .2 ∙ rest-next (PlaceFits (c .before .before .before .before .before .args .b .now)) (c .before .before .before .before .before .args .count) (l .p)
       (c .before .before .before .loop-test .taken)
       (place-fits (c .before .before .before .before .before .args .b .now) (l .p) (omega (arith, l .inv .1, c .before .before .if1 .left))
-      ∙ small-enough (getD (c .before .before .before .before .before .args .b .now) (c .before .before .before .before .loop .p * 3) 0) (c .if2 .left)),
+      ∙ small-enough (getD (c .before .before .before .before .before .args .b .now) (c .before .before .before .before .loop .p * placeSize) 0) (c .if2 .left)),
 )
 
 returns-3 : tie.Need-returns-3 Inv-loop μ-loop

@@ -9,9 +9,11 @@ use native.Mathlib.Omega.{arith}
 use borrow.Author.Needs.{needs}
 use Rattle.state_bytes.proofs.places_to.Statement.{statement}
 use Rattle.state_bytes.proofs.places_to.Tie as tie
+use Rattle.state_bytes.specs.Flat.{placeSize, placesSize}
+use Rattle.spec_model.specs.Crossing.{maxPlaces}
 
 abbrev Inv-loop : tie.InvT-loop
-Inv-loop b₀ xs n p₀ b p = (p ≤ n) × Rows 3 (placeRow xs) b₀ p b
+Inv-loop b₀ xs n p₀ b p = (p ≤ n) × Rows placeSize (placeRow xs) b₀ p b
 
 abbrev μ-loop : tie.MeasureT-loop
 μ-loop b₀ xs n p₀ b p = n - p
@@ -44,7 +46,7 @@ loop-again : tie.Need-loop-again Inv-loop μ-loop
 loop-again c =
     let a = c .before .before .before .before .before .before .before .before .args in let w = c .before .before .before .before .loop in (
       omega arith,
-      rows-more 3 (placeRow (a .t2)) (a .b .now) (λ i. place-wide (getD (a .t2 .list) i blankPlace .place)) below-3 next-3 384 (w .p) (w .b) _
+      rows-more placeSize (placeRow (a .t2)) (a .b .now) (λ i. place-wide (getD (a .t2 .list) i blankPlace .place)) below-3 next-3 placesSize (w .p) (w .b) _
           (c .before .before .before .before .before .before .place-bytes .ensures)
           (omega (arith, c .before .before .before .loop-test .taken, c .before .before .before .before .before .least .ensures .2)) (c .put-place .ensures) (w .inv .1),
     )
@@ -52,7 +54,7 @@ loop-again c =
 returns : tie.Need-returns Inv-loop μ-loop
 returns c =
     let a = c .before .before .before .before .before .args in let w = c .before .loop in let m = c .before .before .least in
-    let l : length (a .t2 .list) ≡ 128 = simp length-map at (c .before .before .before .before .before .good .1 .0 .1 .1 .0 .1 .0 .1) in
+    let l : length (a .t2 .list) ≡ maxPlaces = simp length-map at (c .before .before .before .before .before .good .1 .0 .1 .1 .0 .1 .0 .1) in
     let e : w .p ≡ m .result = omega (arith, c .loop-test .left, w .inv .0) in
     places-written (a .b .now) (w .b) (w .p) (a .t2) l (e ∙ m .ensures .0) (omega (arith, w .inv .0, m .ensures .1)) (w .inv .1)
 

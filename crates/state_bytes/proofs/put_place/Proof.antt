@@ -6,6 +6,7 @@ use Rattle.state_bytes.specs.Records.{placeBytes}
 use borrow.Author.Needs.{needs}
 use Rattle.state_bytes.proofs.put_place.Statement.{statement}
 use Rattle.state_bytes.proofs.put_place.Tie as tie
+use Rattle.state_bytes.specs.Flat.{placeSize}
 
 enum-known-x : tie.Need-enum-known-x
 enum-known-x c = search needs
@@ -22,12 +23,12 @@ put-three-requires-2 c κs = search needs
 returns : tie.Need-returns
 returns c =
     c .put-three .ensures ∙ sym
-    (ap (λ x. sets (c .before .before .before .before .before .args .b .now) (c .before .before .before .before .before .args .p * 3) (placeBytes x)) (c .before .before .before .x .given .1))
+    (ap (λ x. sets (c .before .before .before .before .before .args .b .now) (c .before .before .before .before .before .args .p * placeSize) (placeBytes x)) (c .before .before .before .x .given .1))
 
 returns-2 : tie.Need-returns-2
 returns-2 c =
     c .put-three2 .ensures ∙ sym
-    (ap (λ x. sets (c .before .before .before .before .before .args .b .now) (c .before .before .before .before .before .args .p * 3) (placeBytes x)) (c .before .before .before .x2 .given .1))
+    (ap (λ x. sets (c .before .before .before .before .before .args .b .now) (c .before .before .before .before .before .args .p * placeSize) (placeBytes x)) (c .before .before .before .x2 .given .1))
 
 pub put-place-spec : {M : Type 1} → statement M
 put-place-spec =

@@ -4,6 +4,7 @@ use Rattle.table_record.proofs.Lists.{three}
 use borrow.Author.Needs.{needs}
 use Rattle.state_bytes.proofs.put_three.Statement.{statement}
 use Rattle.state_bytes.proofs.put_three.Tie as tie
+use Rattle.state_bytes.specs.Flat.{placeSize}
 
 mul-at : tie.Need-mul-at
 mul-at c = search needs
@@ -24,7 +25,7 @@ element-write-b-3 : tie.Need-element-write-b-3
 element-write-b-3 c = search needs
 
 returns : tie.Need-returns
-returns c = let a = c .args in three (a .b .now) (a .p * 3) (a .code) (a .first) (a .second)
+returns c = let a = c .args in three (a .b .now) (a .p * placeSize) (a .code) (a .first) (a .second)
 
 pub put-three-spec : {M : Type 1} → statement M
 put-three-spec =

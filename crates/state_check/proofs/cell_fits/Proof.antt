@@ -34,7 +34,7 @@ returns-3 : tie.Need-returns-3
 returns-3 c = let a = c .before .before .before .before .before .before .before .before .args in
     goes (ltb (a .x .holder) (a .c .subjects)) _ _ (inside _ _ _ (c .before .before .before .before .before .before .before .wide .ensures .0) (c .before .before .before .before .before .if1 .left))
     (goes (ltb (a .x .place) (a .places)) _ _ (inside _ _ _ (c .before .before .before .before .wide2 .ensures .0) (c .before .before .before .if2 .left))
-    (ends (ltb (a .x .sort) (a .c .sheet)) _ (out _ _ _ (c .before .before .wide3 .ensures .0) (c .if3 .taken))))
+    (ends (ltb (a .x .ty) (a .c .sheet)) _ (out _ _ _ (c .before .before .wide3 .ensures .0) (c .if3 .taken))))
 
 is-ref-requires : tie.Need-is-ref-requires
 is-ref-requires c κs = omega (arith, c .if3 .left, c .before .before .before .before .before .before .before .before .pre .sheet)
@@ -44,7 +44,7 @@ returns-4 c = let a = c .before .before .before .before .before .before .before 
     goes (ltb (a .x .holder) (a .c .subjects)) _ _
     (inside _ _ _ (c .before .before .before .before .before .before .before .before .wide .ensures .0) (c .before .before .before .before .before .before .if1 .left))
     (goes (ltb (a .x .place) (a .places)) _ _ (inside _ _ _ (c .before .before .before .before .before .wide2 .ensures .0) (c .before .before .before .before .if2 .left))
-    (goes (ltb (a .x .sort) (a .c .sheet)) _ _ (inside _ _ _ (c .before .before .before .wide3 .ensures .0) (c .before .if3 .left))
+    (goes (ltb (a .x .ty) (a .c .sheet)) _ _ (inside _ _ _ (c .before .before .before .wide3 .ensures .0) (c .before .if3 .left))
     (c .is-ref .ensures ∙ ap (λ (i : ℕ). refAs (getD (typesIn (a .b .now)) i noRawType)) (c .before .before .before .wide3 .ensures .0))))
 
 pub cell-fits-spec : {M : Type 1} → statement M

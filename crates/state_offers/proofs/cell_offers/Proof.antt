@@ -34,7 +34,7 @@ place-at-requires c κs = let a = c .before .before .before .before .before .bef
     let l = place-known (whole blank (a .s)) (c .before .before .before .before .before .before .before .pre blank blank-long)
     (c .before .before .before .before .before .index-of .result) (c .before .before .before .if1 .left)
     (cellOf (c .before .before .cell-at .result)) (c .before .before .cell-at .ensures .1 (c .before .before .before .if1 .left)) (c .wide .result) (c .wide .ensures .0) in
-    omega (arith, l, (c .before .before .before .before .before .before .before .pre blank blank-long) .falling .count)
+    omega (arith, l, (c .before .before .before .before .before .before .before .pre blank blank-long) .descending .count)
 
 wide-requires-2 : tie.Need-wide-requires-2
 wide-requires-2 c κs = search needs

@@ -6,7 +6,7 @@ use native.Mathlib.Omega.{arith}
 use lib.ListN.{getD}
 use borrow.Author.Needs.{needs}
 use borrow.Author.Tests.{not-true, not-false}
-use Rattle.spec_model.specs.Crossing.{Place as Placeᵐ, placeAt, baseOf}
+use Rattle.spec_model.specs.Crossing.{Place as Placeᵐ, placeAt, baseOf, maxPlaces}
 use Rattle.state_record.specs.View.{placesIn, placeOf, blankPlace, isObject, behindOf}
 use Rattle.state_record.proofs.Laws.{place-is, goes-below, base-ends, base-goes, based}
 use Rattle.state_record.proofs.base_of.Statement.{statement}
@@ -22,7 +22,7 @@ abbrev μ-loop : tie.MeasureT-loop
 abbrev Top : Type 0
 Top = tie.At-loop Inv-loop μ-loop
 
-inside : (c : Top) → c .loop .base < 128
+inside : (c : Top) → c .loop .base < maxPlaces
 inside c = omega (arith, c .loop .inv .0, c .before .pre .0 .count)
 
 abbrev here : Top → Placeᵐ

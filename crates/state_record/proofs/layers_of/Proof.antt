@@ -5,7 +5,7 @@ use native.Mathlib.Omega.{arith}
 use lib.ListN.{getD, set}
 use borrow.Author.Needs.{needs}
 use borrow.Author.Tests.{not-true, not-false}
-use Rattle.spec_model.specs.Crossing.{Place as Placeᵐ, placeAt}
+use Rattle.spec_model.specs.Crossing.{Place as Placeᵐ, placeAt, maxPlaces}
 use Rattle.state_record.specs.View.{placesIn, placeOf, blankPlace}
 use Rattle.state_record.proofs.Laws.{place-is}
 use Rattle.state_record.proofs.Walk.{Walk, walk-starts, walk-goes, walk-ends}
@@ -22,7 +22,7 @@ abbrev μ-loop : tie.MeasureT-loop
 abbrev Top : Type 0
 Top = tie.At-loop Inv-loop μ-loop
 
-inside : (c : Top) → c .loop .at < 128
+inside : (c : Top) → c .loop .at < maxPlaces
 inside c = omega (arith, c .loop .inv .inside, c .before .pre .0 .count)
 
 abbrev here : Top → Placeᵐ
@@ -31,7 +31,7 @@ here c = placeOf (getD (c .before .args .t1 .list) (c .loop .at) blankPlace .pla
 counted : (c : Top) → here c ≡ placeAt (placesIn (c .before .args .t1)) (c .loop .at)
 counted c = sym (place-is (c .before .args .t1) (c .loop .at) (c .loop .inv .inside))
 
-room : (c : Top) → c .loop .count < 128
+room : (c : Top) → c .loop .count < maxPlaces
 room c = omega (arith, c .loop .inv .room, c .before .pre .1, c .before .pre .0 .count)
 
 -- after a turn: the place behind lies below, and the walk is one layer longer

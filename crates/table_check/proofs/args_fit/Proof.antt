@@ -10,6 +10,7 @@ use Rattle.table_check.proofs.Steps.{refused, passed, args-start}
 use Rattle.table_check.proofs.Each.{rest-next, rest-broken, rest-end}
 use Rattle.table_check.proofs.args_fit.Statement.{statement}
 use Rattle.table_check.proofs.args_fit.Tie as tie
+use Rattle.spec_model.specs.Records.{argumentSlots}
 
 abbrev Inv-loop : tie.InvT-loop
 Inv-loop b n m count i₀ i = (i ≤ count) × (argsAccepted (typesIn b) n (rawMethod m) ≡ eachFrom (count - i) i (λ k. standsAs (typesIn b) n (getD (m .args) k 0)))
@@ -22,7 +23,7 @@ wide-requires c κs = search needs
 
 loop-holds : tie.Need-loop-holds Inv-loop μ-loop
 loop-holds c = let a = c .before .args in
-    let h : length (a .t3 .args) ≡ 4 = search needs in
+    let h : length (a .t3 .args) ≡ argumentSlots = search needs in
     (omega arith, args-start (standsAs (typesIn (a .b .now)) (a .n)) (a .t3 .count) (c .wide .result) (a .t3 .args) (c .wide .ensures .0) (omega (arith, c .before .pre .1)))
 
 element-copy-out-x : tie.Need-element-copy-out-x Inv-loop μ-loop

@@ -3,7 +3,7 @@ use mathlib.Core.Path.{refl}
 use lib.Dec.{leb}
 use borrow.Author.Tests.{lt-leb, le-leb}
 use borrow.Author.Needs.{needs}
-use Rattle.spec_model.specs.Table.{between}
+use Rattle.spec_model.specs.Table.{between, maxCategories, maxSheetTypes}
 use Rattle.table_check.proofs.Steps.{refused, passed, ends, goes}
 use Rattle.table_check.proofs.counts_fit.Statement.{statement}
 use Rattle.table_check.proofs.counts_fit.Tie as tie
@@ -28,7 +28,7 @@ returns-3 c = let a = c .before .before .before .before .before .before .args .c
     goes (between 1 16 (a .subjects)) _ _ (passed (c .before .before .before .before .before .within .result) _ (c .before .before .before .before .before .within .ensures)
     (c .before .before .before .before .if1 .left))
     (goes (between 1 16 (a .methods)) _ _ (passed (c .before .before .before .within2 .result) _ (c .before .before .before .within2 .ensures) (c .before .before .if2 .left))
-    (ends (leb (a .cats) 31) _ (lt-leb (a .cats) 31 (c .if3 .taken))))
+    (ends (leb (a .cats) maxCategories) _ (lt-leb (a .cats) maxCategories (c .if3 .taken))))
 
 within-requires-3 : tie.Need-within-requires-3
 within-requires-3 c κs = search needs
@@ -39,8 +39,8 @@ returns-4 c = let a = c .before .before .before .before .before .before .before 
     (c .before .before .before .before .before .before .before .within .ensures) (c .before .before .before .before .before .before .if1 .left))
     (goes (between 1 16 (a .methods)) _ _ (passed (c .before .before .before .before .before .within2 .result) _ (c .before .before .before .before .before .within2 .ensures)
     (c .before .before .before .before .if2 .left))
-    (goes (leb (a .cats) 31) _ _ (le-leb (a .cats) 31 (c .before .before .if3 .left))
-    (ends (between 1 48 (a .sheet)) _ (refused (c .before .within3 .result) _ (c .before .within3 .ensures) (c .if4 .taken)))))
+    (goes (leb (a .cats) maxCategories) _ _ (le-leb (a .cats) maxCategories (c .before .before .if3 .left))
+    (ends (between 1 maxSheetTypes (a .sheet)) _ (refused (c .before .within3 .result) _ (c .before .within3 .ensures) (c .if4 .taken)))))
 
 returns-5 : tie.Need-returns-5
 returns-5 c = let a = c .before .before .before .before .before .before .before .before .before .before .args .c in
@@ -48,8 +48,8 @@ returns-5 c = let a = c .before .before .before .before .before .before .before 
     (c .before .before .before .before .before .before .before .before .before .within .ensures) (c .before .before .before .before .before .before .before .before .if1 .left))
     (goes (between 1 16 (a .methods)) _ _ (passed (c .before .before .before .before .before .before .before .within2 .result) _
     (c .before .before .before .before .before .before .before .within2 .ensures) (c .before .before .before .before .before .before .if2 .left))
-    (goes (leb (a .cats) 31) _ _ (le-leb (a .cats) 31 (c .before .before .before .before .if3 .left))
-    (goes (between 1 48 (a .sheet)) _ _ (passed (c .before .before .before .within3 .result) _ (c .before .before .before .within3 .ensures) (c .before .before .if4 .left))
+    (goes (leb (a .cats) maxCategories) _ _ (le-leb (a .cats) maxCategories (c .before .before .before .before .if3 .left))
+    (goes (between 1 maxSheetTypes (a .sheet)) _ _ (passed (c .before .before .before .within3 .result) _ (c .before .before .before .within3 .ensures) (c .before .before .if4 .left))
     (ends (leb (a .sheet) (a .types)) _ (lt-leb (a .sheet) (a .types) (c .if5 .taken))))))
 
 returns-6 : tie.Need-returns-6
@@ -59,8 +59,9 @@ returns-6 c = let a = c .before .before .before .before .before .before .before 
     (c .before .before .before .before .before .before .before .before .before .if1 .left))
     (goes (between 1 16 (a .methods)) _ _ (passed (c .before .before .before .before .before .before .before .before .within2 .result) _
     (c .before .before .before .before .before .before .before .before .within2 .ensures) (c .before .before .before .before .before .before .before .if2 .left))
-    (goes (leb (a .cats) 31) _ _ (le-leb (a .cats) 31 (c .before .before .before .before .before .if3 .left))
-    (goes (between 1 48 (a .sheet)) _ _ (passed (c .before .before .before .before .within3 .result) _ (c .before .before .before .before .within3 .ensures) (c .before .before .before .if4 .left))
+    (goes (leb (a .cats) maxCategories) _ _ (le-leb (a .cats) maxCategories (c .before .before .before .before .before .if3 .left))
+    (goes (between 1 maxSheetTypes (a .sheet)) _ _ (passed (c .before .before .before .before .within3 .result) _ (c .before .before .before .before .within3 .ensures)
+    (c .before .before .before .if4 .left))
     (goes (leb (a .sheet) (a .types)) _ _ (le-leb (a .sheet) (a .types) (c .before .if5 .left)) refl))))
 
 pub counts-fit-spec : {M : Type 1} → statement M

@@ -4,6 +4,7 @@ use native.Mathlib.Omega.{arith}
 use lib.Dec.{leb}
 use borrow.Author.Tests.{lt-leb, le-leb}
 use borrow.Author.Needs.{needs}
+use Rattle.spec_model.specs.Table.{maxArguments}
 use Rattle.table_record.specs.Store.{typesIn, rawMethod}
 use Rattle.table_check.specs.Parts.{standsAs, argsAccepted}
 use Rattle.table_check.proofs.Steps.{refused, passed, ends, goes, answer-none, answer-some}
@@ -14,14 +15,14 @@ wide-requires : tie.Need-wide-requires
 wide-requires c κs = search needs
 
 returns : tie.Need-returns
-returns c = ends (leb (c .before .before .args .m .count) 2) _ (lt-leb (c .before .before .args .m .count) 2 (omega (arith, c .before .wide .ensures .0, c .if1 .taken)))
+returns c = ends (leb (c .before .before .args .m .count) maxArguments) _ (lt-leb (c .before .before .args .m .count) maxArguments (omega (arith, c .before .wide .ensures .0, c .if1 .taken)))
 
 args-fit-requires : tie.Need-args-fit-requires
 args-fit-requires c κs = (c .before .before .pre, omega (arith, c .before .wide .ensures .0, c .if1 .left))
 
 returns-2 : tie.Need-returns-2
-returns-2 c = goes (leb (c .before .before .before .before .args .m .count) 2) _ _
-    (le-leb (c .before .before .before .before .args .m .count) 2 (omega (arith, c .before .before .before .wide .ensures .0, c .before .before .if1 .left)))
+returns-2 c = goes (leb (c .before .before .before .before .args .m .count) maxArguments) _ _
+    (le-leb (c .before .before .before .before .args .m .count) maxArguments (omega (arith, c .before .before .before .wide .ensures .0, c .before .before .if1 .left)))
     (ends (argsAccepted (typesIn (c .before .before .before .before .args .b .now)) (c .before .before .before .before .args .n)
     (rawMethod (c .before .before .before .before .args .m))) _ (refused (c .before .args-fit .result) _ (c .before .args-fit .ensures) (c .if2 .taken)))
 
@@ -29,8 +30,8 @@ wide-requires-2 : tie.Need-wide-requires-2
 wide-requires-2 c κs = search needs
 
 returns-3 : tie.Need-returns-3
-returns-3 c = goes (leb (c .before .before .before .before .before .before .args .m .count) 2) _ _
-    (le-leb (c .before .before .before .before .before .before .args .m .count) 2
+returns-3 c = goes (leb (c .before .before .before .before .before .before .args .m .count) maxArguments) _ _
+    (le-leb (c .before .before .before .before .before .before .args .m .count) maxArguments
     (omega (arith, c .before .before .before .before .before .wide .ensures .0, c .before .before .before .before .if1 .left)))
     (goes (argsAccepted (typesIn (c .before .before .before .before .before .before .args .b .now)) (c .before .before .before .before .before .before .args .n)
     (rawMethod (c .before .before .before .before .before .before .args .m))) _ _
@@ -45,8 +46,8 @@ stands-in-requires : tie.Need-stands-in-requires
 stands-in-requires c κs = search needs
 
 returns-4 : tie.Need-returns-4
-returns-4 c = goes (leb (c .before .before .before .before .before .before .before .args .m .count) 2) _ _
-    (le-leb (c .before .before .before .before .before .before .before .args .m .count) 2
+returns-4 c = goes (leb (c .before .before .before .before .before .before .before .args .m .count) maxArguments) _ _
+    (le-leb (c .before .before .before .before .before .before .before .args .m .count) maxArguments
     (omega (arith, c .before .before .before .before .before .before .wide .ensures .0, c .before .before .before .before .before .if1 .left)))
     (goes (argsAccepted (typesIn (c .before .before .before .before .before .before .before .args .b .now)) (c .before .before .before .before .before .before .before .args .n)
     (rawMethod (c .before .before .before .before .before .before .before .args .m))) _ _

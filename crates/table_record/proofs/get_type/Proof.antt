@@ -6,6 +6,7 @@ use native.Mathlib.Omega.{arith}
 use lib.ListN.{length, getD, length-set}
 use borrow.Author.Needs.{needs}
 use Rattle.spec_model.specs.Check.{noRawType, noRawMethod}
+use Rattle.spec_model.specs.Table.{maxMethods}
 use Rattle.table_record.specs.Store.{typesIn, rawMethod}
 use Rattle.table_record.proofs.Laws.{absent, methods-are, methods-length, read-is}
 use Rattle.table_record.proofs.Lists.{set-next}
@@ -13,7 +14,7 @@ use Rattle.table_record.proofs.get_type.Statement.{statement}
 use Rattle.table_record.proofs.get_type.Tie as tie
 
 abbrev Inv-loop : tie.InvT-loop
-Inv-loop b i h methods₀ j₀ methods j = (j ≤ 16) × (length methods ≡ 16)
+Inv-loop b i h methods₀ j₀ methods j = (j ≤ maxMethods) × (length methods ≡ maxMethods)
     × ((k : ℕ) → k < j → rawMethod (getD methods k absent) ≡ getD (getD (typesIn b) i noRawType .methods) k noRawMethod)
 
 abbrev μ-loop : tie.MeasureT-loop
@@ -56,7 +57,7 @@ loop-again c = let l = c .before .before .loop in
 returns : tie.Need-returns Inv-loop μ-loop
 returns c = let s = c .before .loop in
     let a = c .before .before .before .before .args in
-    let e : s .j ≡ 16 = omega arith in (
+    let e : s .j ≡ maxMethods = omega arith in (
       read-is (getD (typesIn (a .b .now)) (a .i) noRawType) (c .before .before .before .get-head .result) (s .methods) (c .before .before .before .get-head .ensures)
           (methods-are (s .methods) _ (s .inv .1) (methods-length (a .b .now) (a .i) (c .before .before .before .before .pre)) (λ k h. s .inv .2 k (omega arith))),
       s .inv .1,

@@ -2,6 +2,7 @@
 use Prim.Native.Nat.{_*_}
 use borrow.Author.Needs.{needs}
 use Rattle.table_record.proofs.Lists.{three}
+use Rattle.table_record.specs.Layout.{linkSize}
 use Rattle.table_store.proofs.put_links.Statement.{statement}
 use Rattle.table_store.proofs.put_links.Tie as tie
 
@@ -24,7 +25,7 @@ element-write-l-3 : tie.Need-element-write-l-3
 element-write-l-3 c = search needs
 
 returns : tie.Need-returns
-returns c = let a = c .args in three (a .l .now) (a .k * 3) (a .x .count) (a .x .first) (a .x .second)
+returns c = let a = c .args in three (a .l .now) (a .k * linkSize) (a .x .count) (a .x .first) (a .x .second)
 
 pub put-links-spec : {M : Type 1} → statement M
 put-links-spec =

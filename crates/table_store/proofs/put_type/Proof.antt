@@ -9,13 +9,16 @@ use lib.ListN.{length, getD, take, length-map, List·getD-map}
 use borrow.Author.Count.{below-more}
 use borrow.Author.Needs.{needs}
 use Rattle.spec_model.specs.Check.{RawMethod}
+use Rattle.spec_model.specs.Table.{maxMethods}
+use Rattle.spec_model.specs.Records.{argumentSlots}
 use Rattle.table_record.specs.Store.{rawMethod, rawOf, spareBytes, methodBytes, methodsBytes}
 use Rattle.table_record.proofs.Laws.{absent, run-more, record-parts}
+use Rattle.table_record.specs.Layout.{typeSize, headSize, methodSize}
 use Rattle.table_store.proofs.put_type.Statement.{statement}
 use Rattle.table_store.proofs.put_type.Tie as tie
 
 abbrev Inv-loop : tie.InvT-loop
-Inv-loop b₀ i t at j₀ b j = (j ≤ 16) × (at ≡ i * 128) × (length (t .methods) ≡ 16)
+Inv-loop b₀ i t at j₀ b j = (j ≤ maxMethods) × (at ≡ i * typeSize) × (length (t .methods) ≡ maxMethods)
     × (b ≡ sets b₀ (at + 16) (methodsBytes (take j (map rawMethod (t .methods)))))
     × ((k : ℕ) → k < j → length (getD (t .methods) k absent .args) ≡ 4)
 
@@ -64,14 +67,14 @@ loop-less c = search needs
 loop-again : tie.Need-loop-again Inv-loop μ-loop
 loop-again c = let l = c .before .before .before .before .loop in
     let ms = c .before .before .before .before .before .before .before .before .before .before .args .t3 .methods in
-    let at = c .before .before .before .before .before .before .before .before .before .before .args .i * 128 in
+    let at = c .before .before .before .before .before .before .before .before .before .before .args .i * typeSize in
     let h : l .j < length (map rawMethod ms) = rw (length-map ms rawMethod) (omega arith) in (
       omega arith,
       refl,
       l .inv .2,
       run-more (c .before .before .before .before .before .put-spare .last .0) (at + 16) (map rawMethod ms) (l .j) (l .b) (c .put-method .last .0) h (l .inv .3)
-          (c .put-method .ensures .0 ∙ ap (λ (m : RawMethod). sets (l .b) (at + 16 + l .j * 7) (methodBytes m)) (sym (List·getD-map rawMethod ms (l .j) absent))),
-      below-more (λ k. length (getD ms k absent .args) ≡ 4) (l .j) (l .inv .4) (c .put-method .ensures .1),
+          (c .put-method .ensures .0 ∙ ap (λ (m : RawMethod). sets (l .b) (at + headSize + l .j * methodSize) (methodBytes m)) (sym (List·getD-map rawMethod ms (l .j) absent))),
+      below-more (λ k. length (getD ms k absent .args) ≡ argumentSlots) (l .j) (l .inv .4) (c .put-method .ensures .1),
     )
 
 returns : tie.Need-returns Inv-loop μ-loop
@@ -79,14 +82,14 @@ returns c = let l = c .before .loop in
     let s = c .before .before in
     let a = c .before .before .before .before .before .before .before .args in
     let t = a .t3 in
-    let n : length (map rawMethod (t .methods)) ≡ 16 = length-map (t .methods) rawMethod ∙ l .inv .2 in
+    let n : length (map rawMethod (t .methods)) ≡ maxMethods = length-map (t .methods) rawMethod ∙ l .inv .2 in
     let whole : take (l .j) (map rawMethod (t .methods)) ≡ map rawMethod (t .methods) = take-all (l .j) (map rawMethod (t .methods)) (omega arith) in
     record {
       bytes = l .inv .3
-          ∙ ap (λ (ms : List RawMethod). sets (s .put-spare .last .0) (a .i * 128 + 16) (methodsBytes ms)) whole
-          ∙ ap (λ (x : List ℕ). sets x (a .i * 128 + 16) (methodsBytes (map rawMethod (t .methods))))
-          (s .put-spare .ensures ∙ ap (λ (x : List ℕ). sets x (a .i * 128 + 6) spareBytes) (s .before .before .put-head .ensures))
-          ∙ record-parts (a .b .now) (a .i * 128) (rawOf t);
+          ∙ ap (λ (ms : List RawMethod). sets (s .put-spare .last .0) (a .i * typeSize + headSize) (methodsBytes ms)) whole
+          ∙ ap (λ (x : List ℕ). sets x (a .i * typeSize + headSize) (methodsBytes (map rawMethod (t .methods))))
+          (s .put-spare .ensures ∙ ap (λ (x : List ℕ). sets x (a .i * typeSize + 6) spareBytes) (s .before .before .put-head .ensures))
+          ∙ record-parts (a .b .now) (a .i * typeSize) (rawOf t);
       shaped = record { methods = n; slots = λ k h. ap (λ (m : RawMethod). length (m .args)) (List·getD-map rawMethod (t .methods) k absent) ∙ l .inv .4 k (omega arith) };
     }
 

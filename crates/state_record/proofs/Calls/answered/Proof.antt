@@ -6,6 +6,7 @@ use native.Mathlib.Omega.{arith}
 use borrow.Author.Needs.{needs}
 use Rattle.state_record.proofs.Calls.answered.Statement.{statement}
 use Rattle.state_record.proofs.Calls.answered.Tie as tie
+use Rattle.spec_model.specs.Requests.{maxCalls}
 
 mul-old : tie.Need-mul-old
 mul-old c = search needs
@@ -21,7 +22,7 @@ element-set-from-c c = search needs
 
 returns : tie.Need-returns
 returns c =
-    let n : length (c .before .args .self .list) ≡ 256 = simp length-map at (c .before .good .0 .1 .1 .0 .1 .0 .1) in
+    let n : length (c .before .args .self .list) ≡ maxCalls = simp length-map at (c .before .good .0 .1 .1 .0 .1 .0 .1) in
     (refl, calls-answered (c .before .args .self) (c .before .args .j) (c .before .pre .0) (omega arith))
 
 pub answered-spec : {M : Type 1} → statement M

@@ -1,0 +1,51 @@
+-- Four arguments (T13), computed from the definitions: four references through an adapter. The class and the cell's type have the four argument types in opposite order; type 6
+-- takes an argument where they take none, so that a reference of it crosses to none of them.
+use mathlib.Core.Path.{_≡_, refl}
+use mathlib.Core.Bool.{true}
+use mathlib.Core.List.{[], _∷_}
+use mathlib.Core.Option.{none}
+use lib.IntN.{pos}
+use Rattle.spec_model.specs.Table.{denied, avail, unavail, Table, validSheet, signed, bare}
+use Rattle.spec_model.specs.Crossing.{object, adapter}
+use Rattle.spec_model.specs.Requests.{got, refused, pair, loaded, run}
+use Rattle.spec_model.proofs.CasesWords.{type, sheetOf, cell, new′, move′, call′}
+use Rattle.spec_model.proofs.CasesWorked.{Works}
+
+abbrev passingFour : Table
+passingFour = sheetOf 2 3 (
+    type (signed avail (1 ∷ 2 ∷ 3 ∷ 4 ∷ []) none ∷ bare avail ∷ bare avail ∷ [])
+    ∷ type (bare denied ∷ bare avail ∷ bare denied ∷ [])
+    ∷ type (bare unavail ∷ bare avail ∷ bare denied ∷ [])
+    ∷ type (bare denied ∷ bare avail ∷ bare unavail ∷ [])
+    ∷ type (bare unavail ∷ bare avail ∷ bare unavail ∷ [])
+    ∷ type (signed avail (4 ∷ 3 ∷ 2 ∷ 1 ∷ []) none ∷ bare unavail ∷ bare avail ∷ [])
+    ∷ type (bare unavail ∷ signed avail (1 ∷ []) none ∷ bare unavail ∷ [])
+    ∷ [])
+
+pub four-valid : validSheet passingFour ≡ true
+unfolding validSheet
+four-valid = refl
+
+-- A reference that cannot cross is refused with 8 at each of the four positions, and leaves nothing (C20); then all four cross, and the owner has a cell for each, in order, of the
+-- class's argument types (C10, C17).
+pub four-worked : Works (record {
+  state = loaded passingFour;
+  requests =
+      new′ 0 0 5
+      ∷ move′ 0 0 1 5
+      ∷ new′ 1 0 0
+      ∷ new′ 1 6 6
+      ∷ call′ 1 1 0 (pos 3 ∷ pos 2 ∷ pos 2 ∷ pos 2 ∷ [])
+      ∷ call′ 1 1 0 (pos 2 ∷ pos 3 ∷ pos 2 ∷ pos 2 ∷ [])
+      ∷ call′ 1 1 0 (pos 2 ∷ pos 2 ∷ pos 3 ∷ pos 2 ∷ [])
+      ∷ call′ 1 1 0 (pos 2 ∷ pos 2 ∷ pos 2 ∷ pos 3 ∷ [])
+      ∷ call′ 1 1 0 (pos 2 ∷ pos 2 ∷ pos 2 ∷ pos 2 ∷ [])
+      ∷ [];
+  gives =
+      got (pair 0 1) ∷ got (pair 1 1) ∷ got (pair 2 2) ∷ got (pair 3 3) ∷ refused 8 ∷ refused 8 ∷ refused 8 ∷ refused 8 ∷ got (pair 0 1) ∷ [];
+  cells = cell 0 5 1 ∷ cell 1 5 1 ∷ cell 1 0 2 ∷ cell 1 6 3 ∷ cell 0 1 4 ∷ cell 0 2 5 ∷ cell 0 3 6 ∷ cell 0 4 7 ∷ [];
+  places =
+      object 0 0 ∷ adapter 0 12 ∷ object 0 1 ∷ object 6 1 ∷ adapter 2 18 ∷ adapter 2 20 ∷ adapter 2 23 ∷ adapter 2 26 ∷ [];
+})
+unfolding run
+four-worked = refl

@@ -1,0 +1,95 @@
+-- The tests of C3 to C7 in their order.
+use mathlib.Core.Path.{sym, _∙_}
+use native.Mathlib.Omega.{arith}
+use borrow.Author.Tests.{not-true, not-false}
+use borrow.Author.Needs.{needs}
+use Rattle.state_record.specs.Whole.{whole}
+use Rattle.request_call.proofs.Calling.{sort-here, sort-low, planned-as, planned-refuses, held-14, held-15, held-18, held-goes}
+use Rattle.request_call.proofs.plan_held.Statement.{statement}
+use Rattle.request_call.proofs.plan_held.Tie as tie
+
+cell-at-requires : tie.Need-cell-at-requires
+cell-at-requires c κs = omega (arith, c .pre .2, c .pre .0 .cellCount)
+
+wide-requires : tie.Need-wide-requires
+wide-requires c κs = search needs
+
+method-at-requires : tie.Need-method-at-requires
+method-at-requires c κs = let a = c .before .before .before .args in let s = whole (a .types .now) (a .s) in let h = c .before .before .before .pre in (
+  h .0 .checked .limits,
+  sort-low s (h .0) (a .k) (h .2) (c .before .before .cell-at .result) (c .before .before .cell-at .ensures .1 (h .2)) (c .wide .result) (c .wide .ensures .0),
+  h .3,
+)
+
+stops-requires : tie.Need-stops-requires
+stops-requires c κs = search needs
+
+returns : tie.Need-returns
+returns c = λ subject w.
+    let a = c .before .before .before .before .before .before .before .args in let s = whole (a .types .now) (a .s) in let h = c .before .before .before .before .before .before .before
+    .pre in let y = c .before .before .before .before .before .before .cell-at in let z = c .before .before .before .before .wide in let x = c .before .before .before .method-at in
+    planned-refuses s (a .vs .now) 14 (omega arith)
+    (held-14 s subject (a .k) (a .m) (a .vs .now) (z .result) (sort-here s (h .0) (a .k) (h .2) (y .result) (y .ensures .1 (h .2)) (z .result) (z .ensures .0))
+    (x .result) (x .ensures) (c .before .if1 .taken)) (c .stops .result) (c .stops .ensures)
+
+arguments-held-requires : tie.Need-arguments-held-requires
+arguments-held-requires c κs = c .before .before .before .before .before .before .pre .0
+
+stops-requires-2 : tie.Need-stops-requires-2
+stops-requires-2 c κs = search needs
+
+returns-2 : tie.Need-returns-2
+returns-2 c = λ subject w.
+    let a = c .before .before .before .before .before .before .before .before .before .args in let s = whole (a .types .now) (a .s) in let h = c .before .before .before .before .before
+    .before .before .before .before .pre in let y = c .before .before .before .before .before .before .before .before .cell-at in let z = c .before .before .before .before .before
+    .before .wide in let x = c .before .before .before .before .before .method-at in let v = c .before .before .arguments-held in
+    planned-refuses s (a .vs .now) 15 (omega arith)
+    (held-15 s subject (a .k) (a .m) (a .vs .now) (z .result) (sort-here s (h .0) (a .k) (h .2) (y .result) (y .ensures .1 (h .2)) (z .result) (z .ensures .0))
+    (x .result) (x .ensures) (c .before .before .before .if1 .left) (sym (v .ensures subject w) ∙ not-true (v .result) (c .before .if2 .taken))) (c .stops2 .result) (c .stops2 .ensures)
+
+stops-requires-3 : tie.Need-stops-requires-3
+stops-requires-3 c κs = search needs
+
+returns-3 : tie.Need-returns-3
+returns-3 c = λ subject w.
+    let a = c .before .before .before .before .before .before .before .before .before .before .before .args in let s = whole (a .types .now) (a .s) in let h = c .before .before .before
+    .before .before .before .before .before .before .before .before .pre in let y = c .before .before .before .before .before .before .before .before .before .before .cell-at in
+    let z = c .before .before .before .before .before .before .before .before .wide in let x = c .before .before .before .before .before .before .before .method-at in let v = c
+    .before .before .before .before .arguments-held in
+    planned-refuses s (a .vs .now) 18 (omega arith)
+    (held-18 s subject (a .k) (a .m) (a .vs .now) (z .result) (sort-here s (h .0) (a .k) (h .2) (y .result) (y .ensures .1 (h .2)) (z .result) (z .ensures .0))
+    (x .result) (x .ensures) (c .before .before .before .before .before .if1 .left) (sym (v .ensures subject w) ∙ not-false (v .result) (c .before .before .before .if2 .left))
+    (c .before .if3 .taken)) (c .stops3 .result) (c .stops3 .ensures)
+
+plan-numbers-requires : tie.Need-plan-numbers-requires
+plan-numbers-requires c κs = let h = c .before .before .before .before .before .before .before .before .before .before .pre in
+    (h .0, c .if3 .left, h .1, h .2, h .3, c .before .before .before .before .before .before .before .before .before .cell-at .ensures .1 (h .2))
+
+returns-4 : tie.Need-returns-4
+returns-4 c = λ subject w.
+    let a = c .before .before .before .before .before .before .before .before .before .before .before .args in let s = whole (a .types .now) (a .s) in let h = c .before .before .before
+    .before .before .before .before .before .before .before .before .pre in let y = c .before .before .before .before .before .before .before .before .before .before .cell-at in
+    let z = c .before .before .before .before .before .before .before .before .wide in let x = c .before .before .before .before .before .before .before .method-at in let v = c
+    .before .before .before .before .arguments-held in
+    planned-as s (a .vs .now)
+    (held-goes s subject (a .k) (a .m) (a .vs .now) (z .result) (sort-here s (h .0) (a .k) (h .2) (y .result) (y .ensures .1 (h .2)) (z .result) (z .ensures .0))
+    (x .result) (x .ensures) (c .before .before .before .before .before .if1 .left) (sym (v .ensures subject w) ∙ not-false (v .result) (c .before .before .before .if2 .left))
+    (c .before .if3 .left) (a .who) w)
+    (c .plan-numbers .result) (c .plan-numbers .ensures)
+
+pub plan-held-spec : {M : Type 1} → statement M
+plan-held-spec =
+    tie.close
+    (tie.spec
+    cell-at-requires
+    wide-requires
+    method-at-requires
+    stops-requires
+    returns
+    arguments-held-requires
+    stops-requires-2
+    returns-2
+    stops-requires-3
+    returns-3
+    plan-numbers-requires
+    returns-4)

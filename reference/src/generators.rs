@@ -1,0 +1,76 @@
+//! Generated inputs: a sheet and a list of requests.
+
+mod lists;
+mod plans;
+mod tables;
+
+pub use lists::{any_request, request, requests};
+pub use plans::{Goal, Plan, Profile, BIG, FULL, LONG, MEDIUM, PROFILES, SMALL};
+pub use tables::table;
+
+use crate::damage::{damage, lengthen};
+use crate::random::Random;
+use crate::requests::Request;
+use crate::script;
+use crate::sheet;
+use crate::table::Table;
+
+/// A sheet and a list of requests, as the program reads them.
+pub fn generate(seed: u64, profile: Profile) -> Vec<u8> {
+    let mut random = Random::new(seed ^ ((profile as u64) << 56));
+    match profile {
+        Profile::Small => input(&mut random, &SMALL),
+        Profile::Medium => input(&mut random, &MEDIUM),
+        Profile::Big => input(&mut random, &BIG),
+        Profile::Full => one_of(&mut random, &FULL),
+        Profile::Long => one_of(&mut random, &LONG),
+        Profile::Damaged => damaged(&mut random),
+    }
+}
+
+fn one_of(random: &mut Random, plans: &[Plan]) -> Vec<u8> {
+    let plan = random.pick(plans).clone();
+    input(random, &plan)
+}
+
+/// A sheet and requests by a plan.
+fn input(random: &mut Random, plan: &Plan) -> Vec<u8> {
+    let (table, requests) = aimed(random, plan);
+    let mut input = sheet::text(&table);
+    for request in &requests {
+        let line = script::line(request);
+        if input.len() + line.len() > script::MAX_INPUT {
+            break;
+        }
+        input.extend_from_slice(line.as_bytes());
+    }
+    input
+}
+
+/// A table and requests that reach the plan's goal, or the last of a few that
+/// did not.
+fn aimed(random: &mut Random, plan: &Plan) -> (Table, Vec<Request>) {
+    let mut attempt = 1;
+    loop {
+        let table = table(random, plan);
+        let listed = requests(random, plan, table.clone());
+        if listed.reached || attempt == 6 {
+            return (table, listed.requests);
+        }
+        attempt += 1;
+    }
+}
+
+/// A small or medium input with a few things bad.
+fn damaged(random: &mut Random) -> Vec<u8> {
+    let plan = if random.chance(70) { SMALL } else { MEDIUM };
+    let mut text = input(random, &plan);
+    for _ in 0..random.weighted(&[0, 60, 25, 15]) {
+        if random.chance(2) {
+            lengthen(random, &mut text);
+        } else {
+            damage(random, &mut text);
+        }
+    }
+    text
+}
