@@ -58,6 +58,7 @@ module _ (m n t s : ℕ) (l : n ≤ maxTypes) (lo : n * maxTypes ≤ m) (hi : m 
     room = length-set (replicate m 0) 0 (t * maxTypes + s) ∙ length-replicate {A = ℕ} m 0 ∙ sym marks-length;
     first = omega arith;
     tally = yeses-set (replicate m false) (t * maxTypes + s) slot (getD-none (t * maxTypes + s)) ∙ ap suc (yeses-none m);
+    inside = λ u h. (let e : u ≡ t * maxTypes + s = only-root u h in let o : (u / maxTypes < n) × (u % maxTypes < n) = (omega arith, omega arith) in o);
     back = λ i k. (let e : i ≡ 0 = omega arith in rw (e, root-queued) (let o : Pair n marks₀ (t * maxTypes + s) = record { low = omega arith; high = omega arith; known = root-marked } in o));
     forth = λ x y h. (let g = found-says n marks₀ x y h in record { place = 0; below = omega arith; there = root-queued ∙ sym (only-root (x * maxTypes + y) (g .2)) });
   }

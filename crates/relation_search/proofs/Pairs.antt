@@ -6,6 +6,7 @@ use mathlib.Core.List.{List, [], _∷_}
 use Prim.Native.Nat.{ℕ, zero, suc, _+_, _*_, _/_, _%_, _≤_, _<_}
 use native.Mathlib.Nat.{not-suc-le-zero, le-of-suc-le-suc}
 use native.Mathlib.Omega.{arith}
+use lib.Bits.{bitAnd, bitOr, or-add-and, and-le-l, and-le-r}
 use lib.Dec.{ltb}
 use lib.ListN.{length, getD, set, length-set}
 use lib.Seq.{getD-set-same, getD-set-other}
@@ -34,6 +35,14 @@ pub pair-as : (n : ℕ) (s : List Bool) (p : ℕ) → Pair n s p → So (found n
 pair-as n s p h =
     let e : p / maxTypes * maxTypes + p % maxTypes ≡ p = omega arith in
     found-test n s (p / maxTypes) (p % maxTypes) (h .low) (h .high) (rw e (h .known))
+
+-- neither of two numbers is above x | y; so where that is below the rows of the array, the pair's number is one of its entries
+pub in-rows : (x y m : ℕ) → m ≤ maxPairs → bitOr x y < m / maxTypes → (x < maxTypes) × (y < maxTypes) × (x * maxTypes + y < m)
+in-rows x y m l k =
+    let sum : bitOr x y + bitAnd x y ≡ x + y = or-add-and x y in
+    let left : bitAnd x y ≤ x = and-le-l x y in
+    let right : bitAnd x y ≤ y = and-le-r x y in
+    (omega arith, omega arith, omega arith)
 
 pair-of : (n : ℕ) (s : List Bool) (x y : ℕ) → n ≤ maxTypes → x < n → y < n → So (getD s (x * maxTypes + y) false) → Pair n s (x * maxTypes + y)
 pair-of n s x y l p q h = record { low = omega arith; high = omega arith; known = h }
@@ -71,6 +80,14 @@ stay n W s l t h w = record { listed = h; more = λ x y k. k; kept = λ i k. ref
 
 pub pair-known : (n : ℕ) (s : List Bool) (l : List ℕ) (t x y : ℕ) → Listed n s l t → x < n → y < n → So (getD s (x * maxTypes + y) false) → Grew n (λ M. M x y) s l t s l t
 pair-known n s l t x y h p q k = stay n (λ M. M x y) s l t h (found-test n s x y p q k)
+
+-- what is found is in the table, so that x and y need no test
+pub pair-seen : (n : ℕ) (s : List Bool) (l : List ℕ) (t x y : ℕ) → Listed n s l t → y < maxTypes → So (getD s (x * maxTypes + y) false) → Grew n (λ M. M x y) s l t s l t
+pair-seen n s l t x y h q k =
+    let i = h .inside (x * maxTypes + y) k in
+    let a : x < n = omega (arith, i .0) in
+    let b : y < n = omega (arith, i .1) in
+    pair-known n s l t x y h a b k
 
 set-more : (s : List Bool) (p q : ℕ) → So (getD s q false) → p < length s → So (getD (set s p true) q false)
 set-more s p q h l =
@@ -118,6 +135,13 @@ module _ (n : ℕ) (s : List Bool) (l : List ℕ) (t x y : ℕ) (h : Listed n s 
       } in o)
       (set-less s (x * maxTypes + y) (u * maxTypes + v) (g .2))
 
+  new-inside : (u : ℕ) → So (getD (set s (x * maxTypes + y) true) u false) → (u / maxTypes < n) × (u % maxTypes < n)
+  new-inside u k =
+      ⊎-elim
+      (λ (a : u ≡ x * maxTypes + y). let o : (u / maxTypes < n) × (u % maxTypes < n) = (omega (arith, h .small), omega (arith, h .small)) in o)
+      (λ (a : So (getD s u false)). h .inside u a)
+      (set-less s (x * maxTypes + y) u k)
+
   new-listed : Listed n (set s (x * maxTypes + y) true) (set l t (x * maxTypes + y)) (t + 1)
   new-listed = record {
     small = h .small;
@@ -126,6 +150,7 @@ module _ (n : ℕ) (s : List Bool) (l : List ℕ) (t x y : ℕ) (h : Listed n s 
     room = length-set l t (x * maxTypes + y) ∙ h .room ∙ sym (length-set s (x * maxTypes + y) true);
     first = omega arith;
     tally = (let a = yeses-set s (x * maxTypes + y) at-slot e in omega (arith, h .tally));
+    inside = new-inside;
     back = new-back;
     forth = new-forth;
   }

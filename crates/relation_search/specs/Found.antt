@@ -34,7 +34,7 @@ pub record Pair (n : ℕ) (marks : List Bool) (p : ℕ) : Type 0 where
   pub high : p % maxTypes < n
   pub known : So (getD marks p false)
 
--- t pairs are found, at least one, and the first t numbers in the queue are theirs
+-- t pairs are found, at least one, all of them of the n types, and the first t numbers in the queue are theirs
 pub record Listed (n : ℕ) (marks : List Bool) (queue : List ℕ) (t : ℕ) : Type 0 where
   pub small : n ≤ maxTypes
   pub slots : n * maxTypes ≤ length marks
@@ -42,6 +42,7 @@ pub record Listed (n : ℕ) (marks : List Bool) (queue : List ℕ) (t : ℕ) : T
   pub room : length queue ≡ length marks
   pub first : 0 < t
   pub tally : yeses marks ≡ t
+  pub inside : (p : ℕ) → So (getD marks p false) → (p / maxTypes < n) × (p % maxTypes < n)
   pub back : (i : ℕ) → i < t → Pair n marks (getD queue i 0)
   pub forth : (x y : ℕ) → So (found n marks x y) → Queued queue t (x * maxTypes + y)
 

@@ -32,12 +32,13 @@ enum Step {
     Tail(usize),
 }
 
-// The types that few and some are, and the entries of the array for a search among so many: 128 for each type, so that a pair's number says both.
+// The types that few and some are, and the entries of the array for a search among so many: 128 for each type, so that a pair's number says both. Powers of two,
+// so that x | y is below them where x and y are (`find_pair`).
 const FEW: usize = 16;
 
 const FEW_PAIRS: usize = FEW * Counts::TYPES;
 
-const SOME: usize = 72;
+const SOME: usize = 64;
 
 const SOME_PAIRS: usize = SOME * Counts::TYPES;
 
@@ -62,7 +63,7 @@ fn add_pair(found: &mut [u16], tail: usize, p: usize) -> usize
 }
 
 // The pair (x, y) joins those found, of which there are `tail`, unless it is one of them. It breaks its rule if x or y is not in the table.
-fn find_pair(found: &mut [u16], tail: usize, n: usize, x: usize, y: usize) -> Step
+fn join_pair(found: &mut [u16], tail: usize, n: usize, x: usize, y: usize) -> Step
     requires { ⌜ ListedIn n (now found) tail ⌝ }
     ensures { λ r. ⌜ MetIn n (λ M. M x y) (now (found .entry)) tail (now (found .exit)) r ⌝ }
 {
@@ -78,6 +79,21 @@ fn find_pair(found: &mut [u16], tail: usize, n: usize, x: usize, y: usize) -> St
     }
     let more = add_pair(found, tail, p);
     Step::Tail(more)
+}
+
+// The same. Most pairs that a search comes to are found already, so that is asked first, by one test for both numbers: neither is above x | y. What is found is
+// in the table.
+fn find_pair(found: &mut [u16], tail: usize, n: usize, x: usize, y: usize) -> Step
+    requires { ⌜ ListedIn n (now found) tail ⌝ }
+    ensures { λ r. ⌜ MetIn n (λ M. M x y) (now (found .entry)) tail (now (found .exit)) r ⌝ }
+{
+    let rows = found.len() / Counts::TYPES;
+    if (x | y) < rows {
+        if is_found(found[x * Counts::TYPES + y]) {
+            return Step::Tail(tail);
+        }
+    }
+    join_pair(found, tail, n, x, y)
 }
 
 // How many of the four slots a count of arguments uses. A table that is checked has no count above them.
