@@ -1,6 +1,5 @@
 pub mod CasesAnswers
 pub mod CasesRefused
-pub mod CasesFour
 pub mod Unowned
 pub mod Deriving
 pub mod Completes

@@ -10,3 +10,4 @@ pub mod Refusals
 pub mod Layers
 pub mod Readers
 pub mod Sheets
+pub mod CasesFour
