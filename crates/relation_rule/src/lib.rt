@@ -17,7 +17,6 @@ use base_numbers::wide;
 use table_record::Counts;
 use table_record::Head;
 use table_record::LINK_BYTES;
-use table_record::Method;
 use table_record::permits;
 
 // The four relations, and subtype with own not compared (R12), which a crossing asks for (X6).
@@ -103,12 +102,13 @@ pub fn state_rule(square: [[bool; 4]; 4], k: Relation, a: u8, b: u8) -> bool
     states_compare(square, i, j)
 }
 
-pub fn both_permit(x: Method, y: Method) -> bool
-    ensures { λ r. ⌜ r ≡ (permit (stateOf (x .state)) && permit (stateOf (y .state))) ⌝ }
+// Whether both sides permit a method, by the codes of its states.
+pub fn both_permit(x: u8, y: u8) -> bool
+    ensures { λ r. ⌜ r ≡ (permit (stateOf x) && permit (stateOf y)) ⌝ }
 {
-    let p = permits(x.state);
+    let p = permits(x);
     if p {
-        return permits(y.state);
+        return permits(y);
     }
     false
 }

@@ -43,21 +43,21 @@ module _ (n x y a b : ℕ) (p : a ≡ x) (q : b ≡ y) where
         → Met n Answer s l t s′ l′ r
     answers-both s′ l′ r u v m = met-same n (λ M. M (a - 1) (b - 1)) Answer (λ M. answer-both M x y (λ e. u (p ∙ e)) (λ e. v (q ∙ e)) ∙ rw (p, q)) s l t s′ l′ r m
 
--- The arguments: xs and ys are the slots, i and j the counts, u and v how many slots these use.
-module _ (n : ℕ) (xs ys : List ℕ) (lx : length xs ≡ argumentSlots) (ly : length ys ≡ argumentSlots) (i j u v : ℕ) (pu : u ≤ argumentSlots) (pv : v ≤ argumentSlots)
-    (eu : take i xs ≡ take u xs) (ev : take j ys ≡ take v ys) where
+-- The arguments: xs and ys are the slots, i and j the counts, u how many slots the first uses.
+module _ (n : ℕ) (xs ys : List ℕ) (lx : length xs ≡ argumentSlots) (ly : length ys ≡ argumentSlots) (i j u : ℕ) (pu : u ≤ argumentSlots) (eu : take i xs ≡ take u xs) where
   abbrev Args : (ℕ → ℕ → Bool) → Bool
   Args M = argsRule M (take i xs) (take j ys)
 
   abbrev First : ℕ → (ℕ → ℕ → Bool) → Bool
   First m M = argsRule M (take m xs) (take m ys)
 
-  pub arguments-differ : (u ≡ v → ⊥) → Broke n Args
-  arguments-differ h = record { none = λ M k w. args-differ xs ys M u v (omega arith) (omega arith) h (rw (eu, ev) at w) }
+  pub arguments-differ : (v : ℕ) → v ≤ argumentSlots → take j ys ≡ take v ys → (u ≡ v → ⊥) → Broke n Args
+  arguments-differ v pv ev h = record { none = λ M k w. args-differ xs ys M u v (omega arith) (omega arith) h (rw (eu, ev) at w) }
 
-  module _ (e : u ≡ v) where
+  -- the second uses as many
+  module _ (ev : take j ys ≡ take u ys) where
     args-used : (M : ℕ → ℕ → Bool) → Args M ≡ First u M
-    args-used M = rw (eu, ev, e)
+    args-used M = rw (eu, ev)
 
     -- slot m, read as x and y
     pub arguments-broke : (m : ℕ) → m < u → (x y : ℕ) → x ≡ getD xs m 0 → y ≡ getD ys m 0 → Broke n (λ M. M y x) → Broke n Args
@@ -105,11 +105,13 @@ module _ (n : ℕ) (k : Relation) (x y : RawMethod) (f : Bool) (fe : f ≡ state
       pub method-args : Broke n Q₁ → Broke n Q
       method-args b = broke-as n Q₁ Q (λ M w. first (Q₁ M) _ (sym (on-is M) ∙ w)) b
 
+      -- the answers' codes were read as a and b
       pub method-answer : (s : List Bool) (l : List ℕ) (t : ℕ) (s₁ : List Bool) (l₁ : List ℕ) (t₁ : ℕ) → Grew n Q₁ s l t s₁ l₁ t₁
-          → (s₂ : List Bool) (l₂ : List ℕ) (r : Step) → Met n Q₂ s₁ l₁ t₁ s₂ l₂ r → Met n Q s l t s₂ l₂ r
-      method-answer s l t s₁ l₁ t₁ m s₂ l₂ r m′ =
+          → (s₂ : List Bool) (l₂ : List ℕ) (r : Step) (a b : ℕ) → a ≡ x .answer → b ≡ y .answer
+          → Met n (λ M. answerRule M (answerOf a) (answerOf b)) s₁ l₁ t₁ s₂ l₂ r → Met n Q s l t s₂ l₂ r
+      method-answer s l t s₁ l₁ t₁ m s₂ l₂ r a b p q m′ =
           met-same n (λ M. Q₁ M && Q₂ M) Q on-is s l t s₂ l₂ r
-          (met-then n Q₁ Q₂ s l t s₁ l₁ t₁ s₂ l₂ r (args-up (take (x .count) (x .args)) (take (y .count) (y .args))) m m′)
+          (met-then n Q₁ Q₂ s l t s₁ l₁ t₁ s₂ l₂ r (args-up (take (x .count) (x .args)) (take (y .count) (y .args))) m (rw (p, q) at m′))
 
 -- All methods of two types, X and Y.
 module _ (n : ℕ) (k : Relation) (X Y : ℕ → Method) where
@@ -120,16 +122,14 @@ module _ (n : ℕ) (k : Relation) (X Y : ℕ → Method) where
   unfolding eachBelow
   methods-start s l t h = stay n (All 0) s l t h refl
 
-  module _ (j : ℕ) (x y : Method) (p : x ≡ X j) (q : y ≡ Y j) where
-    pub methods-broke : (c : ℕ) → j < c → Broke n (λ M. methodRule k M x y) → Broke n (All c)
-    methods-broke c h b = broke-as n (λ M. methodRule k M x y) (All c) (λ M w. rw (p, q) (each-says c (λ j. methodRule k M (X j) (Y j)) w j h)) b
+  pub methods-broke : (j c : ℕ) → j < c → Broke n (λ M. methodRule k M (X j) (Y j)) → Broke n (All c)
+  methods-broke j c h b = broke-as n (λ M. methodRule k M (X j) (Y j)) (All c) (λ M w. each-says c (λ j. methodRule k M (X j) (Y j)) w j h) b
 
-    pub methods-more : (s : List Bool) (l : List ℕ) (t : ℕ) (s₁ : List Bool) (l₁ : List ℕ) (t₁ : ℕ) → Grew n (All j) s l t s₁ l₁ t₁
-        → (s₂ : List Bool) (l₂ : List ℕ) (t₂ : ℕ) → Grew n (λ M. methodRule k M x y) s₁ l₁ t₁ s₂ l₂ t₂ → Grew n (All (j + 1)) s l t s₂ l₂ t₂
-    unfolding eachBelow
-    methods-more s l t s₁ l₁ t₁ g s₂ l₂ t₂ m =
-        rw (add-one j) (grew-as n (λ M. All j M && methodRule k M x y) (All (suc j)) s l t s₂ l₂ t₂ (λ M w. rw (p, q) at w) (λ M w. rw (p, q) w)
-        (grew-then n (All j) (λ M. methodRule k M x y) s l t s₁ l₁ t₁ s₂ l₂ t₂ (each-up j k X Y) g m))
+  pub methods-more : (j : ℕ) (s : List Bool) (l : List ℕ) (t : ℕ) (s₁ : List Bool) (l₁ : List ℕ) (t₁ : ℕ) → Grew n (All j) s l t s₁ l₁ t₁
+      → (s₂ : List Bool) (l₂ : List ℕ) (t₂ : ℕ) → Grew n (λ M. methodRule k M (X j) (Y j)) s₁ l₁ t₁ s₂ l₂ t₂ → Grew n (All (j + 1)) s l t s₂ l₂ t₂
+  unfolding eachBelow
+  methods-more j s l t s₁ l₁ t₁ g s₂ l₂ t₂ m =
+      rw (add-one j) (grew-then n (All j) (λ M. methodRule k M (X j) (Y j)) s l t s₁ l₁ t₁ s₂ l₂ t₂ (each-up j k X Y) g m)
 
   pub methods-end : (j c : ℕ) (s : List Bool) (l : List ℕ) (t : ℕ) (s₁ : List Bool) (l₁ : List ℕ) (t₁ : ℕ) → Grew n (All j) s l t s₁ l₁ t₁ → c ≤ j → j ≤ c
       → Grew n (All c) s l t s₁ l₁ t₁

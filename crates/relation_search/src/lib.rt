@@ -7,10 +7,10 @@ ghost use Prim.Native.Nat.{ℕ, _+_, _/_, _%_, _≤_, _<_};
 ghost use lib.Dec.{leb};
 ghost use lib.ListN.{length, getD, take};
 ghost use Rattle.spec_model.specs.Relations.{argsRule, answerRule, methodRule, rule, related};
-ghost use Rattle.spec_model.specs.Check.{answerOf, methodOf};
+ghost use Rattle.spec_model.specs.Check.{answerOf};
 ghost use Rattle.spec_model.specs.Table.{maxMethods, maxTypes};
 ghost use Rattle.spec_model.specs.Records.{argumentSlots};
-ghost use Rattle.table_record.specs.Store.{rawMethod, tableIn, methodIn};
+ghost use Rattle.table_record.specs.Store.{rawIn, tableIn, methodIn};
 ghost use Rattle.table_record.specs.Limits.{Checked};
 ghost use Rattle.relation_rule.specs.Asked.{relationOf};
 ghost use Rattle.relation_rule.specs.Parts.{Says};
@@ -25,6 +25,10 @@ use table_record::Head;
 use table_record::LINK_BYTES;
 use table_record::Method;
 use table_record::TYPE_BYTES;
+use table_record::method_answer;
+use table_record::method_argument;
+use table_record::method_count;
+use table_record::method_state;
 
 // What a step of the search leads to: a pair that breaks its rule, or so many pairs that are found now.
 enum Step {
@@ -103,22 +107,36 @@ fn slots_used(count: u8) -> usize
     least(wide(count), Method::SLOTS)
 }
 
-// R4 and R6: as many arguments, and each related with the sides exchanged.
-fn find_arguments(found: &mut [u16], tail: usize, n: usize, x: Method, y: Method) -> Step
-    requires { ⌜ ListedIn n (now found) tail ⌝ }
-    ensures { λ r. ⌜ MetIn n (λ M. argsRule M (take (x .count) (x .args)) (take (y .count) (y .args))) (now (found .entry)) tail (now (found .exit)) r ⌝ }
+// R4 and R6, at method j of the types a and d: as many arguments, and each related with the sides exchanged. Counts that are the same use as many slots.
+fn find_arguments(
+    b: &[u8; TYPE_BYTES],
+    found: &mut [u16],
+    tail: usize,
+    n: usize,
+    a: usize,
+    d: usize,
+    j: usize,
+) -> Step
+    requires { ⌜ ListedIn n (now found) tail × (a < maxTypes) × (d < maxTypes) × (j < maxMethods) ⌝ }
+    ensures { λ r. ⌜ MetIn n
+        (λ M. argsRule M (take (rawIn (now (b .entry)) a j .count) (rawIn (now (b .entry)) a j .args))
+        (take (rawIn (now (b .entry)) d j .count) (rawIn (now (b .entry)) d j .args)))
+        (now (found .entry)) tail (now (found .exit)) r ⌝ }
 {
-    let used = slots_used(x.count);
-    let other = slots_used(y.count);
-    if used != other {
-        return Step::Broken;
+    let count = method_count(b, a, j);
+    let other = method_count(b, d, j);
+    let used = slots_used(count);
+    if count != other {
+        if used != slots_used(other) {
+            return Step::Broken;
+        }
     }
     let mut t = tail;
     let mut i: usize = 0;
     while i < used {
-        let a = wide(x.args[i]);
-        let d = wide(y.args[i]);
-        let Step::Tail(r) = find_pair(found, t, n, d, a) else {
+        let x = wide(method_argument(b, a, j, i));
+        let y = wide(method_argument(b, d, j, i));
+        let Step::Tail(r) = find_pair(found, t, n, y, x) else {
             return Step::Broken;
         };
         t = r;
@@ -146,21 +164,25 @@ fn find_answer(found: &mut [u16], tail: usize, n: usize, x: u8, y: u8) -> Step
     find_pair(found, tail, n, a - 1, d - 1)
 }
 
-// One method of T and of S.
+// Method j of the types a and d. Its signatures are read only where both permit it (R7).
 fn find_method(
+    b: &[u8; TYPE_BYTES],
     found: &mut [u16],
     tail: usize,
     n: usize,
     k: Relation,
     square: [[bool; 4]; 4],
-    x: Method,
-    y: Method,
+    a: usize,
+    d: usize,
+    j: usize,
 ) -> Step
-    requires { ⌜ ListedIn n (now found) tail × Says (relationOf k) square ⌝ }
-    ensures { λ r. ⌜ MetIn n (λ M. methodRule (relationOf k) M (methodOf (rawMethod x)) (methodOf (rawMethod y))) (now (found .entry)) tail
+    requires { ⌜ ListedIn n (now found) tail × Says (relationOf k) square × (a < maxTypes) × (d < maxTypes) × (j < maxMethods) ⌝ }
+    ensures { λ r. ⌜ MetIn n (λ M. methodRule (relationOf k) M (methodIn (now (b .entry)) a j) (methodIn (now (b .entry)) d j)) (now (found .entry)) tail
         (now (found .exit)) r ⌝ }
 {
-    let fine = relation_rule::state_rule(square, k, x.state, y.state);
+    let x = method_state(b, a, j);
+    let y = method_state(b, d, j);
+    let fine = relation_rule::state_rule(square, k, x, y);
     if !fine {
         return Step::Broken;
     }
@@ -168,10 +190,10 @@ fn find_method(
     if !both {
         return Step::Tail(tail);
     }
-    let Step::Tail(r) = find_arguments(found, tail, n, x, y) else {
+    let Step::Tail(r) = find_arguments(b, found, tail, n, a, d, j) else {
         return Step::Broken;
     };
-    find_answer(found, r, n, x.answer, y.answer)
+    find_answer(found, r, n, method_answer(b, a, j), method_answer(b, d, j))
 }
 
 // All methods of the reference types a and d.
@@ -193,9 +215,7 @@ fn find_methods(
     let mut t = tail;
     let mut j: usize = 0;
     while j < methods {
-        let x = table_record::get_method(b, a, j);
-        let y = table_record::get_method(b, d, j);
-        let Step::Tail(r) = find_method(found, t, n, k, square, x, y) else {
+        let Step::Tail(r) = find_method(b, found, t, n, k, square, a, d, j) else {
             return Step::Broken;
         };
         t = r;

@@ -15,7 +15,7 @@ use Rattle.spec_model.specs.Records.{argumentSlots}
 use Rattle.table_record.specs.declared.Method.{Method}
 use Rattle.table_record.specs.declared.Head.{Head}
 use Rattle.table_record.specs.Store.{headOf, rawMethodAt, rawMethodsAt, rawTypeAt, rawLinksAt, typesIn, linksIn, rawMethod, rawOf, methodBytes, methodsBytes, headBytes, spareBytes}
-use Rattle.table_record.specs.Store.{recordBytes, Shaped, Put}
+use Rattle.table_record.specs.Store.{rawIn, recordBytes, Shaped, Put}
 use Rattle.table_record.proofs.Lists.{lt-or-ge, same-or, length-from, from-first, from-same, is-from, sets-append, getD-sets-below, getD-sets-above, getD-sets-in}
 use Rattle.table_record.specs.Layout.{typeSize, headSize, methodSize, linkSize, typesSize}
 
@@ -32,10 +32,27 @@ pub methods-length : (b : List ℕ) (i : ℕ) → i < maxTypes → length (getD 
 unfolding rawMethodsAt
 methods-length b i h = ap (λ (t : RawType). length (t .methods)) (type-in b i noRawType h) ∙ length-from (λ j. rawMethodAt b (i * typeSize + headSize + j * methodSize)) maxMethods 0
 
-pub method-in : (b : List ℕ) (i j : ℕ) → i < maxTypes → j < maxMethods → getD (getD (typesIn b) i noRawType .methods) j noRawMethod ≡ rawMethodAt b (i * typeSize + headSize + j * methodSize)
+pub method-in : (b : List ℕ) (i j : ℕ) → i < maxTypes → j < maxMethods → rawIn b i j ≡ rawMethodAt b (i * typeSize + headSize + j * methodSize)
 unfolding rawMethodsAt
 method-in b i j p q = ap (λ (t : RawType). getD (t .methods) j noRawMethod) (type-in b i noRawType p) ∙ from-first (λ j. rawMethodAt b (i * typeSize + headSize + j * methodSize))
     maxMethods j noRawMethod q
+
+pub at-zero : (b : List ℕ) (at : ℕ) → getD b (at + 0) 0 ≡ getD b at 0
+at-zero b at = let e : at + 0 ≡ at = omega arith in ap (λ (k : ℕ). getD b k 0) e
+
+-- the same, read from where its bytes were said to begin, and the slots of its arguments
+pub method-read : (b : List ℕ) (i j at : ℕ) → i < maxTypes → j < maxMethods → at ≡ i * typeSize + headSize + j * methodSize → rawMethodAt b at ≡ rawIn b i j
+method-read b i j at p q e = ap (rawMethodAt b) e ∙ sym (method-in b i j p q)
+
+pub slots-length : (b : List ℕ) (i j : ℕ) → i < maxTypes → j < maxMethods → length (rawIn b i j .args) ≡ argumentSlots
+slots-length b i j p q = ap (λ (m : RawMethod). length (m .args)) (method-in b i j p q)
+
+pub slot-at : (b : List ℕ) (at k : ℕ) → k < argumentSlots → getD b (at + 2 + k) 0 ≡ getD (rawMethodAt b at .args) k 0
+slot-at b at zero h = at-zero b (at + 2)
+slot-at b at (suc zero) h = let e : at + 2 + 1 ≡ at + 3 = omega arith in ap (λ (n : ℕ). getD b n 0) e
+slot-at b at (suc (suc zero)) h = let e : at + 2 + 2 ≡ at + 4 = omega arith in ap (λ (n : ℕ). getD b n 0) e
+slot-at b at (suc (suc (suc zero))) h = let e : at + 2 + 3 ≡ at + 5 = omega arith in ap (λ (n : ℕ). getD b n 0) e
+slot-at b at (suc (suc (suc (suc k)))) h = let z : ⊥ = omega arith in absurd z
 
 pub links-length : (l : List ℕ) → length (linksIn l) ≡ suc maxCategories
 unfolding linksIn
@@ -107,9 +124,6 @@ mkT-eq p₀ p₁ p₂ p₃ p₄ p₅ p₆ = cc
 -- n bytes of one list from `at` on are those of another from `at′` on
 unfoldable pub Agree : List ℕ → ℕ → List ℕ → ℕ → ℕ → Type 0
 Agree b at b′ at′ n = (p : ℕ) → p < n → getD b (at + p) 0 ≡ getD b′ (at′ + p) 0
-
-pub at-zero : (b : List ℕ) (at : ℕ) → getD b (at + 0) 0 ≡ getD b at 0
-at-zero b at = let e : at + 0 ≡ at = omega arith in ap (λ (k : ℕ). getD b k 0) e
 
 module _ (b : List ℕ) (at : ℕ) (b′ : List ℕ) (at′ n : ℕ) where
   agree-first : Agree b at b′ at′ n → 0 < n → getD b at 0 ≡ getD b′ at′ 0

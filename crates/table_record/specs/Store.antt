@@ -32,9 +32,12 @@ rawLinks x = record { count = x .count; first = x .first; second = x .second }
 unfoldable pub typesTo : ℕ → ℕ → ℕ → List RawType → List Ty
 typesTo methods sheet n rs = from n 0 (λ i. typeOf methods sheet i (getD rs i noRawType))
 
--- Method j of type i, and the broader categories that category k names.
+-- Method j of type i, as it is stored and as it is meant, and the broader categories that category k names.
+abbrev pub rawIn : List ℕ → ℕ → ℕ → RawMethod
+rawIn b i j = getD (getD (typesIn b) i noRawType .methods) j noRawMethod
+
 abbrev pub methodIn : List ℕ → ℕ → ℕ → Methodᵐ
-methodIn b i j = methodOf (getD (getD (typesIn b) i noRawType .methods) j noRawMethod)
+methodIn b i j = methodOf (rawIn b i j)
 
 abbrev pub broaderOf : List ℕ → ℕ → List ℕ
 broaderOf l k = linksOf (getD (linksIn l) k noRawLinks)

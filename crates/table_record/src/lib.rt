@@ -2,12 +2,12 @@
 // by crate `table_store`: these two alone know where in the bytes a record stands. Contracts speak of the list of records that the bytes hold
 // (specs/Layout.antt).
 ghost use mathlib.Core.Path.{_≡_};
-ghost use Prim.Native.Nat.{suc, _<_};
+ghost use Prim.Native.Nat.{suc, _+_, _*_, _<_};
 ghost use lib.ListN.{length, getD};
 ghost use Rattle.spec_model.specs.Table.{permit, maxMethods, maxCategories, maxTypes};
 ghost use Rattle.spec_model.specs.Records.{argumentSlots};
-ghost use Rattle.spec_model.specs.Check.{noRawType, noRawMethod, noRawLinks, stateOf};
-ghost use Rattle.table_record.specs.Store.{typesIn, linksIn, rawMethod, rawOf, headOf, rawLinks};
+ghost use Rattle.spec_model.specs.Check.{noRawType, noRawLinks, stateOf};
+ghost use Rattle.table_record.specs.Store.{typesIn, linksIn, rawMethod, rawOf, rawIn, headOf, rawLinks, typeSize, headSize, methodSize};
 ghost use Rattle.table_record.specs.Store.{refAs, mayStandAs, withCount, emptyCounts, emptyMethod, emptyType, emptyTypes, emptyLinks};
 
 // The bytes of the types of a table, and of its broader links: those of category 0, which names none, are there too.
@@ -242,12 +242,20 @@ pub fn get_head(b: &[u8; TYPE_BYTES], i: usize) -> Head
     }
 }
 
+// Where the bytes of method j of type i begin.
+fn method_at(i: usize, j: usize) -> usize
+    requires { ⌜ (i < maxTypes) × (j < maxMethods) ⌝ }
+    ensures { λ r. ⌜ r ≡ i * typeSize + headSize + j * methodSize ⌝ }
+{
+    i * TypeRec::BYTES + Head::BYTES + j * Method::BYTES
+}
+
 // Method j of type i.
 pub fn get_method(b: &[u8; TYPE_BYTES], i: usize, j: usize) -> Method
     requires { ⌜ (i < maxTypes) × (j < maxMethods) ⌝ }
-    ensures { λ r. ⌜ rawMethod r ≡ getD (getD (typesIn (now (b .entry))) i noRawType .methods) j noRawMethod ⌝ }
+    ensures { λ r. ⌜ rawMethod r ≡ rawIn (now (b .entry)) i j ⌝ }
 {
-    let at = i * TypeRec::BYTES + Head::BYTES + j * Method::BYTES;
+    let at = method_at(i, j);
     let args = [b[at + 2], b[at + 3], b[at + 4], b[at + 5]];
     Method {
         state: b[at],
@@ -255,6 +263,42 @@ pub fn get_method(b: &[u8; TYPE_BYTES], i: usize, j: usize) -> Method
         args,
         answer: b[at + 6],
     }
+}
+
+// The fields of method j of type i, each by itself: who needs few of them does not pay for a record. The code of the state.
+pub fn method_state(b: &[u8; TYPE_BYTES], i: usize, j: usize) -> u8
+    requires { ⌜ (i < maxTypes) × (j < maxMethods) ⌝ }
+    ensures { λ r. ⌜ r ≡ rawIn (now (b .entry)) i j .state ⌝ }
+{
+    let at = method_at(i, j);
+    b[at]
+}
+
+// How many arguments are used.
+pub fn method_count(b: &[u8; TYPE_BYTES], i: usize, j: usize) -> u8
+    requires { ⌜ (i < maxTypes) × (j < maxMethods) ⌝ }
+    ensures { λ r. ⌜ r ≡ rawIn (now (b .entry)) i j .count ⌝ }
+{
+    let at = method_at(i, j);
+    b[at + 1]
+}
+
+// What argument slot k holds, whether it is used or not.
+pub fn method_argument(b: &[u8; TYPE_BYTES], i: usize, j: usize, k: usize) -> u8
+    requires { ⌜ (i < maxTypes) × (j < maxMethods) × (k < argumentSlots) ⌝ }
+    ensures { λ r. ⌜ r ≡ getD (rawIn (now (b .entry)) i j .args) k 0 ⌝ }
+{
+    let at = method_at(i, j);
+    b[at + 2 + k]
+}
+
+// 0 for no answer, else the number of its type plus 1.
+pub fn method_answer(b: &[u8; TYPE_BYTES], i: usize, j: usize) -> u8
+    requires { ⌜ (i < maxTypes) × (j < maxMethods) ⌝ }
+    ensures { λ r. ⌜ r ≡ rawIn (now (b .entry)) i j .answer ⌝ }
+{
+    let at = method_at(i, j);
+    b[at + 6]
 }
 
 // Whether type i is a reference type.

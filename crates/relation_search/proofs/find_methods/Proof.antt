@@ -1,12 +1,11 @@
 -- Invariant: what is found passes the first j methods. One law for each way in which it returns.
-use mathlib.Core.Path.{_≡_, refl, ap, _∙_}
+use mathlib.Core.Path.{_≡_, refl, _∙_}
 use Prim.Native.Nat.{_-_, _≤_}
 use native.Mathlib.Omega.{arith}
 use lib.ListN.{length}
 use borrow.Author.Needs.{needs}
 use Rattle.spec_model.specs.Relations.{methodRule}
-use Rattle.spec_model.specs.Check.{methodOf}
-use Rattle.table_record.specs.Store.{rawMethod, methodIn}
+use Rattle.table_record.specs.Store.{methodIn}
 use Rattle.relation_rule.specs.Asked.{relationOf}
 use Rattle.relation_search.specs.Found.{Grew, eachBelow, marksIn, queueIn}
 use Rattle.relation_search.proofs.Steps.{methods-start, methods-broke, methods-more, methods-end}
@@ -28,14 +27,10 @@ loop-holds c =
     (c .before .pre .0) in
     (omega arith, start, refl)
 
-get-method-requires : tie.Need-get-method-requires Inv-loop μ-loop
-get-method-requires c κs = search needs
-
-get-method-requires-2 : tie.Need-get-method-requires-2 Inv-loop μ-loop
-get-method-requires-2 c κs = search needs
-
 find-method-requires : tie.Need-find-method-requires Inv-loop μ-loop
-find-method-requires c κs = (c .before .before .before .before .loop .inv .1 .listed, c .before .before .before .before .before .before .pre .1)
+find-method-requires c κs =
+    let p = c .before .before .before .before .pre in
+    (c .before .before .loop .inv .1 .listed, p .1, p .2, p .3, omega (arith, p .4, c .before .loop-test .taken))
 
 enum-known-r : tie.Need-enum-known-r Inv-loop μ-loop
 enum-known-r c = search needs
@@ -45,19 +40,15 @@ enum-told c = search needs
 
 same-length : tie.Need-same-length Inv-loop μ-loop
 same-length c =
-    let loop = c .before .before .before .before .before .before .before .before .before .loop in
-    let e : length (c .before .before .before .before .find-method .last .0) ≡ length (loop .found) = search needs in
+    let loop = c .before .before .before .before .before .before .before .loop in
+    let e : length (c .before .before .before .before .find-method .last .1 .0) ≡ length (loop .found) = search needs in
     e ∙ loop .inv .2
 
 returns : tie.Need-returns Inv-loop μ-loop
 returns c =
-    let a = c .before .before .before .before .before .before .before .before .before .before .before .args in
-    let x = c .before .before .before .before .before .before .before .get-method in
-    let y = c .before .before .before .before .before .before .get-method2 in
-    methods-broke (a .n) (relationOf (a .k)) (methodIn (a .b .now) (a .a)) (methodIn (a .b .now) (a .d)) (c .before .before .before .before .before .before .before .before .before .loop .j)
-    (methodOf (rawMethod (x .result))) (methodOf (rawMethod (y .result))) (ap methodOf (x .ensures)) (ap methodOf (y .ensures)) (a .methods)
-    (c .before .before .before .before .before .before .before .before .loop-test .taken)
-    (rw (c .enum-told .given .1) at (c .before .before .before .before .find-method .ensures))
+    let a = c .before .before .before .before .before .before .before .before .before .args in
+    methods-broke (a .n) (relationOf (a .k)) (methodIn (a .b .now) (a .a)) (methodIn (a .b .now) (a .d)) (c .before .before .before .before .before .before .before .loop .j) (a .methods)
+    (c .before .before .before .before .before .before .loop-test .taken) (rw (c .enum-told .given .1) at (c .before .before .before .before .find-method .ensures))
 
 add-j : tie.Need-add-j Inv-loop μ-loop
 add-j c = search needs
@@ -67,17 +58,14 @@ loop-less c = search needs
 
 loop-again : tie.Need-loop-again Inv-loop μ-loop
 loop-again c =
-    let a = c .before .before .before .before .before .before .before .before .before .before .before .before .args in
-    let loop = c .before .before .before .before .before .before .before .before .before .before .loop in
-    let x = c .before .before .before .before .before .before .before .before .get-method in
-    let y = c .before .before .before .before .before .before .before .get-method2 in
+    let a = c .before .before .before .before .before .before .before .before .before .before .args in
+    let loop = c .before .before .before .before .before .before .before .before .loop in
     let m = c .before .before .before .before .before .find-method in
-    let e : length (m .last .0) ≡ length (loop .found) = search needs in (
-      omega (arith, c .before .before .before .before .before .before .before .before .before .loop-test .taken),
+    let e : length (m .last .1 .0) ≡ length (loop .found) = search needs in (
+      omega (arith, c .before .before .before .before .before .before .before .loop-test .taken),
       methods-more (a .n) (relationOf (a .k)) (methodIn (a .b .now) (a .a)) (methodIn (a .b .now) (a .d)) (loop .j)
-          (methodOf (rawMethod (x .result))) (methodOf (rawMethod (y .result))) (ap methodOf (x .ensures)) (ap methodOf (y .ensures))
           (marksIn (a .found .now)) (queueIn (a .found .now)) (a .tail) (marksIn (loop .found)) (queueIn (loop .found)) (loop .t) (loop .inv .1)
-          (marksIn (m .last .0)) (queueIn (m .last .0)) (c .before .r .given .0 .0) (rw (c .before .r .given .1) at (m .ensures)),
+          (marksIn (m .last .1 .0)) (queueIn (m .last .1 .0)) (c .before .r .given .0 .0) (rw (c .before .r .given .1) at (m .ensures)),
       e ∙ loop .inv .2,
     )
 
@@ -98,8 +86,6 @@ find-methods-spec =
     Inv-loop
     μ-loop
     loop-holds
-    get-method-requires
-    get-method-requires-2
     find-method-requires
     enum-known-r
     enum-told
