@@ -6,13 +6,14 @@ use mathlib.Core.List.{List, [], _∷_, map}
 use Prim.Native.Nat.{ℕ, zero, suc, _+_, _*_, _/_, _%_, _≤_, _<_}
 use native.Mathlib.Omega.{arith}
 use borrow.Author.Tests.{le-leb, lt-leb}
+use lib.Bits.{bitOr}
 use lib.Dec.{leb}
 use lib.ListN.{length, getD, set, replicate, length-map, List·getD-map}
 use lib.Seq.{map-set-same}
 use Rattle.table_record.proofs.Lists.{lt-or-ge}
 use Rattle.relation_search.specs.declared.Step.the-variants.{Tail}
-use Rattle.relation_search.specs.Found.{marksIn, queueIn, Added, ListedIn, MetIn}
-use Rattle.relation_search.proofs.Pairs.{pair-new}
+use Rattle.relation_search.specs.Found.{marksIn, queueIn, Rows, Added, ListedIn, MetIn}
+use Rattle.relation_search.proofs.Pairs.{in-rows, pair-new}
 use Rattle.spec_model.specs.Table.{maxTypes}
 
 map-set : {A B : Type 0} (f : A → B) (l : List A) (i : ℕ) (y : A) → map f (set l i y) ≡ set (map f l) i (f y)
@@ -36,6 +37,13 @@ queue-at b i v e = List·getD-map (λ (v : ℕ). v % 32768) b i 0 ∙ ap (λ (v 
 pub buffer-length : (b : List ℕ) → length (marksIn b) ≡ length b
 unfolding marksIn
 buffer-length b = length-map b (λ (v : ℕ). leb 32768 v)
+
+-- ---- its rows, and an entry below them
+pub rows-in : (n : ℕ) (b : List ℕ) (t : ℕ) → ListedIn n b t → Rows n (length b)
+rows-in n b t h = rw (← buffer-length b) (h .rows)
+
+pub entry-in : (n : ℕ) (b : List ℕ) (t x y : ℕ) → ListedIn n b t → bitOr x y < length b / maxTypes → (x < maxTypes) × (y < maxTypes) × (x * maxTypes + y < length b)
+entry-in n b t x y h k = let e = buffer-length b in in-rows x y (length b) (omega (arith, h .few)) k
 
 -- ---- no pair is found
 pub none-found : (n : ℕ) → marksIn (replicate n 0) ≡ replicate n false

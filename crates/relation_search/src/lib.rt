@@ -66,38 +66,29 @@ fn add_pair(found: &mut [u16], tail: usize, p: usize) -> usize
     tail + 1
 }
 
-// The pair (x, y) joins those found, of which there are `tail`, unless it is one of them. It breaks its rule if x or y is not in the table.
-fn join_pair(found: &mut [u16], tail: usize, n: usize, x: usize, y: usize) -> Step
+// The pair (x, y) joins those found, of which there are `tail`, unless it is one of them. It breaks its rule if x or y is not in the table. Most pairs that a
+// search comes to are found already, so that is asked first, behind one test of both numbers: as the rows of the array are a power of two, x | y is a row where both
+// are. What is found is in the table.
+fn find_pair(found: &mut [u16], tail: usize, n: usize, x: usize, y: usize) -> Step
     requires { ⌜ ListedIn n (now found) tail ⌝ }
     ensures { λ r. ⌜ MetIn n (λ M. M x y) (now (found .entry)) tail (now (found .exit)) r ⌝ }
 {
-    if n <= x {
-        return Step::Broken;
-    }
-    if n <= y {
+    let rows = found.len() / Counts::TYPES;
+    if rows <= (x | y) {
         return Step::Broken;
     }
     let p = x * Counts::TYPES + y;
     if is_found(found[p]) {
         return Step::Tail(tail);
     }
+    if n <= x {
+        return Step::Broken;
+    }
+    if n <= y {
+        return Step::Broken;
+    }
     let more = add_pair(found, tail, p);
     Step::Tail(more)
-}
-
-// The same. Most pairs that a search comes to are found already, so that is asked first, by one test for both numbers: neither is above x | y. What is found is
-// in the table.
-fn find_pair(found: &mut [u16], tail: usize, n: usize, x: usize, y: usize) -> Step
-    requires { ⌜ ListedIn n (now found) tail ⌝ }
-    ensures { λ r. ⌜ MetIn n (λ M. M x y) (now (found .entry)) tail (now (found .exit)) r ⌝ }
-{
-    let rows = found.len() / Counts::TYPES;
-    if (x | y) < rows {
-        if is_found(found[x * Counts::TYPES + y]) {
-            return Step::Tail(tail);
-        }
-    }
-    join_pair(found, tail, n, x, y)
 }
 
 // How many of the four slots a count of arguments uses. A table that is checked has no count above them.
