@@ -85,16 +85,16 @@ fn state_index(x: u8) -> usize
 }
 
 // A comparison of two states by a square.
-fn states_compare(square: [[bool; 4]; 4], a: usize, b: usize) -> bool
+fn states_compare(square: &[[bool; 4]; 4], a: usize, b: usize) -> bool
     requires { ⌜ (a < 4) × (b < 4) ⌝ }
-    ensures { λ r. ⌜ r ≡ getD (getD square a []) b false ⌝ }
+    ensures { λ r. ⌜ r ≡ getD (getD (now (square .entry)) a []) b false ⌝ }
 {
     square[a][b]
 }
 
 // The state rule of the relation k, whose square is handed in, at the codes of T's state and of S's.
-pub fn state_rule(square: [[bool; 4]; 4], k: Relation, a: u8, b: u8) -> bool
-    requires { ⌜ Says (relationOf k) square ⌝ }
+pub fn state_rule(square: &[[bool; 4]; 4], k: Relation, a: u8, b: u8) -> bool
+    requires { ⌜ Says (relationOf k) (now square) ⌝ }
     ensures { λ r. ⌜ r ≡ stateRule (relationOf k) (stateOf a) (stateOf b) ⌝ }
 {
     let i = state_index(a);

@@ -162,12 +162,12 @@ fn find_method(
     tail: usize,
     n: usize,
     k: Relation,
-    square: [[bool; 4]; 4],
+    square: &[[bool; 4]; 4],
     a: usize,
     d: usize,
     j: usize,
 ) -> Step
-    requires { ⌜ ListedIn n (now found) tail × Says (relationOf k) square × (a < maxTypes) × (d < maxTypes) × (j < maxMethods) ⌝ }
+    requires { ⌜ ListedIn n (now found) tail × Says (relationOf k) (now square) × (a < maxTypes) × (d < maxTypes) × (j < maxMethods) ⌝ }
     ensures { λ r. ⌜ MetIn n (λ M. methodRule (relationOf k) M (methodIn (now (b .entry)) a j) (methodIn (now (b .entry)) d j)) (now (found .entry)) tail
         (now (found .exit)) r ⌝ }
 {
@@ -195,11 +195,11 @@ fn find_methods(
     n: usize,
     methods: usize,
     k: Relation,
-    square: [[bool; 4]; 4],
+    square: &[[bool; 4]; 4],
     a: usize,
     d: usize,
 ) -> Step
-    requires { ⌜ ListedIn n (now found) tail × Says (relationOf k) square × (a < maxTypes) × (d < maxTypes) × (methods ≤ maxMethods) ⌝ }
+    requires { ⌜ ListedIn n (now found) tail × Says (relationOf k) (now square) × (a < maxTypes) × (d < maxTypes) × (methods ≤ maxMethods) ⌝ }
     ensures { λ r. ⌜ MetIn n (λ M. eachBelow methods (λ j. methodRule (relationOf k) M (methodIn (now (b .entry)) a j) (methodIn (now (b .entry)) d j)))
         (now (found .entry)) tail (now (found .exit)) r ⌝ }
 {
@@ -223,11 +223,11 @@ fn find_types(
     tail: usize,
     c: Counts,
     k: Relation,
-    square: [[bool; 4]; 4],
+    square: &[[bool; 4]; 4],
     a: usize,
     d: usize,
 ) -> Step
-    requires { ⌜ ListedIn (c .types) (now found) tail × Says (relationOf k) square × Checked (now l) c × (a < c .types) × (d < c .types) ⌝ }
+    requires { ⌜ ListedIn (c .types) (now found) tail × Says (relationOf k) (now square) × Checked (now l) c × (a < c .types) × (d < c .types) ⌝ }
     ensures { λ r. ⌜ MetIn (c .types) (λ M. rule (relationOf k) (tableIn (now (b .entry)) (now (l .entry)) c) M a d) (now (found .entry)) tail
         (now (found .exit)) r ⌝ }
 {
@@ -252,9 +252,9 @@ fn find_next(
     head: usize,
     c: Counts,
     k: Relation,
-    square: [[bool; 4]; 4],
+    square: &[[bool; 4]; 4],
 ) -> Step
-    requires { ⌜ ListedIn (c .types) (now found) tail × Says (relationOf k) square × Checked (now l) c × (head < tail) ⌝ }
+    requires { ⌜ ListedIn (c .types) (now found) tail × Says (relationOf k) (now square) × Checked (now l) c × (head < tail) ⌝ }
     ensures { λ r. ⌜ MetIn (c .types)
         (λ M. rule (relationOf k) (tableIn (now (b .entry)) (now (l .entry)) c) M (getD (queueIn (now (found .entry))) head 0 / maxTypes)
         (getD (queueIn (now (found .entry))) head 0 % maxTypes))
@@ -281,11 +281,11 @@ fn search_in(
     found: &mut [u16],
     c: Counts,
     k: Relation,
-    square: [[bool; 4]; 4],
+    square: &[[bool; 4]; 4],
     t: usize,
     s: usize,
 ) -> bool
-    requires { ⌜ Says (relationOf k) square × Checked (now l) c × (t < c .types) × (s < c .types) × Clear (c .types) (now found) ⌝ }
+    requires { ⌜ Says (relationOf k) (now square) × Checked (now l) c × (t < c .types) × (s < c .types) × Clear (c .types) (now found) ⌝ }
     ensures { λ r. ⌜ r ≡ related (relationOf k) (tableIn (now (b .entry)) (now (l .entry)) c) t s ⌝ }
 {
     let mut tail = add_pair(found, 0, t * Counts::TYPES + s);
@@ -306,11 +306,11 @@ fn search(
     l: &[u8; LINK_BYTES],
     c: Counts,
     k: Relation,
-    square: [[bool; 4]; 4],
+    square: &[[bool; 4]; 4],
     t: usize,
     s: usize,
 ) -> bool
-    requires { ⌜ Says (relationOf k) square × Checked (now l) c × (t < c .types) × (s < c .types) ⌝ }
+    requires { ⌜ Says (relationOf k) (now square) × Checked (now l) c × (t < c .types) × (s < c .types) ⌝ }
     ensures { λ r. ⌜ r ≡ related (relationOf k) (tableIn (now (b .entry)) (now (l .entry)) c) t s ⌝ }
 {
     if c.types <= FEW {
@@ -344,7 +344,7 @@ pub fn related_at(
         return false;
     }
     let square = relation_rule::state_square(k);
-    search(b, l, c, k, square, t, s)
+    search(b, l, c, k, &square, t, s)
 }
 
 // What Compare answers at a pair of types (R14).

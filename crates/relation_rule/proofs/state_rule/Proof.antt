@@ -22,7 +22,7 @@ returns c =
     let state-index = c .before .before .state-index in
     let state-index2 = c .before .state-index2 in
     let pre = c .before .before .before .pre in
-    states-compare .ensures ∙ says-at (relationOf (a .k)) (a .square) (state-index .result) (state-index2 .result) (a .a) (a .b) pre (state-index .ensures .0)
+    states-compare .ensures ∙ says-at (relationOf (a .k)) (a .square .now) (state-index .result) (state-index2 .result) (a .a) (a .b) pre (state-index .ensures .0)
     (state-index2 .ensures .0) (state-index .ensures .1) (state-index2 .ensures .1)
 
 pub state-rule-spec : {M : Type 1} → statement M
