@@ -5,7 +5,7 @@ use native.Mathlib.Omega.{arith}
 use borrow.Author.Needs.{needs}
 use lib.ListN.{length}
 use Rattle.spec_model.specs.Table.{maxTypes}
-use Rattle.relation_search.specs.Found.{marksIn, queueIn, Rows, ListedIn}
+use Rattle.relation_search.specs.Found.{marksIn, queueIn}
 use Rattle.relation_search.proofs.Pairs.{pair-left, pair-right, pair-beyond, pair-seen, room}
 use Rattle.relation_search.proofs.Buffer.{mark-at, buffer-length, entry-in, pair-added, rows-in}
 use Rattle.relation_search.proofs.find_pair.Statement.{statement}
