@@ -141,7 +141,7 @@ pub fn reached(raw: &RawTable, relation: Relation, t: usize, s: usize) -> Option
     match raw.types {
         _ if !in_place() => reached_in(&mut [0; MAX_TYPES * MAX_TYPES], raw, relation, t, s),
         ..=16 => reached_in(&mut [0; 16 * MAX_TYPES], raw, relation, t, s),
-        17..=72 => reached_in(&mut [0; 72 * MAX_TYPES], raw, relation, t, s),
+        17..=64 => reached_in(&mut [0; 64 * MAX_TYPES], raw, relation, t, s),
         _ => reached_in(&mut [0; MAX_TYPES * MAX_TYPES], raw, relation, t, s),
     }
 }
