@@ -89,11 +89,7 @@ pub extern "C" fn pilgonca_offers(
         (flat (now (types .entry)) (now (links .entry)) (now (cells .entry)) (now (places .entry)) (now (calls .entry)) (now (counts .entry)))) cell
         (now (chain .entry))) ⌝ }
 {
-    if !state_bytes::codes_fit(places, calls, counts[6], counts[7]) {
-        return refusal::OUT_OF_RANGE;
-    }
-    let s = state_bytes::state_from(links, cells, places, calls, *counts);
-    let o = state_offers::offers(types, s, cell, chain);
+    let o = state_offers::offers(types, links, cells, places, calls, counts, cell, chain);
     offered_code(o, offered)
 }
 

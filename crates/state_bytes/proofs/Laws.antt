@@ -113,11 +113,28 @@ module _ (old b : List ℕ) (k : ℕ) where
   }
 
 -- ---- Read: counted cells are the records of the bytes; a place or call is so where its code names something.
+-- a counted record of an array that was read up to its count
+read-at : {A : Type 0} (d : A) (f : ℕ → A) (size n k : ℕ) → k < n → k < size → getD (upTo size n d f) k d ≡ f k
+read-at d f size n k p q = from-first (λ k. cond (ltb k n) (f k) d) size k d q ∙ ap (λ (b : Bool). cond b (f k) d) (lt-ltb k n p)
+
+module _ (b : List ℕ) (n k : ℕ) (p : k < n) where
+  pub cell-found : k < maxCells → getD (cellsFrom b n .list) k blankCell ≡ cellFrom b k
+  unfolding cellsFrom
+  cell-found q = read-at blankCell (cellFrom b) maxCells n k p q
+
+  pub place-found : k < maxPlaces → getD (placesFrom b n .list) k blankPlace ≡ placeFrom b k
+  unfolding placesFrom
+  place-found q = read-at blankPlace (placeFrom b) maxPlaces n k p q
+
+  pub call-found : k < maxCalls → getD (callsFrom b n .list) k blankCall ≡ callFrom b k
+  unfolding callsFrom
+  call-found q = read-at blankCall (callFrom b) maxCalls n k p q
+
 -- the counted records of an array that was read up to its count, seen through h
 read-first : {A B : Type 0} (h : A → B) (d : A) (f : ℕ → A) (g : ℕ → B) → ((k : ℕ) → h (f k) ≡ g k) → (size n : ℕ) → firstOf n (h d) (map h (upTo size n d f)) ≡ firstOf n (h d) (from size 0 g)
 read-first h d f g e size n = counted-alike (h d) size n (map h (upTo size n d f)) (from size 0 g) (length-map (upTo size n d f) h ∙ length-from (λ k. cond (ltb k n) (f k) d) size 0)
     (length-from g size 0) (λ k p q.
-    List·getD-map h (upTo size n d f) k d ∙ ap h (from-first (λ k. cond (ltb k n) (f k) d) size k d q ∙ ap (λ (b : Bool). cond b (f k) d) (lt-ltb k n p)) ∙ e k ∙ sym (from-first g size k (h d) q))
+    List·getD-map h (upTo size n d f) k d ∙ ap h (read-at d f size n k p q) ∙ e k ∙ sym (from-first g size k (h d) q))
 
 cells-read : (b : List ℕ) (n : ℕ) → firstOf n noCell (cellRecords (cellsFrom b n)) ≡ firstOf n noCell (rawCells b)
 unfolding cellsFrom rawCells

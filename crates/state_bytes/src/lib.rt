@@ -41,7 +41,7 @@ pub const PLACE_BYTES: usize = State::PLACES * PLACE_SIZE;
 pub const CALL_BYTES: usize = State::CALLS * CALL_SIZE;
 
 // A cell (B26).
-fn cell_from(b: &[u8; CELL_BYTES], k: usize) -> Cell
+pub fn cell_from(b: &[u8; CELL_BYTES], k: usize) -> Cell
     requires { ⌜ k < maxCells ⌝ }
     ensures { λ r. ⌜ r ≡ cellFrom (now (b .entry)) k ⌝ }
 {
@@ -87,7 +87,7 @@ fn place_by(code: u8, first: u8, second: u8) -> Place
     }
 }
 
-fn place_from(b: &[u8; PLACE_BYTES], p: usize) -> PlaceRec
+pub fn place_from(b: &[u8; PLACE_BYTES], p: usize) -> PlaceRec
     requires { ⌜ p < maxPlaces ⌝ }
     ensures { λ r. ⌜ r ≡ placeFrom (now (b .entry)) p ⌝ }
 {
@@ -113,7 +113,7 @@ pub fn places_from(b: &[u8; PLACE_BYTES], count: usize) -> Places
 }
 
 // A call (B28).
-fn call_from(b: &[u8; CALL_BYTES], j: usize) -> Call
+pub fn call_from(b: &[u8; CALL_BYTES], j: usize) -> Call
     requires { ⌜ j < maxCalls ⌝ }
     ensures { λ r. ⌜ r ≡ callFrom (now (b .entry)) j ⌝ }
 {
@@ -289,6 +289,19 @@ pub fn calls_to(b: &mut [u8; CALL_BYTES], js: Calls)
     }
 }
 
+// The counts of the table of a state (B29).
+pub fn counts_from(counts: [usize; 8]) -> Counts
+    ensures { λ r. ⌜ r ≡ countsIn counts ⌝ }
+{
+    Counts {
+        subjects: counts[0],
+        methods: counts[1],
+        cats: counts[2],
+        sheet: counts[3],
+        types: counts[4],
+    }
+}
+
 // The state that stands in the bytes, its types aside; what `codes_fit` says of them is asked by itself.
 pub fn state_from(
     links: &[u8; LINK_BYTES],
@@ -301,13 +314,7 @@ pub fn state_from(
         → whole t r ≡ stateFrom (flat t (now (links .entry)) (now (cells .entry)) (now (places .entry)) (now (calls .entry)) counts)) ⌝ }
 {
     let l = *links;
-    let n = Counts {
-        subjects: counts[0],
-        methods: counts[1],
-        cats: counts[2],
-        sheet: counts[3],
-        types: counts[4],
-    };
+    let n = counts_from(counts);
     let cs = cells_from(cells, counts[5]);
     let ps = places_from(places, counts[6]);
     let js = calls_from(calls, counts[7]);

@@ -55,7 +55,7 @@ pub fn is_class(b: &[u8; TYPE_BYTES], methods: usize, i: usize) -> bool
 }
 
 // A cell (H9), in a state of so many places.
-fn cell_fits(b: &[u8; TYPE_BYTES], c: Counts, places: usize, x: Cell) -> bool
+pub fn cell_fits(b: &[u8; TYPE_BYTES], c: Counts, places: usize, x: Cell) -> bool
     requires { ⌜ Limits c ⌝ }
     ensures { λ r. ⌜ r ≡ cellAccepted (typesIn (now (b .entry))) c places (cellOf x) ⌝ }
 {
@@ -116,7 +116,7 @@ fn adapter_fits(b: &[u8; TYPE_BYTES], c: Counts, p: usize, behind: usize, closed
     table_record::is_ref(b, closed)
 }
 
-fn place_fits(b: &[u8; TYPE_BYTES], c: Counts, p: usize, x: PlaceRec) -> bool
+pub fn place_fits(b: &[u8; TYPE_BYTES], c: Counts, p: usize, x: PlaceRec) -> bool
     requires { ⌜ Limits c ⌝ }
     ensures { λ r. ⌜ r ≡ placeAccepted (typesIn (now (b .entry))) c p (placeOf (x .place)) ⌝ }
 {
@@ -144,7 +144,7 @@ fn places_fit(b: &[u8; TYPE_BYTES], c: Counts, ps: Places) -> bool
 }
 
 // A call (H11), in a state of so many cells.
-fn call_fits(c: Counts, cells: usize, x: Call) -> bool
+pub fn call_fits(c: Counts, cells: usize, x: Call) -> bool
     ensures { λ r. ⌜ r ≡ callAccepted c cells (callOf x) ⌝ }
 {
     if c.subjects <= base_numbers::wide(x.caller) {
@@ -173,7 +173,7 @@ fn calls_fit(c: Counts, cells: usize, js: Calls) -> bool
 }
 
 // The counts of cells, places and calls (H1).
-fn sizes_fit(cells: usize, places: usize, calls: usize) -> bool
+pub fn sizes_fit(cells: usize, places: usize, calls: usize) -> bool
     ensures { λ r. ⌜ r ≡ sizesAccepted cells places calls ⌝ }
 {
     if State::CELLS < cells {

@@ -9,13 +9,14 @@ use native.Mathlib.Omega.{arith}
 use lib.IntN.{ℤ, pos}
 use lib.ListN.{length, getD, drop, drop-of-length-le, replicate, length-replicate}
 use lib.Seq.{drop-cons}
-use Rattle.spec_model.specs.Basics.{over, names, named, need, ok}
+use Rattle.spec_model.specs.Basics.{Res, over, names, named, need, ok}
 use Rattle.spec_model.specs.Table.{Table, typeAt, methodAt, isRef, isNil, permit}
 use Rattle.spec_model.specs.Records.{answerCode}
-use Rattle.spec_model.specs.Crossing.{placeAt, placeType}
-use Rattle.spec_model.specs.Requests.{System, Cell, noCell}
+use Rattle.spec_model.specs.Crossing.{maxPlaces, placeAt, placeType}
+use Rattle.spec_model.specs.Requests.{System, Cell, noCell, maxCells}
 use Rattle.spec_model.specs.Chains.{permits, offered}
 use Rattle.spec_model.specs.Check.{noRawType, noRawMethod, stateOf, methodOf, systemAccepted, systemOf}
+use Rattle.law_handed.proofs.Counted.{means-same}
 use Rattle.table_record.specs.declared.Counts.{Counts}
 use Rattle.table_record.specs.declared.Method.{Method}
 use Rattle.table_record.specs.Store.{typesIn, tableIn, rawMethod}
@@ -26,15 +27,21 @@ use Rattle.spec_model.specs.Refusals.{outOfRange}
 use Rattle.derive_record.specs.Begins.{refIn}
 use Rattle.derive_sub_sup.proofs.Ends.{ref-table}
 use Rattle.state_record.specs.Whole.{Whole as State}
-use Rattle.state_record.specs.View.{cellsIn, placesIn, rawState, systemIn}
-use Rattle.state_record.specs.Sound.{Sound}
-use Rattle.state_record.proofs.Laws.{cells-length, system-is}
+use Rattle.state_record.specs.declared.Cell.{Cell as CellRec}
+use Rattle.state_record.specs.declared.PlaceRec.{PlaceRec}
+use Rattle.state_record.specs.View.{cellOf, placeOf, cellsIn, placesIn, rawState, systemIn}
+use Rattle.state_record.proofs.Laws.{cells-length, cell-is, place-is, system-is}
+use Rattle.state_check.proofs.Sound.{accepted-beside}
+use Rattle.state_bytes.specs.Flat.{Flat, countsIn, cellCount, placeCount, rawFlat}
+use Rattle.state_bytes.specs.Records.{cellFrom, placeFrom, cellsFrom, placesFrom, stateFrom}
+use Rattle.state_bytes.proofs.Laws.{cell-found, place-found, read-counted}
+use Rattle.state_bytes_check.proofs.Laws.{read-accepted, accepted-codes}
 use Rattle.base_numbers.specs.Index.{indexOf}
 use Rattle.base_numbers.proofs.Laws.{index-unknown, index-known}
 use Rattle.law_table.proofs.Methods.{method-is}
 use Rattle.state_offers.specs.declared.Offered.the-variants.{Unfit}
 use Rattle.state_offers.specs.Chained.{methodsNamed, offersNamed, offersHanded, offeredAs}
-use Rattle.state_offers.specs.Steps.{permitsNamed, stepOf, stepCode}
+use Rattle.state_offers.specs.Steps.{permitsNamed, stepOf, stepCode, Within}
 
 -- ---- One method, as it is stored.
 module _ (b l : List ℕ) (c : Counts) where
@@ -149,7 +156,7 @@ module _ (s : State) (z : ℤ) (w : List ℤ) (k : ℕ) (e : k ≡ indexOf z (s 
       ap (λ (m : System). offersNamed m z w) (system-is s) ∙ ap (λ (n : ℕ). names z n && (methodsNamed T w && (p && q))) (cells-length (s .cells))
       ∙ ap (λ (o : Bool). names z (s .cells .count) && o) (both-types (methodsNamed T w) p q)
 
-  pub offers-unknown : s .cells .count ≤ k → false ≡ offersNamed (systemIn s) z w
+  offers-unknown : s .cells .count ≤ k → false ≡ offersNamed (systemIn s) z w
   offers-unknown h = sym (offers-is ∙ rw (index-unknown z (s .cells .count) k e h))
 
   module _ (low : k < s .cells .count) (x : Cell) (is : x ≡ getD (cellsIn (s .cells)) k noCell) where
@@ -158,30 +165,87 @@ module _ (s : State) (z : ℤ) (w : List ℤ) (k : ℕ) (e : k ≡ indexOf z (s 
         offers-is ∙ ap (λ (q : Bool). q && types-permit (getD (cellsIn (s .cells)) (named z) noCell)) (d .0) ∙ ap (λ (n : ℕ). types-permit (getD (cellsIn (s .cells)) n noCell)) (d .1)
         ∙ ap types-permit (sym is)
 
-    pub offers-not : false ≡ permitsNamed T (x .type) w → false ≡ offersNamed (systemIn s) z w
+    offers-not : false ≡ permitsNamed T (x .type) w → false ≡ offersNamed (systemIn s) z w
     offers-not h = sym (offers-both ∙ rw (← h))
 
-    pub offers-by-place : true ≡ permitsNamed T (x .type) w → (r : Bool) → r ≡ permitsNamed T (placeType (placeAt (placesIn (s .places)) (x .place))) w → r ≡ offersNamed (systemIn s) z w
+    offers-by-place : true ≡ permitsNamed T (x .type) w → (r : Bool) → r ≡ permitsNamed T (placeType (placeAt (placesIn (s .places)) (x .place))) w → r ≡ offersNamed (systemIn s) z w
     offers-by-place h r y = y ∙ sym (offers-both ∙ rw (← h))
 
 -- any bytes of the types' length: what is known of the rest of a state asks for no others
-unfoldable pub blank : List ℕ
+unfoldable blank : List ℕ
 blank = replicate typesSize 0
 
-pub blank-long : length blank ≡ typesSize
+blank-long : length blank ≡ typesSize
 unfolding blank
 blank-long = length-replicate {A = ℕ} typesSize 0
 
--- its place is one of the state's
-pub place-known : (s : State) → Sound s → (k : ℕ) → k < s .cells .count → (x : Cell) → x ≡ getD (cellsIn (s .cells)) k noCell → (p : ℕ) → p ≡ x .place → p < s .places .count
-place-known s h k low x is p e = subst (λ (n : ℕ). n < s .places .count) (sym (e ∙ ap (λ (y : Cell). y .place) is)) (h .cells k low .place)
+-- ---- The bytes of a state: what is read at a number is the counted record.
+module _ (f : Flat) where
+  pub cell-in : (k : ℕ) → k < cellCount (f .counts) → cellCount (f .counts) ≤ maxCells
+      → cellOf (cellFrom (f .cells) k) ≡ getD (cellsIn (cellsFrom (f .cells) (cellCount (f .counts)))) k noCell
+  unfolding cellsFrom
+  cell-in k low few =
+      let cs = cellsFrom (f .cells) (cellCount (f .counts)) in
+      sym (cell-is cs k low ∙ ap cellOf (cell-found (f .cells) (cellCount (f .counts)) k low (omega arith)))
+
+  pub place-in : (p : ℕ) → p < placeCount (f .counts) → placeCount (f .counts) ≤ maxPlaces
+      → placeOf (placeFrom (f .places) p .place) ≡ placeAt (placesIn (placesFrom (f .places) (placeCount (f .counts)))) p
+  unfolding placesFrom
+  place-in p low few =
+      let ps = placesFrom (f .places) (placeCount (f .counts)) in
+      sym (place-is ps p low ∙ ap (λ (x : PlaceRec). placeOf (x .place)) (place-found (f .places) (placeCount (f .counts)) p low (omega arith)))
+
+  -- of a state that passes the check
+  pub within : systemAccepted (rawFlat f) ≡ true → Within (f .cells) (f .counts)
+  unfolding cellsFrom placesFrom
+  within h = let s = accepted-beside (stateFrom f) (read-accepted f (accepted-codes f h) ∙ h) blank blank-long in record {
+    limits = s .checked .limits;
+    cellsFew = s .cellCount;
+    placesFew = s .descending .count;
+    placed = λ k low. subst (λ (x : Cell). x .place < placeCount (f .counts)) (sym (cell-in k low (s .cellCount))) (s .cells k low .place);
+  }
+
+-- What is offered by what was read: x the record of cell k, p the number of its place and y that place's record, c the counts.
+module _ (f : Flat) (z : ℤ) (w : List ℤ) (k : ℕ) (e : k ≡ indexOf z (cellCount (f .counts))) where
+  pub bytes-unknown : cellCount (f .counts) ≤ k → false ≡ offersNamed (systemIn (stateFrom f)) z w
+  unfolding cellsFrom
+  bytes-unknown h = offers-unknown (stateFrom f) z w k e h
+
+  module _ (h : Within (f .cells) (f .counts)) (low : k < cellCount (f .counts)) (x : CellRec) (is : x ≡ cellFrom (f .cells) k) where
+    pub bytes-placed : (p : ℕ) → p ≡ x .place → p < placeCount (f .counts)
+    bytes-placed p q = subst (λ (n : ℕ). n < placeCount (f .counts)) (sym (q ∙ ap (λ (y : CellRec). y .place) is)) (h .placed k low)
+
+    module _ (c : Counts) (same : c ≡ countsIn (f .counts)) where
+      abbrev by : Counts → ℕ → Bool
+      by n t = permitsNamed (tableIn (f .types) (f .links) n) t w
+
+      -- the counts and the number of a type, as they were read
+      as-read : (t u : ℕ) → t ≡ u → by c t ≡ by (countsIn (f .counts)) u
+      as-read t u q = ap (λ (n : Counts). by n t) same ∙ ap (by (countsIn (f .counts))) q
+
+      pub bytes-not : (t : ℕ) → t ≡ x .ty → false ≡ by c t → false ≡ offersNamed (systemIn (stateFrom f)) z w
+      unfolding cellsFrom
+      bytes-not t q r = offers-not (stateFrom f) z w k e low (cellOf x) (ap cellOf is ∙ cell-in f k low (h .cellsFew)) (r ∙ as-read t (x .ty) q)
+
+      pub bytes-by-place : (t : ℕ) → t ≡ x .ty → true ≡ by c t → (p : ℕ) → p ≡ x .place → (y : PlaceRec) → y ≡ placeFrom (f .places) p
+          → (u : ℕ) → u ≡ placeType (placeOf (y .place)) → (r : Bool) → r ≡ by c u → r ≡ offersNamed (systemIn (stateFrom f)) z w
+      unfolding cellsFrom
+      bytes-by-place t q on p at y found u type r says =
+          let ps = placesIn (placesFrom (f .places) (placeCount (f .counts))) in
+          offers-by-place (stateFrom f) z w k e low (cellOf x) (ap cellOf is ∙ cell-in f k low (h .cellsFew)) (on ∙ as-read t (x .ty) q) r
+          (says ∙ as-read u (placeType (placeAt ps (x .place)))
+          (type ∙ ap (λ (v : PlaceRec). placeType (placeOf (v .place))) found ∙ ap placeType (place-in f p (bytes-placed p at) (h .placesFew)) ∙ ap (λ (n : ℕ). placeType (placeAt ps n)) at))
 
 -- ---- A state handed in.
-module _ (s : State) (z : ℤ) (w : List ℤ) where
-  pub handed-unfit : systemAccepted (rawState s) ≡ false → offeredAs Unfit ≡ offersHanded (rawState s) z w
-  unfolding offersHanded
-  handed-unfit h = sym (ap (λ (q : Bool). need q outOfRange (λ _. ok (offersNamed (systemOf (rawState s)) z w))) h)
+module _ (f : Flat) (z : ℤ) (w : List ℤ) where
+  abbrev asked : Bool → System → Res Bool
+  asked b s = need b outOfRange λ _. ok (offersNamed s z w)
 
-  pub handed-fit : systemAccepted (rawState s) ≡ true → (q : Bool) → q ≡ offersNamed (systemIn s) z w → ok q ≡ offersHanded (rawState s) z w
+  pub handed-unfit : systemAccepted (rawFlat f) ≡ false → offeredAs Unfit ≡ offersHanded (rawFlat f) z w
+  unfolding offersHanded
+  handed-unfit h = sym (ap (λ (b : Bool). asked b (systemOf (rawFlat f))) h)
+
+  pub handed-fit : systemAccepted (rawFlat f) ≡ true → (q : Bool) → q ≡ offersNamed (systemIn (stateFrom f)) z w → ok q ≡ offersHanded (rawFlat f) z w
   unfolding offersHanded systemIn
-  handed-fit h q y = sym (ap (λ (k : Bool). need k outOfRange (λ _. ok (offersNamed (systemOf (rawState s)) z w))) h ∙ ap (λ (k : Bool). ok k) (sym y))
+  handed-fit h q y = let e = means-same (rawState (stateFrom f)) (rawFlat f) (read-counted f (accepted-codes f h)) in
+      sym (ap (λ (b : Bool). asked b (systemOf (rawFlat f))) h ∙ ap (asked true) (sym e) ∙ ap (λ (b : Bool). ok b) (sym y))

@@ -3,18 +3,19 @@
 ghost use mathlib.Core.Path.{_≡_};
 ghost use mathlib.Core.List.{List};
 ghost use Prim.Native.Nat.{ℕ};
-ghost use lib.ListN.{length};
 ghost use Rattle.table_record.specs.Limits.{Limits};
 ghost use Rattle.table_record.specs.Store.{tableIn};
-ghost use Rattle.table_record.specs.Layout.{typesSize};
-ghost use Rattle.state_record.specs.Whole.{whole};
-ghost use Rattle.state_record.specs.View.{rawState, systemIn};
-ghost use Rattle.state_record.specs.Sound.{Sound};
+ghost use Rattle.state_record.specs.View.{systemIn};
+ghost use Rattle.state_bytes.specs.Flat.{flat, rawFlat};
+ghost use Rattle.state_bytes.specs.Records.{stateFrom};
 ghost use Rattle.state_offers.specs.Chained.{offersNamed, offersHanded, offeredAs};
-ghost use Rattle.state_offers.specs.Steps.{stepCode, permitsNamed};
+ghost use Rattle.state_offers.specs.Steps.{stepCode, permitsNamed, Within};
 use base_numbers::wide;
-use state_record::State;
+use state_bytes::CALL_BYTES;
+use state_bytes::CELL_BYTES;
+use state_bytes::PLACE_BYTES;
 use table_record::Counts;
+use table_record::LINK_BYTES;
 use table_record::TYPE_BYTES;
 
 // What a cell of a state handed in says of a chain; `Unfit` is 2, for a state that does not pass the check.
@@ -69,35 +70,55 @@ fn type_permits(types: &[u8; TYPE_BYTES], c: Counts, t: usize, chain: &[i64]) ->
 }
 
 // Of a state that passes the check: the type of the cell and the type of its place both permit the chain (L18).
-fn cell_offers(types: &[u8; TYPE_BYTES], s: State, cell: i64, chain: &[i64]) -> bool
-    requires { ⌜ ((t : List ℕ) → length t ≡ typesSize → Sound (whole t s)) ⌝ }
-    ensures { λ r. ⌜ r ≡ offersNamed (systemIn (whole (now (types .entry)) s)) cell (now (chain .entry)) ⌝ }
+fn cell_offers(
+    types: &[u8; TYPE_BYTES],
+    cells: &[u8; CELL_BYTES],
+    places: &[u8; PLACE_BYTES],
+    counts: &[usize; 8],
+    cell: i64,
+    chain: &[i64],
+) -> bool
+    requires { ⌜ Within (now cells) (now counts) ⌝ }
+    ensures { λ r. ⌜ ((l js : List ℕ)
+        → r
+        ≡ offersNamed (systemIn (stateFrom (flat (now (types .entry)) l (now (cells .entry)) (now (places .entry)) js (now (counts .entry))))) cell
+        (now (chain .entry))) ⌝ }
 {
-    let cells = s.cells;
-    let k = base_numbers::index_of(cell, cells.count);
-    if cells.count <= k {
+    let n = counts[5];
+    let k = base_numbers::index_of(cell, n);
+    if n <= k {
         return false;
     }
-    let x = state_record::cell_at(cells, k);
-    let places = s.places;
-    let p = state_record::place_at(places, wide(x.place));
-    let ty = wide(x.ty);
-    let place_type = state_record::place_type(p);
-    let c = s.counts;
-    if !type_permits(types, c, ty, chain) {
+    let x = state_bytes::cell_from(cells, k);
+    let p = state_bytes::place_from(places, wide(x.place));
+    let c = state_bytes::counts_from(*counts);
+    if !type_permits(types, c, wide(x.ty), chain) {
         return false;
     }
-    type_permits(types, c, place_type, chain)
+    type_permits(types, c, state_record::place_type(p), chain)
 }
 
 // On any state handed in: 2 before all else (E11).
-pub fn offers(types: &[u8; TYPE_BYTES], s: State, cell: i64, chain: &[i64]) -> Offered
-    ensures { λ r. ⌜ offeredAs r ≡ offersHanded (rawState (whole (now (types .entry)) s)) cell (now (chain .entry)) ⌝ }
+pub fn offers(
+    types: &[u8; TYPE_BYTES],
+    links: &[u8; LINK_BYTES],
+    cells: &[u8; CELL_BYTES],
+    places: &[u8; PLACE_BYTES],
+    calls: &[u8; CALL_BYTES],
+    counts: &[usize; 8],
+    cell: i64,
+    chain: &[i64],
+) -> Offered
+    ensures { λ r. ⌜ offeredAs r
+        ≡ offersHanded
+        (rawFlat
+        (flat (now (types .entry)) (now (links .entry)) (now (cells .entry)) (now (places .entry)) (now (calls .entry)) (now (counts .entry)))) cell
+        (now (chain .entry)) ⌝ }
 {
-    if !state_check::state_fits(types, s) {
+    if !state_bytes_check::bytes_fit(types, links, cells, places, calls, counts) {
         return Offered::Unfit;
     }
-    if cell_offers(types, s, cell, chain) {
+    if cell_offers(types, cells, places, counts, cell, chain) {
         return Offered::Yes;
     }
     Offered::No

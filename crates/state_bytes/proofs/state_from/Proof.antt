@@ -3,29 +3,17 @@ use borrow.Author.Needs.{needs}
 use Rattle.state_bytes.proofs.state_from.Statement.{statement}
 use Rattle.state_bytes.proofs.state_from.Tie as tie
 
+counts-from-requires : tie.Need-counts-from-requires
+counts-from-requires c κs = search needs
+
 array-read-cells-from : tie.Need-array-read-cells-from
 array-read-cells-from c = search needs
-
-array-read-t17 : tie.Need-array-read-t17
-array-read-t17 c = search needs
-
-array-read-t20 : tie.Need-array-read-t20
-array-read-t20 c = search needs
-
-array-read-t23 : tie.Need-array-read-t23
-array-read-t23 c = search needs
-
-array-read-places-from : tie.Need-array-read-places-from
-array-read-places-from c = search needs
-
-array-read-cells-from-2 : tie.Need-array-read-cells-from-2
-array-read-cells-from-2 c = search needs
 
 cells-from-requires : tie.Need-cells-from-requires
 cells-from-requires c κs = search needs
 
-array-read-places-from-2 : tie.Need-array-read-places-from-2
-array-read-places-from-2 c = search needs
+array-read-places-from : tie.Need-array-read-places-from
+array-read-places-from c = search needs
 
 places-from-requires : tie.Need-places-from-requires
 places-from-requires c κs = search needs
@@ -37,20 +25,16 @@ calls-from-requires : tie.Need-calls-from-requires
 calls-from-requires c κs = search needs
 
 returns : tie.Need-returns
-returns c = λ t. rw (c .before .before .cells-from .ensures, c .before .places-from .ensures, c .calls-from .ensures)
+returns c = λ t. rw (c .before .before .before .counts-from .ensures, c .before .before .cells-from .ensures, c .before .places-from .ensures, c .calls-from .ensures)
 
 pub state-from-spec : {M : Type 1} → statement M
 state-from-spec =
     tie.close
     (tie.spec
+    counts-from-requires
     array-read-cells-from
-    array-read-t17
-    array-read-t20
-    array-read-t23
-    array-read-places-from
-    array-read-cells-from-2
     cells-from-requires
-    array-read-places-from-2
+    array-read-places-from
     places-from-requires
     array-read-calls-from
     calls-from-requires

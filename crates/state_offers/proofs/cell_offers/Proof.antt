@@ -1,107 +1,92 @@
--- No such cell; a chain that the cell's type does not permit; else the type of its place decides.
-use mathlib.Core.Path.{sym, ap, _∙_}
-use Prim.Native.Nat.{ℕ}
+-- No such cell; a chain that the cell's type does not permit; else the type of its place decides. i is where the number was tested, x where the cell was read, g the counts.
+use mathlib.Core.Path.{sym, subst, _∙_}
 use native.Mathlib.Omega.{arith}
 use mir.Facts.{toZ-ofZ}
 use borrow.Author.Needs.{needs}
-use Rattle.state_record.specs.Whole.{whole}
 use borrow.Author.Tests.{not-true, not-false}
-use Rattle.spec_model.specs.Crossing.{placeAt, placeType}
-use Rattle.table_record.specs.Store.{tableIn}
-use Rattle.state_record.specs.View.{cellOf, placesIn}
-use Rattle.state_offers.specs.Steps.{permitsNamed}
-use Rattle.state_offers.proofs.Laws.{blank, blank-long, offers-unknown, offers-not, offers-by-place, place-known}
+use mathlib.Core.List.{[]}
+use Rattle.table_record.specs.Limits.{Limits}
+use Rattle.state_bytes.specs.Flat.{flat}
+use Rattle.state_offers.proofs.Laws.{bytes-unknown, bytes-placed, bytes-not, bytes-by-place}
 use Rattle.state_offers.proofs.cell_offers.Statement.{statement}
 use Rattle.state_offers.proofs.cell_offers.Tie as tie
+
+element-copy-out-n : tie.Need-element-copy-out-n
+element-copy-out-n c = search needs
 
 index-of-requires : tie.Need-index-of-requires
 index-of-requires c κs = search needs
 
 returns : tie.Need-returns
-returns c = let a = c .before .before .before .before .args in
-    offers-unknown (whole (a .types .now) (a .s)) (a .cell) (a .chain .now) (c .before .before .index-of .result)
-    (rw (toZ-ofZ (c .before .before .before .before .fits .cell)) at (c .before .before .index-of .ensures))
-    (c .if1 .taken)
+returns c = λ l js. let i = c in let a = i .before .before .before .args in
+    let f = flat (a .types .now) l (a .cells .now) (a .places .now) js (a .counts .now) in
+    bytes-unknown f (a .cell) (a .chain .now) (i .before .index-of .result)
+    (rw (toZ-ofZ (i .before .before .before .fits .cell)) at (i .before .index-of .ensures)) (i .if1 .taken)
 
-cell-at-requires : tie.Need-cell-at-requires
-cell-at-requires c κs = omega (arith, c .if1 .left, (c .before .before .before .before .pre blank blank-long) .cellCount)
+cell-from-requires : tie.Need-cell-from-requires
+cell-from-requires c κs = omega (arith, c .if1 .left, c .before .before .before .pre .cellsFew)
 
 wide-requires : tie.Need-wide-requires
 wide-requires c κs = search needs
 
-place-at-requires : tie.Need-place-at-requires
-place-at-requires c κs = let a = c .before .before .before .before .before .before .before .args in let s = whole blank (a .s) in
-    let l = place-known (whole blank (a .s)) (c .before .before .before .before .before .before .before .pre blank blank-long)
-    (c .before .before .before .before .before .index-of .result) (c .before .before .before .if1 .left)
-    (cellOf (c .before .before .cell-at .result)) (c .before .before .cell-at .ensures .1 (c .before .before .before .if1 .left)) (c .wide .result) (c .wide .ensures .0) in
-    omega (arith, l, (c .before .before .before .before .before .before .before .pre blank blank-long) .descending .count)
+place-from-requires : tie.Need-place-from-requires
+place-from-requires c κs = let i = c .before .before in let a = i .before .before .before .args in
+    let f = flat (a .types .now) [] (a .cells .now) (a .places .now) [] (a .counts .now) in
+    let low = bytes-placed f (a .cell) (a .chain .now) (i .before .index-of .result)
+    (rw (toZ-ofZ (i .before .before .before .fits .cell)) at (i .before .index-of .ensures))
+    (i .before .before .before .pre) (i .if1 .left) (c .before .cell-from .result) (c .before .cell-from .ensures) (c .wide .result) (c .wide .ensures .0) in
+    omega (arith, low, i .before .before .before .pre .placesFew)
+
+counts-from-requires : tie.Need-counts-from-requires
+counts-from-requires c κs = search needs
 
 wide-requires-2 : tie.Need-wide-requires-2
 wide-requires-2 c κs = search needs
 
+type-permits-requires : tie.Need-type-permits-requires
+type-permits-requires c κs = subst Limits (sym (c .before .counts-from .ensures)) (c .before .before .before .before .before .before .before .before .before .pre .limits)
+
+returns-2 : tie.Need-returns-2
+returns-2 c = λ l js. let g = c .before .before .before in let x = g .before .before .before .before in let i = x .before in let a = i .before .before .before .args in
+    let f = flat (a .types .now) l (a .cells .now) (a .places .now) js (a .counts .now) in
+    bytes-not f (a .cell) (a .chain .now) (i .before .index-of .result)
+    (rw (toZ-ofZ (i .before .before .before .fits .cell)) at (i .before .index-of .ensures))
+    (i .before .before .before .pre) (i .if1 .left) (x .cell-from .result) (x .cell-from .ensures)
+    (g .counts-from .result) (g .counts-from .ensures) (c .before .before .wide2 .result) (c .before .before .wide2 .ensures .0)
+    (sym (not-true (c .before .type-permits .result) (c .if2 .taken)) ∙ c .before .type-permits .ensures l)
+
 place-type-requires : tie.Need-place-type-requires
 place-type-requires c κs = search needs
 
-type-permits-requires : tie.Need-type-permits-requires
-type-permits-requires c κs = (c .before .before .before .before .before .before .before .before .before .before .before .pre blank blank-long) .checked .limits
-
-returns-2 : tie.Need-returns-2
-returns-2 c =
-    let a = c .before .before .before .before .before .before .before .before .before .before .before .before .before .args in
-    let s = whole (a .types .now) (a .s) in
-    let w = a .chain .now in
-    let e = c .before .before .before .before .before .before .before .before .cell-at .ensures .1
-    (c .before .before .before .before .before .before .before .before .before .if1 .left) in
-    offers-not s (a .cell) w (c .before .before .before .before .before .before .before .before .before .before .before .index-of .result)
-    (rw (toZ-ofZ (c .before .before .before .before .before .before .before .before .before .before .before .before .before .fits .cell)) at
-    (c .before .before .before .before .before .before .before .before .before .before .before .index-of .ensures))
-    (c .before .before .before .before .before .before .before .before .before .if1 .left)
-    (cellOf (c .before .before .before .before .before .before .before .before .cell-at .result)) e
-    (sym (not-true (c .before .type-permits .result) (c .if2 .taken)) ∙ c .before .type-permits .ensures (s .links)
-    ∙ ap (λ (n : ℕ). permitsNamed (tableIn (s .types) (s .links) (s .counts)) n w) (c .before .before .before .before .wide2 .ensures .0))
-
 type-permits-requires-2 : tie.Need-type-permits-requires-2
-type-permits-requires-2 c κs = (c .before .before .before .before .before .before .before .before .before .before .before .before .before .pre blank blank-long) .checked .limits
+type-permits-requires-2 c κs = let g = c .before .before .before .before in
+    subst Limits (sym (g .counts-from .ensures)) (g .before .before .before .before .before .before .before .before .pre .limits)
 
 returns-3 : tie.Need-returns-3
-returns-3 c =
-    let a = c .before .before .before .before .before .before .before .before .before .before .before .before .before .before .args in
-    let s = whole (a .types .now) (a .s) in
-    let w = a .chain .now in
-    let T = tableIn (s .types) (s .links) (s .counts) in
-    let x = cellOf (c .before .before .before .before .before .before .before .before .before .cell-at .result) in
-    let e = c .before .before .before .before .before .before .before .before .before .cell-at .ensures .1
-    (c .before .before .before .before .before .before .before .before .before .before .if1 .left) in
-    let l =
-    place-known (whole blank (a .s)) (c .before .before .before .before .before .before .before .before .before .before .before .before .before .before .pre blank blank-long)
-    (c .before .before .before .before .before .before .before .before .before .before .before .before .index-of .result)
-    (c .before .before .before .before .before .before .before .before .before .before .if1 .left) x e
-    (c .before .before .before .before .before .before .before .wide .result)
-    (c .before .before .before .before .before .before .before .wide .ensures .0) in
-    offers-by-place s (a .cell) w (c .before .before .before .before .before .before .before .before .before .before .before .before .index-of .result)
-    (rw (toZ-ofZ (c .before .before .before .before .before .before .before .before .before .before .before .before .before .before .fits .cell)) at
-    (c .before .before .before .before .before .before .before .before .before .before .before .before .index-of .ensures))
-    (c .before .before .before .before .before .before .before .before .before .before .if1 .left) x e
-    (sym (not-false (c .before .before .type-permits .result) (c .before .if2 .left)) ∙ c .before .before .type-permits .ensures (s .links)
-    ∙ ap (λ (n : ℕ). permitsNamed T n w) (c .before .before .before .before .before .wide2 .ensures .0))
-    (c .type-permits2 .result)
-    (c .type-permits2 .ensures (s .links) ∙ ap (λ (n : ℕ). permitsNamed T n w)
-    (c .before .before .before .before .place-type .ensures .0
-    ∙ ap placeType (c .before .before .before .before .before .before .place-at .ensures .1 l)
-    ∙ ap (λ (p : ℕ). placeType (placeAt (placesIn (s .places)) p)) (c .before .before .before .before .before .before .before .wide .ensures .0)))
+returns-3 c = λ l js. let g = c .before .before .before .before .before in let x = g .before .before .before .before in let i = x .before in let a = i .before .before .before .args in
+    let f = flat (a .types .now) l (a .cells .now) (a .places .now) js (a .counts .now) in
+    bytes-by-place f (a .cell) (a .chain .now) (i .before .index-of .result)
+    (rw (toZ-ofZ (i .before .before .before .fits .cell)) at (i .before .index-of .ensures))
+    (i .before .before .before .pre) (i .if1 .left) (x .cell-from .result) (x .cell-from .ensures)
+    (g .counts-from .result) (g .counts-from .ensures) (c .before .before .before .before .wide2 .result) (c .before .before .before .before .wide2 .ensures .0)
+    (sym (not-false (c .before .before .before .type-permits .result) (c .before .before .if2 .left)) ∙ c .before .before .before .type-permits .ensures l)
+    (g .before .before .before .wide .result) (g .before .before .before .wide .ensures .0) (g .before .before .place-from .result) (g .before .before .place-from .ensures)
+    (c .before .place-type .result) (c .before .place-type .ensures .0) (c .type-permits2 .result) (c .type-permits2 .ensures l)
 
 pub cell-offers-spec : {M : Type 1} → statement M
 cell-offers-spec =
     tie.close
     (tie.spec
+    element-copy-out-n
     index-of-requires
     returns
-    cell-at-requires
+    cell-from-requires
     wide-requires
-    place-at-requires
+    place-from-requires
+    counts-from-requires
     wide-requires-2
-    place-type-requires
     type-permits-requires
     returns-2
+    place-type-requires
     type-permits-requires-2
     returns-3)
