@@ -9,14 +9,16 @@ use lib.Dec.{eqb, ltb}
 use lib.ListN.{length, getD}
 use lib.Seq.{getD-set-other}
 use borrow.Author.Tests.{eq-eqb, ne-eqb, lt-ltb, le-ltb}
-use Rattle.spec_model.specs.Basics.{Res, refuse, ok, need, try}
-use Rattle.spec_model.specs.Table.{Kind, Table, Ty, isRef, typeAt, sub, closed, maxTypes}
-use Rattle.spec_model.specs.Relations.{related, subtype, conforms, strict, loose, free}
+use Rattle.spec_model.specs.Basics.{Res, refuse, ok, need, try, _⇒_}
+use Rattle.spec_model.specs.Table.{Kind, Table, Ty, isRef, isAvail, permit, typeAt, sub, closed, maxTypes}
+use Rattle.spec_model.specs.Relations.{related, subtype, conforms, strict, loose, free, outerRule, stateLe, sameRep}
 use Rattle.spec_model.specs.Restriction.{derived}
 use Rattle.spec_model.specs.Crossing.{Place, Reference, placeAt, placeType, baseOf, baseOwner, maxPlaces, adapter, adapt, cross}
 use Rattle.spec_model.specs.Check.{noRawType}
 use Rattle.spec_model.proofs.Largest.{keeps-related}
-use Rattle.spec_model.proofs.Order.{strict→loose, loose→free}
+use Rattle.spec_model.proofs.Rules.{first, applied}
+use Rattle.spec_model.proofs.States.{each₂}
+use Rattle.spec_model.proofs.Order.{weaken, same-sort, strict→loose, loose→free}
 use Rattle.spec_model.proofs.ChainLaws.{sort-eq}
 use Rattle.spec_model.specs.Refusals.{unrelated, notOwner, notStrict, typesFull, placesFull}
 use Rattle.table_record.specs.declared.Counts.{Counts}
@@ -41,6 +43,12 @@ use Rattle.crossing_one.specs.declared.Crossing.{Crossing}
 use Rattle.crossing_one.specs.declared.Landing.the-variants as landing
 use Rattle.crossing_one.specs.declared.Crossed.{Crossed}
 use Rattle.crossing_one.specs.Crossed.{Ready, ownIn, reference, crossing, referenceOf, crossedOf, Grew, Came, Leaves, stopped, landed}
+
+-- A subtype is loosely related (R8, R10): where X4 holds, X1 does.
+subtype→loose : (t : Table) (a b : ℕ) → So (related subtype t a b) → So (related loose t a b)
+unfolding outerRule
+subtype→loose t = weaken subtype loose t (λ a b h. same-sort (a .rep) (b .rep) (first (sameRep (a .rep) (b .rep)) _ h))
+    (λ a b. applied (each₂ (λ a b. stateLe a b ⇒ (isAvail a ⇒ permit b)) refl a b))
 
 -- ---- The definitions, case by case.
 module _ (t : Table) (ps : List Place) (s p to r : ℕ) where
@@ -357,19 +365,19 @@ module _ (b l : List ℕ) (c : Counts) (h : Ready l c b) (ps : Places) (x : Cros
     restrict-8 e = stops b b l c ps (x .from) 8 (omega arith) (other-8 T (placesIn ps) (x .from) (x .place) (x .to) (x .receiver) (own-table b l c (x .to) ∙ own) (sym e)) (h .long)
         (same-kept (c .types) b)
 
+    pub restrict-stays : true ≡ related subtype T (x .to) (x .from) → (q : Crossed) → q ≡ landed ps (x .to) (landing.Stands (x .place)) (c .types) → Crosses b q
+    restrict-stays e q z = let met = subtype→loose T (x .to) (x .from) (sym e) in subst (Crosses b) (sym z) (
+      other-stays T (placesIn ps) (x .from) (x .place) (x .to) (x .receiver) (own-table b l c (x .to) ∙ own) met (sym e),
+      record {
+        long = h .long;
+        kept = same-kept (c .types) b;
+        came = λ _. stands c ps (x .from) (x .to) (x .place) (c .types) b desc place (none-new c b (h .checked .limits .types)) (λ _. known (loose→free T (x .to) (x .from) met));
+      },
+    )
+
     module _ (met : true ≡ related loose T (x .to) (x .from)) where
       low : x .to < c .types
       low = known (loose→free T (x .to) (x .from) (sym met))
-
-      pub restrict-stays : true ≡ related subtype T (x .to) (x .from) → (q : Crossed) → q ≡ landed ps (x .to) (landing.Stands (x .place)) (c .types) → Crosses b q
-      restrict-stays e q z = subst (Crosses b) (sym z) (
-        other-stays T (placesIn ps) (x .from) (x .place) (x .to) (x .receiver) (own-table b l c (x .to) ∙ own) (sym met) (sym e),
-        record {
-          long = h .long;
-          kept = same-kept (c .types) b;
-          came = λ _. stands c ps (x .from) (x .to) (x .place) (c .types) b desc place (none-new c b (h .checked .limits .types)) (λ _. low);
-        },
-      )
 
       module _ (less : false ≡ related subtype T (x .to) (x .from)) (b₁ : List ℕ) (d : Derived) (g : Derives sub c (x .to) (x .from) b b₁ d) where
         answer : (y : Derived) → d ≡ y → derivationIn b₁ l c y ≡ derived T sub (x .to) (x .from)

@@ -173,7 +173,8 @@ fn unwrap(
     meet(types, links, c, ps, x.to, x.to, base)
 }
 
-// X1, X4 and X5, the target not own: a subtype passes, else R is Sub(T,S).
+// X1, X4 and X5, the target not own: a subtype passes, else R is Sub(T,S). X4 is asked before X1, since a subtype is loosely related: where it passes, one search
+// answers both.
 fn restrict_to(
     types: &mut [u8; TYPE_BYTES],
     links: &[u8; LINK_BYTES],
@@ -185,12 +186,12 @@ fn restrict_to(
     ensures is { λ q. ⌜ crossedOf (now (types .exit)) (now (links .entry)) c q ≡ crossing (tableIn (now (types .entry)) (now (links .entry)) c) ps x ⌝ }
     ensures leaves { λ q. ⌜ Leaves c ps (x .from) (now (types .entry)) (now (types .exit)) q ⌝ }
 {
+    if asked(types, links, c, Relation::Subtype, x.to, x.from) {
+        return land(ps, x.to, Landing::Stands(x.place), c.types);
+    }
     let loose = asked(types, links, c, Relation::Loose, x.to, x.from);
     if !loose {
         return refused(ps, refusal::UNRELATED);
-    }
-    if asked(types, links, c, Relation::Subtype, x.to, x.from) {
-        return land(ps, x.to, Landing::Stands(x.place), c.types);
     }
     let Derived::At(right, count) = derive_sub_sup::sub_type(types, c, x.to, x.from) else {
         return refused(ps, refusal::TYPES_FULL);
