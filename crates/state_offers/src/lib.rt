@@ -91,11 +91,13 @@ fn cell_offers(
     }
     let x = state_bytes::cell_from(cells, k);
     let p = state_bytes::place_from(places, wide(x.place));
+    let ty = wide(x.ty);
+    let place_type = state_record::place_type(p);
     let c = state_bytes::counts_from(*counts);
-    if !type_permits(types, c, wide(x.ty), chain) {
+    if !type_permits(types, c, ty, chain) {
         return false;
     }
-    type_permits(types, c, state_record::place_type(p), chain)
+    type_permits(types, c, place_type, chain)
 }
 
 // On any state handed in: 2 before all else (E11).
