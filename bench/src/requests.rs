@@ -1,7 +1,7 @@
 //! New, move, call, answer and offers in safe Rust on the bytes of a state, written from docs/SPEC.md: what the proved core's requests
-//! are to be measured against, in two ways (`measure::in_place`). On a copy, which is stored where the request is accepted: the simplest
-//! safe Rust. Or in the bytes, which are kept first and put back on a refusal, as the core does it; a step of a script then gives back its
-//! counts alone.
+//! are to be measured against, in two ways (`measure::in_place`). On a copy, which is stored where the request is accepted, and with the
+//! relations of a crossing asked for in the order of the rules: the simplest safe Rust. Or in the bytes, which are kept first and put back
+//! on a refusal, and with a subtype asked for before loose, as the core does it; a step of a script then gives back its counts alone.
 
 use crate::measure::in_place;
 use crate::{fits, restriction, search};
@@ -222,10 +222,12 @@ fn cross(
         }
         (base(state, from.place), t)
     } else {
-        if !holds(state, Relation::Loose, t, s) {
+        // in the order of the rules, or as the core asks: a subtype is loosely related, so that one search is enough for it
+        let passes = in_place() && holds(state, Relation::Subtype, t, s);
+        if !passes && !holds(state, Relation::Loose, t, s) {
             return Err(8);
         }
-        if holds(state, Relation::Subtype, t, s) {
+        if passes || !in_place() && holds(state, Relation::Subtype, t, s) {
             return Ok(to(from.place));
         }
         (from.place, full(restriction::sub(&mut state.table, t, s))?)

@@ -142,6 +142,7 @@ pub fn reached(raw: &RawTable, relation: Relation, t: usize, s: usize) -> Option
         _ if !in_place() => reached_in(&mut [0; MAX_TYPES * MAX_TYPES], raw, relation, t, s),
         ..=16 => reached_in(&mut [0; 16 * MAX_TYPES], raw, relation, t, s),
         17..=64 => reached_in(&mut [0; 64 * MAX_TYPES], raw, relation, t, s),
+        65..=80 => reached_in(&mut [0; 80 * MAX_TYPES], raw, relation, t, s),
         _ => reached_in(&mut [0; MAX_TYPES * MAX_TYPES], raw, relation, t, s),
     }
 }

@@ -12,7 +12,7 @@ use lib.ListN.{length, getD, set, replicate, length-map, List·getD-map}
 use lib.Seq.{map-set-same}
 use Rattle.table_record.proofs.Lists.{lt-or-ge}
 use Rattle.relation_search.specs.declared.Step.the-variants.{Tail}
-use Rattle.relation_search.specs.Found.{marksIn, queueIn, Rows, Added, ListedIn, MetIn}
+use Rattle.relation_search.specs.Found.{marksIn, queueIn, Added, ListedIn, MetIn}
 use Rattle.relation_search.proofs.Pairs.{in-rows, pair-new}
 use Rattle.spec_model.specs.Table.{maxTypes}
 
@@ -38,10 +38,7 @@ pub buffer-length : (b : List ℕ) → length (marksIn b) ≡ length b
 unfolding marksIn
 buffer-length b = length-map b (λ (v : ℕ). leb 32768 v)
 
--- ---- its rows, and an entry below them
-pub rows-in : (n : ℕ) (b : List ℕ) (t : ℕ) → ListedIn n b t → Rows n (length b)
-rows-in n b t h = rw (← buffer-length b) (h .rows)
-
+-- ---- an entry below its rows
 pub entry-in : (n : ℕ) (b : List ℕ) (t x y : ℕ) → ListedIn n b t → bitOr x y < length b / maxTypes → (x < maxTypes) × (y < maxTypes) × (x * maxTypes + y < length b)
 entry-in n b t x y h k = let e = buffer-length b in in-rows x y (length b) (omega (arith, h .few)) k
 

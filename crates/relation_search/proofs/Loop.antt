@@ -15,8 +15,8 @@ use Rattle.spec_model.proofs.Tests.{so-ltb}
 use Rattle.spec_model.proofs.Rules.{never, both, rule-test, rule-says}
 use Rattle.spec_model.proofs.Largest.{largest, keeps-related}
 use Rattle.table_record.proofs.Lists.{same-or}
-use Rattle.relation_search.specs.Found.{found, Within, Pair, Rows, Listed, Grew, Broke, marksIn, queueIn, Added, Clear, maxPairs}
-use Rattle.relation_search.proofs.Pairs.{slots, found-says, found-test, pair-as, yeses-set}
+use Rattle.relation_search.specs.Found.{found, Within, Pair, Listed, Grew, Broke, marksIn, queueIn, Added, Clear, maxPairs}
+use Rattle.relation_search.proofs.Pairs.{found-says, found-test, pair-as, yeses-set}
 use Rattle.relation_search.proofs.Buffer.{none-found, none-queued}
 
 -- ---- the root
@@ -30,7 +30,7 @@ none-marked zero p h = never h
 none-marked (suc n) zero h = never h
 none-marked (suc n) (suc p) h = none-marked n p h
 
-module _ (m n t s : ℕ) (l : n ≤ maxTypes) (lo : Rows n m) (hi : m ≤ maxPairs) (p : t < n) (q : s < n) where
+module _ (m n t s : ℕ) (l : n ≤ maxTypes) (lo : n * maxTypes ≤ m) (hi : m ≤ maxPairs) (p : t < n) (q : s < n) where
   abbrev marks₀ : List Bool
   marks₀ = set (replicate m false) (t * maxTypes + s) true
 
@@ -38,13 +38,13 @@ module _ (m n t s : ℕ) (l : n ≤ maxTypes) (lo : Rows n m) (hi : m ≤ maxPai
   queue₀ = set (replicate m 0) 0 (t * maxTypes + s)
 
   slot : t * maxTypes + s < length (replicate m false)
-  slot = let k = slots n m lo in rw length-replicate (omega arith)
+  slot = rw length-replicate (omega arith)
 
   root-marked : So (getD marks₀ (t * maxTypes + s) false)
   root-marked = getD-set-same (replicate m false) (t * maxTypes + s) true false slot
 
   root-queued : getD queue₀ 0 0 ≡ t * maxTypes + s
-  root-queued = let k = slots n m lo in getD-set-same (replicate m 0) 0 (t * maxTypes + s) 0 (rw length-replicate (omega arith))
+  root-queued = getD-set-same (replicate m 0) 0 (t * maxTypes + s) 0 (rw length-replicate (omega arith))
 
   only-root : (u : ℕ) → So (getD marks₀ u false) → u ≡ t * maxTypes + s
   only-root u h = ⊎-elim (λ (e : u ≡ t * maxTypes + s). e) (λ (e : u ≡ t * maxTypes + s → ⊥). absurd
@@ -53,7 +53,7 @@ module _ (m n t s : ℕ) (l : n ≤ maxTypes) (lo : Rows n m) (hi : m ≤ maxPai
   root-listed : Listed n marks₀ queue₀ 1
   root-listed = record {
     small = l;
-    rows = rw marks-length lo;
+    slots = let z : length marks₀ ≡ m = marks-length in omega arith;
     few = let z : length marks₀ ≡ m = marks-length in omega arith;
     room = length-set (replicate m 0) 0 (t * maxTypes + s) ∙ length-replicate {A = ℕ} m 0 ∙ sym marks-length;
     first = omega arith;
@@ -87,7 +87,7 @@ unfolding Within
 rule-up k T M N a b p q i w = rule-test k T (λ x y. So (M x y)) N i a b (rule-says k T M a b p q w)
 
 module _ (k : Relation) (T : Table) (n t s : ℕ) (e : size T ≡ n) where
-  pub start : (m : ℕ) → n ≤ maxTypes → Rows n m → m ≤ maxPairs → t < n → s < n → Going k T n t s (set (replicate m false) (t * maxTypes + s) true)
+  pub start : (m : ℕ) → n ≤ maxTypes → n * maxTypes ≤ m → m ≤ maxPairs → t < n → s < n → Going k T n t s (set (replicate m false) (t * maxTypes + s) true)
       (set (replicate m 0) 0 (t * maxTypes + s)) 1 0
   unfolding Within
   start m l lo hi p q = record {
@@ -102,7 +102,7 @@ module _ (k : Relation) (T : Table) (n t s : ℕ) (e : size T ≡ n) where
 
   -- the first pair is added to an array that says nothing
   pub start-at : (a b : List ℕ) (r : ℕ) → Clear n a → (r ≡ 1) × Added a 0 (t * maxTypes + s) b → n ≤ maxTypes → t < n → s < n → Going k T n t s (marksIn b) (queueIn b) r 0
-  start-at a b r z h l p q = rw (h .0, h .1 .0, h .1 .1, ap marksIn (z .none) ∙ none-found (length a), ap queueIn (z .none) ∙ none-queued (length a)) (start (length a) l (z .rows) (z .few) p q)
+  start-at a b r z h l p q = rw (h .0, h .1 .0, h .1 .1, ap marksIn (z .none) ∙ none-found (length a), ap queueIn (z .none) ∙ none-queued (length a)) (start (length a) l (z .long) (z .few) p q)
 
   -- what is related keeps its rule, and is of the table
   kept : (a b : ℕ) → So (related k T a b) → So (rule k T (related k T) a b)

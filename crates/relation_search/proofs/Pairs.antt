@@ -3,10 +3,10 @@ use mathlib.Core.Path.{_≡_, refl, ap, sym, _∙_}
 use mathlib.Core.Logic.{_⊎_, inl, inr, ⊎-elim}
 use mathlib.Core.Bool.{Bool, true, false, _&&_, So}
 use mathlib.Core.List.{List, [], _∷_}
-use Prim.Native.Nat.{ℕ, zero, suc, _+_, _*_, _^_, _/_, _%_, _≤_, _<_}
+use Prim.Native.Nat.{ℕ, zero, suc, _+_, _*_, _/_, _%_, _≤_, _<_}
 use native.Mathlib.Nat.{not-suc-le-zero, le-of-suc-le-suc}
 use native.Mathlib.Omega.{arith}
-use lib.Bits.{bitAnd, bitOr, or-add-and, and-le-l, and-le-r, or-lt}
+use lib.Bits.{bitAnd, bitOr, or-add-and, and-le-l, and-le-r}
 use lib.Dec.{ltb}
 use lib.ListN.{length, getD, set, length-set}
 use lib.Seq.{getD-set-same, getD-set-other}
@@ -14,10 +14,10 @@ use Rattle.spec_model.proofs.Tests.{ltb-so, so-ltb}
 use Rattle.spec_model.proofs.Rules.{never, both, first, second}
 use Rattle.spec_model.specs.Relations.{bit, yeses}
 use Rattle.spec_model.specs.Table.{maxTypes}
-use Rattle.table_record.proofs.Lists.{lt-or-ge, same-or}
+use Rattle.table_record.proofs.Lists.{same-or}
 use Rattle.relation_search.specs.declared.Step.{Step}
 use Rattle.relation_search.specs.declared.Step.the-variants.{Broken, Tail}
-use Rattle.relation_search.specs.Found.{found, Within, Queued, Pair, Rows, Listed, Grew, Broke, Met, maxPairs}
+use Rattle.relation_search.specs.Found.{found, Within, Queued, Pair, Listed, Grew, Broke, Met, maxPairs}
 
 pub clash : {A : Type 0} → {b : Bool} → b ≡ true → b ≡ false → A
 clash p q = never (sym q ∙ p)
@@ -36,14 +36,7 @@ pair-as n s p h =
     let e : p / maxTypes * maxTypes + p % maxTypes ≡ p = omega arith in
     found-test n s (p / maxTypes) (p % maxTypes) (h .low) (h .high) (rw e (h .known))
 
--- ---- the rows of the array
-pub rows-number : (n m : ℕ) → (r : Rows n m) → m / maxTypes ≡ 2 ^ r .power
-rows-number n m r = let e = r .are in omega arith
-
-pub slots : (n m : ℕ) → Rows n m → n * maxTypes ≤ m
-slots n m r = let e = r .are in let l = r .enough in omega arith
-
--- neither of two numbers is above x | y; so where that is below the rows, the pair's number is one of the entries
+-- neither of two numbers is above x | y; so where that is below the rows of the array, the pair's number is one of its entries
 pub in-rows : (x y m : ℕ) → m ≤ maxPairs → bitOr x y < m / maxTypes → (x < maxTypes) × (y < maxTypes) × (x * maxTypes + y < m)
 in-rows x y m l k =
     let sum : bitOr x y + bitAnd x y ≡ x + y = or-add-and x y in
@@ -112,7 +105,7 @@ set-less s p q h =
 
 module _ (n : ℕ) (s : List Bool) (l : List ℕ) (t x y : ℕ) (h : Listed n s l t) (p : x < n) (q : y < n) (e : getD s (x * maxTypes + y) false ≡ false) where
   at-slot : x * maxTypes + y < length s
-  at-slot = let l = slots n (length s) (h .rows) in omega (arith, h .small)
+  at-slot = omega (arith, h .slots, h .small)
 
   at-room : t < length l
   at-room = let a : t < length s = room n s l t (x * maxTypes + y) h at-slot e in omega (arith, h .room)
@@ -152,7 +145,7 @@ module _ (n : ℕ) (s : List Bool) (l : List ℕ) (t x y : ℕ) (h : Listed n s 
   new-listed : Listed n (set s (x * maxTypes + y) true) (set l t (x * maxTypes + y)) (t + 1)
   new-listed = record {
     small = h .small;
-    rows = rw (length-set s (x * maxTypes + y) true) (h .rows);
+    slots = let z : length (set s (x * maxTypes + y) true) ≡ length s = length-set s (x * maxTypes + y) true in omega (arith, h .slots);
     few = let z : length (set s (x * maxTypes + y) true) ≡ length s = length-set s (x * maxTypes + y) true in omega (arith, h .few);
     room = length-set l t (x * maxTypes + y) ∙ h .room ∙ sym (length-set s (x * maxTypes + y) true);
     first = omega arith;
@@ -188,19 +181,6 @@ pair-left n x y l = record { none = λ M i w. let a : x < n = ltb-so (first (ltb
 pub pair-right : (n x y : ℕ) → n ≤ y → Broke n (λ M. M x y)
 unfolding Within
 pair-right n x y l = record { none = λ M i w. let a : y < n = ltb-so (second (ltb x n) _ (i x y w)) in omega arith }
-
--- a pair that is not below the rows: one of the two is not, since they are a power of two
-pub pair-beyond : (n m x y : ℕ) → Rows n m → m / maxTypes ≤ bitOr x y → Broke n (λ M. M x y)
-pair-beyond n m x y r k =
-    let e : m / maxTypes ≡ 2 ^ r .power = rows-number n m r in
-    let l = r .enough in
-    ⊎-elim
-    (λ (p : x < 2 ^ r .power). ⊎-elim
-    (λ (q : y < 2 ^ r .power). let b : bitOr x y < 2 ^ r .power = or-lt (r .power) x y p q in let z : ⊥ = omega arith in absurd z)
-    (λ (q : 2 ^ r .power ≤ y). pair-right n x y (omega arith))
-    (lt-or-ge y (2 ^ r .power)))
-    (λ (p : 2 ^ r .power ≤ x). pair-left n x y (omega arith))
-    (lt-or-ge x (2 ^ r .power))
 
 -- ---- one after another
 unfoldable pub Mono : ((ℕ → ℕ → Bool) → Bool) → Type 0

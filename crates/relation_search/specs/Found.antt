@@ -3,7 +3,7 @@
 use mathlib.Core.Path.{_≡_}
 use mathlib.Core.Bool.{Bool, true, false, _&&_, So}
 use mathlib.Core.List.{List, map}
-use Prim.Native.Nat.{ℕ, zero, suc, _+_, _*_, _^_, _/_, _%_, _≤_, _<_}
+use Prim.Native.Nat.{ℕ, zero, suc, _+_, _*_, _/_, _%_, _≤_, _<_}
 use lib.Dec.{leb, ltb}
 use lib.ListN.{length, getD, set, replicate}
 use Rattle.spec_model.specs.Relations.{yeses}
@@ -34,16 +34,10 @@ pub record Pair (n : ℕ) (marks : List Bool) (p : ℕ) : Type 0 where
   pub high : p % maxTypes < n
   pub known : So (getD marks p false)
 
--- An array of so many entries has a row for each of n types, and of rows a power of two: then x | y is below their number exactly where x and y are.
-pub record Rows (n entries : ℕ) : Type 0 where
-  pub power : ℕ
-  pub are : entries ≡ 2 ^ power * maxTypes
-  pub enough : n ≤ 2 ^ power
-
 -- t pairs are found, at least one, all of them of the n types, and the first t numbers in the queue are theirs
 pub record Listed (n : ℕ) (marks : List Bool) (queue : List ℕ) (t : ℕ) : Type 0 where
   pub small : n ≤ maxTypes
-  pub rows : Rows n (length marks)
+  pub slots : n * maxTypes ≤ length marks
   pub few : length marks ≤ maxPairs
   pub room : length queue ≡ length marks
   pub first : 0 < t
@@ -98,5 +92,5 @@ MetIn n W b t b′ r = Met n W (marksIn b) (queueIn b) t (marksIn b′) (queueIn
 -- an array that says nothing yet, with an entry for each pair of n types
 pub record Clear (n : ℕ) (b : List ℕ) : Type 0 where
   pub none : b ≡ replicate (length b) 0
-  pub rows : Rows n (length b)
+  pub long : n * maxTypes ≤ length b
   pub few : length b ≤ maxPairs

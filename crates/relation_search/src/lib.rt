@@ -36,8 +36,7 @@ enum Step {
     Tail(usize),
 }
 
-// The types that few and some are, and the entries of the array for a search among so many: 128 for each type, so that a pair's number says both. Powers of two,
-// so that x | y is below them where x and y are (`find_pair`).
+// How many types few, some and many are, and the entries of the array for a search among so many: 128 for each type, so that a pair's number says both.
 const FEW: usize = 16;
 
 const FEW_PAIRS: usize = FEW * Counts::TYPES;
@@ -45,6 +44,10 @@ const FEW_PAIRS: usize = FEW * Counts::TYPES;
 const SOME: usize = 64;
 
 const SOME_PAIRS: usize = SOME * Counts::TYPES;
+
+const MANY: usize = 80;
+
+const MANY_PAIRS: usize = MANY * Counts::TYPES;
 
 const PAIRS: usize = Counts::TYPES * Counts::TYPES;
 
@@ -66,16 +69,34 @@ fn add_pair(found: &mut [u16], tail: usize, p: usize) -> usize
     tail + 1
 }
 
-// The pair (x, y) joins those found, of which there are `tail`, unless it is one of them. It breaks its rule if x or y is not in the table. Most pairs that a
-// search comes to are found already, so that is asked first, behind one test of both numbers: as the rows of the array are a power of two, x | y is a row where both
-// are. What is found is in the table.
+// The pair (x, y) joins those found, of which there are `tail`, unless it is one of them. It breaks its rule if x or y is not in the table.
+fn join_pair(found: &mut [u16], tail: usize, n: usize, x: usize, y: usize) -> Step
+    requires { ⌜ ListedIn n (now found) tail ⌝ }
+    ensures { λ r. ⌜ MetIn n (λ M. M x y) (now (found .entry)) tail (now (found .exit)) r ⌝ }
+{
+    if n <= x {
+        return Step::Broken;
+    }
+    if n <= y {
+        return Step::Broken;
+    }
+    let p = x * Counts::TYPES + y;
+    if is_found(found[p]) {
+        return Step::Tail(tail);
+    }
+    let more = add_pair(found, tail, p);
+    Step::Tail(more)
+}
+
+// The same. Most pairs that a search comes to are found already, and what is found is in the table: so that is asked first, behind one test of both numbers, neither
+// of which is above x | y. Where the rows of the array are a power of two, every pair of the table passes that test; else some go the longer way.
 fn find_pair(found: &mut [u16], tail: usize, n: usize, x: usize, y: usize) -> Step
     requires { ⌜ ListedIn n (now found) tail ⌝ }
     ensures { λ r. ⌜ MetIn n (λ M. M x y) (now (found .entry)) tail (now (found .exit)) r ⌝ }
 {
     let rows = found.len() / Counts::TYPES;
     if rows <= (x | y) {
-        return Step::Broken;
+        return join_pair(found, tail, n, x, y);
     }
     let p = x * Counts::TYPES + y;
     if is_found(found[p]) {
@@ -320,6 +341,10 @@ fn search(
     if c.types <= SOME {
         let mut some = [0u16; SOME_PAIRS];
         return search_in(b, l, &mut some, c, k, square, t, s);
+    }
+    if c.types <= MANY {
+        let mut many = [0u16; MANY_PAIRS];
+        return search_in(b, l, &mut many, c, k, square, t, s);
     }
     let mut all = [0u16; PAIRS];
     search_in(b, l, &mut all, c, k, square, t, s)

@@ -1,4 +1,4 @@
--- One pair more: it is found already, or joins, or breaks its rule. One that is not found yet leaves room in the queue, since each pair joins once (`room`).
+-- A pair below the rows is an entry of the array (`entry-in`), and is of the table where it is found (`pair-seen`); the rest is as in join_pair.
 use mathlib.Core.Bool.{true, false}
 use Prim.Native.Nat.{_+_, _*_, _<_}
 use native.Mathlib.Omega.{arith}
@@ -6,15 +6,19 @@ use borrow.Author.Needs.{needs}
 use lib.ListN.{length}
 use Rattle.spec_model.specs.Table.{maxTypes}
 use Rattle.relation_search.specs.Found.{marksIn, queueIn}
-use Rattle.relation_search.proofs.Pairs.{pair-left, pair-right, pair-beyond, pair-seen, room}
-use Rattle.relation_search.proofs.Buffer.{mark-at, buffer-length, entry-in, pair-added, rows-in}
+use Rattle.relation_search.proofs.Pairs.{pair-left, pair-right, pair-seen, room}
+use Rattle.relation_search.proofs.Buffer.{mark-at, buffer-length, entry-in, pair-added}
 use Rattle.relation_search.proofs.find_pair.Statement.{statement}
 use Rattle.relation_search.proofs.find_pair.Tie as tie
 
+join-pair-requires : tie.Need-join-pair-requires
+join-pair-requires c κs = search needs
+
+same-length : tie.Need-same-length
+same-length c = search needs
+
 returns : tie.Need-returns
-returns c =
-    let a = c .before .before .args in
-    pair-beyond (a .n) (length (a .found .now)) (a .x) (a .y) (rows-in (a .n) (a .found .now) (a .tail) (c .before .before .pre)) (c .if1 .taken)
+returns c = search needs
 
 mul-p : tie.Need-mul-p
 mul-p c =
@@ -69,8 +73,8 @@ add-pair-requires c κs =
     let r = room (a .n) (marksIn (a .found .now)) (queueIn (a .found .now)) (a .tail) (a .x * maxTypes + a .y) pre at new in
     (omega arith, i .2, omega (arith, pre .few))
 
-same-length : tie.Need-same-length
-same-length c = search needs
+same-length-2 : tie.Need-same-length-2
+same-length-2 c = search needs
 
 returns-5 : tie.Need-returns-5
 returns-5 c =
@@ -87,6 +91,8 @@ pub find-pair-spec : {M : Type 1} → statement M
 find-pair-spec =
     tie.close
     (tie.spec
+    join-pair-requires
+    same-length
     returns
     mul-p
     add-p
@@ -97,5 +103,5 @@ find-pair-spec =
     returns-3
     returns-4
     add-pair-requires
-    same-length
+    same-length-2
     returns-5)

@@ -8,7 +8,7 @@ use Rattle.table_record.specs.Store.{tableIn}
 use Rattle.table_record.proofs.Tables.{size-is}
 use Rattle.relation_rule.specs.Asked.{relationOf}
 use Rattle.relation_search.specs.Found.{marksIn, queueIn, maxPairs}
-use Rattle.relation_search.proofs.Pairs.{slots, fits}
+use Rattle.relation_search.proofs.Pairs.{fits}
 use Rattle.relation_search.proofs.Loop.{Going, start-at, again, broken, ended}
 use Rattle.relation_search.proofs.search_in.Statement.{statement}
 use Rattle.relation_search.proofs.search_in.Tie as tie
@@ -28,9 +28,7 @@ add-add-pair c = let pre = c .before .before .pre in omega (arith, pre .1 .limit
 add-pair-requires : tie.Need-add-pair-requires Inv-loop μ-loop
 add-pair-requires c κs =
     let pre = c .before .before .pre in
-    let a = c .before .before .args in
-    let k = slots (a .c .types) (length (a .found .now)) (pre .4 .rows) in
-    (omega (arith, pre .2), omega (arith, pre .1 .limits .types, pre .2, pre .3), pre .4 .few)
+    (omega (arith, pre .2, pre .4 .long), omega (arith, pre .1 .limits .types, pre .2, pre .3, pre .4 .long), pre .4 .few)
 
 loop-holds : tie.Need-loop-holds Inv-loop μ-loop
 loop-holds c =
