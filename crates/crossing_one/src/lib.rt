@@ -173,8 +173,8 @@ fn unwrap(
     meet(types, links, c, ps, x.to, x.to, base)
 }
 
-// X1, X4 and X5, the target not own: a subtype passes, else R is Sub(T,S). X4 is asked before X1, since a subtype is loosely related: where it passes, one search
-// answers both.
+// X1, X4 and X5, the target not own: a subtype passes, else R is Sub(T,S). X4 is asked before X1, since a subtype is loosely related: where it passes, one
+// search answers both.
 fn restrict_to(
     types: &mut [u8; TYPE_BYTES],
     links: &[u8; LINK_BYTES],

@@ -88,8 +88,8 @@ fn join_pair(found: &mut [u16], tail: usize, n: usize, x: usize, y: usize) -> St
     Step::Tail(more)
 }
 
-// The same. Most pairs that a search comes to are found already, and what is found is in the table: so that is asked first, behind one test of both numbers, neither
-// of which is above x | y. Where the rows of the array are a power of two, every pair of the table passes that test; else some go the longer way.
+// The same. Most pairs that a search comes to are found already, and what is found is in the table: so that is asked first, behind one test of both numbers,
+// neither of which is above x | y. Where the rows of the array are a power of two, every pair of the table passes that test; else some go the longer way.
 fn find_pair(found: &mut [u16], tail: usize, n: usize, x: usize, y: usize) -> Step
     requires { ⌜ ListedIn n (now found) tail ⌝ }
     ensures { λ r. ⌜ MetIn n (λ M. M x y) (now (found .entry)) tail (now (found .exit)) r ⌝ }

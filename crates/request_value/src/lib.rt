@@ -195,7 +195,8 @@ pub fn send_arguments(
 ) -> Served
     requires { ⌜ Sound (whole (now types) s) × (0 < s .places .count) × (0 < s .counts .types) × (r < 256) × (w .count ≤ maxLayers) ⌝ }
     ensures { λ q. ⌜ Sent (whole (now (types .entry)) s)
-        (allSent (sendArguments (systemIn (whole (now (types .entry)) s)) r (callLayersIn w) m 0 (argumentsOf x) (now (vs .entry)))) (done (now (types .exit)) q) ⌝ }
+        (allSent (sendArguments (systemIn (whole (now (types .entry)) s)) r (callLayersIn w) m 0 (argumentsOf x) (now (vs .entry))))
+        (done (now (types .exit)) q) ⌝ }
 {
     let n = vs.len();
     let mut at = s;

@@ -1,5 +1,5 @@
-// The check of a state that is handed in (H1 to H11), in its bytes: what crate `state_check` says of the records that stand there, for a caller who makes none of
-// them (offers). One record at a time is read and tested.
+// The check of a state that is handed in (H1 to H11), in its bytes: what crate `state_check` says of the records that stand there, for a caller who makes none
+// of them (offers). One record at a time is read and tested.
 ghost use mathlib.Core.Path.{_≡_};
 ghost use Prim.Native.Nat.{_≤_};
 ghost use Rattle.spec_model.specs.Check.{systemAccepted};
