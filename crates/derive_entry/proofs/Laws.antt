@@ -26,7 +26,7 @@ use Rattle.derive_record.specs.Begins.{refIn}
 use Rattle.derive_sub_sup.specs.Link.{Ready, Derives, derivationIn, CodesIn}
 use Rattle.derive_sub_sup.proofs.Ends.{ref-table}
 use Rattle.derive_entry.specs.Handed.{kindAsked, isRefType, deriveNamed, deriveHanded}
-use Rattle.derive_entry.specs.Answer.{Derivation, refusedWith, Answered}
+use Rattle.derive_entry.specs.Result.{Derivation, refusedWith, DerivesHanded}
 
 -- The kinds by their codes.
 pub asked-both : (k : ℕ) (refs : Bool) → k < 2 → true ≡ kindAsked k refs
@@ -51,12 +51,12 @@ closed-asked (suc (suc zero)) refs p q h = h
 closed-asked (suc (suc (suc k))) refs p q h = let z : _≡_ {A = Bool} false true = h in let e : _≡_ {A = ℕ} 0 1 = cc in absurd (omega arith)
 
 -- The answer is the model's by another name.
-pub answered-as : {b l : List ℕ} {c : Counts} {a a′ : Res (Table × ℕ)} {r : Derivation} → Answered b l c a r → a ≡ a′ → Answered b l c a′ r
-answered-as {b} {l} {c} {r = r} h e = subst (λ a. Answered b l c a r) e h
+pub derives-as : {b l : List ℕ} {c : Counts} {a a′ : Res (Table × ℕ)} {r : Derivation} → DerivesHanded b l c a r → a ≡ a′ → DerivesHanded b l c a′ r
+derives-as {b} {l} {c} {r = r} h e = subst (λ a. DerivesHanded b l c a r) e h
 
 -- A refusal.
-pub refused-answers : (b l : List ℕ) (c : Counts) {n : ℕ} → eqb n 0 ≡ false → {a : Res (Table × ℕ)} → refuse n ≡ a → Answered b l c a (refusedWith n b c)
-refused-answers b l c {n} h w = answered-as {r = refusedWith n b c} (record {
+pub refused-derives : (b l : List ℕ) (c : Counts) {n : ℕ} → eqb n 0 ≡ false → {a : Res (Table × ℕ)} → refuse n ≡ a → DerivesHanded b l c a (refusedWith n b c)
+refused-derives b l c {n} h w = derives-as {r = refusedWith n b c} (record {
   is = ap (λ (z : Bool). cond z (ok (tableIn b l c, 0)) (refuse n)) h;
   refused = λ _. refl;
   writes = refl;
@@ -68,8 +68,8 @@ module _ (b b′ : List ℕ) (c : Counts) (k : Kind) (t s : ℕ) {d : Derived} (
   pub full-is : d ≡ Full → refuse typesFull ≡ derived (tableIn b l c) k t s
   full-is e = sym (ap (derivationIn b′ l c) e) ∙ does .is l
 
-  pub at-answers : {i m : ℕ} → d ≡ At i m → Answered b l c (derived (tableIn b l c) k t s) (record { refusal = 0; number = i; count = m; types = b′ })
-  at-answers e = record {
+  pub at-derives : {i m : ℕ} → d ≡ At i m → DerivesHanded b l c (derived (tableIn b l c) k t s) (record { refusal = 0; number = i; count = m; types = b′ })
+  at-derives e = record {
     is = sym (ap (derivationIn b′ l c) e) ∙ does .is l;
     refused = λ h. absurd (h refl);
     writes = does .writes l;

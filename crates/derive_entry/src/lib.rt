@@ -1,5 +1,5 @@
 // Sub, Sup and Closed on any table handed in, by the codes of the three kinds and signed numbers of types. A derivation is no request: the requests derive
-// types as they cross. What this answers is the definition `deriveHanded` in specs/Handed.antt.
+// types as they cross. What comes of it is the definition `deriveHanded` in specs/Handed.antt.
 ghost use mathlib.Core.Path.{_≡_};
 ghost use mathlib.Core.Bool.{true, _&&_};
 ghost use mathlib.Core.List.{List};
@@ -14,13 +14,13 @@ ghost use Rattle.table_record.specs.Layout.{typesSize};
 ghost use Rattle.derive_record.specs.Begins.{refIn};
 ghost use Rattle.derive_sub_sup.specs.Link.{Ready, Derives};
 ghost use Rattle.derive_entry.specs.Handed.{kindAsked, deriveNamed, deriveHanded};
-ghost use Rattle.derive_entry.specs.Answer.{Answered, left};
+ghost use Rattle.derive_entry.specs.Result.{DerivesHanded, left};
 use derive_record::Derived;
 use table_record::Counts;
 use table_record::LINK_BYTES;
 use table_record::TYPE_BYTES;
 
-// What a derivation answers: the table is unfit (2), a number names no type or there is no such derived type (7), the table is full (11); or the derived type's
+// What a derivation comes to: the table is unfit (2), a number names no type or there is no such derived type (7), the table is full (11); or the derived type's
 // number and how many types there are now.
 pub enum Made {
     Unfit,
@@ -70,7 +70,7 @@ fn copied(b: [u8; TYPE_BYTES]) -> [u8; TYPE_BYTES]
 // The bytes are put back where the table is full (B23).
 fn derive_checked(b: &mut [u8; TYPE_BYTES], c: Counts, kind: usize, t: usize, s: usize) -> Made
     requires { ⌜ Limits c × (t < c .types) × (s < c .types) × (kindAsked kind (refIn (c .types) (now b) t && refIn (c .types) (now b) s) ≡ true) ⌝ }
-    ensures { λ r. ⌜ ((l : List ℕ) → Answered (now (b .entry)) l c (derived (tableIn (now (b .entry)) l c) (kindOf kind) t s) (left c r (now (b .exit)))) ⌝ }
+    ensures { λ r. ⌜ ((l : List ℕ) → DerivesHanded (now (b .entry)) l c (derived (tableIn (now (b .entry)) l c) (kindOf kind) t s) (left c r (now (b .exit)))) ⌝ }
 {
     let old = copied(*b);
     let d = derive_kind(b, c, kind, t, s);
@@ -86,7 +86,7 @@ fn derive_checked(b: &mut [u8; TYPE_BYTES], c: Counts, kind: usize, t: usize, s:
 // By the numbers of the types, in a table that is checked.
 fn derive_named(b: &mut [u8; TYPE_BYTES], c: Counts, kind: usize, t: i64, s: i64) -> Made
     requires { ⌜ Limits c ⌝ }
-    ensures { λ r. ⌜ ((l : List ℕ) → Answered (now (b .entry)) l c (deriveNamed (tableIn (now (b .entry)) l c) kind t s) (left c r (now (b .exit)))) ⌝ }
+    ensures { λ r. ⌜ ((l : List ℕ) → DerivesHanded (now (b .entry)) l c (deriveNamed (tableIn (now (b .entry)) l c) kind t s) (left c r (now (b .exit)))) ⌝ }
 {
     let x = base_numbers::index_of(t, c.types);
     if c.types <= x {
@@ -111,7 +111,7 @@ pub fn derive(
     t: i64,
     s: i64,
 ) -> Made
-    ensures { λ r. ⌜ Answered (now (b .entry)) (now (l .entry)) c (deriveHanded (rawTable (now (b .entry)) (now (l .entry)) c) kind t s)
+    ensures { λ r. ⌜ DerivesHanded (now (b .entry)) (now (l .entry)) c (deriveHanded (rawTable (now (b .entry)) (now (l .entry)) c) kind t s)
         (left c r (now (b .exit))) ⌝ }
 {
     if table_check::table_fits(b, l, c) {

@@ -1,6 +1,6 @@
 // What the three derivations (D) share, over the lent bytes of a type table: the known type that answers at once, and the record of a new one, begun and
 // finished. A new type takes the next number and stands there with every method denied until its signatures are derived; then it is stored once, whole. Both
-// sides are read before anything is derived, and nothing below the count is ever written (B22). What the answers mean is in specs/Begins.antt, the order in
+// sides are read before anything is derived, and nothing below the count is ever written (B22). What the results mean is in specs/Begins.antt, the order in
 // which signatures are derived in crate `derive_slots`.
 ghost use mathlib.Core.Path.{_≡_};
 ghost use mathlib.Core.Bool.{true};
@@ -19,7 +19,7 @@ use table_record::Counts;
 use table_record::Key;
 use table_record::TYPE_BYTES;
 
-// What a derivation answers: the table is full, or the type's number and how many types there are now.
+// What a derivation comes to: the table is full, or the type's number and how many types there are now.
 pub enum Derived {
     Full,
     At(usize, usize),

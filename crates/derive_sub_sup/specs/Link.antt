@@ -1,4 +1,4 @@
--- What the code's answers and its bytes mean, in the words of the model.
+-- What the code's results and its bytes mean, in the words of the model.
 use mathlib.Core.Path.{_≡_}
 use mathlib.Core.Bool.{So}
 use mathlib.Core.List.{List}
@@ -34,7 +34,7 @@ ExactAt c b i = recordAt b i ≡ bytesOf (typeOf (c .methods) (c .sheet) i (getD
 abbrev pub Exact : Counts → ℕ → ℕ → List ℕ → Type 0
 Exact c n m b = (i : ℕ) → n ≤ i → i < m → ExactAt c b i
 
--- The public answer: a full table is refused with 11; else the number, and the table with so many types.
+-- The public result: a full table is refused with 11; else the number, and the table with so many types.
 abbrev pub derivationIn : List ℕ → List ℕ → Counts → Derived → Res (Table × ℕ)
 derivationIn b l c Full = refuse typesFull
 derivationIn b l c (At i m) = ok (tableIn b l (withCount c m), i)
@@ -77,7 +77,7 @@ CodesIn b l c (At i m) = So (codesFit (rawTable b l (withCount c m)))
 abbrev pub CodesStay : Counts → List ℕ → List ℕ → Derived → Type 0
 CodesStay c b b′ r = (l : List ℕ) → So (codesFit (rawTable b l c)) → CodesIn b′ l c r
 
--- What the public functions promise: the answer is the model's, whatever the links are; every counted byte; what else the caller goes on with; and that codes
+-- What the public functions promise: the result is the model's, whatever the links are; every counted byte; what else the caller goes on with; and that codes
 -- go on naming something.
 pub record Derives (d : Kind) (c : Counts) (t s : ℕ) (b b′ : List ℕ) (r : Derived) : Type 0 where
   pub is : (l : List ℕ) → derivationIn b′ l c r ≡ derived (tableIn b l c) d t s
@@ -86,12 +86,12 @@ pub record Derives (d : Kind) (c : Counts) (t s : ℕ) (b b′ : List ℕ) (r : 
   pub exact : ExactTo c (c .types) b′ r
   pub codes : CodesStay c b b′ r
 
--- What the answer and the bytes left say of the table whose types are the first n of the bytes.
+-- What the result and the bytes left say of the table whose types are the first n of the bytes.
 abbrev pub derivedIn : Table → Counts → Derived → List ℕ → Option (Table × ℕ)
 derivedIn t c Full b = none
 derivedIn t c (At i m) b = some (tabled t c m b, i)
 
--- The contract of the recursion: the answer is the model's, whatever else there is in the table, and for every fuel of at least the free numbers.
+-- The contract of the recursion: the result is the model's, whatever else there is in the table, and for every fuel of at least the free numbers.
 pub record Gives (d : Kind) (c : Counts) (n t s : ℕ) (b b′ : List ℕ) (r : Derived) : Type 0 where
   pub keeps : Leaves n t s b b′ r
   pub is : (T : Table) → T .methods ≡ c .methods → (f : ℕ) → maxTypes ≤ n + f → derivedIn T c r b′ ≡ derive f (tabled T c n b) d t s

@@ -1,6 +1,6 @@
 // Sub and Sup (D) over the lent bytes of a type table, as two functions that call each other (F1). How a derivation begins and how its type is stored is in
 // crate `derive_record`. Nothing below the count is ever written: what a refusal leaves past the count is open, every counted byte is as before (B22, B23).
-// What the answers mean is in specs/Link.antt.
+// What the results mean is in specs/Link.antt.
 ghost use mathlib.Core.Path.{_≡_};
 ghost use Rattle.spec_model.specs.Table.{sub, sup};
 ghost use Rattle.derive_sub_sup.specs.Link.{Ready, Derives, Gives};

@@ -8,6 +8,6 @@ use Rattle.request_serve.specs.Serves.{ServesAsked}
 use Rattle.request_results.specs.Stored.{Small}
 use Rattle.request_results.proofs.Small.{served-small}
 
-pub asked-small : (s : State) (q : Option Request) (r : Served) → ServesAsked s q r → Small (r .answer)
-asked-small s none r e = subst Small (ap (λ (x : Served). x .answer) (sym e)) tt
+pub asked-small : (s : State) (q : Option Request) (r : Served) → ServesAsked s q r → Small (r .outcome)
+asked-small s none r e = subst Small (ap (λ (x : Served). x .outcome) (sym e)) tt
 asked-small s (some q) r w = served-small s q r w

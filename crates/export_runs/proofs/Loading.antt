@@ -1,8 +1,8 @@
 -- The state of a loaded sheet stored in arrays that hold nothing: none of its records is counted, so every byte of them stays 0.
 use mathlib.Core.Path.{_≡_, subst, _∙_}
-use Rattle.spec_sheet.specs.Sheet.{SheetAnswer}
+use Rattle.spec_sheet.specs.Sheet.{SheetResult}
 use Rattle.sheet_read.specs.declared.Sheet.{Sheet}
-use Rattle.sheet_read.specs.View.{answered}
+use Rattle.sheet_read.specs.View.{sheetFor}
 use Rattle.state_record.specs.declared.State.{State as Rest}
 use Rattle.state_record.specs.Whole.{whole}
 use Rattle.state_record.specs.View.{stateLoaded}
@@ -10,7 +10,7 @@ use Rattle.state_bytes.specs.Flat.{Flat, cellsSize, placesSize, callsSize}
 use Rattle.request_results.specs.Stored.{Stored}
 use Rattle.export_runs.specs.Results.{noBytes, LoadedIs}
 
-module _ (a : SheetAnswer) (y : Sheet) (read : y ≡ answered a) (old new : Flat) where
+module _ (a : SheetResult) (y : Sheet) (read : y ≡ sheetFor a) (old new : Flat) where
   pub loaded-is : (s : Rest) → s ≡ stateLoaded (y .links) (y .counts) → (old .cells ≡ noBytes cellsSize) × (old .places ≡ noBytes placesSize) × (old .calls ≡ noBytes callsSize)
       → new .links ≡ y .links → Stored (whole (y .types) s) old new → LoadedIs a (y .refusal) (y .at) new
   loaded-is s e none links z = go (subst (λ (x : Rest). Stored (whole (y .types) x) old new) e z)

@@ -14,9 +14,9 @@ use Rattle.spec_model.specs.Handed.{counted, storedFrom}
 use Rattle.table_record.specs.Layout.{withCount, typeSize}
 use Rattle.table_record.specs.Records.{bytesOf}
 use Rattle.state_bytes.specs.Flat.{Flat, countsIn, cellCount, placeCount, callCount, rawFlat, cellsSize, placesSize, callsSize}
-use Rattle.request_run.specs.Ran.{answersOf}
-use Rattle.spec_sheet.specs.Sheet.{SheetAnswer}
-use Rattle.sheet_read.specs.Answer.{answered, sheetOf}
+use Rattle.request_run.specs.Ran.{outcomeWords}
+use Rattle.spec_sheet.specs.Sheet.{SheetResult}
+use Rattle.sheet_read.specs.Result.{sheetFor, sheetOf}
 
 -- the number returned and what stands beside it: 0 or 1, or, refused, what stood there
 abbrev pub offeredOut : ℕ → Res Bool → ℕ × ℕ
@@ -27,15 +27,15 @@ offeredOut old (ok b) = (0, bit b)
 unfoldable pub noBytes : ℕ → List ℕ
 noBytes n = replicate n 0
 
--- Where `a` is the reader's answer: number, offset and table are its parts, as `pilgonca_read` hands them out; no cell, place or call is counted, and every byte of theirs is 0.
-pub record LoadedIs (a : SheetAnswer) (n at : ℕ) (f : Flat) : Type 0 where
-  pub sheet : sheetOf n at (f .types) (f .links) (countsIn (f .counts)) ≡ answered a
+-- Where `a` is the reader's result: number, offset and table are its parts, as `pilgonca_read` hands them out; no cell, place or call is counted, and every byte of theirs is 0.
+pub record LoadedIs (a : SheetResult) (n at : ℕ) (f : Flat) : Type 0 where
+  pub sheet : sheetOf n at (f .types) (f .links) (countsIn (f .counts)) ≡ sheetFor a
   pub cells : f .cells ≡ noBytes cellsSize
   pub places : f .places ≡ noBytes placesSize
   pub calls : f .calls ≡ noBytes callsSize
   pub none : (cellCount (f .counts) ≡ 0) × (placeCount (f .counts) ≡ 0) × (callCount (f .counts) ≡ 0)
 
--- What a caller lends to a run (U): the state, the list for its answers, and where the number of those served goes.
+-- What a caller lends to a run (U): the state, the list for its outcomes, and where the number of those served goes.
 pub record LentRun : Type 0 where
   pub state : Flat
   pub answers : List ℤ
@@ -48,8 +48,8 @@ lentRun f answers served = record { state = f; answers = answers; served = serve
 pub record RanOut (os : List Outcome) (m : System) (n : ℕ) (old new : LentRun) : Type 0 where
   pub number : n ≡ 0
   pub served : new .served ≡ length os
-  -- the answers stand from the front on; what is behind them is as it was (U8, U9)
-  pub answers : new .answers ≡ sets (old .answers) 0 (answersOf os)
+  -- the outcomes stand from the front on; what is behind them is as it was (U8, U9)
+  pub answers : new .answers ≡ sets (old .answers) 0 (outcomeWords os)
   -- what is counted of table, cells, places and calls is the model's: how many, and each record (U10, Q15)
   pub records : counted (rawFlat (new .state)) ≡ counted (storedFrom (rawFlat (old .state)) m)
   -- the links stay, and every count of the table but that of its types

@@ -93,7 +93,7 @@ pub extern "C" fn pilgonca_offers(
     offered_code(o, offered)
 }
 
-// A run (U): 0, with the answers, how many requests were served and the state that they leave; or 2, and nothing is changed.
+// A run (U): 0, with the outcomes, how many requests were served and the state that they leave; or 2, and nothing is changed.
 #[no_mangle]
 pub extern "C" fn pilgonca_run(
     types: &mut [u8; TYPE_BYTES],

@@ -3,7 +3,7 @@
 ghost use mathlib.Core.Path.{_≡_};
 ghost use Rattle.table_record.specs.Layout.{countsIn};
 ghost use Rattle.spec_sheet.specs.Sheet.{read as readSheet};
-ghost use Rattle.sheet_read.specs.View.{answered, sheetOf};
+ghost use Rattle.sheet_read.specs.View.{sheetFor, sheetOf};
 use table_record::LINK_BYTES;
 use table_record::TYPE_BYTES;
 
@@ -18,7 +18,7 @@ pub extern "C" fn pilgonca_read(
     at: &mut usize,
 ) -> usize
     ensures { λ n. ⌜ sheetOf n (now (at .exit)) (now (types .exit)) (now (links .exit)) (countsIn (now (counts .exit)))
-        ≡ answered (readSheet (now (text .entry))) ⌝ }
+        ≡ sheetFor (readSheet (now (text .entry))) ⌝ }
 {
     let r = sheet_read::read_into(text, types, links);
     let c = r.counts;

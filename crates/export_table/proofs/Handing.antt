@@ -12,9 +12,9 @@ use Rattle.table_record.specs.declared.Counts.{Counts}
 use Rattle.table_record.specs.Store.{rawTable, withCount}
 use Rattle.relation_compare.specs.declared.Pairs.{Pairs}
 use Rattle.relation_compare.specs.Pairs.{pairTable, pairsHanded}
-use Rattle.relation_compare.specs.Answered.{pairsGiven}
+use Rattle.relation_compare.specs.Compared.{pairsGiven}
 use Rattle.derive_sub_sup.specs.Link.{Writes}
-use Rattle.derive_entry.specs.Answer.{Derivation, derivationOf, refusedWith, Answered}
+use Rattle.derive_entry.specs.Result.{Derivation, derivationOf, refusedWith, DerivesHanded}
 use Rattle.state_bytes.specs.Flat.{countsIn}
 use Rattle.export_table.specs.Codes.{handedOut, derivationLeft, Lent, lent, DerivedIs}
 
@@ -51,9 +51,9 @@ module _ (l : List ℕ) (a : Res (Table × ℕ)) (n : ℕ) (old : Lent) (b : Lis
   alone : derivationOf l oldCounts (refusedWith n b oldCounts) ≡ a → derivationOf l oldCounts (derivationLeft n (old .number) (old .counts) (old .types)) ≡ a
   alone e = rw h (rw h at e)
 
-  pub derivation-refused : {d : Derivation} → d ≡ refusedWith n b oldCounts → Answered (old .types) l oldCounts a d → DerivedIs l a n old (lent b (old .counts) (old .number))
+  pub derivation-refused : {d : Derivation} → d ≡ refusedWith n b oldCounts → DerivesHanded (old .types) l oldCounts a d → DerivedIs l a n old (lent b (old .counts) (old .number))
   derivation-refused e given =
-      let g : Answered (old .types) l oldCounts a (refusedWith n b oldCounts) = subst (Answered (old .types) l oldCounts a) e given in
+      let g : DerivesHanded (old .types) l oldCounts a (refusedWith n b oldCounts) = subst (DerivesHanded (old .types) l oldCounts a) e given in
       let same : b ≡ old .types = ap (λ (z : Derivation). z .types) (g .refused some) in
       let back : lent b (old .counts) (old .number) ≡ old = ap (λ z. lent z (old .counts) (old .number)) same in
       subst (DerivedIs l a n old) (sym back)
@@ -62,7 +62,7 @@ module _ (l : List ℕ) (a : Res (Table × ℕ)) (n : ℕ) (old : Lent) (b : Lis
 -- One that is accepted: each thing lent is what the answer has.
 module _ (l : List ℕ) (a : Res (Table × ℕ)) (r : Derivation) (old new : Lent) where
   pub derivation-accepted : new .types ≡ r .types → countsIn (new .counts) ≡ withCount (countsIn (old .counts)) (r .count) → new .number ≡ r .number
-      → r .refusal ≡ 0 → Answered (old .types) l (countsIn (old .counts)) a r → DerivedIs l a (r .refusal) old new
+      → r .refusal ≡ 0 → DerivesHanded (old .types) l (countsIn (old .counts)) a r → DerivedIs l a (r .refusal) old new
   derivation-accepted t w n z g =
       let c : Counts = countsIn (old .counts) in
       let q : countsIn (new .counts) .types ≡ r .count = ap (λ (x : Counts). x .types) w in

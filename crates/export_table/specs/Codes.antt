@@ -11,30 +11,30 @@ use Rattle.table_record.specs.Layout.{rawTable, withCount}
 use Rattle.state_bytes.specs.Flat.{countsIn}
 use Rattle.relation_compare.specs.Pairs.{pairCode}
 use Rattle.derive_sub_sup.specs.Bytes.{Writes}
-use Rattle.derive_entry.specs.Answer.{Derivation, derivationOf}
+use Rattle.derive_entry.specs.Result.{Derivation, derivationOf}
 use Rattle.spec_sheet.specs.Text.{Written}
 pub use Rattle.text_write.specs.Written.{numberOf, valueOf}
 
--- 16 and the answers, as in the pair table (B24)
+-- 16 and the comparison, as in the pair table (B24)
 abbrev pub comparisonCode : Comparison → ℕ
 comparisonCode a = 16 + pairCode a
 
--- Compare's answer: the number of the refusal, or the code of the answers
+-- What Compare comes to: the number of the refusal, or the code of the comparison
 abbrev pub comparedCode : Res Comparison → ℕ
 comparedCode (refuse n) = n
 comparedCode (ok a) = comparisonCode a
 
 -- what the writer leaves, each part by itself: number, length (old and new) and buffer
 pub record WrittenIs (w : Written) (n old new : ℕ) (buffer : List ℕ) : Type 0 where
-  pub number : n ≡ numberOf (w .answer)
-  pub length : new ≡ valueOf old (w .answer)
+  pub number : n ≡ numberOf (w .result)
+  pub length : new ≡ valueOf old (w .result)
   pub bytes : buffer ≡ w .buffer
 
--- the number and the value together, for an answer with one value
+-- the number and the value together, for a result with one value
 abbrev pub handedOut : {A : Type 0} → A → Res A → ℕ × A
 handedOut old a = (numberOf a, valueOf old a)
 
--- a derivation's answer, each part by itself: number, the type's number, the counts as they are now, and the types' bytes
+-- a derivation's result, each part by itself: number, the type's number, the counts as they are now, and the types' bytes
 abbrev pub derivationLeft : ℕ → ℕ → List ℕ → List ℕ → Derivation
 derivationLeft n number counts types = record { refusal = n; number = number; count = countsIn counts .types; types = types }
 
@@ -47,7 +47,7 @@ pub record Lent : Type 0 where
 abbrev pub lent : List ℕ → List ℕ → ℕ → Lent
 lent types counts number = record { types = types; counts = counts; number = number }
 
--- What a derivation leaves of it (old and new), n being returned, where `a` is the definition's answer: the table and the type's number; a refusal changes nothing;
+-- What a derivation leaves of it (old and new), n being returned, where `a` is the definition's result: the table and the type's number; a refusal changes nothing;
 -- every byte below the old count stays and the records of the new types stand behind them (B22); of the counts only that of the types changes; and codes that
 -- named something still do, whatever the links are.
 pub record DerivedIs (l : List ℕ) (a : Res (Table × ℕ)) (n : ℕ) (old new : Lent) : Type 0 where

@@ -5,8 +5,8 @@ ghost use mathlib.Core.Path.{_≡_};
 ghost use Prim.Native.Nat.{_+_};
 ghost use Rattle.spec_model.specs.Check.{compareHanded};
 ghost use Rattle.table_record.specs.Store.{rawTable};
-ghost use Rattle.relation_search.specs.Answered.{comparisonOf};
-ghost use Rattle.relation_compare.specs.Answered.{comparedOf};
+ghost use Rattle.relation_search.specs.Comparing.{comparisonOf};
+ghost use Rattle.relation_compare.specs.Compared.{comparedOf};
 ghost use Rattle.relation_compare.specs.Pairs.{pairsHanded};
 ghost use Rattle.derive_entry.specs.Handed.{deriveHanded};
 ghost use Rattle.spec_sheet.specs.Text.{write};
@@ -35,7 +35,7 @@ fn counts_of(n: [usize; 5]) -> Counts
     }
 }
 
-// The answers as one number.
+// A comparison as one number.
 fn comparison_code(a: Comparison) -> usize
     ensures { λ n. ⌜ n ≡ comparisonCode (comparisonOf a) ⌝ }
 {
@@ -43,7 +43,7 @@ fn comparison_code(a: Comparison) -> usize
     16 + wide(code)
 }
 
-// Compare's answer as one number.
+// What Compare comes to as one number.
 fn compared_code(r: Compared) -> usize
     ensures { λ n. ⌜ n ≡ comparedCode (comparedOf r) ⌝ }
 {
@@ -54,7 +54,7 @@ fn compared_code(r: Compared) -> usize
     }
 }
 
-// Compare (R14) on a table handed in: 2, then 7, else 16 and the answers.
+// Compare (R14) on a table handed in: 2, then 7, else 16 and the comparison.
 #[no_mangle]
 pub extern "C" fn pilgonca_compare(
     types: &[u8; TYPE_BYTES],
@@ -87,7 +87,7 @@ pub extern "C" fn pilgonca_write(
     text_write::wrote_code(w, length)
 }
 
-// The pair table (E9) of a table handed in: 0 and the answers at every pair of sheet types, or 2 and `out` as it was.
+// The pair table (E9) of a table handed in: 0 and the comparison at every pair of sheet types, or 2 and `out` as it was.
 #[no_mangle]
 pub extern "C" fn pilgonca_pairs(
     types: &[u8; TYPE_BYTES],

@@ -26,26 +26,33 @@ pub four-valid : validSheet passingFour ≡ true
 unfolding validSheet
 four-valid = refl
 
--- A reference that cannot cross is refused with 8 at each of the four positions, and leaves nothing (C20); then all four cross, and the owner has a cell for each, in order, of the
--- class's argument types (C10, C17).
+-- Four references of different objects. One that cannot cross is refused with 8 at each of the four positions, and leaves nothing (C20); then all four cross, and the owner has a
+-- cell for each, in order, of the class's argument types, in front of its own object (C10, C17).
 pub four-worked : Works (record {
   state = loaded passingFour;
   requests =
       new′ 0 0 5
       ∷ move′ 0 0 1 5
       ∷ new′ 1 0 0
+      ∷ new′ 1 0 0
+      ∷ new′ 1 0 0
+      ∷ new′ 1 0 0
       ∷ new′ 1 6 6
-      ∷ call′ 1 1 0 (pos 3 ∷ pos 2 ∷ pos 2 ∷ pos 2 ∷ [])
-      ∷ call′ 1 1 0 (pos 2 ∷ pos 3 ∷ pos 2 ∷ pos 2 ∷ [])
-      ∷ call′ 1 1 0 (pos 2 ∷ pos 2 ∷ pos 3 ∷ pos 2 ∷ [])
-      ∷ call′ 1 1 0 (pos 2 ∷ pos 2 ∷ pos 2 ∷ pos 3 ∷ [])
-      ∷ call′ 1 1 0 (pos 2 ∷ pos 2 ∷ pos 2 ∷ pos 2 ∷ [])
+      ∷ call′ 1 1 0 (pos 6 ∷ pos 3 ∷ pos 4 ∷ pos 5 ∷ [])
+      ∷ call′ 1 1 0 (pos 2 ∷ pos 6 ∷ pos 4 ∷ pos 5 ∷ [])
+      ∷ call′ 1 1 0 (pos 2 ∷ pos 3 ∷ pos 6 ∷ pos 5 ∷ [])
+      ∷ call′ 1 1 0 (pos 2 ∷ pos 3 ∷ pos 4 ∷ pos 6 ∷ [])
+      ∷ call′ 1 1 0 (pos 2 ∷ pos 3 ∷ pos 4 ∷ pos 5 ∷ [])
       ∷ [];
   gives =
-      got (pair 0 1) ∷ got (pair 1 1) ∷ got (pair 2 2) ∷ got (pair 3 3) ∷ refused 8 ∷ refused 8 ∷ refused 8 ∷ refused 8 ∷ got (pair 0 1) ∷ [];
-  cells = cell 0 5 1 ∷ cell 1 5 1 ∷ cell 1 0 2 ∷ cell 1 6 3 ∷ cell 0 1 4 ∷ cell 0 2 5 ∷ cell 0 3 6 ∷ cell 0 4 7 ∷ [];
+      got (pair 0 1) ∷ got (pair 1 1) ∷ got (pair 2 2) ∷ got (pair 3 3) ∷ got (pair 4 4) ∷ got (pair 5 5) ∷ got (pair 6 6)
+      ∷ refused 8 ∷ refused 8 ∷ refused 8 ∷ refused 8 ∷ got (pair 0 1) ∷ [];
+  cells =
+      cell 0 5 1 ∷ cell 1 5 1 ∷ cell 1 0 2 ∷ cell 1 0 3 ∷ cell 1 0 4 ∷ cell 1 0 5 ∷ cell 1 6 6
+      ∷ cell 0 1 7 ∷ cell 0 2 8 ∷ cell 0 3 9 ∷ cell 0 4 10 ∷ [];
   places =
-      object 0 0 ∷ adapter 0 12 ∷ object 0 1 ∷ object 6 1 ∷ adapter 2 18 ∷ adapter 2 20 ∷ adapter 2 23 ∷ adapter 2 26 ∷ [];
+      object 0 0 ∷ adapter 0 12 ∷ object 0 1 ∷ object 0 1 ∷ object 0 1 ∷ object 0 1 ∷ object 6 1
+      ∷ adapter 2 18 ∷ adapter 3 20 ∷ adapter 4 23 ∷ adapter 5 26 ∷ [];
 })
 unfolding run
 four-worked = refl

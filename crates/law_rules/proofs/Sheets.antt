@@ -9,7 +9,7 @@ use Rattle.spec_model.specs.Basics.{Res, refuse, ok}
 use Rattle.spec_model.specs.Table.{Table}
 use Rattle.spec_sheet.specs.Lines.{Row, row, cut, split, join, Reading, refused, got, Reader, lineAt, line, follow, bind, endOfInput}
 use Rattle.spec_sheet.specs.Text.{endText}
-use Rattle.spec_sheet.specs.Sheet.{endLine, body, signaturesStand, ending, sheet, malformed, sheetAnswer, read}
+use Rattle.spec_sheet.specs.Sheet.{endLine, body, signaturesStand, ending, sheet, malformed, sheetResult, read}
 use Rattle.spec_sheet.proofs.Lines.{rows}
 use Rattle.spec_sheet.proofs.LineKinds.{end-exact}
 use Rattle.law_rules.proofs.Readers.{NotBefore, Took, Wrong, missing, unended, atFault, Stopped, Came, follow-later, wrong-on, goes-on, both-passed, both-offset, second, body-local}
@@ -149,6 +149,6 @@ pub refused-line : (bs : List ℕ) (n at : ℕ) → read bs ≡ malformed n at �
 unfolding read
 refused-line bs n at = go (sheet 0 (split bs)) (of-sheet (split bs))
   where
-    go : (r : Reading Table) → OfSheet (split bs) r → sheetAnswer r ≡ malformed n at → RefusedLine (split bs) n at
+    go : (r : Reading Table) → OfSheet (split bs) r → sheetResult r ≡ malformed n at → RefusedLine (split bs) n at
     go (refused m k) h e = let p : m ≡ n = cc in let q : k ≡ at = cc in subst (λ x. RefusedLine (split bs) x at) p (subst (RefusedLine (split bs) m) q h)
     go (got t k rest) h e = let z : _≡_ {A = ℕ} 0 1 = cc in absurd (omega arith)

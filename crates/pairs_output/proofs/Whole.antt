@@ -15,17 +15,17 @@ use Rattle.table_record.specs.Store.{tableIn}
 use Rattle.table_record.proofs.Lists.{from-same}
 use Rattle.table_record.specs.Limits.{Checked}
 use Rattle.table_check.proofs.Accepted.{accepted-checked}
-use Rattle.relation_search.specs.Answered.{comparisonAt}
+use Rattle.relation_search.specs.Comparing.{comparisonAt}
 use Rattle.relation_compare.specs.Pairs.{pairCode, pairTable}
 use Rattle.relation_compare.proofs.Laws.{pair-at}
 use Rattle.spec_sheet.specs.Lines.{bytes, join}
 use Rattle.spec_sheet.specs.Text.{numberText}
 use Rattle.spec_sheet.specs.Sheet.{malformed, read}
 use Rattle.sheet_read.specs.declared.Sheet.{Sheet}
-use Rattle.sheet_read.specs.View.{answered}
+use Rattle.sheet_read.specs.View.{sheetFor}
 use Rattle.sheet_read.proofs.Accepted.{read-loaded, read-malformed, read-accepted}
 use Rattle.text_write.specs.Fill.{Filled}
-use Rattle.pairs_output.specs.Output.{maxInput, comparisonBits, pairLine, pairLines, answerLines, pairsOutput}
+use Rattle.pairs_output.specs.Output.{maxInput, comparisonBits, pairLine, pairLines, resultLines, pairsOutput}
 use Rattle.pairs_write_lines.specs.Spaced.{spaced}
 use Rattle.pairs_write_lines.specs.Parts.{comparisonIn, codeLine, rowLines, codeLines}
 
@@ -70,7 +70,7 @@ module _ (T : Table) (h : T .sheet ≤ maxSheetTypes) where
       (λ t _ p. from-same (λ s. codeLine t s (getD (pairTable T) (t * maxSheetTypes + s) 0)) (pairLine T t) (T .sheet) 0 (λ s _ q. pair-is t s (omega arith) (omega arith))))
 
 -- ---- an accepted sheet
-module _ (bs : List ℕ) (x : Sheet) (h : x ≡ answered (read bs)) (z : x .refusal ≡ 0) where
+module _ (bs : List ℕ) (x : Sheet) (h : x ≡ sheetFor (read bs)) (z : x .refusal ≡ 0) where
   abbrev tableOfSheet : Table
   tableOfSheet = tableIn (x .types) (x .links) (x .counts)
 
@@ -81,14 +81,14 @@ module _ (bs : List ℕ) (x : Sheet) (h : x ≡ answered (read bs)) (z : x .refu
   sheet-few = sheet-checked .limits .sheet
 
   pub accepted-prints : length bs ≤ maxInput → join (codeLines (pairTable tableOfSheet) (x .counts .sheet) (x .counts .sheet)) ≡ pairsOutput bs
-  unfolding pairsOutput answerLines tableIn tableOf
-  accepted-prints l = ap join (pairs-are tableOfSheet sheet-few) ∙ ap (λ a. join (answerLines a)) (sym (read-loaded bs x h z)) ∙ rw (le-ltb maxInput (length bs) l)
+  unfolding pairsOutput resultLines tableIn tableOf
+  accepted-prints l = ap join (pairs-are tableOfSheet sheet-few) ∙ ap (λ a. join (resultLines a)) (sym (read-loaded bs x h z)) ∙ rw (le-ltb maxInput (length bs) l)
 
 -- ---- a refused sheet, and an input that is too long
-pub refused-prints : (bs : List ℕ) (x : Sheet) → x ≡ answered (read bs) → (x .refusal ≡ 0 → ⊥) → length bs ≤ maxInput
-    → join (answerLines (malformed (x .refusal) (x .at))) ≡ pairsOutput bs
+pub refused-prints : (bs : List ℕ) (x : Sheet) → x ≡ sheetFor (read bs) → (x .refusal ≡ 0 → ⊥) → length bs ≤ maxInput
+    → join (resultLines (malformed (x .refusal) (x .at))) ≡ pairsOutput bs
 unfolding pairsOutput
-refused-prints bs x h z l = ap (λ a. join (answerLines a)) (sym (read-malformed bs x h z)) ∙ rw (le-ltb maxInput (length bs) l)
+refused-prints bs x h z l = ap (λ a. join (resultLines a)) (sym (read-malformed bs x h z)) ∙ rw (le-ltb maxInput (length bs) l)
 
 pub long-prints : (bs : List ℕ) → maxInput < length bs → join (bytes "no=2" ∷ []) ≡ pairsOutput bs
 unfolding pairsOutput

@@ -7,18 +7,18 @@ use lib.ListN.{length}
 use Rattle.spec_model.specs.Basics.{from}
 use Rattle.spec_model.specs.Table.{Table}
 use Rattle.spec_model.specs.Relations.{Comparison, bit, related}
-use Rattle.relation_search.specs.Answered.{comparisonAt}
+use Rattle.relation_search.specs.Comparing.{comparisonAt}
 use Rattle.spec_sheet.specs.Lines.{bytes, join}
 use Rattle.spec_sheet.specs.Numbers.{decimalIn}
 use Rattle.spec_sheet.specs.Text.{numberText}
 use Rattle.pairs_write_lines.specs.Spaced.{spaced}
-use Rattle.spec_sheet.specs.Sheet.{SheetAnswer, malformed, loaded, read}
+use Rattle.spec_sheet.specs.Sheet.{SheetResult, malformed, loaded, read}
 
 -- a sheet of at most so many bytes (P1)
 abbrev pub maxInput : ℕ
 maxInput = 32768
 
--- the answers of Compare, 1 or 0, in the order in which they are printed
+-- the parts of a comparison, 1 or 0, in the order in which they are printed
 abbrev pub comparisonBits : Comparison → List ℕ
 comparisonBits a = bit (a .subtype) ∷ bit (a .strict) ∷ bit (a .loose) ∷ bit (a .free) ∷ []
 
@@ -32,12 +32,12 @@ unfolding pairLine from flatten
 pairLines x = flatten (from (x .sheet) 0 (λ t. from (x .sheet) 0 (λ s. pairLine x t s)))
 
 -- `no=N at=OFFSET` for a refused sheet (P16)
-unfoldable pub answerLines : SheetAnswer → List (List ℕ)
+unfoldable pub resultLines : SheetResult → List (List ℕ)
 unfolding pairLines numberText
-answerLines (malformed n at) = (numberText (bytes "no=") n ++ numberText (bytes " at=") at) ∷ []
-answerLines (loaded x) = pairLines x
+resultLines (malformed n at) = (numberText (bytes "no=") n ++ numberText (bytes " at=") at) ∷ []
+resultLines (loaded x) = pairLines x
 
 -- longer input: `no=2` alone (P1)
 unfoldable pub pairsOutput : List ℕ → List ℕ
-unfolding answerLines join read
-pairsOutput s = join (cond (ltb maxInput (length s)) (bytes "no=2" ∷ []) (answerLines (read s)))
+unfolding resultLines join read
+pairsOutput s = join (cond (ltb maxInput (length s)) (bytes "no=2" ∷ []) (resultLines (read s)))

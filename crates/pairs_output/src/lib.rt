@@ -9,7 +9,7 @@ ghost use Prim.Native.Nat.{_≤_};
 ghost use lib.ListN.{length, take};
 ghost use Rattle.spec_sheet.specs.Sheet.{malformed};
 ghost use Rattle.text_write.specs.Fill.{Filled, Lined};
-ghost use Rattle.pairs_output.specs.Output.{answerLines, pairsOutput};
+ghost use Rattle.pairs_output.specs.Output.{resultLines, pairsOutput};
 
 // Room for what is printed: 48 * 48 lines of at most 14 bytes are 32,256.
 pub const PRINTED_BYTES: usize = 32768;
@@ -22,7 +22,7 @@ pub struct Printed {
 
 // `no=N at=OFFSET`
 fn refused_line(buf: &mut [u8], refusal: usize, at: usize) -> usize
-    ensures is { λ r. ⌜ Lined (now (buf .entry)) (now (buf .exit)) (answerLines (malformed refusal at)) r ⌝ }
+    ensures is { λ r. ⌜ Lined (now (buf .entry)) (now (buf .exit)) (resultLines (malformed refusal at)) r ⌝ }
     ensures few { λ r. ⌜ r ≤ 73 ⌝ }
 {
     let a = put_number(buf, b"no=", refusal);

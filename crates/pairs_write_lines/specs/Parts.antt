@@ -9,11 +9,11 @@ use Rattle.spec_sheet.specs.Numbers.{decimalIn}
 use Rattle.spec_sheet.specs.Text.{numberText}
 use Rattle.pairs_write_lines.specs.Spaced.{spaces, spaced}
 
--- the four answers in a pair's byte (B24)
+-- the four parts of the comparison in a pair's byte (B24)
 abbrev pub comparisonIn : ℕ → List ℕ
 comparisonIn c = c % 2 ∷ c / 2 % 2 ∷ c / 4 % 2 ∷ c / 8 % 2 ∷ []
 
--- the answers, each behind a space, and the end of the line (P17)
+-- its parts, each behind a space, and the end of the line (P17)
 unfoldable pub comparisonText : ℕ → List ℕ
 unfolding numberText
 comparisonText c = spaces (comparisonIn c) ++ 10 ∷ []

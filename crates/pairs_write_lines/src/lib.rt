@@ -12,7 +12,7 @@ ghost use Rattle.text_write.specs.Fill.{Filled, Lined};
 ghost use Rattle.pairs_write_lines.specs.Parts.{comparisonText, codeLine, rowLines, codeLines};
 ghost use Rattle.spec_model.specs.Table.{maxSheetTypes};
 
-// The four answers of a pair, and the end of the line.
+// The comparison of a pair, and the end of the line.
 fn put_comparison(buf: &mut [u8], code: usize) -> usize
     ensures is { λ r. ⌜ Filled (now (buf .entry)) (now (buf .exit)) (comparisonText code) r ⌝ }
     ensures few { λ r. ⌜ r ≤ 145 ⌝ }

@@ -16,13 +16,13 @@ use Rattle.table_record.specs.declared.Counts.{Counts}
 use Rattle.table_record.specs.Store.{rawTable, tableIn}
 use Rattle.table_record.proofs.Lists.{is-from, from-first}
 use Rattle.relation_search.specs.declared.Comparison.{Comparison}
-use Rattle.relation_search.specs.Answered.{comparisonOf, comparisonAt}
+use Rattle.relation_search.specs.Comparing.{comparisonOf, comparisonAt}
 use Rattle.base_numbers.specs.Index.{indexOf}
 use Rattle.base_numbers.proofs.Laws.{index-unknown, index-known}
 use Rattle.relation_compare.specs.declared.Compared.{Compared}
 use Rattle.relation_compare.specs.declared.Compared.the-variants.{Unfit, Unknown, Comparison as Given}
 use Rattle.relation_compare.specs.declared.Pairs.{Pairs}
-use Rattle.relation_compare.specs.Answered.{comparedOf, pairsGiven}
+use Rattle.relation_compare.specs.Compared.{comparedOf, pairsGiven}
 use Rattle.relation_compare.specs.Pairs.{pairCode, pairEntry, pairTable, noPairs, pairsHanded, pairsSize}
 
 -- Compare, where x and y are the indices of the numbers handed in.

@@ -1,12 +1,12 @@
-// Compare at two numbers that are handed in, and the pair table of a sheet: the same answers for every pair of its types.
+// Compare at two numbers that are handed in, and the pair table of a sheet: the same comparison for every pair of its types.
 ghost use mathlib.Core.Path.{_≡_};
 ghost use Prim.Native.Nat.{_+_, _*_, _≤_};
 ghost use Rattle.spec_model.specs.Relations.{compare};
 ghost use Rattle.spec_model.specs.Check.{compareHanded};
 ghost use Rattle.table_record.specs.Store.{rawTable, tableIn};
 ghost use Rattle.table_record.specs.Limits.{Checked};
-ghost use Rattle.relation_search.specs.Answered.{comparisonOf};
-ghost use Rattle.relation_compare.specs.Answered.{comparedOf, pairsGiven};
+ghost use Rattle.relation_search.specs.Comparing.{comparisonOf};
+ghost use Rattle.relation_compare.specs.Compared.{comparedOf, pairsGiven};
 ghost use Rattle.relation_compare.specs.Pairs.{pairCode, pairEntry, pairTable, noPairs, pairsHanded};
 use base_numbers::bit_of;
 use relation_search::Comparison;
@@ -17,7 +17,7 @@ use table_record::TYPE_BYTES;
 // The bytes of a pair table (B24).
 pub const PAIR_BYTES: usize = Counts::SHEET_TYPES * Counts::SHEET_TYPES;
 
-// What Compare answers (R14): 2 for a table that is not fit, 7 for a number that names no type, or the answers.
+// What Compare comes to (R14): 2 for a table that is not fit, 7 for a number that names no type, or the comparison.
 pub enum Compared {
     Unfit,
     Unknown,
@@ -63,7 +63,7 @@ pub fn compare_types(
     Compared::Unfit
 }
 
-// The answers in one byte.
+// A comparison in one byte.
 pub fn pair_code(a: Comparison) -> u8
     ensures { λ r. ⌜ r ≡ pairCode (comparisonOf a) ⌝ }
 {
@@ -74,7 +74,7 @@ pub fn pair_code(a: Comparison) -> u8
     w + 2 * x + 4 * y + 8 * z
 }
 
-// The answers at a pair of sheet types; 0 where one is no sheet type.
+// The comparison at a pair of sheet types; 0 where one is no sheet type.
 fn pair_entry(b: &[u8; TYPE_BYTES], l: &[u8; LINK_BYTES], c: Counts, t: usize, s: usize) -> u8
     requires { ⌜ Checked (now l) c ⌝ }
     ensures { λ r. ⌜ r ≡ pairEntry (tableIn (now (b .entry)) (now (l .entry)) c) t s ⌝ }
@@ -89,7 +89,7 @@ fn pair_entry(b: &[u8; TYPE_BYTES], l: &[u8; LINK_BYTES], c: Counts, t: usize, s
     pair_code(a)
 }
 
-// The answers at every pair of sheet types, those of (T, S) at T * 48 + S (B24).
+// The comparison at every pair of sheet types, that of (T, S) at T * 48 + S (B24).
 pub fn pair_table(b: &[u8; TYPE_BYTES], l: &[u8; LINK_BYTES], c: Counts) -> [u8; PAIR_BYTES]
     requires { ⌜ Checked (now l) c ⌝ }
     ensures { λ r. ⌜ r ≡ pairTable (tableIn (now (b .entry)) (now (l .entry)) c) ⌝ }

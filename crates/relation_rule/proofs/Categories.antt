@@ -76,7 +76,21 @@ pub far-order : (l : List ℕ) (c : Counts) (a x : ℕ) → c .cats < x → (eqb
 unfolding reaches
 far-order l c a x p = rw (links-out l c x p) (or-none (eqb a 0) (eqb a x))
 
--- One category: the ways in which the code answers.
+-- what needs no links: category 0, and a category itself
+module _ (l : List ℕ) (c : Counts) (a x : ℕ) where
+  pub none-order : a ≡ 0 → true ≡ reaches (suc maxCategories) (broaderIn l c) a x
+  unfolding reaches
+  none-order e = rw (eq-eqb a 0 e)
+
+  pub self-order : a ≡ x → true ≡ reaches (suc maxCategories) (broaderIn l c) a x
+  unfolding reaches
+  self-order e = rw (eq-eqb a x e) (go (eqb a 0))
+    where
+      go : (p : Bool) → true ≡ p || true
+      go true = refl
+      go false = refl
+
+-- One category: each result of the code.
 module _ (l : List ℕ) (c : Counts) (done : List Bool) (a x : ℕ) where
   pub next-none : a ≡ 0 → true ≡ catNext (broaderIn l c) done a x
   unfolding catNext

@@ -1,14 +1,14 @@
 -- A square of yes and no says a state rule (R8 to R11) if it does at every two states, which is computed.
-use mathlib.Core.Path.{_≡_}
-use mathlib.Core.Bool.{Bool, false, So, Bool·beq}
+use mathlib.Core.Path.{_≡_, refl, sym}
+use mathlib.Core.Bool.{Bool, true, false, So, Bool·beq}
 use mathlib.Core.List.{List, []}
 use Prim.Native.Nat.{ℕ, _<_}
 use lib.ListN.{getD}
-use Rattle.spec_model.specs.Relations.{Relation, stateRule}
+use Rattle.spec_model.specs.Relations.{Relation, subtype, conforms, strict, loose, free, stateRule}
 use Rattle.spec_model.specs.Check.{stateOf}
 use Rattle.spec_model.specs.Records.{stateCode}
 use Rattle.spec_model.proofs.Tests.{beq-so}
-use Rattle.spec_model.proofs.States.{eachB, each₂}
+use Rattle.spec_model.proofs.States.{each, eachB, each₂}
 use Rattle.relation_rule.specs.Parts.{Says}
 use Rattle.table_record.proofs.Codes.{state-back}
 
@@ -26,3 +26,14 @@ pub says-at : (k : Relation) (o : List (List Bool)) (i j a b : ℕ) → Says k o
     stateRule k (stateOf a) (stateOf b)
 unfolding Says
 says-at k o i j a b s p q e f = rw (← e, ← f) (s i j p q)
+
+-- every relation lets a state stand with itself
+self-each : (k : Relation) → So (eachB λ x. stateRule k x x)
+self-each subtype = refl
+self-each conforms = refl
+self-each strict = refl
+self-each loose = refl
+self-each free = refl
+
+pub same-code : (k : Relation) (a b : ℕ) → a ≡ b → true ≡ stateRule k (stateOf a) (stateOf b)
+same-code k a b e = rw e (sym (each (λ x. stateRule k x x) (self-each k) (stateOf b)))

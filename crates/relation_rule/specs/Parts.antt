@@ -57,6 +57,6 @@ Says k square = (a b : ℕ) → a < 4 → b < 4 → getD (getD square a []) b fa
 unfoldable pub broaderIn : List ℕ → Counts → List (List ℕ)
 broaderIn l c = [] ∷ from (c .cats) 1 (broaderOf l)
 
--- Category a ≤ x by the links of x, from the answers for the categories below x.
+-- Category a ≤ x by the links of x, from what is known of the categories below x.
 unfoldable pub catNext : List (List ℕ) → List Bool → ℕ → ℕ → Bool
 catNext links done a x = eqb a 0 || (eqb a x || any (λ k. getD done k false) (getD links x []))

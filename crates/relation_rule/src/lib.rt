@@ -84,22 +84,26 @@ fn state_index(x: u8) -> usize
     3
 }
 
-// A comparison of two states by a square.
-fn states_compare(square: &[[bool; 4]; 4], a: usize, b: usize) -> bool
+// A comparison of two states by a square, which it takes by value (F3).
+fn states_compare(square: [[bool; 4]; 4], a: usize, b: usize) -> bool
     requires { ⌜ (a < 4) × (b < 4) ⌝ }
-    ensures { λ r. ⌜ r ≡ getD (getD (now (square .entry)) a []) b false ⌝ }
+    ensures { λ r. ⌜ r ≡ getD (getD square a []) b false ⌝ }
 {
     square[a][b]
 }
 
-// The state rule of the relation k, whose square is handed in, at the codes of T's state and of S's.
+// The state rule of the relation k, whose square is handed in, at the codes of T's state and of S's. Every relation lets a state stand with itself, which most
+// pairs ask.
 pub fn state_rule(square: &[[bool; 4]; 4], k: Relation, a: u8, b: u8) -> bool
     requires { ⌜ Says (relationOf k) (now square) ⌝ }
     ensures { λ r. ⌜ r ≡ stateRule (relationOf k) (stateOf a) (stateOf b) ⌝ }
 {
+    if a == b {
+        return true;
+    }
     let i = state_index(a);
     let j = state_index(b);
-    states_compare(square, i, j)
+    states_compare(*square, i, j)
 }
 
 // Whether both sides permit a method, by the codes of its states.
@@ -113,7 +117,7 @@ pub fn both_permit(x: u8, y: u8) -> bool
     false
 }
 
-// Whether category a ≤ x, where `done` has the answers for the categories below x.
+// Whether category a ≤ x, where `done` says it of the categories below x.
 fn category_next(
     l: &[u8; LINK_BYTES],
     done: &[bool; Counts::CATEGORIES + 1],
@@ -148,16 +152,19 @@ fn category_next(
     false
 }
 
-// T7, category a ≤ b: the answer for each category below b, from 0 up, and then for b.
+// T7, category a ≤ b: where that is not plain, asked of each category below b, from 0 up, and then of b.
 fn category_le(l: &[u8; LINK_BYTES], c: Counts, a: usize, b: usize) -> bool
     requires { ⌜ Checked (now l) c ⌝ }
     ensures { λ r. ⌜ ((types : List ℕ) → r ≡ catLe (tableIn types (now (l .entry)) c) a b) ⌝ }
 {
+    if a == 0 {
+        return true;
+    }
+    if a == b {
+        return true;
+    }
     if c.cats < b {
-        if a == 0 {
-            return true;
-        }
-        return a == b;
+        return false;
     }
     let mut done = [false; Counts::CATEGORIES + 1];
     let mut x: usize = 0;

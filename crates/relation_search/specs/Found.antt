@@ -60,7 +60,7 @@ pub record Grew (n : ℕ) (W : (ℕ → ℕ → Bool) → Bool) (marks : List Bo
 pub record Broke (n : ℕ) (W : (ℕ → ℕ → Bool) → Bool) : Type 0 where
   pub none : (M : ℕ → ℕ → Bool) → Within M (λ x y. ltb x n && ltb y n) → So (W M) → ⊥
 
--- what a step promises of its answer
+-- what a step promises
 abbrev pub Met : ℕ → ((ℕ → ℕ → Bool) → Bool) → List Bool → List ℕ → ℕ → List Bool → List ℕ → Step → Type 0
 Met n W marks queue t marks′ queue′ Broken = Broke n W
 Met n W marks queue t marks′ queue′ (Tail r) = Grew n W marks queue t marks′ queue′ r

@@ -14,7 +14,7 @@ ghost use Rattle.table_record.specs.Store.{rawIn, tableIn, methodIn};
 ghost use Rattle.table_record.specs.Limits.{Checked};
 ghost use Rattle.relation_rule.specs.Asked.{relationOf};
 ghost use Rattle.relation_rule.specs.Parts.{Says};
-ghost use Rattle.relation_search.specs.Answered.{comparisonOf, comparisonAt};
+ghost use Rattle.relation_search.specs.Comparing.{comparisonOf, comparisonAt};
 ghost use Rattle.relation_search.specs.Found.{eachBelow, queueIn, Added, ListedIn, MetIn, Clear, maxPairs};
 use base_numbers::least;
 use base_numbers::wide;
@@ -372,7 +372,7 @@ pub fn related_at(
     search(b, l, c, k, &square, t, s)
 }
 
-// What Compare answers at a pair of types (R14).
+// The comparison of a pair of types (R14).
 pub struct Comparison {
     pub subtype: bool,
     pub strict: bool,

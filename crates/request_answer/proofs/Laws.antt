@@ -71,7 +71,7 @@ module _ (s : State) (h : Sound s) (j : ℕ) (low : j < s .calls .count) (calls 
       go (no q) = subst (CallIn s) (sym (getD-set-other (callsIn (s .calls)) j i new noCall q)) (h .calls i (omega (arith, l, same)))
 
   pub answered-step : (a : Outcome) → isAccepted a ≡ true → (x : Result) → outcomeOf a ≡ got x
-      → Step s (ok (withAnswer (systemIn s) j, x)) (record { answer = a; state = callsLeft s calls })
+      → Step s (ok (withAnswer (systemIn s) j, x)) (record { outcome = a; state = callsLeft s calls })
   answered-step a k x z = step-as
       (ap (λ (xs : List Callᵐ). ok (withCalls (systemIn s) (set xs j (flagged (getD xs j noCall) true)), x)) (calls-are s)
       ∙ ap (λ (xs : List Callᵐ). ok (withCalls (systemIn s) xs, x)) (sym are))
@@ -133,13 +133,13 @@ module _ (s : State) (j r : ℕ) (v : ℤ) (ts : List (Option ℕ)) (q : Served)
   abbrev Ends : System × Result → Res (System × Result)
   Ends x = ok (withAnswer (x .0) j, x .1)
 
-  pub reference-stops : isAccepted (q .answer) ≡ false → Step s (giveReference (systemIn s) j r v ts) q
+  pub reference-stops : isAccepted (q .outcome) ≡ false → Step s (giveReference (systemIn s) j r v ts) q
   reference-stops z = step-stops Ends q sent z
 
-  pub reference-answers : isAccepted (q .answer) ≡ true → (y : Served) → ((x : Result) → outcomeOf (q .answer) ≡ got x → Step (q .state) (ok (withAnswer (systemIn (q .state)) j, x)) y) →
+  pub reference-answers : isAccepted (q .outcome) ≡ true → (y : Served) → ((x : Result) → outcomeOf (q .outcome) ≡ got x → Step (q .state) (ok (withAnswer (systemIn (q .state)) j, x)) y) →
       Step s (giveReference (systemIn s) j r v ts) y
   reference-answers z y g = step-as (ap (λ (m : Res (System × Result)). try m Ends) (sym (sent .is)))
-      (goes-answered (λ m. Step s m y) (q .answer) (systemIn (q .state)) Ends z (λ x e. step-after (q .state) (sent .stored) y (g x e)))
+      (goes-answered (λ m. Step s m y) (q .outcome) (systemIn (q .state)) Ends z (λ x e. step-after (q .state) (sent .stored) y (g x e)))
 
 -- ---- A value where one is due.
 module _ (s : State) (h : Sound s) (subject : ℤ) (j : ℕ) (x : Call) (c : Cell) (k : Called s j x c) (a : ℕ) (v : ℤ) (ts : List (Option ℕ)) (met : ts ≡ answersMet (systemIn s) j)

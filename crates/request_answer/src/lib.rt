@@ -33,14 +33,14 @@ pub enum Given {
 }
 
 // Call j is answered (A11), and the request with it (A12).
-fn answered(s: State, j: usize, answer: Outcome) -> Served
-    requires { ⌜ (j < s .calls .count) × (s .calls .count ≤ maxCalls) × (isAccepted answer ≡ true) ⌝ }
-    ensures { λ r. ⌜ ((b : List ℕ) → Sound (whole b s) → (x : Result) → outcomeOf answer ≡ got x
+fn answered(s: State, j: usize, outcome: Outcome) -> Served
+    requires { ⌜ (j < s .calls .count) × (s .calls .count ≤ maxCalls) × (isAccepted outcome ≡ true) ⌝ }
+    ensures { λ r. ⌜ ((b : List ℕ) → Sound (whole b s) → (x : Result) → outcomeOf outcome ≡ got x
         → Step (whole b s) (ok (withAnswer (systemIn (whole b s)) j, x)) (done b r)) ⌝ }
 {
     let calls = s.calls.answered(j);
     let state = s.with_calls(calls);
-    Served { answer, state }
+    Served { outcome, state }
 }
 
 // The answer types of the layers, from the class's outward (A7).
@@ -76,11 +76,11 @@ fn give_reference(
         (done (now (types .exit)) q) ⌝ }
 {
     let q = request_value::send(types, s, r, v, targets);
-    let answer = q.answer;
-    if !request_value::accepted(answer) {
+    let outcome = q.outcome;
+    if !request_value::accepted(outcome) {
         return q;
     }
-    answered(q.state, j, answer)
+    answered(q.state, j, outcome)
 }
 
 // A value v where type a is due (A6 to A12).

@@ -72,15 +72,15 @@ code-none (suc (suc (suc (suc k)))) ws a b c d = refl
 
 -- ---- What a step leaves for those behind it.
 module _ (s : State) (m : Res (System × Result)) (r : Served) (h : Step s m r) where
-  pub outcome-is : outcome m ≡ outcomeOf (r .answer)
-  outcome-is = ap outcome (sym (h .is)) ∙ go (outcomeOf (r .answer)) where
+  pub outcome-is : outcome m ≡ outcomeOf (r .outcome)
+  outcome-is = ap outcome (sym (h .is)) ∙ go (outcomeOf (r .outcome)) where
     go : (o : Outcomeᵐ) → outcome (servedWith (systemIn (r .state)) o) ≡ o
     go (refused e) = refl
     go (got x) = refl
 
   pub after-is : after (systemIn s) m ≡ systemIn (r .state)
-  after-is = ap (after (systemIn s)) (sym (h .is)) ∙ go (r .answer) refl where
-    go : (a : Outcome) → r .answer ≡ a → after (systemIn s) (servedWith (systemIn (r .state)) (outcomeOf a)) ≡ systemIn (r .state)
+  after-is = ap (after (systemIn s)) (sym (h .is)) ∙ go (r .outcome) refl where
+    go : (a : Outcome) → r .outcome ≡ a → after (systemIn s) (servedWith (systemIn (r .state)) (outcomeOf a)) ≡ systemIn (r .state)
     go (Refused e) z = sym (refused-means h e z)
     go (Pair a b) z = refl
     go (Number v) z = refl

@@ -54,7 +54,7 @@ module _ (s : State) (h : Sound s) (room : s .calls .count < maxCalls) (who k m 
   call-byte = (omega (arith, cell, h .cellCount), omega (arith, method, h .checked .limits .methods))
 
   pub call-added : (c : Call) → callOf c ≡ newCall who k m → (calls : Calls) → calls ≡ callAdded (s .calls) c → callsIn calls ≡ callsIn (s .calls) ++ (callOf c ∷ []) →
-      Step s (ok (withCall (systemIn s) (newCall who k m), pair (s .calls .count) adapters)) (record { answer = Pair (s .calls .count) adapters; state = callsLeft s calls })
+      Step s (ok (withCall (systemIn s) (newCall who k m), pair (s .calls .count) adapters)) (record { outcome = Pair (s .calls .count) adapters; state = callsLeft s calls })
   call-added c is calls e are =
       step-as (ap (λ (x : List Callᵐ). ok (withCalls (systemIn s) x, pair (s .calls .count) adapters)) (sym now-are))
       (calls-step s h calls (omega (arith, one, room)) each (Pair (s .calls .count) adapters) (pair (s .calls .count) adapters) refl refl)
@@ -180,10 +180,10 @@ module _ (s : State) (h : Sound s) (who k m : ℕ) (xs : List ℕ) (vs : List �
       through (refuse e) = refl
       through (ok x) = refl
 
-  pub through-stops : isAccepted (q .answer) ≡ false → Step s (callThrough (systemIn s) who k m xs vs) (record { answer = q .answer; state = withTypes s (q .state .types) })
+  pub through-stops : isAccepted (q .outcome) ≡ false → Step s (callThrough (systemIn s) who k m xs vs) (record { outcome = q .outcome; state = withTypes s (q .state .types) })
   through-stops z = only-refused (λ (y : Outcome). callThrough (systemIn s) who k m xs vs ≡ try (servedWith (systemIn (q .state)) (outcomeOf y)) (λ x. Then (x .0)) →
-      Step s (callThrough (systemIn s) who k m xs vs) (record { answer = y; state = withTypes s (q .state .types) }))
-      (λ e u. refuses-kept h (sent .sound .long) (sent .stored .kept) u refl) (q .answer) z through-is
+      Step s (callThrough (systemIn s) who k m xs vs) (record { outcome = y; state = withTypes s (q .state .types) }))
+      (λ e u. refuses-kept h (sent .sound .long) (sent .stored .kept) u refl) (q .outcome) z through-is
 
   pub through-room : s .calls .count < maxCalls → who < 256 → k < s .cells .count → m < s .counts .methods →
       Sound (q .state) × (q .state .calls .count < maxCalls) × (who < 256) × (k < q .state .cells .count) × (m < q .state .counts .methods)
@@ -195,10 +195,10 @@ module _ (s : State) (h : Sound s) (who k m : ℕ) (xs : List ℕ) (vs : List �
     subst (λ (c : Counts). m < c .methods) (sym (sent .stored .counts)) method,
   )
 
-  pub through-adds : isAccepted (q .answer) ≡ true → (adapters : ℕ) → adapters ≡ adapterCount (placesIn (s .places)) p → (r : Served) →
+  pub through-adds : isAccepted (q .outcome) ≡ true → (adapters : ℕ) → adapters ≡ adapterCount (placesIn (s .places)) p → (r : Served) →
       Step (q .state) (ok (withCall (systemIn (q .state)) (newCall who k m), pair (q .state .calls .count) adapters)) r → Step s (callThrough (systemIn s) who k m xs vs) r
   through-adds z adapters count r g = step-as
-      (through-is ∙ goes-on (q .answer) (systemIn (q .state)) Then z ∙ ends-is s who k m p here (systemIn (q .state)) (q .state .calls .count) (sent .went .calls) adapters count)
+      (through-is ∙ goes-on (q .outcome) (systemIn (q .state)) Then z ∙ ends-is s who k m p here (systemIn (q .state)) (q .state .calls .count) (sent .went .calls) adapters count)
       (step-after (q .state) (sent .stored) r g)
 
 -- ---- The tests that are left once the subject, its cell and the method are known.

@@ -96,7 +96,7 @@ pub fn add_call(s: State, who: usize, k: usize, m: usize, adapters: usize) -> Se
     let calls = s.calls.add(c);
     let state = s.with_calls(calls);
     Served {
-        answer: Outcome::Pair {
+        outcome: Outcome::Pair {
             first,
             second: adapters,
         },
@@ -132,10 +132,10 @@ fn call_through(
         x,
         vs,
     );
-    let answer = q.answer;
+    let outcome = q.outcome;
     let sent = q.state;
-    if !request_value::accepted(answer) {
-        return Served { answer, state: s };
+    if !request_value::accepted(outcome) {
+        return Served { outcome, state: s };
     }
     add_call(sent, who, k, m, state_record::adapters_of(ps, p))
 }

@@ -127,7 +127,7 @@ system-kept s t low k = system-is (withTypes s t)
     ∙ sym (system-is s)
 
 -- so a refusal leaves what the state meant
-pub refused-means : {s : State} {m : Res (System × Result)} {r : Done} → Step s m r → (e : ℕ) → r .answer ≡ Refused e → systemIn (r .state) ≡ systemIn s
+pub refused-means : {s : State} {m : Res (System × Result)} {r : Done} → Step s m r → (e : ℕ) → r .outcome ≡ Refused e → systemIn (r .state) ≡ systemIn s
 refused-means {s} {r = r} h e z = ap systemIn (h .stays e z) ∙ system-kept s (r .state .types) (omega (arith, h .stored .grew .more, h .stored .grew .room)) (h .stored .kept)
 
 -- a number that names one of n things is the index that `index_of` gives
@@ -268,7 +268,7 @@ module _ (s : State) (types : List ℕ) (n : ℕ) (ps : Places) (holder ty place
             let z : length (cellsIn (s .cells)) ≡ k = cells-length (s .cells) ∙ (let w = count-is in omega arith) in
             subst (CellIn s′) (sym (getD-at (cellsIn (s .cells)) (cellOf c) [] noCell k z)) new-cell
 
-    pub cell-added : Step s (addCell (systemIn s) holder f) (record { answer = Pair (s .cells .count) place; state = s′ })
+    pub cell-added : Step s (addCell (systemIn s) holder f) (record { outcome = Pair (s .cells .count) place; state = s′ })
     cell-added = record {
       is = ap (λ (x : System). ok (x, pair (s .cells .count) place)) means ∙ sym (adds-is ∙ ap Adds (lt-ltb (s .cells .count) maxCells room));
       stays = λ d y. absurd (differ d y);

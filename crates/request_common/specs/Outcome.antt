@@ -15,14 +15,14 @@ outcomeOf (Pair a b) = got (pair a b)
 outcomeOf (Number v) = got (number v)
 outcomeOf Nothing = got nothing
 
--- an answer with the whole state that is left: the types as they are now, and the rest that comes back
+-- an outcome with the whole state that is left: the types as they are now, and the rest that comes back
 pub record Done : Type 0 where
-  pub answer : Outcome
+  pub outcome : Outcome
   pub state : State
 
 abbrev pub done : List ℕ → Served → Done
-done b r = record { answer = r .answer; state = whole b (r .state) }
+done b r = record { outcome = r .outcome; state = whole b (r .state) }
 
 -- a refusal, with the whole state as it was handed in
 abbrev pub refusalOf : State → ℕ → Done
-refusalOf s e = record { answer = Refused e; state = s }
+refusalOf s e = record { outcome = Refused e; state = s }

@@ -1,4 +1,4 @@
--- What a request answers and leaves, in the words of the model. A step is a request, or a part of one, on a state that is known to be sound; what it comes to is the
+-- What a request came to and leaves, in the words of the model. A step is a request, or a part of one, on a state that is known to be sound; what it comes to is the
 -- model's `m`.
 use mathlib.Core.Path.{_≡_}
 use mathlib.Core.Bool.{Bool, _&&_}
@@ -23,17 +23,17 @@ use Rattle.request_common.specs.declared.Outcome.the-variants.{Refused}
 use Rattle.request_common.specs.declared.Served.{Served}
 pub use Rattle.request_common.specs.Outcome.{outcomeOf, Done, done, refusalOf}
 
--- what the answer and the state left say together
+-- what the outcome and the state left say together
 abbrev pub servedWith : System → Outcomeᵐ → Res (System × Result)
 servedWith s (refused e) = refuse e
 servedWith s (got x) = ok (s, x)
 
 abbrev pub servedAs : Done → Res (System × Result)
-servedAs r = servedWith (systemIn (r .state)) (outcomeOf (r .answer))
+servedAs r = servedWith (systemIn (r .state)) (outcomeOf (r .outcome))
 
 -- a refusal, with the state as it was handed in
 abbrev pub refusal : Rest → ℕ → Served
-refusal s e = record { answer = Refused e; state = s }
+refusal s e = record { outcome = Refused e; state = s }
 
 -- What is left of the table: links and counts as they were but for the count of types, every byte of the types that there were, and each new type stored as the
 -- record that stands for it (B22).
@@ -43,11 +43,11 @@ pub record Stored (s s′ : State) : Type 0 where
   pub grew : Grew (s .counts) (s′ .counts .types) (s′ .types)
   pub kept : Kept (s .counts .types) (s .types) (s′ .types)
 
--- The step's answer is the model's; a refusal leaves all that was handed in, but for bytes of the types that are not counted (`stored`); the state left is one that the
+-- The step's outcome is the model's; a refusal leaves all that was handed in, but for bytes of the types that are not counted (`stored`); the state left is one that the
 -- next step can start from.
 pub record Step (s : State) (m : Res (System × Result)) (r : Done) : Type 0 where
   pub is : servedAs r ≡ m
-  pub stays : (e : ℕ) → r .answer ≡ Refused e → r .state ≡ withTypes s (r .state .types)
+  pub stays : (e : ℕ) → r .outcome ≡ Refused e → r .state ≡ withTypes s (r .state .types)
   pub stored : Stored s (r .state)
   pub sound : Sound (r .state)
 

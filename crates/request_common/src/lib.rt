@@ -1,4 +1,4 @@
-// What the four requests have in common: their answers, the tests of their operands (N1 to N3, M1 to M3, C1, C2, C5, A1, A6), and a reference that becomes a
+// What the four requests have in common: their outcomes, the tests of their operands (N1 to N3, M1 to M3, C1, C2, C5, A1, A6), and a reference that becomes a
 // cell. A state goes in by value and comes out by value: where a request is refused, it is the one that went in.
 ghost use mathlib.Core.Path.{_≡_};
 ghost use mathlib.Core.List.{List};
@@ -21,7 +21,7 @@ use state_record::State;
 use table_record::Counts;
 use table_record::TYPE_BYTES;
 
-// What a request answers: the number of its refusal; two numbers (Q18, C19); the number answered; or nothing.
+// What a request came to: the number of its refusal; two numbers (Q18, C19); the number answered; or nothing.
 pub enum Outcome {
     Refused(usize),
     Pair { first: usize, second: usize },
@@ -30,7 +30,7 @@ pub enum Outcome {
 }
 
 pub struct Served {
-    pub answer: Outcome,
+    pub outcome: Outcome,
     pub state: State,
 }
 
@@ -39,7 +39,7 @@ pub fn refused(s: State, number: usize) -> Served
     ensures { λ r. ⌜ r ≡ refusal s number ⌝ }
 {
     Served {
-        answer: Outcome::Refused(number),
+        outcome: Outcome::Refused(number),
         state: s,
     }
 }
@@ -78,7 +78,7 @@ pub fn add_cell(
         calls,
     };
     Served {
-        answer: Outcome::Pair {
+        outcome: Outcome::Pair {
             first,
             second: place,
         },

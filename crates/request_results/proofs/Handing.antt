@@ -103,7 +103,7 @@ module _ (f : Flat) (q : Request) (v : List ℤ) (fits : codesIn f ≡ true) (r 
   s = stateFrom f
 
   abbrev a : Outcomeᵐ
-  a = outcomeOf (r .answer)
+  a = outcomeOf (r .outcome)
 
   alike : counted (rawState s) ≡ counted (rawFlat f)
   alike = read-counted f fits
@@ -133,13 +133,13 @@ module _ (f : Flat) (q : Request) (v : List ℤ) (fits : codesIn f ≡ true) (r 
           (subst (λ (x : System). Bytes x (countsIn (f .counts) .types) (f .types) (r .state .types)) left (w .types));
     }
 
-    accepted-handed : isAccepted (r .answer) ≡ true → g .links ≡ f .links → (old : Flat) → Stored (r .state) old g → Handed q n (lentState f v) (lentState g u)
+    accepted-handed : isAccepted (r .outcome) ≡ true → g .links ≡ f .links → (old : Flat) → Stored (r .state) old g → Handed q n (lentState f v) (lentState g u)
     accepted-handed h links old z = handed (stored-counted (r .state) old g z (links ∙ sym (w .links)))
-        (λ e p. absurd (no-refusal (r .answer) e h p)) links (z .counts) (z .types)
+        (λ e p. absurd (no-refusal (r .outcome) e h p)) links (z .counts) (z .types)
 
-    refused-handed : isAccepted (r .answer) ≡ false → g ≡ f → Handed q n (lentState f v) (lentState g u)
+    refused-handed : isAccepted (r .outcome) ≡ false → g ≡ f → Handed q n (lentState f v) (lentState g u)
     refused-handed h stayed =
-        let e = refusal-of (r .answer) h in
+        let e = refusal-of (r .outcome) h in
         let same : r .state ≡ s = w .stays (e .0) (e .1) in
         let old : u ≡ v = values ∙ ap (λ x. outcomeValues v (outcomeOf x)) (e .1) in
         handed (ap (λ x. counted (rawFlat x)) stayed ∙ sym (ap (λ (x : State). counted (rawState x)) same ∙ alike)) (λ k p. rw (stayed, old)) (ap (λ (x : Flat). x .links) stayed)
@@ -150,13 +150,13 @@ module _ (f : Flat) (q : Request) (v : List ℤ) (fits : codesIn f ≡ true) (r 
   f′ = withBytes f (r .state .types)
 
   -- which a refused one gave back
-  back-same : isAccepted (r .answer) ≡ false → f′ ≡ f
-  back-same h = let e = refusal-of (r .answer) h in ap (λ (x : State). withBytes f (x .types)) (w .stays (e .0) (e .1))
+  back-same : isAccepted (r .outcome) ≡ false → f′ ≡ f
+  back-same h = let e = refusal-of (r .outcome) h in ap (λ (x : State). withBytes f (x .types)) (w .stays (e .0) (e .1))
 
   back-handed : (g : Flat) (n : ℕ) (u : List ℤ) → g .links ≡ f .links → Back r n (lentState f′ v) (lentState g u) → Handed q n (lentState f v) (lentState g u)
-  back-handed g n u links b = go (isAccepted (r .answer)) refl
+  back-handed g n u links b = go (isAccepted (r .outcome)) refl
     where
-      go : (x : Bool) → isAccepted (r .answer) ≡ x → Handed q n (lentState f v) (lentState g u)
+      go : (x : Bool) → isAccepted (r .outcome) ≡ x → Handed q n (lentState f v) (lentState g u)
       go false h = refused-handed g n u (b .number) (b .values) h (b .refused h ∙ back-same h)
       go true h = accepted-handed g n u (b .number) (b .values) h links f′ (b .accepted h)
 

@@ -53,9 +53,9 @@ small-of (Pair a b) (ok x) p h = subst SmallResult (sym (ap result p)) h
     result (got x) = x
     result (refused e) = nothing
 
-pub served-small : (s : State) (q : Request) (r : Served) → Serves s q r → Small (r .answer)
+pub served-small : (s : State) (q : Request) (r : Served) → Serves s q r → Small (r .outcome)
 unfolding systemIn
-served-small s q r w = small-of (r .answer) (defined s q) (serves-answer s q r w) (go (systemAccepted (rawState s)) refl)
+served-small s q r w = small-of (r .outcome) (defined s q) (serves-answer s q r w) (go (systemAccepted (rawState s)) refl)
   where
     go : (b : Bool) → systemAccepted (rawState s) ≡ b → IfOk {A = System × Result} (need b outOfRange λ _. serve (systemIn s) q) (λ x. SmallResult (x .1))
     go true e = serve-small (systemOf (rawState s)) (accepted-codes (rawState s) e .2) q

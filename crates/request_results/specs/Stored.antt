@@ -1,4 +1,4 @@
--- What is stored of an answer and its state, on the way to `Handed`.
+-- What is stored of an outcome and its state, on the way to `Handed`.
 use mathlib.Core.Path.{_≡_}
 use mathlib.Core.Bool.{true, false}
 use Prim.Native.Nat.{ℕ, _<_}
@@ -30,9 +30,9 @@ pub record Stored (s : State) (old new : Flat) : Type 0 where
   pub places : PlacesTo (s .places) (old .places) (new .places)
   pub calls : CallsTo (s .calls) (old .calls) (new .calls)
 
--- what the answer r leaves of what was lent
+-- what r leaves of what was lent
 pub record Back (r : Served) (n : ℕ) (old new : LentState) : Type 0 where
-  pub number : n ≡ outcomeNumber (outcomeOf (r .answer))
-  pub values : new .values ≡ outcomeValues (old .values) (outcomeOf (r .answer))
-  pub refused : isAccepted (r .answer) ≡ false → new .state ≡ old .state
-  pub accepted : isAccepted (r .answer) ≡ true → Stored (r .state) (old .state) (new .state)
+  pub number : n ≡ outcomeNumber (outcomeOf (r .outcome))
+  pub values : new .values ≡ outcomeValues (old .values) (outcomeOf (r .outcome))
+  pub refused : isAccepted (r .outcome) ≡ false → new .state ≡ old .state
+  pub accepted : isAccepted (r .outcome) ≡ true → Stored (r .state) (old .state) (new .state)

@@ -36,7 +36,7 @@ fn put_nothing(values: &mut [i64; 3])
     *values = [0, 0, 0];
 }
 
-// The number of an answer, and its values (E12).
+// The number of an outcome, and its values (E12).
 fn outcome_out(a: Outcome, values: &mut [i64; 3]) -> usize
     requires { ⌜ Small a ⌝ }
     ensures { λ n. ⌜ (n ≡ outcomeNumber (outcomeOf a)) × (now (values .exit) ≡ outcomeValues (now (values .entry)) (outcomeOf a)) ⌝ }
@@ -88,13 +88,13 @@ pub fn hand_back(
     counts: &mut [usize; 8],
     values: &mut [i64; 3],
 ) -> usize
-    requires { ⌜ Small (r .answer) ⌝ }
+    requires { ⌜ Small (r .outcome) ⌝ }
     ensures { λ n. ⌜ ((t l : List ℕ)
         → Back (done t r) n
         (lentState (flat t l (now (cells .entry)) (now (places .entry)) (now (calls .entry)) (now (counts .entry))) (now (values .entry)))
         (lentState (flat t l (now (cells .exit)) (now (places .exit)) (now (calls .exit)) (now (counts .exit))) (now (values .exit)))) ⌝ }
 {
-    let a = r.answer;
+    let a = r.outcome;
     if !request_value::accepted(a) {
         return outcome_out(a, values);
     }

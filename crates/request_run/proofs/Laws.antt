@@ -33,7 +33,7 @@ use Rattle.request_by_code.specs.Coded.{serveAsked}
 use Rattle.request_by_code.proofs.Laws.{outcome-is, after-is}
 use Rattle.request_run.specs.Requested.{request, requests, runAsked, runHanded}
 use Rattle.request_serve.proofs.Stored.{counted-stored, counts-stored, bytes-stored}
-use Rattle.request_run.specs.Ran.{Over as Ran, wordsOf, answersOf, room, AllRefused, RanAs, Runs}
+use Rattle.request_run.specs.Ran.{Over as Ran, wordsOf, outcomeWords, room, AllRefused, RanAs, Runs}
 use Rattle.request_run.specs.Loop.{askedAt, nextAt}
 use Rattle.request_run.proofs.Words.{request-at, words-next}
 use Rattle.request_run.proofs.Whole.{serveEach, each-is-run}
@@ -61,7 +61,7 @@ rest s ws f at = serveEach (systemIn s) (requests f (drop at ws))
 pub record Going (s₀ : State) (ws old : List ℤ) (s : State) (cur : List ℤ) (i at : ℕ) (any : Bool) : Type 0 where
   pub system : rest s ws (room old - i) at .1 ≡ rest s₀ ws (room old) 0 .1
   pub count : i + length (rest s ws (room old - i) at .0) ≡ length (rest s₀ ws (room old) 0 .0)
-  pub words : sets cur (i * 4) (answersOf (rest s ws (room old - i) at .0)) ≡ sets old 0 (answersOf (rest s₀ ws (room old) 0 .0))
+  pub words : sets cur (i * 4) (outcomeWords (rest s ws (room old - i) at .0)) ≡ sets old 0 (outcomeWords (rest s₀ ws (room old) 0 .0))
   pub untouched : AllRefused (rest s₀ ws (room old) 0 .0) → (any ≡ false) × AllRefused (rest s ws (room old - i) at .0)
   pub quiet : any ≡ false → s ≡ withTypes s₀ (s .types)
   pub stored : Stored s₀ s
@@ -119,7 +119,7 @@ module _ (s₀ : State) (ws old : List ℤ) where
     ended : rest s ws (room old - i) at ≡ ([], systemIn s) → Sound s₀ → (t : List ℕ) → t ≡ cond any (s .types) (s₀ .types)
         → (out : List ℤ) → out ≡ cur → (r : Ran) → r ≡ record { refusal = 0; served = i; state = withTypes s t }
         → RanAs s₀ old out (whole .0) (whole .1) r
-    unfolding answersOf
+    unfolding outcomeWords
     ended e h₀ t back out k r y =
         let z : i + 0 ≡ i = omega arith in
         let st : State = withTypes s t in
@@ -130,7 +130,7 @@ module _ (s₀ : State) (ws old : List ℤ) where
         (each-is-run (systemIn s₀) (requests (room old) ws)) (record {
           refusal = refl;
           served = sym z ∙ ap (λ (p : List Outcomeᵐ × System). i + length (p .0)) (sym e) ∙ g .count;
-          answers = k ∙ ap (λ (p : List Outcomeᵐ × System). sets cur (i * 4) (answersOf (p .0))) (sym e) ∙ g .words;
+          answers = k ∙ ap (λ (p : List Outcomeᵐ × System). sets cur (i * 4) (outcomeWords (p .0))) (sym e) ∙ g .words;
           records = counted-stored s₀ st w ∙ ap (λ (m : System). counted (storedFrom (rawState s₀) m)) is;
           untouched = λ a. back-same h₀ t back (g .untouched a .0);
           links = w .links;
@@ -158,7 +158,7 @@ module _ (s₀ : State) (ws old : List ℤ) where
       abbrev on : List Outcomeᵐ × System
       on = rest (r .state) ws (room old - (i + 1)) (nextAt ws at)
 
-      one : rest s ws (room old - i) at ≡ (outcomeOf (r .answer) ∷ on .0, on .1)
+      one : rest s ws (room old - i) at ≡ (outcomeOf (r .outcome) ∷ on .0, on .1)
       unfolding serveEach
       one =
           let e : room old - i ≡ suc (room old - (i + 1)) = omega arith in
@@ -167,43 +167,43 @@ module _ (s₀ : State) (ws old : List ℤ) where
           ∙ ap
           (λ (o : Outcomeᵐ). (o ∷ serveEach (after (systemIn s) (serveAsked (systemIn s) (askedAt ws at))) qs .0, serveEach (after (systemIn s) (serveAsked (systemIn s) (askedAt ws at))) qs .1))
           (outcome-is s _ r step)
-          ∙ ap (λ (t : System). (outcomeOf (r .answer) ∷ serveEach t qs .0, serveEach t qs .1)) (after-is s _ r step)
+          ∙ ap (λ (t : System). (outcomeOf (r .outcome) ∷ serveEach t qs .0, serveEach t qs .1)) (after-is s _ r step)
 
-      pub going-on : (out : List ℤ) → out ≡ sets cur (i * 4) (wordsOf (outcomeOf (r .answer))) → (at′ : ℕ) → at′ ≡ nextAt ws at → at′ ≤ length ws
-          → (any′ : Bool) → any′ ≡ (any || isAccepted (r .answer)) → Going s₀ ws old (r .state) out (i + 1) at′ any′
-      unfolding answersOf
+      pub going-on : (out : List ℤ) → out ≡ sets cur (i * 4) (wordsOf (outcomeOf (r .outcome))) → (at′ : ℕ) → at′ ≡ nextAt ws at → at′ ≤ length ws
+          → (any′ : Bool) → any′ ≡ (any || isAccepted (r .outcome)) → Going s₀ ws old (r .state) out (i + 1) at′ any′
+      unfolding outcomeWords
       going-on out k at′ d w any′ ea = subst (λ (n : ℕ). n ≤ length ws → Going s₀ ws old (r .state) out (i + 1) n any′) (sym d) (λ (w′ : nextAt ws at ≤ length ws). record {
         system = ap (λ (p : List Outcomeᵐ × System). p .1) (sym one) ∙ g .system;
         count = let z : i + 1 + length (on .0) ≡ i + suc (length (on .0)) = omega arith in z ∙ ap (λ (p : List Outcomeᵐ × System). i + length (p .0)) (sym one) ∙ g .count;
-        words = written (outcomeOf (r .answer)) k ∙ ap (λ (p : List Outcomeᵐ × System). sets cur (i * 4) (answersOf (p .0))) (sym one) ∙ g .words;
+        words = written (outcomeOf (r .outcome)) k ∙ ap (λ (p : List Outcomeᵐ × System). sets cur (i * 4) (outcomeWords (p .0))) (sym one) ∙ g .words;
         untouched = λ a. let b = g .untouched a in
-            let c = still (r .answer) refl (subst (λ (p : List Outcomeᵐ × System). AllRefused (p .0)) one (b .1)) in
-            (ea ∙ ap (λ (x : Bool). x || isAccepted (r .answer)) (b .0) ∙ c .0, c .1);
-        quiet = λ z. let n = neither any (isAccepted (r .answer)) (sym ea ∙ z) in still-there (r .answer) refl (n .1) ∙ ap (λ (x : State). withTypes x (r .state .types)) (g .quiet (n .0));
+            let c = still (r .outcome) refl (subst (λ (p : List Outcomeᵐ × System). AllRefused (p .0)) one (b .1)) in
+            (ea ∙ ap (λ (x : Bool). x || isAccepted (r .outcome)) (b .0) ∙ c .0, c .1);
+        quiet = λ z. let n = neither any (isAccepted (r .outcome)) (sym ea ∙ z) in still-there (r .outcome) refl (n .1) ∙ ap (λ (x : State). withTypes x (r .state .types)) (g .quiet (n .0));
         stored = stored-on s₀ s (r .state) (g .stored) (step .stored);
         sound = step .sound;
-        long = ap length k ∙ length-sets cur (i * 4) (wordsOf (outcomeOf (r .answer))) ∙ g .long;
+        long = ap length k ∙ length-sets cur (i * 4) (wordsOf (outcomeOf (r .outcome))) ∙ g .long;
         few = omega arith;
         within = w′;
       }) w
         where
-          still : (a : Outcome) → r .answer ≡ a → AllRefused (outcomeOf a ∷ on .0) → (isAccepted (r .answer) ≡ false) × AllRefused (on .0)
+          still : (a : Outcome) → r .outcome ≡ a → AllRefused (outcomeOf a ∷ on .0) → (isAccepted (r .outcome) ≡ false) × AllRefused (on .0)
           still (Refused e) z h = (ap isAccepted z, h)
           still (Pair m n) z h = absurd h
           still (Number v) z h = absurd h
           still Nothing z h = absurd h
 
-          still-there : (a : Outcome) → r .answer ≡ a → isAccepted (r .answer) ≡ false → r .state ≡ withTypes s (r .state .types)
+          still-there : (a : Outcome) → r .outcome ≡ a → isAccepted (r .outcome) ≡ false → r .state ≡ withTypes s (r .state .types)
           still-there (Refused e) z h = step .stays e z
           still-there (Pair m n) z h = never (sym h ∙ ap isAccepted z)
           still-there (Number v) z h = never (sym h ∙ ap isAccepted z)
           still-there Nothing z h = never (sym h ∙ ap isAccepted z)
 
-          written : (o : Outcomeᵐ) → out ≡ sets cur (i * 4) (wordsOf o) → sets out ((i + 1) * 4) (answersOf (on .0)) ≡ sets cur (i * 4) (answersOf (o ∷ on .0))
+          written : (o : Outcomeᵐ) → out ≡ sets cur (i * 4) (wordsOf o) → sets out ((i + 1) * 4) (outcomeWords (on .0)) ≡ sets cur (i * 4) (outcomeWords (o ∷ on .0))
           written o z =
               let e : (i + 1) * 4 ≡ i * 4 + 4 = omega arith in
-              ap (λ (l : List ℤ). sets l ((i + 1) * 4) (answersOf (on .0))) z ∙ ap (λ (n : ℕ). sets (sets cur (i * 4) (wordsOf o)) n (answersOf (on .0))) e
-              ∙ words-next o cur (i * 4) (answersOf (on .0))
+              ap (λ (l : List ℤ). sets l ((i + 1) * 4) (outcomeWords (on .0))) z ∙ ap (λ (n : ℕ). sets (sets cur (i * 4) (wordsOf o)) n (outcomeWords (on .0))) e
+              ∙ words-next o cur (i * 4) (outcomeWords (on .0))
 
 -- ---- A state handed in.
 module _ (s : State) (ws old new : List ℤ) (r : Ran) where

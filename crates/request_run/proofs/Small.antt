@@ -25,8 +25,8 @@ unfolding serveAsked
 small-asked s none = (omega arith, omega arith)
 small-asked s (some q) = small-serve s q
 
-pub step-small : (s : State) (q : Option Request) (r : Served) → Sound s → Step s (serveAsked (systemIn s) q) r → SmallOutcome (r .answer)
-step-small s q r h w = go (r .answer) (subst (Small (λ (x : System × Result). Named (systemIn s) (x .0) (x .1))) (sym (w .is)) (small-asked (systemIn s) q))
+pub step-small : (s : State) (q : Option Request) (r : Served) → Sound s → Step s (serveAsked (systemIn s) q) r → SmallOutcome (r .outcome)
+step-small s q r h w = go (r .outcome) (subst (Small (λ (x : System × Result). Named (systemIn s) (x .0) (x .1))) (sym (w .is)) (small-asked (systemIn s) q))
   where
     go : (a : Outcome) → Small {A = System × Result} (λ x. Named (systemIn s) (x .0) (x .1)) (servedWith (systemIn (r .state)) (outcomeOf a)) → SmallOutcome a
     go (Refused e) k = omega (arith, k .1)

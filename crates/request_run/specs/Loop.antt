@@ -12,7 +12,7 @@ use Rattle.request_common.specs.declared.Outcome.{Outcome}
 use Rattle.request_common.specs.declared.Outcome.the-variants.{Refused, Pair, Number, Nothing}
 use Rattle.request_run.specs.Requested.{request}
 
--- The numbers of an answer, small enough to be words as they are; those of a sound state are (proofs/Small.antt).
+-- The numbers of an outcome, small enough to be words as they are; those of a sound state are (proofs/Small.antt).
 abbrev pub SmallOutcome : Outcome → Type 0
 SmallOutcome (Refused e) = e < 65536
 SmallOutcome (Pair a b) = (a < 65536) × (b < 65536)

@@ -1,4 +1,4 @@
--- What a run answers and leaves. All of this is believed; what only helps proofs is in Loop.
+-- What a run stores and leaves. All of this is believed; what only helps proofs is in Loop.
 use mathlib.Core.Path.{_≡_}
 use mathlib.Core.List.{List, [], _∷_, _++_, map, flatten}
 use Prim.Native.Nat.{ℕ, _*_, _/_}
@@ -23,9 +23,9 @@ wordsOf (got (pair a b)) = pos 0 ∷ pos 2 ∷ pos a ∷ pos b ∷ []
 wordsOf (got (number v)) = pos 0 ∷ pos 1 ∷ v ∷ pos 0 ∷ []
 wordsOf (got nothing) = pos 0 ∷ pos 0 ∷ pos 0 ∷ pos 0 ∷ []
 
-unfoldable pub answersOf : List Outcome → List ℤ
-answersOf [] = []
-answersOf (o ∷ os) = wordsOf o ++ answersOf os
+unfoldable pub outcomeWords : List Outcome → List ℤ
+outcomeWords [] = []
+outcomeWords (o ∷ os) = wordsOf o ++ outcomeWords os
 
 -- how a run ended, with the whole state
 pub record Over : Type 0 where
@@ -50,8 +50,8 @@ AllRefused (got x ∷ os) = ⊥
 pub record RanAs (s : State) (old new : List ℤ) (os : List Outcome) (m : System) (r : Over) : Type 0 where
   pub refusal : r .refusal ≡ 0
   pub served : r .served ≡ length os
-  -- the answers stand from the front on; what is behind them is as it was (U8, U9)
-  pub answers : new ≡ sets old 0 (answersOf os)
+  -- the outcomes stand from the front on; what is behind them is as it was (U8, U9)
+  pub answers : new ≡ sets old 0 (outcomeWords os)
   -- what is counted of table, cells, places and calls is the model's: how many, and each record (U10, Q15)
   pub records : counted (rawState (r .state)) ≡ counted (storedFrom (rawState s) m)
   -- where every request is refused, the state is as it was, every byte of it (Q14)

@@ -36,7 +36,7 @@ placed (some q ∷ qs) (o ∷ os) = o ∷ placed qs os
 abbrev pub runAsked : System → List (Option Request) → List Outcome × System
 runAsked s qs = let r = run s (asked qs) in (placed qs (r .0), r .1)
 
--- On a state handed in, with room for f answers: 2 before all else, and once.
+-- On a state handed in, with room for f outcomes: 2 before all else, and once.
 unfoldable pub runHanded : RawSystem → ℕ → List ℤ → Res (List Outcome × System)
 unfolding systemAccepted systemOf run requests
 runHanded r f ws = need (systemAccepted r) outOfRange λ _. ok (runAsked (systemOf r) (requests f ws))

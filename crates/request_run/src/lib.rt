@@ -1,4 +1,4 @@
-// A run (U): the requests in a list of words, one after the other. What it answers is the definition `runHanded` in specs/Requested.antt, the model's run of
+// A run (U): the requests in a list of words, one after the other. What comes of it is the definition `runHanded` in specs/Requested.antt, the model's run of
 // those that are requests; the state is checked once, and then each step leaves what the next one needs.
 ghost use mathlib.Core.Path.{_≡_};
 ghost use mathlib.Core.Bool.{cond, _||_};
@@ -34,7 +34,7 @@ pub struct Ran {
     pub state: State,
 }
 
-// The words of an answer (U8).
+// The words of an outcome (U8).
 impl Ran {
     pub const WORDS: usize = 4;
 }
@@ -56,7 +56,7 @@ fn put_words(out: &mut [i64], at: usize, first: i64, second: i64, third: i64, fo
     out[at + 3] = fourth;
 }
 
-// An answer as four words (U8).
+// An outcome as four words (U8).
 fn put_outcome(out: &mut [i64], at: usize, a: Outcome)
     requires { ⌜ (at + 4 ≤ length (now out)) × SmallOutcome a ⌝ }
     ensures { λ _. ⌜ now (out .exit) ≡ sets (now (out .entry)) at (wordsOf (outcomeOf a)) ⌝ }
@@ -156,7 +156,7 @@ fn ended(
     }
 }
 
-// Each on the state that those before it left, as long as there is room for an answer (U9).
+// Each on the state that those before it left, as long as there is room for an outcome (U9).
 fn run_checked(
     types: &mut [u8; TYPE_BYTES],
     old: &[u8; TYPE_BYTES],
@@ -178,9 +178,9 @@ fn run_checked(
             return ended(types, old, any, served, state);
         }
         let r = serve_at(types, state, words, at);
-        let answer = r.answer;
-        any = either(any, request_value::accepted(answer));
-        put_outcome(answers, served * Ran::WORDS, answer);
+        let outcome = r.outcome;
+        any = either(any, request_value::accepted(outcome));
+        put_outcome(answers, served * Ran::WORDS, outcome);
         state = r.state;
         served += 1;
         at = next(words, at);

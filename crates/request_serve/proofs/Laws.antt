@@ -28,8 +28,8 @@ use Rattle.state_record.specs.Sound.{Sound}
 use Rattle.state_record.specs.View.{rawState, systemIn, withTypes}
 use Rattle.request_common.specs.declared.Outcome.{Outcome}
 use Rattle.request_common.specs.declared.Outcome.the-variants.{Refused, Pair, Number, Nothing}
-use Rattle.request_common.specs.declared.Served.{Served as Answered}
-use Rattle.request_common.specs.Served.{Done as Served, refusalOf as refusal}
+use Rattle.request_common.specs.declared.Served.{Served}
+use Rattle.request_common.specs.Served.{Done, refusalOf as refusal}
 use Rattle.request_common.specs.Served.{outcomeOf, servedWith, servedAs, done, Step}
 use Rattle.request_common.proofs.Laws.{refuses}
 use Rattle.request_value.specs.Sent.{isAccepted}
@@ -54,25 +54,25 @@ refused-answer (Number v) e p = let z : _≡_ {A = ℕ} 0 1 = cc in absurd (omeg
 refused-answer Nothing e p = let z : _≡_ {A = ℕ} 0 1 = cc in absurd (omega arith)
 
 -- ---- What a step leaves, t, and what is left of it once a refused one has given back the types: t′.
-module _ {b t t′ : List ℕ} {s : Rest} {m : Res (System × Result)} {r : Answered} (h : Sound (whole b s)) (w : Step (whole b s) m (done t r)) (e : t′ ≡ givenBack b t (r .answer)) where
-  back-stays : (d : ℕ) → r .answer ≡ Refused d → whole t′ (r .state) ≡ whole b s
+module _ {b t t′ : List ℕ} {s : Rest} {m : Res (System × Result)} {r : Served} (h : Sound (whole b s)) (w : Step (whole b s) m (done t r)) (e : t′ ≡ givenBack b t (r .outcome)) where
+  back-stays : (d : ℕ) → r .outcome ≡ Refused d → whole t′ (r .state) ≡ whole b s
   back-stays d z = ap (λ (x : List ℕ). whole x (r .state)) (e ∙ ap (givenBack b t) z) ∙ ap (λ (x : State). withTypes x b) (w .stays d z)
 
   back-step : Step (whole b s) m (done t′ r)
-  back-step = go (r .answer) refl
+  back-step = go (r .outcome) refl
     where
-      kept : (a : Outcome) → r .answer ≡ a → givenBack b t a ≡ t → Step (whole b s) m (done t′ r)
+      kept : (a : Outcome) → r .outcome ≡ a → givenBack b t a ≡ t → Step (whole b s) m (done t′ r)
       kept a z y = subst (λ (x : List ℕ). Step (whole b s) m (done x r)) (sym (e ∙ ap (givenBack b t) z ∙ y)) w
 
-      go : (a : Outcome) → r .answer ≡ a → Step (whole b s) m (done t′ r)
+      go : (a : Outcome) → r .outcome ≡ a → Step (whole b s) m (done t′ r)
       go (Refused d) z = refuses h (sym (w .is) ∙ ap (λ (a : Outcome). servedWith (systemIn (whole t (r .state))) (outcomeOf a)) z)
-          (ap (λ (a : Outcome). record { answer = a; state = whole t′ (r .state) }) z ∙ ap (λ (x : State). refusal x d) (back-stays d z))
+          (ap (λ (a : Outcome). record { outcome = a; state = whole t′ (r .state) }) z ∙ ap (λ (x : State). refusal x d) (back-stays d z))
       go (Pair x y) z = kept (Pair x y) z refl
       go (Number v) z = kept (Number v) z refl
       go Nothing z = kept Nothing z refl
 
 -- ---- a step
-module _ (s : State) (q : Request) (r : Served) (h : So (systemAccepted (rawState s))) (w : Step s (serve (systemIn s) q) r) (stays : (e : ℕ) → r .answer ≡ Refused e → r .state ≡ s) where
+module _ (s : State) (q : Request) (r : Done) (h : So (systemAccepted (rawState s))) (w : Step s (serve (systemIn s) q) r) (stays : (e : ℕ) → r .outcome ≡ Refused e → r .state ≡ s) where
   abbrev s′ : State
   s′ = r .state
 
@@ -87,23 +87,23 @@ module _ (s : State) (q : Request) (r : Served) (h : So (systemAccepted (rawStat
   answers (refused e) = refl
   answers (got x) = refl
 
-  stored : (o : Outcomeᵐ) → outcomeOf (r .answer) ≡ o → counted (rawState s′) ≡ counted (handBack (rawState s) (servedWith (systemIn s′) o) .state)
-  stored (refused e) p = ap (λ x. counted (rawState x)) (stays e (refused-answer (r .answer) e p))
+  stored : (o : Outcomeᵐ) → outcomeOf (r .outcome) ≡ o → counted (rawState s′) ≡ counted (handBack (rawState s) (servedWith (systemIn s′) o) .state)
+  stored (refused e) p = ap (λ x. counted (rawState x)) (stays e (refused-answer (r .outcome) e p))
   stored (got x) p = counted-stored s s′ (w .stored)
 
-  left-with : (o : Outcomeᵐ) → outcomeOf (r .answer) ≡ o → after (systemIn s) (servedWith (systemIn s′) o) ≡ systemIn s′
-  left-with (refused e) p = ap systemIn (sym (stays e (refused-answer (r .answer) e p)))
+  left-with : (o : Outcomeᵐ) → outcomeOf (r .outcome) ≡ o → after (systemIn s) (servedWith (systemIn s′) o) ≡ systemIn s′
+  left-with (refused e) p = ap systemIn (sym (stays e (refused-answer (r .outcome) e p)))
   left-with (got x) p = refl
 
   left : leaves s q ≡ systemIn s′
-  left = ap (after (systemIn s)) (defined-is ∙ sym (w .is)) ∙ left-with (outcomeOf (r .answer)) refl
+  left = ap (after (systemIn s)) (defined-is ∙ sym (w .is)) ∙ left-with (outcomeOf (r .outcome)) refl
 
   step-serves : Serves s q r
   step-serves = record {
     returns = record {
-      outcome = answers (outcomeOf (r .answer)) ∙ ap (λ x. x .outcome) (sym handed);
-      records = stored (outcomeOf (r .answer)) refl ∙ ap (λ x. counted (x .state)) (sym handed);
-      untouched = λ e p. ap rawState (stays e (refused-answer (r .answer) e p));
+      outcome = answers (outcomeOf (r .outcome)) ∙ ap (λ x. x .outcome) (sym handed);
+      records = stored (outcomeOf (r .outcome)) refl ∙ ap (λ x. counted (x .state)) (sym handed);
+      untouched = λ e p. ap rawState (stays e (refused-answer (r .outcome) e p));
     };
     stays = stays;
     links = w .stored .links;
@@ -114,18 +114,18 @@ module _ (s : State) (q : Request) (r : Served) (h : So (systemAccepted (rawStat
   }
 
 -- a step on a state that was taken, its types given back
-pub back-serves : (b t t′ : List ℕ) (s : Rest) (q : Option Request) (r : Answered) → Sound (whole b s) → So (systemAccepted (rawState (whole b s)))
-    → Step (whole b s) (serveAsked (systemIn (whole b s)) q) (done t r) → t′ ≡ givenBack b t (r .answer) → ServesAsked (whole b s) q (done t′ r)
+pub back-serves : (b t t′ : List ℕ) (s : Rest) (q : Option Request) (r : Served) → Sound (whole b s) → So (systemAccepted (rawState (whole b s)))
+    → Step (whole b s) (serveAsked (systemIn (whole b s)) q) (done t r) → t′ ≡ givenBack b t (r .outcome) → ServesAsked (whole b s) q (done t′ r)
 unfolding serveAsked
-back-serves b t t′ s none r h k w e = let z = refused-answer (r .answer) 1 (sym (outcome-is (whole b s) (refuse form) (done t r) w)) in
-    ap (λ (x : State). record { answer = r .answer; state = x }) (back-stays h w e 1 z) ∙ ap (λ (a : Outcome). record { answer = a; state = whole b s }) z
+back-serves b t t′ s none r h k w e = let z = refused-answer (r .outcome) 1 (sym (outcome-is (whole b s) (refuse form) (done t r) w)) in
+    ap (λ (x : State). record { outcome = r .outcome; state = x }) (back-stays h w e 1 z) ∙ ap (λ (a : Outcome). record { outcome = a; state = whole b s }) z
     ∙ ap (λ (x : Bool). refusal (whole b s) (cond x 1 2)) (sym k)
 back-serves b t t′ s (some q) r h k w e = step-serves (whole b s) q (done t′ r) k (back-step h w e) (back-stays h w e)
 
 -- ---- A request that stores no type: what it leaves is what it would give back.
-pub kept-serves : (b t : List ℕ) (s : Rest) (q : Option Request) (r : Answered) → Sound (whole b s) → So (systemAccepted (rawState (whole b s)))
+pub kept-serves : (b t : List ℕ) (s : Rest) (q : Option Request) (r : Served) → Sound (whole b s) → So (systemAccepted (rawState (whole b s)))
     → Step (whole b s) (serveAsked (systemIn (whole b s)) q) (done t r) → t ≡ b → ServesAsked (whole b s) q (done t r)
-kept-serves b t s q r h k w e = back-serves b t t s q r h k w (go (isAccepted (r .answer)))
+kept-serves b t s q r h k w e = back-serves b t t s q r h k w (go (isAccepted (r .outcome)))
   where
     go : (x : Bool) → t ≡ cond x t b
     go true = refl
@@ -169,13 +169,13 @@ module _ (s : State) (q : Request) (no : systemAccepted (rawState s) ≡ false) 
   }
 
 -- of a request or of none
-pub refused-serves : (s : State) (q : Option Request) → systemAccepted (rawState s) ≡ false → (r : Served) → r ≡ refusal s outOfRange → ServesAsked s q r
+pub refused-serves : (s : State) (q : Option Request) → systemAccepted (rawState s) ≡ false → (r : Done) → r ≡ refusal s outOfRange → ServesAsked s q r
 refused-serves s none h r e = e ∙ ap (λ (x : Bool). refusal s (cond x 1 2)) (sym h)
 refused-serves s (some q) h r e = subst (λ x. Serves s q x) (sym e) (two-serves s q h)
 
 -- ---- what `Serves` says in the words of the model: the answer, and the meaning of the state that comes back
-module _ (s : State) (q : Request) (r : Served) (w : Serves s q r) where
-  pub serves-answer : outcomeOf (r .answer) ≡ outcome (defined s q)
+module _ (s : State) (q : Request) (r : Done) (w : Serves s q r) where
+  pub serves-answer : outcomeOf (r .outcome) ≡ outcome (defined s q)
   unfolding serveHanded systemIn
   serves-answer = w .returns .outcome ∙ go (defined s q)
     where
@@ -188,9 +188,9 @@ module _ (s : State) (q : Request) (r : Served) (w : Serves s q r) where
   serves-means = go (systemAccepted (rawState s)) refl
     where
       go : (b : Bool) → systemAccepted (rawState s) ≡ b → systemIn (r .state) ≡ after (systemIn s) (need b outOfRange λ _. serve (systemIn s) q)
-      go true e = returns-means (rawState s) q (outcomeOf (r .answer)) (rawState (r .state)) (w .returns) e
-      go false e = ap systemIn (w .stays 2 (refused-answer (r .answer) 2 (w .returns .outcome ∙ ap (λ x. x .outcome) (refuses-2 s q e))))
+      go true e = returns-means (rawState s) q (outcomeOf (r .outcome)) (rawState (r .state)) (w .returns) e
+      go false e = ap systemIn (w .stays 2 (refused-answer (r .outcome) 2 (w .returns .outcome ∙ ap (λ x. x .outcome) (refuses-2 s q e))))
 
   -- every record counted before is stored as it was, a call's but for its flag (Q15)
   pub serves-before : Before (rawState s) (rawState (r .state))
-  serves-before = returns-before (rawState s) q (outcomeOf (r .answer)) (rawState (r .state)) (w .returns)
+  serves-before = returns-before (rawState s) q (outcomeOf (r .outcome)) (rawState (r .state)) (w .returns)

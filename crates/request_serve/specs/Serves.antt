@@ -29,10 +29,10 @@ leaves s q = after (systemIn s) (defined s q)
 -- It follows (proofs/Laws) that the state left means the definition's (`serves-means`), and that every record counted before is stored as it was but for the flag of an
 -- answered call (`serves-before`, Q15).
 pub record Serves (s : State) (q : Request) (r : Served) : Type 0 where
-  -- the answer is the definition's, and so is what is counted of table, cells, places and calls: how many, and each record (Q14, Q15)
-  pub returns : Returns (rawState s) q (outcomeOf (r .answer)) (rawState (r .state))
+  -- the outcome is the definition's, and so is what is counted of table, cells, places and calls: how many, and each record (Q14, Q15)
+  pub returns : Returns (rawState s) q (outcomeOf (r .outcome)) (rawState (r .state))
   -- refused, 2 included, the state that comes back is the one handed in, every byte of it (Q14)
-  pub stays : (e : ℕ) → r .answer ≡ Refused e → r .state ≡ s
+  pub stays : (e : ℕ) → r .outcome ≡ Refused e → r .state ≡ s
   -- Every byte of the links stays, and every count of the table but that of its types.
   pub links : r .state .links ≡ s .links
   pub counts : r .state .counts ≡ withCount (s .counts) (size (leaves s q .table))

@@ -80,7 +80,7 @@ fn serve_saved(types: &mut [u8; TYPE_BYTES], s: State, code: usize, ops: &[i64])
 {
     let old = copied(*types);
     let r = request_by_code::serve_coded(types, s, code, ops);
-    let a = r.answer;
+    let a = r.outcome;
     give_back(types, &old, a);
     r
 }

@@ -24,7 +24,7 @@ module _ (s : State) (h : Sound s) (calls : Calls) (few : calls .count ≤ maxCa
   calls-mean = system-is (callsLeft s calls) ∙ ap (λ (x : System). withCalls x (callsIn calls)) (sym (system-is s))
 
   pub calls-step : (a : Outcome) (x : Result) → outcomeOf a ≡ got x → isAccepted a ≡ true
-      → Step s (ok (withCalls (systemIn s) (callsIn calls), x)) (record { answer = a; state = callsLeft s calls })
+      → Step s (ok (withCalls (systemIn s) (callsIn calls), x)) (record { outcome = a; state = callsLeft s calls })
   calls-step a x e k = record {
     is = ap (servedWith (systemIn (callsLeft s calls))) e ∙ ap (λ (y : System). ok (y, x)) calls-mean;
     stays = λ d y. never (sym (ap isAccepted y) ∙ k);

@@ -63,20 +63,20 @@ accepted-by Nothing s h = refl
 pub step-after : {s : State} {x : System × Result} (s₁ : State) → Stored s s₁ → (r : Served) → Step s₁ (ok x) r → Step s (ok x) r
 step-after {s} s₁ k r g = record {
   is = g .is;
-  stays = λ e u. never (sym (ap isAccepted u) ∙ accepted-by (r .answer) (systemIn (r .state)) (g .is));
+  stays = λ e u. never (sym (ap isAccepted u) ∙ accepted-by (r .outcome) (systemIn (r .state)) (g .is));
   stored = stored-on s s₁ (r .state) k (g .stored);
   sound = g .sound;
 }
 
 -- what is refused is refused by whatever goes on with it
-pub step-stops : {s : State} {m : Res (System × Result)} (k : System × Result → Res (System × Result)) (q : Served) → Step s m q → isAccepted (q .answer) ≡ false → Step s (try m k) q
-step-stops {s} {m} k q h z = record { is = same (q .answer) z ∙ ap (λ (y : Res (System × Result)). try y k) (h .is); stays = h .stays; stored = h .stored; sound = h .sound }
+pub step-stops : {s : State} {m : Res (System × Result)} (k : System × Result → Res (System × Result)) (q : Served) → Step s m q → isAccepted (q .outcome) ≡ false → Step s (try m k) q
+step-stops {s} {m} k q h z = record { is = same (q .outcome) z ∙ ap (λ (y : Res (System × Result)). try y k) (h .is); stays = h .stays; stored = h .stored; sound = h .sound }
   where
     same : (a : Outcome) → isAccepted a ≡ false → servedWith (systemIn (q .state)) (outcomeOf a) ≡ try (servedWith (systemIn (q .state)) (outcomeOf a)) k
     same = only-refused (λ (a : Outcome). servedWith (systemIn (q .state)) (outcomeOf a) ≡ try (servedWith (systemIn (q .state)) (outcomeOf a)) k) (λ e. refl)
 
 -- nothing is done
-pub step-nothing : (s : State) → Sound s → Step s (ok (systemIn s, nothing)) (record { answer = Nothing; state = s })
+pub step-nothing : (s : State) → Sound s → Step s (ok (systemIn s, nothing)) (record { outcome = Nothing; state = s })
 step-nothing s h = record { is = refl; stays = λ e y. refl; stored = stored-self s h; sound = h }
 
 pub went-self : (s : State) → Went s s
@@ -115,7 +115,7 @@ went-by s q x e c p j =
 
 pub added-goes : (s : State) (r : ℕ) (f : Reference) → s .places .count ≤ length (f .places) → (q : Served) → Step s (addCell (systemIn s) r f) q → Went s (q .state)
 unfolding addCell
-added-goes s r f more q k = go (q .answer) refl (ltb (length (systemIn s .cells)) maxCells) (k .is)
+added-goes s r f more q k = go (q .outcome) refl (ltb (length (systemIn s .cells)) maxCells) (k .is)
   where
     new : System × Result
     new = (withCell (systemIn s) r f, pair (length (systemIn s .cells)) (f .place))
@@ -125,7 +125,7 @@ added-goes s r f more q k = go (q .answer) refl (ltb (length (systemIn s .cells)
     left false e =
         went-by s (q .state) (systemIn s) e (omega arith) (let p : length (systemIn s .places) ≡ s .places .count = ap length (places-are s) ∙ places-length (s .places) in omega arith) refl
 
-    go : (a : Outcome) → q .answer ≡ a → (b : Bool) → servedWith (systemIn (q .state)) (outcomeOf a) ≡ need b cellsFull (λ _. ok new) → Went s (q .state)
+    go : (a : Outcome) → q .outcome ≡ a → (b : Bool) → servedWith (systemIn (q .state)) (outcomeOf a) ≡ need b cellsFull (λ _. ok new) → Went s (q .state)
     go (Refused d) z b e = subst (Went s) (sym (k .stays d z)) (went-types s (q .state .types))
     go (Pair x y) z b e = left b (ap (after (systemIn s)) e)
     go (Number v) z b e = left b (ap (after (systemIn s)) e)
@@ -221,7 +221,7 @@ module _ (s : State) (h : Sound s) (r : ℕ) (ls : List ℕ) (m i a : ℕ) (v : 
     pub number-refused : (e ≡ 0 → ⊥) → (y : Served) → y ≡ refusal s e → Goes y
     number-refused w y u = (refuses h (number-is ∙ ap Passed (ne-eqb e 0 w)) u, subst (λ (k : Served). Went s (k .state)) (sym u) (went-self s))
 
-    pub number-passes : e ≡ 0 → Goes (record { answer = Nothing; state = s })
+    pub number-passes : e ≡ 0 → Goes (record { outcome = Nothing; state = s })
     number-passes w = (
       step-as (number-is ∙ ap Passed (eq-eqb e 0 w)) (step-nothing s h),
       went-self s,
@@ -336,13 +336,13 @@ module _ (s₀ : State) (r : ℕ) (ls : List ℕ) (m : ℕ) (xs : List ℕ) (vs 
     pub sends-room : 0 < s₀ .places .count → 0 < s₀ .counts .types → (0 < s .places .count) × (0 < s .counts .types)
     sends-room p t = (omega (arith, p, w .went .places), omega (arith, t, w .stored .grew .more))
 
-    done : Rest (systemIn s) i (drop i xs) (drop i vs) ≡ ok (systemIn s, nothing) → Done (record { answer = Nothing; state = s })
+    done : Rest (systemIn s) i (drop i xs) (drop i vs) ≡ ok (systemIn s, nothing) → Done (record { outcome = Nothing; state = s })
     done e = record { is = sym e ∙ w .rest; stored = w .stored; sound = w .sound; went = w .went }
 
-    pub sends-over : drop i xs ≡ [] → Done (record { answer = Nothing; state = s })
+    pub sends-over : drop i xs ≡ [] → Done (record { outcome = Nothing; state = s })
     sends-over e = done (ap (λ (ys : List ℕ). Rest (systemIn s) i ys (drop i vs)) e ∙ ap allSent (sent-over (systemIn s) r ls m i (drop i vs)))
 
-    pub sends-end : drop i vs ≡ [] → Done (record { answer = Nothing; state = s })
+    pub sends-end : drop i vs ≡ [] → Done (record { outcome = Nothing; state = s })
     sends-end e = done (ap (Rest (systemIn s) i (drop i xs)) e ∙ ap allSent (sent-all (systemIn s) r ls m i (drop i xs)))
 
     module _ (a : ℕ) (some : drop i xs ≡ a ∷ drop (i + 1) xs) (v : ℤ) (more : drop i vs ≡ v ∷ drop (i + 1) vs)
@@ -355,9 +355,9 @@ module _ (s₀ : State) (r : ℕ) (ls : List ℕ) (m : ℕ) (xs : List ℕ) (vs 
           sym (w .rest) ∙ ap (λ (ys : List ℕ). Rest (systemIn s) i ys (drop i vs)) some ∙ ap (Rest (systemIn s) i (a ∷ drop (i + 1) xs)) more
           ∙ ap allSent (send-step (systemIn s) r ls m i a (drop (i + 1) xs) v (drop (i + 1) vs) ∙ ap (λ (y : Res (System × Result)). try y (λ x. After (x .0))) (sym (k .is)))
 
-      pub sends-stop : isAccepted (q .answer) ≡ false → Done q
+      pub sends-stop : isAccepted (q .outcome) ≡ false → Done q
       sends-stop z = record {
-        is = stopped (q .answer) z ∙ sym go-on;
+        is = stopped (q .outcome) z ∙ sym go-on;
         stored = stored-on s₀ s (q .state) (w .stored) (k .stored);
         sound = k .sound;
         went = went-on s₀ s (q .state) (w .went) g;
@@ -366,10 +366,10 @@ module _ (s₀ : State) (r : ℕ) (ls : List ℕ) (m : ℕ) (xs : List ℕ) (vs 
           stopped : (y : Outcome) → isAccepted y ≡ false → servedWith (systemIn (q .state)) (outcomeOf y) ≡ allSent (try (servedWith (systemIn (q .state)) (outcomeOf y)) (λ x. After (x .0)))
           stopped = only-refused (λ (y : Outcome). servedWith (systemIn (q .state)) (outcomeOf y) ≡ allSent (try (servedWith (systemIn (q .state)) (outcomeOf y)) (λ x. After (x .0)))) (λ e. refl)
 
-      pub sends-next : isAccepted (q .answer) ≡ true → Sends (q .state) (i + 1)
+      pub sends-next : isAccepted (q .outcome) ≡ true → Sends (q .state) (i + 1)
       sends-next z = record {
         sound = k .sound;
         stored = stored-on s₀ s (q .state) (w .stored) (k .stored);
         went = went-on s₀ s (q .state) (w .went) g;
-        rest = ap (λ (n : ℕ). Rest (systemIn (q .state)) n (drop (i + 1) xs) (drop (i + 1) vs)) (add-one i) ∙ sym (go-on ∙ ap allSent (goes-on (q .answer) (systemIn (q .state)) After z));
+        rest = ap (λ (n : ℕ). Rest (systemIn (q .state)) n (drop (i + 1) xs) (drop (i + 1) vs)) (add-one i) ∙ sym (go-on ∙ ap allSent (goes-on (q .outcome) (systemIn (q .state)) After z));
       }

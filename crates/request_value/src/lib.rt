@@ -138,7 +138,7 @@ fn send_argument(
         return request_common::refused(s, e);
     }
     Served {
-        answer: Outcome::Nothing,
+        outcome: Outcome::Nothing,
         state: s,
     }
 }
@@ -205,20 +205,20 @@ pub fn send_arguments(
         let a = crossing_layers::argument_in(x, i);
         if a == 0 {
             return Served {
-                answer: Outcome::Nothing,
+                outcome: Outcome::Nothing,
                 state: at,
             };
         }
         let q = send_argument(types, at, r, w, m, i, a - 1, vs[i]);
-        let answer = q.answer;
-        if !accepted(answer) {
+        let outcome = q.outcome;
+        if !accepted(outcome) {
             return q;
         }
         at = q.state;
         i += 1;
     }
     Served {
-        answer: Outcome::Nothing,
+        outcome: Outcome::Nothing,
         state: at,
     }
 }

@@ -41,7 +41,7 @@ wrote-within w n xs old new e h = go (leb (length xs) (length old)) (ap (λ (z :
         let b : length new ≡ length xs + length (drop (length xs) old) = ap length q ∙ length-append xs (drop (length xs) old) in
         let k : n ≤ length new = omega arith in (k, sym (length-take-le n new k))
 
-    go : (b : Bool) → writtenOf (Length n) new ≡ cond b (record { answer = ok (length xs); buffer = xs ++ drop (length xs) old }) (record { answer = refuse shortBuffer; buffer = old })
+    go : (b : Bool) → writtenOf (Length n) new ≡ cond b (record { result = ok (length xs); buffer = xs ++ drop (length xs) old }) (record { result = refuse shortBuffer; buffer = old })
         → (n ≤ length new) × (n ≡ length (take n new))
-    go true q = done (ap (λ (z : Written). z .answer) q) (ap (λ (z : Written). z .buffer) q)
-    go false q = refuse-ok (sym (ap (λ (z : Written). z .answer) q))
+    go true q = done (ap (λ (z : Written). z .result) q) (ap (λ (z : Written). z .buffer) q)
+    go false q = refuse-ok (sym (ap (λ (z : Written). z .result) q))

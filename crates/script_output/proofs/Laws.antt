@@ -26,7 +26,7 @@ use Rattle.text_write.proofs.Laws.{lines-none, lines-rest, lines-are}
 use Rattle.script_read_request.specs.declared.Asked.{Asked}
 use Rattle.script_read_request.specs.Asked.{requestLine}
 use Rattle.script_read_request.specs.Read.{askedAs, Reads}
-use Rattle.script_write_outcome.specs.Answers.{outcomeText}
+use Rattle.script_write_outcome.specs.Outcomes.{outcomeText}
 use Rattle.script_output.specs.Parts.{linesBy, linesFrom}
 use Rattle.script_output.proofs.Rows.{rows-left, line-some, line-within}
 
@@ -67,29 +67,29 @@ module _ (rest : List ℕ) (at : ℕ) (l : List ℕ) (h : LineAt rest at l) (k :
 -- ---- A turn: the line at `at` is read and served, and the next one begins where the code says.
 module _ (s : State) (rest : List ℕ) (at : ℕ) (l : List ℕ) (h : LineAt rest at l) (k : at < length rest) (q : Asked) (a : Reads (requestLine l) q)
     (r : Served) (t : Step s (serveAsked (systemIn s) (askedAs q)) r) (next : ℕ) (n : next ≡ cond (q .right) (at + (length l + 1)) (length rest)) where
-  pub turn : linesFrom (systemIn s) (split (drop at rest)) ≡ outcomeText (outcomeOf (r .answer)) ∷ linesFrom (systemIn (r .state)) (split (drop next rest))
+  pub turn : linesFrom (systemIn s) (split (drop at rest)) ≡ outcomeText (outcomeOf (r .outcome)) ∷ linesFrom (systemIn (r .state)) (split (drop next rest))
   unfolding linesFrom serveAsked outcomeText split
   turn = go (requestLine l) refl
     where
       go : (o : Option Request) → requestLine l ≡ o
-          → linesFrom (systemIn s) (split (drop at rest)) ≡ outcomeText (outcomeOf (r .answer)) ∷ linesFrom (systemIn (r .state)) (split (drop next rest))
+          → linesFrom (systemIn s) (split (drop at rest)) ≡ outcomeText (outcomeOf (r .outcome)) ∷ linesFrom (systemIn (r .state)) (split (drop next rest))
       go none e =
           let m : serveAsked (systemIn s) (askedAs q) ≡ refuse form = ap (serveAsked (systemIn s)) (a .is ∙ e) in
-          let o : refused 1 ≡ outcomeOf (r .answer) = ap outcome (sym m) ∙ outcome-is s _ r t in
+          let o : refused 1 ≡ outcomeOf (r .outcome) = ap outcome (sym m) ∙ outcome-is s _ r t in
           let w : q .right ≡ false = a .right ∙ ap (λ z. not (isNone z)) e in
           let d : drop next rest ≡ [] = ap (λ z. drop z rest) (n ∙ ap (λ z. cond z (at + (length l + 1)) (length rest)) w) ∙ drop-of-length-le rest {i = length rest} (omega arith) in
           lines-end (systemIn s) rest at l h k e ∙ ap (λ z. outcomeText z ∷ []) o
-          ∙ ap (λ z. outcomeText (outcomeOf (r .answer)) ∷ linesFrom (systemIn (r .state)) (split z)) (sym d)
+          ∙ ap (λ z. outcomeText (outcomeOf (r .outcome)) ∷ linesFrom (systemIn (r .state)) (split z)) (sym d)
       go (some y) e =
           let m : serveAsked (systemIn s) (askedAs q) ≡ serve (systemIn s) y = ap (serveAsked (systemIn s)) (a .is ∙ e) in
-          let o : outcome (serve (systemIn s) y) ≡ outcomeOf (r .answer) = ap outcome (sym m) ∙ outcome-is s _ r t in
+          let o : outcome (serve (systemIn s) y) ≡ outcomeOf (r .outcome) = ap outcome (sym m) ∙ outcome-is s _ r t in
           let f : after (systemIn s) (serve (systemIn s) y) ≡ systemIn (r .state) = ap (after (systemIn s)) (sym m) ∙ after-is s _ r t in
           let w : q .right ≡ true = a .right ∙ ap (λ z. not (isNone z)) e in
           let d : at + (length l + 1) ≡ next = sym (n ∙ ap (λ z. cond z (at + (length l + 1)) (length rest)) w) in
           lines-more (systemIn s) rest at l h k y e
           ∙ ap (λ z. outcomeText z ∷ linesFrom (after (systemIn s) (serve (systemIn s) y)) (split (drop (at + (length l + 1)) rest))) o
-          ∙ ap (λ z. outcomeText (outcomeOf (r .answer)) ∷ linesFrom z (split (drop (at + (length l + 1)) rest))) f
-          ∙ ap (λ z. outcomeText (outcomeOf (r .answer)) ∷ linesFrom (systemIn (r .state)) (split (drop z rest))) d
+          ∙ ap (λ z. outcomeText (outcomeOf (r .outcome)) ∷ linesFrom z (split (drop (at + (length l + 1)) rest))) f
+          ∙ ap (λ z. outcomeText (outcomeOf (r .outcome)) ∷ linesFrom (systemIn (r .state)) (split (drop z rest))) d
 
   pub next-behind : (at < next) × (next ≤ length rest)
   next-behind = let w = line-within rest at l h k in go (q .right) n w
@@ -114,9 +114,9 @@ module _ (s₀ : State) (rest old : List ℕ) where
   module _ (s : State) (cur : List ℕ) (w at : ℕ) (g : Going s₀ rest old s cur w at) where
     pub going-on : (l : List ℕ) (h : LineAt rest at l) (k : at < length rest) (q : Asked) (a : Reads (requestLine l) q) (r : Served) (t : Step s (serveAsked (systemIn s) (askedAs q)) r)
         (next : ℕ) (n : next ≡ cond (q .right) (at + (length l + 1)) (length rest)) {tl : List ℕ} {b i : ℕ} → i ≡ min w (length cur)
-        → Lined (midOf i (length cur - i) cur) tl (outcomeText (outcomeOf (r .answer)) ∷ []) b → b ≤ 73 → Going s₀ rest old (r .state) (putMid i (length cur - i) cur tl) (w + b) next
+        → Lined (midOf i (length cur - i) cur) tl (outcomeText (outcomeOf (r .outcome)) ∷ []) b → b ≤ 73 → Going s₀ rest old (r .state) (putMid i (length cur - i) cur tl) (w + b) next
     going-on l h k q a r t next n i f c =
-        let x : List ℕ = outcomeText (outcomeOf (r .answer)) in
+        let x : List ℕ = outcomeText (outcomeOf (r .outcome)) in
         let more = linesFrom (systemIn (r .state)) (split (drop next rest)) in
         let u = next-behind s rest at l h k q a r t next n in
         let v = u .0 in

@@ -28,14 +28,14 @@ use Rattle.law_handed.proofs.Small.{Small, Named, small-serve}
 use Rattle.spec_sheet.specs.Lines.{Row, row, cut, bytes, split, join}
 use Rattle.spec_sheet.specs.Numbers.{decimal, decimalIn}
 use Rattle.spec_sheet.specs.Text.{numberText}
-use Rattle.spec_sheet.specs.Sheet.{SheetAnswer, malformed, loaded, read}
+use Rattle.spec_sheet.specs.Sheet.{SheetResult, malformed, loaded, read}
 use Rattle.spec_sheet.proofs.Numbers.{bound}
 use Rattle.spec_sheet.proofs.Lines.{unsplit, unsplit-split}
 use Rattle.spec_sheet.proofs.Exact.{loaded-valid}
 use Rattle.spec_sheet.proofs.Refusals.{refusal-number}
 use Rattle.script_read_request.specs.Asked.{requestLine}
 use Rattle.script_read_request.proofs.Long.{long, line-long, line-given}
-use Rattle.script_write_outcome.specs.Answers.{integerText, outcomeText}
+use Rattle.script_write_outcome.specs.Outcomes.{integerText, outcomeText}
 use Rattle.script_output.specs.Output.{maxInput, sheetEnd, asked, servedLines, printedLines, sheetPart, requestPart, scriptOutput}
 use Rattle.script_output.proofs.Whole.{printed}
 
@@ -203,7 +203,7 @@ served-short (row l ∷ rs) s h = go (requestLine l) refl (λ s h. served-short 
         let u : length x ≤ length l = line-short l q e s h in
         omega (arith, i, u, length-append x (10 ∷ r), length-append l (10 ∷ unsplit rs))
 
-sheet-short : (p s : List ℕ) (a : SheetAnswer) → read p ≡ a → length (join (printedLines a (split s))) ≤ length s + 5
+sheet-short : (p s : List ℕ) (a : SheetResult) → read p ≡ a → length (join (printedLines a (split s))) ≤ length s + 5
 unfolding join numberText servedLines follow
 sheet-short p s (malformed n at) e = let k = refusal-number p n at e in let d = digits-few 20 0 n (omega (arith, k .1)) in
     omega (arith, d, length-append (bytes "no=") (decimal n), length-append (numberText (bytes "no=") n) (10 ∷ []))

@@ -21,7 +21,7 @@ use Rattle.spec_sheet.specs.Lines.{Row, row, cut, bytes, split, join}
 use Rattle.spec_sheet.specs.Text.{numberText}
 use Rattle.spec_sheet.specs.Sheet.{read}
 use Rattle.sheet_read.specs.declared.Sheet.{Sheet}
-use Rattle.sheet_read.specs.View.{answered}
+use Rattle.sheet_read.specs.View.{sheetFor}
 use Rattle.sheet_read.proofs.Accepted.{read-loaded, read-malformed, read-accepted}
 use Rattle.state_record.specs.declared.State.{State as Rest}
 use Rattle.state_record.specs.Whole.{whole}
@@ -29,7 +29,7 @@ use Rattle.state_record.specs.View.{systemIn, stateLoaded}
 use Rattle.state_record.specs.Sound.{Sound}
 use Rattle.state_record.proofs.Kept.{loaded-sound}
 use Rattle.script_read_request.specs.Asked.{requestLine}
-use Rattle.script_write_outcome.specs.Answers.{outcomeText}
+use Rattle.script_write_outcome.specs.Outcomes.{outcomeText}
 use Rattle.script_output.specs.Output.{maxInput, sheetEnd, asked, servedLines, printedLines, scriptOutput}
 use Rattle.script_output.specs.Parts.{linesBy, linesFrom}
 
@@ -81,7 +81,7 @@ module _ (s : List ℕ) where
   unfolding scriptOutput
   long-prints l = rw (lt-ltb maxInput (length s) l)
 
-  module _ (e : ℕ) (w : e ≡ sheetEnd s) (x : Sheet) (h : x ≡ answered (read (take e s))) (l : length s ≤ maxInput) where
+  module _ (e : ℕ) (w : e ≡ sheetEnd s) (x : Sheet) (h : x ≡ sheetFor (read (take e s))) (l : length s ≤ maxInput) where
     pub refused-prints : (x .refusal ≡ 0 → ⊥) → join (numberText (bytes "no=") (x .refusal) ∷ []) ≡ scriptOutput s
     unfolding scriptOutput
     refused-prints z =

@@ -9,9 +9,9 @@ use Rattle.spec_model.specs.Table.{Table}
 use Rattle.spec_model.specs.Requests.{Request, loaded as start, run}
 use Rattle.spec_sheet.specs.Lines.{Row, row, cut, bytes, split, join, starts, same}
 use Rattle.spec_sheet.specs.Text.{numberText, endText}
-use Rattle.spec_sheet.specs.Sheet.{SheetAnswer, malformed, loaded, read}
+use Rattle.spec_sheet.specs.Sheet.{SheetResult, malformed, loaded, read}
 use Rattle.script_read_request.specs.Asked.{requestLine}
-use Rattle.script_write_outcome.specs.Answers.{outcomeText}
+use Rattle.script_write_outcome.specs.Outcomes.{outcomeText}
 
 -- an input of at most so many bytes (P1)
 abbrev pub maxInput : ℕ
@@ -49,7 +49,7 @@ unfolding asked run outcomeText
 servedLines t rs = let x = asked rs in map outcomeText (run (start t) (x .0) .0) ++ cond (x .1) (bytes "no=1" ∷ []) []
 
 -- a refused sheet: its number, and nothing more (P3)
-abbrev pub printedLines : SheetAnswer → List Row → List (List ℕ)
+abbrev pub printedLines : SheetResult → List Row → List (List ℕ)
 printedLines (malformed n at) rs = numberText (bytes "no=") n ∷ []
 printedLines (loaded t) rs = servedLines t rs
 

@@ -5,7 +5,7 @@ use Prim.Native.Nat.{ℕ}
 use Rattle.spec_model.specs.Requests.{System, Request, serve, after, outcome}
 use Rattle.spec_sheet.specs.Lines.{Row, row, cut, bytes}
 use Rattle.script_read_request.specs.Asked.{requestLine}
-use Rattle.script_write_outcome.specs.Answers.{outcomeText}
+use Rattle.script_write_outcome.specs.Outcomes.{outcomeText}
 
 -- the line of what is asked, and what comes behind it on the state that is left
 abbrev pub linesBy : System → (System → List (List ℕ)) → Option Request → List (List ℕ)

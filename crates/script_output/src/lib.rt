@@ -97,7 +97,7 @@ fn serve_lines(buf: &mut [u8], types: &mut [u8; TYPE_BYTES], s: State, rest: &[u
 {
     // what came of the last line, kept whole: a state taken out of it would be copied once more
     let mut r = Served {
-        answer: Outcome::Nothing,
+        outcome: Outcome::Nothing,
         state: s,
     };
     let mut written: usize = 0;
@@ -109,9 +109,9 @@ fn serve_lines(buf: &mut [u8], types: &mut [u8; TYPE_BYTES], s: State, rest: &[u
         let q = read_request(l);
         let right = q.right;
         r = serve_asked(types, r.state, q);
-        let answer = r.answer;
+        let outcome = r.outcome;
         let k = least(written, buf.len());
-        let more = write_outcome(&mut buf[k..], answer);
+        let more = write_outcome(&mut buf[k..], outcome);
         written += more;
         at = behind(right, d.at, rest.len());
     }

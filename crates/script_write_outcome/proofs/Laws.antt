@@ -18,7 +18,7 @@ use Rattle.spec_model.specs.Requests.{pair, number, got}
 use Rattle.spec_sheet.specs.Lines.{bytes, join}
 use Rattle.spec_sheet.specs.Numbers.{decimal}
 use Rattle.spec_sheet.specs.Text.{numberText}
-use Rattle.script_write_outcome.specs.Answers.{integerText, outcomeText}
+use Rattle.script_write_outcome.specs.Outcomes.{integerText, outcomeText}
 
 -- ---- The magnitude of a number below zero, by way of -(v + 1), which fits where -v does not.
 pub record Opposite (v : ℤ) : Type 0 where

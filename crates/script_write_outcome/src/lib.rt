@@ -14,7 +14,7 @@ ghost use lib.IntN.{natAbs};
 ghost use Rattle.spec_model.specs.Requests.{pair, number, got};
 ghost use Rattle.request_common.specs.Served.{outcomeOf};
 ghost use Rattle.text_write.specs.Fill.{Filled, Lined};
-ghost use Rattle.script_write_outcome.specs.Answers.{integerText, outcomeText};
+ghost use Rattle.script_write_outcome.specs.Outcomes.{integerText, outcomeText};
 
 // The number without its sign. That of the least i64 is no i64, so the 1 is added last.
 fn magnitude(v: i64) -> usize
@@ -63,7 +63,7 @@ fn write_integer(buf: &mut [u8], v: i64) -> usize
     a + put_byte(&mut buf[j..], b'\n')
 }
 
-// The line of an answer.
+// The line of an outcome.
 pub fn write_outcome(buf: &mut [u8], a: Outcome) -> usize
     ensures is { λ r. ⌜ Lined (now (buf .entry)) (now (buf .exit)) (outcomeText (outcomeOf a) ∷ []) r ⌝ }
     ensures few { λ r. ⌜ r ≤ 73 ⌝ }

@@ -11,7 +11,7 @@ use Rattle.spec_model.specs.Table.{ref, Ty, Table, maxSubjects, maxMethods, max
 use Rattle.spec_model.specs.Check.{repOf, linksOf}
 use Rattle.spec_sheet.specs.Lines.{bytes, Row, row, cut, push, split, Reading, refused, got, Reader, pure, line, follow, bind, times, endOfInput}
 use Rattle.spec_sheet.specs.Text.{newestForm}
-use Rattle.spec_sheet.specs.Sheet.{numberLine, repLine, ownLine, endLine, sheetType, members, oneType, body, signaturesStand, ending, sheet, sheetAnswer, read}
+use Rattle.spec_sheet.specs.Sheet.{numberLine, repLine, ownLine, endLine, sheetType, members, oneType, body, signaturesStand, ending, sheet, sheetResult, read}
 use Rattle.text_read.specs.View.{reading, readBy, GotAtMost}
 use Rattle.text_read.proofs.Laws.{from-here, at-end}
 use Rattle.text_cursor.specs.declared.Cursor.{Cursor}
@@ -157,9 +157,9 @@ first-body at rs =
     (λ s at rs. regroup (line (numberLine (bytes "methods=") 1 maxMethods) at rs) _ afterFirst _
     (λ m at rs. regroup (line (numberLine (bytes "cats=") 0 maxCategories) at rs) _ afterFirst _ (λ c at rs. refl))))
 
-pub sheet-of : (s : List ℕ) → sheetAnswer (follow (follow (first 0 (split s)) afterFirst) ending) ≡ read s
+pub sheet-of : (s : List ℕ) → sheetResult (follow (follow (first 0 (split s)) afterFirst) ending) ≡ read s
 unfolding read sheet
-sheet-of s = ap (λ z. sheetAnswer (follow z ending)) (sym (first-body 0 (split s)))
+sheet-of s = ap (λ z. sheetResult (follow z ending)) (sym (first-body 0 (split s)))
 
 -- The groups of lines behind the first four.
 module _ (h : Front) (at : ℕ) (rs : List Row) where

@@ -29,7 +29,7 @@ use Rattle.table_record.proofs.Codes.{number-rep}
 use Rattle.table_record.specs.Layout.{typeSize, linkSize, typesSize, linksSize}
 use Rattle.spec_sheet.specs.Sheet.{sheetType, malformed, loaded}
 use Rattle.sheet_read.specs.declared.Sheet.{Sheet}
-use Rattle.sheet_read.specs.View.{linksTo, methodIs, blankMethod, MethodsExact, answered}
+use Rattle.sheet_read.specs.View.{linksTo, methodIs, blankMethod, MethodsExact, sheetFor}
 
 -- the links of one category more
 pub links-none : (ls : List RawLinks) → linksTo 0 ls ≡ []
@@ -172,9 +172,9 @@ head-eq p q r = cc
 -- The whole answer.
 pub sheet-loaded : (t : Table) (b l : List ℕ) (n k : ℕ) → b ≡ typeBytes (t .types) → l ≡ linkBytes (t .cats) → n ≡ size t → k ≡ length (t .cats)
     → _≡_ {A = Sheet} (record { refusal = 0; at = 0; types = b; links = l; counts = record { subjects = t .subjects; methods = t .methods; cats = k; sheet = t .sheet; types = n } })
-    (answered (loaded t))
+    (sheetFor (loaded t))
 sheet-loaded t b l n k p q r e = cc
 
 pub sheet-malformed : (n at : ℕ) (b l : List ℕ) (c : Counts) → b ≡ emptyTypes → l ≡ emptyLinks → c ≡ emptyCounts
-    → _≡_ {A = Sheet} (record { refusal = n; at = at; types = b; links = l; counts = c }) (answered (malformed n at))
+    → _≡_ {A = Sheet} (record { refusal = n; at = at; types = b; links = l; counts = c }) (sheetFor (malformed n at))
 sheet-malformed n at b l c p q r = cc

@@ -1,4 +1,4 @@
--- What the reader's answers say, in the words of crate `spec_sheet`: the code's records as the model's, and the lines of a sheet in the groups in which the code reads them.
+-- What the reader's results say, in the words of crate `spec_sheet`: the code's records as the model's, and the lines of a sheet in the groups in which the code reads them.
 use mathlib.Core.Path.{_≡_}
 use mathlib.Core.List.{List, [], _∷_, map}
 use Prim.Native.Nat.{ℕ, _≤_, _<_}
@@ -16,7 +16,7 @@ use Rattle.sheet_read.specs.declared.Done.the-variants.{Refused, At}
 use Rattle.sheet_read.specs.declared.Front.{Front}
 use Rattle.sheet_read.specs.declared.First.{First}
 use Rattle.sheet_read.specs.declared.First.the-variants.{Refused as Refusedᶠ, At as Atᶠ}
-pub use Rattle.sheet_read.specs.Answer.{answered, sheetOf, readIntoOf}
+pub use Rattle.sheet_read.specs.Result.{sheetFor, sheetOf, readIntoOf}
 
 -- Several lines of s, read as x; and what holds where they are accepted.
 abbrev pub doneBy : {A : Type 0} → List ℕ → A → Done → Reading A

@@ -1,5 +1,5 @@
-// The sheet reader (docs/SPEC.md S). `read` takes any bytes and answers with a table, or with the number of a refusal and the byte offset of the line.
-// What it answers is crate `spec_sheet`'s definition `read`, and every byte of the answer is determined by it (specs/Answer.antt, `answered`).
+// The sheet reader (docs/SPEC.md S). `read` takes any bytes and gives a table, or the number of a refusal and the byte offset of the line.
+// What comes of it is crate `spec_sheet`'s definition `read`, and every byte of it is determined by it (specs/Result.antt, `sheetFor`).
 // Lines are found by crate `text_read` and read by `sheet_read_line`; here they are put together and stored by crate `table_store`.
 ghost use mathlib.Core.Path.{_≡_};
 ghost use mathlib.Core.Bool.{false};
@@ -11,10 +11,10 @@ ghost use Rattle.spec_model.specs.Check.{repOf, typeOf};
 ghost use Rattle.table_record.specs.Store.{typesIn, linksIn, rawOf, typesTo, emptyTypes, emptyLinks, TypeExact};
 ghost use Rattle.table_record.specs.Records.{typeBytes, linkBytes};
 ghost use Rattle.spec_sheet.specs.Lines.{split, bind, times};
-ghost use Rattle.spec_sheet.specs.Sheet.{malformed, sheetAnswer, sheetType, oneType, ending, read as readSheet};
+ghost use Rattle.spec_sheet.specs.Sheet.{malformed, sheetResult, sheetType, oneType, ending, read as readSheet};
 ghost use Rattle.text_read.specs.View.{reading};
 ghost use Rattle.sheet_read.specs.View.{doneBy, OnDone, firstBy, FirstWithin, linksTo, methodIs, MethodsExact};
-ghost use Rattle.sheet_read.specs.View.{eachUnder, eachMethod, membersRead, first, afterCount, afterFirst, answered, readIntoOf};
+ghost use Rattle.sheet_read.specs.View.{eachUnder, eachMethod, membersRead, first, afterCount, afterFirst, sheetFor, readIntoOf};
 use base_numbers::narrow;
 use base_numbers::refusal;
 use sheet_read_line::UnderGot;
@@ -67,7 +67,7 @@ pub struct ReadInto {
     pub counts: Counts,
 }
 
-// The reader's answer: 0, 0 and the table; or the number of a refusal and the byte offset of its line, with a table that holds nothing.
+// The reader's result: 0, 0 and the table; or the number of a refusal and the byte offset of its line, with a table that holds nothing.
 pub struct Sheet {
     pub refusal: usize,
     pub at: usize,
@@ -332,7 +332,7 @@ fn refused(
     types: &mut [u8; TYPE_BYTES],
     links: &mut [u8; LINK_BYTES],
 ) -> ReadInto
-    ensures { λ r. ⌜ readIntoOf r (now (types .exit)) (now (links .exit)) ≡ answered (malformed refusal at) ⌝ }
+    ensures { λ r. ⌜ readIntoOf r (now (types .exit)) (now (links .exit)) ≡ sheetFor (malformed refusal at) ⌝ }
 {
     *types = table_record::empty_types();
     *links = table_record::empty_links();
@@ -356,7 +356,7 @@ fn after_count(
     requires { ⌜ (h .methods ≤ maxMethods) × (h .cats ≤ maxCategories) × (n ≤ maxSheetTypes) × (now types ≡ emptyTypes) ⌝ }
     ensures { λ r. ⌜ ((cs : List (List ℕ)) → now (links .entry) ≡ linkBytes cs → length cs ≡ h .cats
         → readIntoOf r (now (types .exit)) (now (links .exit))
-        ≡ answered (sheetAnswer (bind (afterCount h cs n) ending (c .at) (split (drop (c .at) (now (s .entry))))))) ⌝ }
+        ≡ sheetFor (sheetResult (bind (afterCount h cs n) ending (c .at) (split (drop (c .at) (now (s .entry))))))) ⌝ }
 {
     let t = types_into(s, c, h.methods, h.cats, n, types);
     let f = match t {
@@ -395,7 +395,7 @@ fn after_first(
 ) -> ReadInto
     requires { ⌜ (h .methods ≤ maxMethods) × (h .cats ≤ maxCategories) × (now types ≡ emptyTypes) × (now links ≡ emptyLinks) ⌝ }
     ensures { λ r. ⌜ readIntoOf r (now (types .exit)) (now (links .exit))
-        ≡ answered (sheetAnswer (bind (afterFirst h) ending (c .at) (split (drop (c .at) (now (s .entry)))))) ⌝ }
+        ≡ sheetFor (sheetResult (bind (afterFirst h) ending (c .at) (split (drop (c .at) (now (s .entry)))))) ⌝ }
 {
     let u = links_into(s, c, h.cats, links);
     let d = match u {
@@ -413,7 +413,7 @@ fn after_first(
 
 // Sheet read into lent bytes, for any text; what the bytes held before is gone. Where a sheet is accepted there is no line to point at, and `at` is 0 (S33).
 pub fn read_into(s: &[u8], types: &mut [u8; TYPE_BYTES], links: &mut [u8; LINK_BYTES]) -> ReadInto
-    ensures { λ r. ⌜ readIntoOf r (now (types .exit)) (now (links .exit)) ≡ answered (readSheet (now (s .entry))) ⌝ }
+    ensures { λ r. ⌜ readIntoOf r (now (types .exit)) (now (links .exit)) ≡ sheetFor (readSheet (now (s .entry))) ⌝ }
 {
     *types = table_record::empty_types();
     *links = table_record::empty_links();
@@ -424,9 +424,9 @@ pub fn read_into(s: &[u8], types: &mut [u8; TYPE_BYTES], links: &mut [u8; LINK_B
     }
 }
 
-// The same, with the bytes of the table in the answer.
+// The same, with the bytes of the table in the result.
 pub fn read(s: &[u8]) -> Sheet
-    ensures { λ r. ⌜ r ≡ answered (readSheet (now (s .entry))) ⌝ }
+    ensures { λ r. ⌜ r ≡ sheetFor (readSheet (now (s .entry))) ⌝ }
 {
     let mut types = table_record::empty_types();
     let mut links = table_record::empty_links();

@@ -1,4 +1,4 @@
--- Small words that the sections share: answers that may be refused, and tests over lists.
+-- Small words that the sections share: results that may be refused, and tests over lists.
 use mathlib.Core.Bool.{Bool, true, false, _&&_, _||_}
 use mathlib.Core.List.{List, [], _∷_}
 use mathlib.Core.Option.{Option, none, some}
@@ -6,12 +6,12 @@ use Prim.Native.Nat.{ℕ, zero, suc, _<_}
 use lib.Dec.{ltb}
 use lib.IntN.{ℤ, pos, negsuc}
 
--- An answer: the number of a refusal, or a value.
+-- A result: the number of a refusal, or a value.
 pub data Res {ℓ} (A : Type ℓ) : Type ℓ where
   refuse : ℕ → Res A
   ok : A → Res A
 
--- Go on with the value of an answer.
+-- Go on with the value of a result.
 abbrev pub try {ℓ κ} : {A : Type ℓ} {B : Type κ} → Res A → (A → Res B) → Res B
 try (refuse e) k = refuse e
 try (ok a) k = k a

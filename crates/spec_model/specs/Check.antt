@@ -1,5 +1,5 @@
 -- Rules H: what somebody else gives as a table or a state, what it means, and the check that it gets before all else (2).
--- What is handed in is a record of numbers: counts, and codes in arrays. Its meaning and the check are both total, so that any numbers have an answer.
+-- What is handed in is a record of numbers: counts, and codes in arrays. Its meaning and the check are both total, so that any numbers will do.
 use mathlib.Core.Bool.{Bool, _&&_, _||_, cond}
 use mathlib.Core.List.{List, [], _∷_}
 use mathlib.Core.Option.{Option, none, some}
@@ -196,7 +196,7 @@ unfoldable pub systemAccepted : RawSystem → Bool
 unfolding codesFit stateCodesFit systemFits systemOf
 systemAccepted r = codesFit (r .table) && (stateCodesFit r && systemFits (systemOf r))
 
--- What Compare answers to a table that is handed in: 2 before all else. (Requests: Handed.)
+-- What Compare comes to on a table that is handed in: 2 before all else. (Requests: Handed.)
 unfoldable pub compareHanded : RawTable → ℤ → ℤ → Res Comparison
 unfolding tableAccepted compare
 compareHanded r a b = need (tableAccepted r) outOfRange λ _. compare (tableOf r) a b

@@ -73,7 +73,7 @@ unfoldable pub serveHanded : RawSystem → Request → Served
 unfolding systemAccepted serve storedFrom
 serveHanded r q = handBack r (need (systemAccepted r) outOfRange λ _. serve (systemOf r) q)
 
--- What a request owes that answers o and returns r′: result, counts and counted records are the definition's; refused, the whole state is the one handed in.
+-- What a request owes that comes to o and returns r′: result, counts and counted records are the definition's; refused, the whole state is the one handed in.
 pub record Returns (r : RawSystem) (q : Request) (o : Outcome) (r′ : RawSystem) : Type 0 where
   pub outcome : o ≡ serveHanded r q .outcome
   pub records : counted r′ ≡ counted (serveHanded r q .state)

@@ -84,16 +84,16 @@ unfolding text mixedSheet mixed
 mixed-text = refl
 
 -- a buffer with too little room, and one with room to spare (W2 to W4)
-pub short-buffer : writeText (bytes "abc") (bytes "..") ≡ record { answer = refuse 4; buffer = bytes ".." }
+pub short-buffer : writeText (bytes "abc") (bytes "..") ≡ record { result = refuse 4; buffer = bytes ".." }
 unfolding writeText
 short-buffer = refl
 
-pub long-buffer : writeText (bytes "abc") (bytes ".....") ≡ record { answer = ok 3; buffer = bytes "abc.." }
+pub long-buffer : writeText (bytes "abc") (bytes ".....") ≡ record { result = ok 3; buffer = bytes "abc.." }
 unfolding writeText
 long-buffer = refl
 
 -- 2 before 4 (W1): no counts, and a buffer that is short for any sheet
-pub two-before-four : write (record { subjects = 0; methods = 0; cats = 0; sheet = 0; types = 0; links = []; records = [] }) (bytes "..") ≡ record { answer = refuse 2; buffer = bytes ".." }
+pub two-before-four : write (record { subjects = 0; methods = 0; cats = 0; sheet = 0; types = 0; links = []; records = [] }) (bytes "..") ≡ record { result = refuse 2; buffer = bytes ".." }
 unfolding write from
 two-before-four = refl
 

@@ -19,7 +19,7 @@ use Rattle.spec_model.proofs.Rules.{second}
 use Rattle.spec_model.specs.Refusals.{outOfRange, shortBuffer}
 use Rattle.spec_sheet.specs.Lines.{Row, row, split, join, Reading, refused, got, Reader, line, follow, bind, endOfInput}
 use Rattle.spec_sheet.specs.Text.{endText, sheetLines, withoutDerived, text, Written, writeText, write}
-use Rattle.spec_sheet.specs.Sheet.{endLine, body, signaturesStand, ending, sheet, malformed, loaded, sheetAnswer, read}
+use Rattle.spec_sheet.specs.Sheet.{endLine, body, signaturesStand, ending, sheet, malformed, loaded, sheetResult, read}
 use Rattle.spec_sheet.proofs.Steps.{cond-cases, refuse-ok, ok-value}
 use Rattle.spec_sheet.proofs.Lines.{rows, rows-append, split-sound, split-full, clean-lines}
 use Rattle.spec_sheet.proofs.LineKinds.{end-exact}
@@ -71,7 +71,7 @@ read-exact bs t = (λ h. from (sheet 0 (split bs)) refl h, λ p. to (p .0) (p .1
               ∙ ap (λ z. join (sheetLines z ++ (endText ∷ []))) (sym (without-none v (i .0 .count))),
         )
 
-    from : (r : Reading Table) → sheet 0 (split bs) ≡ r → sheetAnswer r ≡ loaded t → So (validSheet t) × (bs ≡ text t)
+    from : (r : Reading Table) → sheet 0 (split bs) ≡ r → sheetResult r ≡ loaded t → So (validSheet t) × (bs ≡ text t)
     from (refused n at) e h = malformed-loaded h
     from (got u at rs) e h = subst (λ z. So (validSheet z) × (bs ≡ text z)) (loaded-table h) (sound u at rs e)
 
@@ -81,9 +81,9 @@ read-exact bs t = (λ h. from (sheet 0 (split bs)) refl h, λ p. to (p .0) (p .1
         let i = body-exact .full 0 t (row endText ∷ []) (v .0) in
         let j = ending-full t (i .0) (v .1) in
         ap read (e ∙ ap (λ z. join (sheetLines z ++ (endText ∷ []))) (valid-whole t h))
-        ∙ ap (λ z. sheetAnswer (sheet 0 z))
+        ∙ ap (λ z. sheetResult (sheet 0 z))
         (split-full (sheetLines t ++ (endText ∷ [])) (clean-lines (sheetLines t) (endText ∷ []) (body-exact .lf t (v .0)) (refl, tt)) ∙ rows-append (sheetLines t) (endText ∷ []))
-        ∙ ap (λ z. sheetAnswer (follow z ending)) (i .1) ∙ ap sheetAnswer (j .1)
+        ∙ ap (λ z. sheetResult (follow z ending)) (i .1) ∙ ap sheetResult (j .1)
 
 -- The premise of demand 3: what is loaded is valid.
 pub loaded-valid : (bs : List ℕ) (t : Table) → read bs ≡ loaded t → So (validSheet t)
@@ -143,55 +143,55 @@ fills xs old h = record {
   behind = drop-append-seam xs (drop (length xs) old);
 }
 
-write-text-ok : (xs old : List ℕ) (n : ℕ) → writeText xs old .answer ≡ ok n → Filled xs old (writeText xs old .buffer) n
+write-text-ok : (xs old : List ℕ) (n : ℕ) → writeText xs old .result ≡ ok n → Filled xs old (writeText xs old .buffer) n
 unfolding writeText
 write-text-ok xs old n = go (leb (length xs) (length old)) refl
   where
     full : Written
-    full = record { answer = ok (length xs); buffer = xs ++ drop (length xs) old }
+    full = record { result = ok (length xs); buffer = xs ++ drop (length xs) old }
 
     short : Written
-    short = record { answer = refuse shortBuffer; buffer = old }
+    short = record { result = refuse shortBuffer; buffer = old }
 
-    go : (b : Bool) → leb (length xs) (length old) ≡ b → cond b full short .answer ≡ ok n → Filled xs old (cond b full short .buffer) n
+    go : (b : Bool) → leb (length xs) (length old) ≡ b → cond b full short .result ≡ ok n → Filled xs old (cond b full short .buffer) n
     go true e h = subst (Filled xs old (xs ++ drop (length xs) old)) (ok-value h) (fills xs old (leb-true (length xs) (length old) e))
     go false e h = refuse-ok h
 
-write-text-refused : (xs old : List ℕ) (n : ℕ) → writeText xs old .answer ≡ refuse n → writeText xs old .buffer ≡ old
+write-text-refused : (xs old : List ℕ) (n : ℕ) → writeText xs old .result ≡ refuse n → writeText xs old .buffer ≡ old
 unfolding writeText
 write-text-refused xs old n = go (leb (length xs) (length old))
   where
     full : Written
-    full = record { answer = ok (length xs); buffer = xs ++ drop (length xs) old }
+    full = record { result = ok (length xs); buffer = xs ++ drop (length xs) old }
 
     short : Written
-    short = record { answer = refuse shortBuffer; buffer = old }
+    short = record { result = refuse shortBuffer; buffer = old }
 
-    go : (b : Bool) → cond b full short .answer ≡ refuse n → cond b full short .buffer ≡ old
+    go : (b : Bool) → cond b full short .result ≡ refuse n → cond b full short .buffer ≡ old
     go true h = refuse-ok (sym h)
     go false h = refl
 
-pub write-ok : (r : RawTable) (old : List ℕ) (n : ℕ) → write r old .answer ≡ ok n → WroteSheet r old (write r old .buffer) n
+pub write-ok : (r : RawTable) (old : List ℕ) (n : ℕ) → write r old .result ≡ ok n → WroteSheet r old (write r old .buffer) n
 unfolding write
 write-ok r old n = go (tableAccepted r) refl
   where
     two : Written
-    two = record { answer = refuse outOfRange; buffer = old }
+    two = record { result = refuse outOfRange; buffer = old }
 
-    go : (a : Bool) → tableAccepted r ≡ a → cond a (writeText (text (tableOf r)) old) two .answer ≡ ok n → WroteSheet r old (cond a (writeText (text (tableOf r)) old) two .buffer) n
+    go : (a : Bool) → tableAccepted r ≡ a → cond a (writeText (text (tableOf r)) old) two .result ≡ ok n → WroteSheet r old (cond a (writeText (text (tableOf r)) old) two .buffer) n
     go true e h =
         let i = write-text-ok (text (tableOf r)) old n h in
         record { accepted = e; length-of = i .length-of; size = i .size; front = i .front; behind = i .behind; read-back = ap read (i .front) ∙ read-of-fitting (tableOf r) (accepted-fits r e) }
     go false e h = refuse-ok h
 
 -- a refusal leaves every byte of the buffer (W3)
-pub write-refused : (r : RawTable) (old : List ℕ) (n : ℕ) → write r old .answer ≡ refuse n → write r old .buffer ≡ old
+pub write-refused : (r : RawTable) (old : List ℕ) (n : ℕ) → write r old .result ≡ refuse n → write r old .buffer ≡ old
 unfolding write
 write-refused r old n = go (tableAccepted r)
   where
     two : Written
-    two = record { answer = refuse outOfRange; buffer = old }
+    two = record { result = refuse outOfRange; buffer = old }
 
-    go : (a : Bool) → cond a (writeText (text (tableOf r)) old) two .answer ≡ refuse n → cond a (writeText (text (tableOf r)) old) two .buffer ≡ old
+    go : (a : Bool) → cond a (writeText (text (tableOf r)) old) two .result ≡ refuse n → cond a (writeText (text (tableOf r)) old) two .buffer ≡ old
     go true h = write-text-refused (text (tableOf r)) old n h
     go false h = refl

@@ -8,7 +8,7 @@ use lib.ListN.{length, length-append}
 use Rattle.spec_model.specs.Basics.{Res, refuse, ok}
 use Rattle.spec_model.specs.Table.{Rep, ref, w32, w64, Table}
 use Rattle.spec_sheet.specs.Lines.{Row, row, cut, split, join, Reading, refused, got, Reader, lineAt, line, follow, bind, times, endOfInput}
-use Rattle.spec_sheet.specs.Sheet.{underLine, ownLine, endLine, methodLine, members, oneType, body, signaturesStand, ending, sheet, malformed, loaded, sheetAnswer, read}
+use Rattle.spec_sheet.specs.Sheet.{underLine, ownLine, endLine, methodLine, members, oneType, body, signaturesStand, ending, sheet, malformed, loaded, sheetResult, read}
 use Rattle.spec_sheet.proofs.Lines.{unsplit, unsplit-split, rows, rows-append}
 
 -- from offset at with rows rs, whole lines lead to offset at′ with rows rs′
@@ -126,7 +126,7 @@ pub offset-behind-lines : (bs : List ℕ) (n at : ℕ) → read bs ≡ malformed
 unfolding read sheet
 offset-behind-lines bs n at = go (sheet 0 (split bs)) (follow-places 0 (split bs) (body 0 (split bs)) ending (body-places 0 (split bs)) ending-places)
   where
-    go : (r : Reading Table) → Placed 0 (split bs) r → sheetAnswer r ≡ malformed n at → (ls : List (List ℕ)) × (rest : List ℕ) × (bs ≡ join ls ++ rest) × (at ≡ length (join ls))
+    go : (r : Reading Table) → Placed 0 (split bs) r → sheetResult r ≡ malformed n at → (ls : List (List ℕ)) × (rest : List ℕ) × (bs ≡ join ls ++ rest) × (at ≡ length (join ls))
     go (refused k j) h e =
         let i = h .1 in
         let p : j ≡ 0 + length (join (i .lines)) = i .offset in

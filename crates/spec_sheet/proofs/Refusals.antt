@@ -13,7 +13,7 @@ use Rattle.spec_sheet.specs.Lines.{bytes, Row, row, cut, split, Reading,
 use Rattle.spec_sheet.specs.Numbers.{Scan, fail, took, bindScan, whole, number, numbers}
 use Rattle.spec_sheet.specs.Text.{newestForm, repText, ownText, stateText, endText}
 use Rattle.spec_sheet.specs.Sheet.{numberLine, underLine, repLine, ownLine, endLine, arguments, answer, signature, methodLine, below, members, oneType, body, signaturesStand, ending}
-use Rattle.spec_sheet.specs.Sheet.{sheet, SheetAnswer, malformed, loaded, sheetAnswer, read}
+use Rattle.spec_sheet.specs.Sheet.{sheet, SheetResult, malformed, loaded, sheetResult, read}
 
 abbrev pub Number : ℕ → Type 0
 Number n = (1 ≤ n) × (n ≤ 3)
@@ -144,18 +144,18 @@ ending-numbered t last rs = follow-numbered (line endLine last rs) _ (line-numbe
     own true at rs = tt
     own false at rs = (omega arith, omega arith)
 
-abbrev Answered : SheetAnswer → Type 0
-Answered (malformed n at) = Number n
-Answered (loaded t) = Unit {0}
+abbrev NumberedResult : SheetResult → Type 0
+NumberedResult (malformed n at) = Number n
+NumberedResult (loaded t) = Unit {0}
 
-read-numbered : (bs : List ℕ) → Answered (read bs)
+read-numbered : (bs : List ℕ) → NumberedResult (read bs)
 unfolding read sheet
 read-numbered bs = go (sheet 0 (split bs)) (follow-numbered (body 0 (split bs)) ending (body-numbered 0 (split bs)) ending-numbered)
   where
-    go : (r : Reading Table) → Numbered r → Answered (sheetAnswer r)
+    go : (r : Reading Table) → Numbered r → NumberedResult (sheetResult r)
     go (refused n at) h = h
     go (got t at rs) h = tt
 
 -- the number of a refusal
 pub refusal-number : (bs : List ℕ) (n at : ℕ) → read bs ≡ malformed n at → Number n
-refusal-number bs n at e = subst Answered e (read-numbered bs)
+refusal-number bs n at e = subst NumberedResult e (read-numbered bs)

@@ -48,7 +48,7 @@ Reader A = ℕ → List Row → Reading A
 abbrev pub pure : {A : Type 0} → A → Reader A
 pure x at rs = got x at rs
 
--- the answer for one line: a refusal stands at its offset
+-- the result of one line: a refusal stands at its offset
 abbrev pub lineAt : {A : Type 0} → Res A → ℕ → List ℕ → List Row → Reading A
 lineAt (refuse n) at l rs = refused n at
 lineAt (ok x) at l rs = got x (at + (length l + 1)) rs
@@ -70,7 +70,7 @@ abbrev pub follow : {A B : Type 0} → Reading A → (A → Reader B) → Readin
 follow (refused n at) k = refused n at
 follow (got x at rs) k = k x at rs
 
--- one reader and then another; the first refusal is the answer
+-- one reader and then another; the first refusal counts
 abbrev pub bind : {A B : Type 0} → Reader A → (A → Reader B) → Reader B
 bind p k at rs = follow (p at rs) k
 

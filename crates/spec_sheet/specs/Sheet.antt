@@ -1,4 +1,4 @@
--- The reader's answer for every string of bytes (S). In each kind of line the tests for 1 come first, then those for 2, then those for 3, each over the whole line (S5).
+-- The reader's result for every string of bytes (S). In each kind of line the tests for 1 come first, then those for 2, then those for 3, each over the whole line (S5).
 use mathlib.Core.Bool.{Bool, true, false, _&&_, cond}
 use mathlib.Core.List.{List, [], _∷_}
 use mathlib.Core.Option.{Option, none, some}
@@ -119,16 +119,16 @@ unfoldable pub sheet : Reader Table
 unfolding body ending
 sheet = bind body ending
 
--- The reader's answer: a table, or the number of a refusal and the byte offset of the line.
-pub data SheetAnswer : Type 0 where
-  malformed : ℕ → ℕ → SheetAnswer
-  loaded : Table → SheetAnswer
+-- The reader's result: a table, or the number of a refusal and the byte offset of the line.
+pub data SheetResult : Type 0 where
+  malformed : ℕ → ℕ → SheetResult
+  loaded : Table → SheetResult
 
-abbrev pub sheetAnswer : Reading Table → SheetAnswer
-sheetAnswer (refused n at) = malformed n at
-sheetAnswer (got t at rs) = loaded t
+abbrev pub sheetResult : Reading Table → SheetResult
+sheetResult (refused n at) = malformed n at
+sheetResult (got t at rs) = loaded t
 
 -- sheet read, for every string of bytes
-unfoldable pub read : List ℕ → SheetAnswer
+unfoldable pub read : List ℕ → SheetResult
 unfolding sheet split
-read bs = sheetAnswer (sheet 0 (split bs))
+read bs = sheetResult (sheet 0 (split bs))

@@ -1,4 +1,4 @@
--- The text of a table, line by line (S20 to S26), and the writer's answer (W).
+-- The text of a table, line by line (S20 to S26), and what the writer leaves (W).
 use mathlib.Core.Bool.{Bool, true, false, cond}
 use mathlib.Core.List.{List, [], _∷_, _++_}
 use mathlib.Core.Option.{Option, none, some}
@@ -96,16 +96,16 @@ unfoldable pub text : Table → List ℕ
 unfolding sheetLines join
 text t = join (sheetLines (withoutDerived t) ++ (endText ∷ []))
 
--- What the writer leaves: its answer, and the buffer.
+-- What the writer leaves: its result, and the buffer.
 pub record Written : Type 0 where
-  pub answer : Res ℕ
+  pub result : Res ℕ
   pub buffer : List ℕ
 
 -- A text that fits stands in front, and what is behind it stays; one that does not is refused with 4, and every byte stays (W2 to W4).
 unfoldable pub writeText : List ℕ → List ℕ → Written
-writeText xs buffer = cond (leb (length xs) (length buffer)) (record { answer = ok (length xs); buffer = xs ++ drop (length xs) buffer }) (record { answer = refuse shortBuffer; buffer = buffer })
+writeText xs buffer = cond (leb (length xs) (length buffer)) (record { result = ok (length xs); buffer = xs ++ drop (length xs) buffer }) (record { result = refuse shortBuffer; buffer = buffer })
 
 -- the writer, on any table: its check comes first (W1)
 unfoldable pub write : RawTable → List ℕ → Written
 unfolding writeText text tableAccepted tableOf
-write r buffer = cond (tableAccepted r) (writeText (text (tableOf r)) buffer) (record { answer = refuse outOfRange; buffer = buffer })
+write r buffer = cond (tableAccepted r) (writeText (text (tableOf r)) buffer) (record { result = refuse outOfRange; buffer = buffer })

@@ -26,7 +26,7 @@ unfoldable pub offersHanded : RawSystem → ℤ → List ℤ → Res Bool
 unfolding systemAccepted systemOf offersNamed
 offersHanded r k w = need (systemAccepted r) outOfRange λ _. ok (offersNamed (systemOf r) k w)
 
--- what each answer of the code says
+-- what each result of the code says
 abbrev pub offeredAs : Offered → Res Bool
 offeredAs Unfit = refuse outOfRange
 offeredAs Yes = ok true

@@ -1,4 +1,4 @@
-// Whether a cell of a state offers a chain of methods (L15 to L18, E11): so that demand 3 can be watched on what runs. What this answers is the definition
+// Whether a cell of a state offers a chain of methods (L15 to L18, E11): so that demand 3 can be watched on what runs. What comes of it is the definition
 // `offersHanded` in specs/Chained.antt.
 ghost use mathlib.Core.Path.{_≡_};
 ghost use mathlib.Core.List.{List};

@@ -1,4 +1,4 @@
--- What the answers of code that reads text say, in the words of crate `spec_sheet`: scans, answers for a line, and readings of the lines from an offset on.
+-- What the results of code that reads text say, in the words of crate `spec_sheet`: scans, results of a line, and readings of the lines from an offset on.
 use mathlib.Core.Path.{_≡_}
 use mathlib.Core.Bool.{Bool, false, cond}
 use mathlib.Core.List.{List, [], _∷_}
@@ -47,7 +47,7 @@ RestEmpty t = (k : ℕ) → t .count ≤ k → getD (itemsOf t) k 0 ≡ 0
 abbrev pub noNumbers : ℕ → Numbers
 noNumbers next = record { right = false; count = 0; first = 0; second = 0; third = 0; fourth = 0; next = next }
 
--- The answer for one line; f says what the line's number means.
+-- The result of one line; f says what the line's number means.
 abbrev pub valueBy : {A : Type 0} → (ℕ → A) → Value → Res A
 valueBy f (Refusedᵛ k) = refuse k
 valueBy f (Is n) = ok (f n)
@@ -66,14 +66,14 @@ abbrev pub GotAtMost : ℕ → Got → Type 0
 GotAtMost high (Refusedᵍ k) = 0 < k
 GotAtMost high (At n c) = n ≤ high
 
--- The same for answers that hold an array: the number of a refusal, or 0 and the value.
+-- The same for results that hold an array: the number of a refusal, or 0 and the value.
 abbrev pub result : {A : Type 0} → ℕ → A → Res A
 result nr x = cond (eqb nr 0) (ok x) (refuse nr)
 
 abbrev pub reading : {A : Type 0} → List ℕ → ℕ → A → ℕ → Reading A
 reading s nr x at = cond (eqb nr 0) (got x at (split (drop at s))) (refused nr at)
 
--- An answer for a line with the cursor d behind it.
+-- A result of a line with the cursor d behind it.
 abbrev pub passedBy : Value → Cursor → Got
 passedBy (Refusedᵛ k) d = Refusedᵍ k
 passedBy (Is n) d = At n d

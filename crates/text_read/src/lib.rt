@@ -35,7 +35,7 @@ pub struct Numbers {
     pub next: usize,
 }
 
-// The answer for one line: the number of a refusal, or the line's value.
+// The result of one line: the number of a refusal, or the line's value.
 pub enum Value {
     Refused(usize),
     Is(usize),
@@ -210,7 +210,7 @@ pub fn past_accepted(refusal: usize, c: Cursor, d: Cursor) -> Cursor
     d
 }
 
-// A line's answer with the cursor behind the line: a line that is refused isn't passed (S31).
+// A line's result with the cursor behind the line: a line that is refused isn't passed (S31).
 pub fn passed(v: Value, d: Cursor) -> Got
     ensures { λ r. ⌜ r ≡ passedBy v d ⌝ }
 {

@@ -1,4 +1,4 @@
--- The number and value of each case of a writer's answer (E4), and what it leaves.
+-- The number and value of each case that a writer comes to (E4), and what it leaves.
 use Prim.Native.Nat.{ℕ}
 use mathlib.Core.List.{List}
 use Rattle.spec_model.specs.Basics.{Res, refuse, ok}
@@ -6,9 +6,9 @@ use Rattle.spec_sheet.specs.Text.{Written}
 use Rattle.text_write.specs.declared.Wrote.{Wrote}
 use Rattle.text_write.specs.declared.Wrote.the-variants.{Refused, Length}
 
-abbrev pub wroteAnswer : Wrote → Res ℕ
-wroteAnswer (Refused n) = refuse n
-wroteAnswer (Length n) = ok n
+abbrev pub wroteResult : Wrote → Res ℕ
+wroteResult (Refused n) = refuse n
+wroteResult (Length n) = ok n
 
 -- the number of a refusal, or 0; and what is handed out beside it, which stays `old` where it is refused
 abbrev pub numberOf : {A : Type 0} → Res A → ℕ
@@ -19,6 +19,6 @@ abbrev pub valueOf : {A : Type 0} → A → Res A → A
 valueOf old (refuse n) = old
 valueOf old (ok x) = x
 
--- the answer, and the buffer as it is then
+-- the result, and the buffer as it is then
 abbrev pub writtenOf : Wrote → List ℕ → Written
-writtenOf w buffer = record { answer = wroteAnswer w; buffer = buffer }
+writtenOf w buffer = record { result = wroteResult w; buffer = buffer }

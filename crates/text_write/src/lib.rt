@@ -10,7 +10,7 @@ ghost use lib.ListN.{length};
 ghost use Rattle.spec_sheet.specs.Numbers.{decimal};
 ghost use Rattle.spec_sheet.specs.Text.{numberText};
 ghost use Rattle.text_write.specs.Fill.{Filled, Lined};
-ghost use Rattle.text_write.specs.Written.{wroteAnswer, numberOf, valueOf};
+ghost use Rattle.text_write.specs.Written.{wroteResult, numberOf, valueOf};
 
 // What comes of a text and a buffer: the number of a refusal, or the text's length. specs/Written.antt says what it stands for.
 pub enum Wrote {
@@ -20,7 +20,7 @@ pub enum Wrote {
 
 // What a C function returns for it: the refusal's number, or 0 with the length handed out (E12).
 pub fn wrote_code(w: Wrote, length: &mut usize) -> usize
-    ensures { λ n. ⌜ (n ≡ numberOf (wroteAnswer w)) × (now (length .exit) ≡ valueOf (now (length .entry)) (wroteAnswer w)) ⌝ }
+    ensures { λ n. ⌜ (n ≡ numberOf (wroteResult w)) × (now (length .exit) ≡ valueOf (now (length .entry)) (wroteResult w)) ⌝ }
 {
     match w {
         Wrote::Refused(n) => n,

@@ -2,7 +2,7 @@ pub mod Runs
 pub mod Calls
 pub mod Laws
 pub mod Shown
-pub mod Answers
+pub mod RunWords
 pub mod Offers
 pub mod Writes
 pub mod OfStates

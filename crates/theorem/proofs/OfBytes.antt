@@ -33,7 +33,7 @@ use Rattle.theorem.specs.Shown.{first, taken, RunReturns, History, begin
 use Rattle.theorem.specs.OfStates.{toldBy}
 use Rattle.theorem.specs.OfBytes.{sheetIn, ShownOfLoads, ShownOfBytes}
 use Rattle.theorem.proofs.Shown.{shown}
-use Rattle.theorem.proofs.Answers.{not-zero, outcomes-length, answers-told}
+use Rattle.theorem.proofs.RunWords.{not-zero, outcomes-length, words-told}
 use Rattle.theorem.proofs.Offers.{offers-is, offers-yes, offers-no}
 use Rattle.theorem.proofs.Writes.{written-back}
 
@@ -91,7 +91,7 @@ module _ (words : List ℤ) (n : ℕ) (old new : LentRun) (p : So (systemAccepte
     run-goes-on f b h = (
       ran .number,
       ran .served ∙ outcomes-length qs (systemOf (rawFlat x)),
-      subst (λ z. History f (rawFlat x′) z) (sym (ap (toldBy b qs) (ran .answers) ∙ answers-told words (old .answers) (systemOf (rawFlat x)) b)) (runs {qs = qs} {os = os} h run-returns),
+      subst (λ z. History f (rawFlat x′) z) (sym (ap (toldBy b qs) (ran .answers) ∙ words-told words (old .answers) (systemOf (rawFlat x)) b)) (runs {qs = qs} {os = os} h run-returns),
     )
 
 -- ---- the number stored by offers

@@ -27,7 +27,7 @@ use Rattle.state_offers.specs.Chained.{offersNamed, offeredAs}
 use Rattle.theorem.specs.Shown.{first, RunReturns, History, begins, asks, runs, alike, Holds, Permitted}
 use Rattle.theorem.specs.OfStates.{toldBy, ShownOfStates}
 use Rattle.theorem.proofs.Shown.{shown}
-use Rattle.theorem.proofs.Answers.{outcomes-length, answers-told}
+use Rattle.theorem.proofs.RunWords.{outcomes-length, words-told}
 use Rattle.theorem.proofs.Offers.{offers-is, offers-yes, offers-no}
 use Rattle.theorem.proofs.Writes.{written-back}
 
@@ -53,7 +53,7 @@ module _ (s : State) (words old new : List ℤ) (y : Ran) (p : So (systemAccepte
   run-goes-on f b h = let os = runAsked (systemIn s) qs .0 in (
     ran .refusal,
     ran .served ∙ outcomes-length qs (systemIn s),
-    subst (λ z. History f (rawState (y .state)) z) (sym (ap (toldBy b qs) (ran .answers) ∙ answers-told words old (systemIn s) b)) (runs {qs = qs} {os = os} h run-returns),
+    subst (λ z. History f (rawState (y .state)) z) (sym (ap (toldBy b qs) (ran .answers) ∙ words-told words old (systemIn s) b)) (runs {qs = qs} {os = os} h run-returns),
   )
 
 -- ---- the code's three answers to Offers
@@ -79,8 +79,8 @@ pub shown-of-states : ShownOfStates
 shown-of-states bytes f a = record {
   begins = alike begins (loaded-counted f);
   serves = λ s b q y h w. asks h (w .returns);
-  calls = λ s b subject k m vs y h w e. shown bytes f a (rawState s) b h .calls subject k m vs (outcomeOf (y .answer)) (rawState (y .state)) (w .returns) e;
-  answers = λ s b subject j v y h w e. shown bytes f a (rawState s) b h .answers subject j v (outcomeOf (y .answer)) (rawState (y .state)) (w .returns) e;
+  calls = λ s b subject k m vs y h w e. shown bytes f a (rawState s) b h .calls subject k m vs (outcomeOf (y .outcome)) (rawState (y .state)) (w .returns) e;
+  answers = λ s b subject j v y h w e. shown bytes f a (rawState s) b h .answers subject j v (outcomeOf (y .outcome)) (rawState (y .state)) (w .returns) e;
   runs = λ s b words old new y h w. run-goes-on s words old new y (shown bytes f a (rawState s) b h .passes) w f b h;
   offers = λ s b k w o h e. let x = shown bytes f a (rawState s) b h in said (rawState s) b x k w o (e ∙ offers-is (rawState s) b x k w);
   writes = λ s b w old new h e. e ∙ written-back bytes f a (rawState s) b h old;

@@ -25,12 +25,12 @@ use Rattle.spec_sheet.specs.Lines.{Row, row, cut, bytes, split, join, starts, f
 use Rattle.spec_sheet.specs.Clean.{notLF, clean}
 use Rattle.spec_sheet.specs.Numbers.{decimal}
 use Rattle.spec_sheet.specs.Text.{numberText, Written, writeText}
-use Rattle.spec_sheet.specs.Sheet.{SheetAnswer, malformed, loaded, read}
+use Rattle.spec_sheet.specs.Sheet.{SheetResult, malformed, loaded, read}
 use Rattle.spec_sheet.proofs.Steps.{none-some}
 use Rattle.spec_sheet.proofs.Lines.{rows, Clean, clean-lines, all-append, split-full, decimal-clean}
 use Rattle.spec_sheet.proofs.Exact.{loaded-valid, loaded-demand3}
 use Rattle.script_read_request.specs.Asked.{requestLine}
-use Rattle.script_write_outcome.specs.Answers.{integerText, outcomeText}
+use Rattle.script_write_outcome.specs.Outcomes.{integerText, outcomeText}
 use Rattle.script_output.specs.Output.{maxInput, sheetPart, requestPart, asked, servedLines, printedLines, scriptOutput}
 use Rattle.text_write.specs.Written.{writtenOf}
 use Rattle.export_table.specs.Codes.{WrittenIs}
@@ -46,20 +46,20 @@ unfolding writeText
 written text old = go (leb (length text) (length old)) refl
   where
     full : Written
-    full = record { answer = ok (length text); buffer = text ++ drop (length text) old }
+    full = record { result = ok (length text); buffer = text ++ drop (length text) old }
 
     short : Written
-    short = record { answer = refuse shortBuffer; buffer = old }
+    short = record { result = refuse shortBuffer; buffer = old }
 
     go : (b : Bool) → leb (length text) (length old) ≡ b → Fits text old (cond b full short) ⊎ TooShort text old (cond b full short)
     go true e = inl (record {
-      answer = refl;
+      result = refl;
       front = take-append-seam text (drop (length text) old);
       behind = drop-append-seam text (drop (length text) old);
       size = let l : length text ≤ length old = leb-true (length text) (length old) e in
           length-append text (drop (length text) old) ∙ ap (λ z. length text + z) (length-drop (length text) old) ∙ omega arith;
     })
-    go false e = inr (record { short = leb-false (length text) (length old) e; answer = refl; untouched = refl })
+    go false e = inr (record { short = leb-false (length text) (length old) e; result = refl; untouched = refl })
 
 -- ---- no line has an LF
 
@@ -159,7 +159,7 @@ module _ (input : List ℕ) where
   unfolding scriptOutput
   output-long h = ap (λ b. join (cond b (bytes "no=2" ∷ []) (printedLines (read (sheetPart input)) (split (requestPart input))))) (lt-ltb maxInput (length input) h)
 
-  output-is : length input ≤ maxInput → (a : SheetAnswer) → read (sheetPart input) ≡ a → scriptOutput input ≡ join (printedLines a (split (requestPart input)))
+  output-is : length input ≤ maxInput → (a : SheetResult) → read (sheetPart input) ≡ a → scriptOutput input ≡ join (printedLines a (split (requestPart input)))
   unfolding scriptOutput
   output-is h a e = ap (λ b. join (cond b (bytes "no=2" ∷ []) (printedLines (read (sheetPart input)) (split (requestPart input))))) (le-ltb maxInput (length input) h)
       ∙ ap (λ z. join (printedLines z (split (requestPart input)))) e
@@ -221,10 +221,10 @@ unfolding writeText
 written-in text old new n before len = go (leb (length text) (length old))
   where
     full : Written
-    full = record { answer = ok (length text); buffer = text ++ drop (length text) old }
+    full = record { result = ok (length text); buffer = text ++ drop (length text) old }
 
     short : Written
-    short = record { answer = refuse shortBuffer; buffer = old }
+    short = record { result = refuse shortBuffer; buffer = old }
 
     go : (b : Bool) → WrittenIs (cond b full short) n before len new → writtenIn n len new ≡ cond b full short
     go true w = rw (w .number, w .length, w .bytes)

@@ -58,7 +58,7 @@ module _ (t : Table) (v : So (validSheet t)) where
 
     means-writes : (old : List ℕ) → write (r .table) old ≡ writeText (text t) old
     unfolding write
-    means-writes old = ap (λ (c : Bool). cond c (writeText (text (tableOf (r .table))) old) (record { answer = refuse outOfRange; buffer = old })) means-accepted
+    means-writes old = ap (λ (c : Bool). cond c (writeText (text (tableOf (r .table))) old) (record { result = refuse outOfRange; buffer = old })) means-accepted
         ∙ ap (λ z. writeText z old) (same-text t (tableOf (r .table)) means-grown (sheet-fitting t v .1))
 
 -- from the bytes on

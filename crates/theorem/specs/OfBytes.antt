@@ -18,7 +18,7 @@ use Rattle.table_record.specs.Layout.{rawTable}
 use Rattle.spec_sheet.specs.Sheet.{read}
 use Rattle.spec_sheet.specs.Text.{write, writeText}
 use Rattle.sheet_read.specs.declared.Sheet.{Sheet}
-use Rattle.sheet_read.specs.Answer.{answered, sheetOf}
+use Rattle.sheet_read.specs.Result.{sheetFor, sheetOf}
 use Rattle.request_run.specs.Requested.{requests, runHanded}
 use Rattle.request_run.specs.Ran.{room}
 use Rattle.state_offers.specs.Chained.{offersHanded}
@@ -29,7 +29,7 @@ use Rattle.export_runs.specs.Results.{offeredOut, LoadedIs, LentRun, RunsOut}
 use Rattle.theorem.specs.Shown.{Accepts, sheetTable, History, Permitted}
 use Rattle.theorem.specs.OfStates.{toldBy}
 
--- ---- Where `pilgonca_load` returns 0, what it stored is the reader's answer to the bytes, and no refusal: so it is an f of which the rest is said.
+-- ---- Where `pilgonca_load` returns 0, what it stored is the reader's result for the bytes, and no refusal: so it is an f of which the rest is said.
 abbrev pub sheetIn : ℕ → ℕ → Flat → Sheet
 sheetIn n at x = sheetOf n at (x .types) (x .links) (countsIn (x .counts))
 
@@ -47,7 +47,7 @@ pub record OfBytes (bytes : List ℕ) (f : Sheet) : Type 0 where
       → Handed (call subject k m vs) n old new → n ≡ 0 → Permitted b k (m ∷ [])
   pub answers : (b : Book) (subject j : ℤ) (v : Option ℤ) (n : ℕ) (old new : LentState) → History f (rawFlat (old .state)) b
       → Handed (answer subject j v) n old new → n ≡ 0 → So (names j (length (b .calls)))
-  -- `pilgonca_run` returns 0, and takes the history on: of the requests in its words, as many as there is room for, the book is told what the list of answers says then (L24, L25).
+  -- `pilgonca_run` returns 0, and takes the history on: of the requests in its words, as many as there is room for, the book is told what the list of outcomes says then (L24, L25).
   pub runs : (b : Book) (words : List ℤ) (n : ℕ) (old new : LentRun) → History f (rawFlat (old .state)) b
       → RunsOut (runHanded (rawFlat (old .state)) (room (old .answers)) words) n old new
       → let qs = requests (room (old .answers)) words in (n ≡ 0) × (new .served ≡ length qs) × History f (rawFlat (new .state)) (toldBy b qs (new .answers))
@@ -58,7 +58,7 @@ pub record OfBytes (bytes : List ℕ) (f : Sheet) : Type 0 where
   -- first five. And so it gives those back that `pilgonca_read` read.
   pub writes : (x : Flat) (b : Book) (counts : List ℕ) (n before after : ℕ) (old new : List ℕ) → History f (rawFlat x) b → countsIn counts ≡ countsIn (x .counts)
       → WrittenIs (write (rawTable (x .types) (x .links) (countsIn counts)) old) n before after new → WrittenIs (writeText bytes old) n before after new
-  pub reads : (m at : ℕ) (types links counts : List ℕ) (n before after : ℕ) (old new : List ℕ) → sheetOf m at types links (countsIn counts) ≡ answered (read bytes)
+  pub reads : (m at : ℕ) (types links counts : List ℕ) (n before after : ℕ) (old new : List ℕ) → sheetOf m at types links (countsIn counts) ≡ sheetFor (read bytes)
       → WrittenIs (write (rawTable types links (countsIn counts)) old) n before after new → WrittenIs (writeText bytes old) n before after new
 
 abbrev pub ShownOfBytes : Type 0

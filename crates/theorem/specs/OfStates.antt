@@ -33,7 +33,7 @@ use Rattle.state_offers.specs.declared.Offered.the-variants.{Yes, No}
 use Rattle.state_offers.specs.Chained.{offersHanded, offeredAs}
 use Rattle.theorem.specs.Shown.{Accepts, sheetTable, taken, History, Permitted}
 
--- ---- The book by the answers of a run, four words for each request: it was accepted if the first of them is 0 (L25, U8). What is no request (U6, U7) goes by.
+-- ---- The book by the outcomes of a run, four words for each request: it was accepted if the first of them is 0 (L25, U8). What is no request (U6, U7) goes by.
 abbrev pub isZero : ℤ → Bool
 isZero (pos n) = eqb n 0
 isZero (negsuc n) = false
@@ -47,14 +47,14 @@ toldBy b (some q ∷ qs) answers = toldBy (feed b q (isZero (getD answers 0 (pos
 pub record OfStates (bytes : List ℕ) (f : Sheet) : Type 0 where
   -- The state made of the sheet (`State::loaded`) begins a history, with the sheet's table in the book (L24).
   pub begins : History f (rawState (whole (f .types) (stateLoaded (f .links) (f .counts)))) (opened (sheetTable f))
-  -- A request takes it on, whatever its numbers are; the book is told whether the answer is a refusal (L24, L25).
-  pub serves : (s : State) (b : Book) (q : Request) (y : Served) → History f (rawState s) b → Serves s q y → History f (rawState (y .state)) (feed b q (taken (outcomeOf (y .answer))))
+  -- A request takes it on, whatever its numbers are; the book is told whether the outcome is a refusal (L24, L25).
+  pub serves : (s : State) (b : Book) (q : Request) (y : Served) → History f (rawState s) b → Serves s q y → History f (rawState (y .state)) (feed b q (taken (outcomeOf (y .outcome))))
   -- A call that is accepted is of a method that the page of the called cell permits (L27), and an answer that is accepted is to a call that the book noted.
   pub calls : (s : State) (b : Book) (subject k m : ℤ) (vs : List ℤ) (y : Served) → History f (rawState s) b
-      → Serves s (call subject k m vs) y → So (taken (outcomeOf (y .answer))) → Permitted b k (m ∷ [])
+      → Serves s (call subject k m vs) y → So (taken (outcomeOf (y .outcome))) → Permitted b k (m ∷ [])
   pub answers : (s : State) (b : Book) (subject j : ℤ) (v : Option ℤ) (y : Served) → History f (rawState s) b
-      → Serves s (answer subject j v) y → So (taken (outcomeOf (y .answer))) → So (names j (length (b .calls)))
-  -- A run is not refused, and takes the history on: of the requests in its words, as many as there is room for, the book is told what the list of answers says then (L24, L25).
+      → Serves s (answer subject j v) y → So (taken (outcomeOf (y .outcome))) → So (names j (length (b .calls)))
+  -- A run is not refused, and takes the history on: of the requests in its words, as many as there is room for, the book is told what the list of outcomes says then (L24, L25).
   pub runs : (s : State) (b : Book) (words old new : List ℤ) (y : Ran) → History f (rawState s) b → Runs s old new (runHanded (rawState s) (room old) words) y
       → let qs = requests (room old) words in (y .refusal ≡ 0) × (y .served ≡ length qs) × History f (rawState (y .state)) (toldBy b qs new)
   -- Offers says yes exactly where the page of that cell, its class and all of its trail, permits the chain, and else no (L26).

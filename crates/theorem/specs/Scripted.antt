@@ -1,6 +1,6 @@
 -- The theorem of the program `script`, from bytes to bytes: `ShownOfScripts`. For every input and every buffer that is lent, it says what stands in the buffer after the entry
 -- point, line by line; and what is known of every state on the way: demand 3 (L19 to L23), and that a call that is printed as accepted is of a permitted method.
--- The code comes in by the contract of its entry point alone (crate script_output, `script`): `Written` is the answer and the buffer that it leaves. `ShownOfScriptBytes` says the
+-- The code comes in by the contract of its entry point alone (crate script_output, `script`): `Written` is the result and the buffer that it leaves. `ShownOfScriptBytes` says the
 -- same of the C function. Proof: proofs/Scripted.
 use mathlib.Core.Path.{_≡_}
 use mathlib.Core.Logic.{_⊎_}
@@ -21,7 +21,7 @@ use Rattle.spec_sheet.specs.Lines.{row, bytes, split, join, starts, firstLine}
 use Rattle.spec_sheet.specs.Text.{numberText, Written, writeText}
 use Rattle.spec_sheet.specs.Sheet.{malformed, loaded, read}
 use Rattle.script_read_request.specs.Asked.{requestLine}
-use Rattle.script_write_outcome.specs.Answers.{outcomeText}
+use Rattle.script_write_outcome.specs.Outcomes.{outcomeText}
 use Rattle.script_output.specs.Output.{maxInput, sheetPart, requestPart, asked, scriptOutput}
 use Rattle.text_write.specs.declared.Wrote.{Wrote}
 use Rattle.text_write.specs.Written.{writtenOf}
@@ -29,9 +29,9 @@ use Rattle.export_table.specs.Codes.{WrittenIs}
 use Rattle.theorem.specs.Shown.{Permitted}
 
 -- ---- The buffer, which was `old`
--- The text fits: it stands in front, the answer is its length, and the bytes behind it are as they were.
+-- The text fits: it stands in front, the result is its length, and the bytes behind it are as they were.
 pub record Fits (text old : List ℕ) (w : Written) : Type 0 where
-  pub answer : w .answer ≡ ok (length text)
+  pub result : w .result ≡ ok (length text)
   pub front : take (length text) (w .buffer) ≡ text
   pub behind : drop (length text) (w .buffer) ≡ drop (length text) old
   pub size : length (w .buffer) ≡ length old
@@ -39,7 +39,7 @@ pub record Fits (text old : List ℕ) (w : Written) : Type 0 where
 -- It does not: 4, and every byte is as it was.
 pub record TooShort (text old : List ℕ) (w : Written) : Type 0 where
   pub short : length old < length text
-  pub answer : w .answer ≡ refuse shortBuffer
+  pub result : w .result ≡ refuse shortBuffer
   pub untouched : w .buffer ≡ old
 
 -- ---- The lines of an input whose sheet is read as t
@@ -89,13 +89,13 @@ pub record Script (input old : List ℕ) (w : Written) : Type 0 where
   pub refused : length input ≤ maxInput → (n at : ℕ) → read (sheetPart input) ≡ malformed n at → scriptOutput input ≡ join (numberText (bytes "no=") n ∷ [])
   pub served : length input ≤ maxInput → (t : Table) → read (sheetPart input) ≡ loaded t → Served input t
 
--- r and new are the answer and the buffer of `script`, by its contract.
+-- r and new are the result and the buffer of `script`, by its contract.
 abbrev pub ShownOfScripts : Type 0
 ShownOfScripts = (input old new : List ℕ) (r : Wrote) → writtenOf r new ≡ writeText (scriptOutput input) old → Script input old (writtenOf r new)
 
 -- The same of `pilgonca_script`, by the number that it returned, the length that it stored and the buffer.
 abbrev pub writtenIn : ℕ → ℕ → List ℕ → Written
-writtenIn n len new = record { answer = cond (eqb n 0) (ok len) (refuse n); buffer = new }
+writtenIn n len new = record { result = cond (eqb n 0) (ok len) (refuse n); buffer = new }
 
 abbrev pub ShownOfScriptBytes : Type 0
 ShownOfScriptBytes = (input old new : List ℕ) (n before after : ℕ) → WrittenIs (writeText (scriptOutput input) old) n before after new → Script input old (writtenIn n after new)

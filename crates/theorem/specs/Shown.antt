@@ -21,13 +21,13 @@ use Rattle.spec_model.specs.Claim.{feed, Claim}
 use Rattle.table_record.specs.Layout.{rawTable, tableIn}
 use Rattle.spec_sheet.specs.Sheet.{read}
 use Rattle.sheet_read.specs.declared.Sheet.{Sheet}
-use Rattle.sheet_read.specs.Answer.{answered}
+use Rattle.sheet_read.specs.Result.{sheetFor}
 use Rattle.request_run.specs.Requested.{runAsked}
 
 -- ---- The beginning
--- f is the sheet reader's answer to the bytes (its contract), and no refusal.
+-- f is the sheet reader's result for the bytes (its contract), and no refusal.
 pub record Accepts (bytes : List ℕ) (f : Sheet) : Type 0 where
-  pub contract : f ≡ answered (read bytes)
+  pub contract : f ≡ sheetFor (read bytes)
   pub accepted : f .refusal ≡ 0
 
 -- the state of the loaded sheet, and the sheet's table, from which the book starts
@@ -49,7 +49,7 @@ told b (q ∷ qs) [] = b
 told b (none ∷ qs) (o ∷ os) = told b qs os
 told b (some q ∷ qs) (o ∷ os) = told (feed b q (taken o)) qs os
 
--- ---- What a run owes, on a state r that passes the check of 2, that answers os and returns r′: outcomes, counts and counted records are those of the model's run of the
+-- ---- What a run owes, on a state r that passes the check of 2, that comes to os and returns r′: outcomes, counts and counted records are those of the model's run of the
 -- requests in the list, with a 1 in the place of each that is none.
 pub record RunReturns (r : RawSystem) (qs : List (Option Request)) (os : List Outcome) (r′ : RawSystem) : Type 0 where
   pub outcomes : os ≡ runAsked (systemOf r) qs .0
@@ -59,9 +59,9 @@ pub record RunReturns (r : RawSystem) (qs : List (Option Request)) (os : List Ou
 pub data History (f : Sheet) : RawSystem → Book → Type 0 where
   -- the state of the loaded sheet
   begins : History f (first f) (opened (sheetTable f))
-  -- a request with any numbers, accepted or refused, answered with o
+  -- a request with any numbers, accepted or refused, with outcome o
   asks : {r r′ : RawSystem} {b : Book} {q : Request} {o : Outcome} → History f r b → Returns r q o r′ → History f r′ (feed b q (taken o))
-  -- a run of requests, answered with os
+  -- a run of requests, with outcomes os
   runs : {r r′ : RawSystem} {b : Book} {qs : List (Option Request)} {os : List Outcome} → History f r b → RunReturns r qs os r′ → History f r′ (told b qs os)
   -- what stands past the counts may become anything (Q16)
   alike : {r r′ : RawSystem} {b : Book} → History f r b → counted r′ ≡ counted r → History f r′ b

@@ -2,7 +2,7 @@
 use mathlib.Core.Path.{refl, sym, _∙_}
 use mir.Facts.{toZ-ofZ}
 use Rattle.table_check.proofs.Accepted.{accepted-limits}
-use Rattle.derive_entry.proofs.Laws.{answered-as, refused-answers, handed-unfit, handed-fit}
+use Rattle.derive_entry.proofs.Laws.{derives-as, refused-derives, handed-unfit, handed-fit}
 use borrow.Author.Needs.{needs}
 use Rattle.derive_entry.proofs.derive.Statement.{statement}
 use Rattle.derive_entry.proofs.derive.Tie as tie
@@ -21,13 +21,13 @@ returns c =
     let a = s .args in
     let d = rw (toZ-ofZ (s .fits .t), toZ-ofZ (s .fits .s)) at (c .derive-named .ensures) in
     let fit = sym (c .before .before .before .table-fits .ensures) ∙ c .before .before .if1 .taken in
-    answered-as (d (a .l .now)) (handed-fit (a .b .now) (a .l .now) (a .c) (a .kind) (a .t) (a .s) fit)
+    derives-as (d (a .l .now)) (handed-fit (a .b .now) (a .l .now) (a .c) (a .kind) (a .t) (a .s) fit)
 
 returns-2 : tie.Need-returns-2
 returns-2 c =
     let a = c .before .before .before .args in
     let unfit = sym (c .before .table-fits .ensures) ∙ c .if1 .left in
-    refused-answers (a .b .now) (a .l .now) (a .c) refl (handed-unfit (a .b .now) (a .l .now) (a .c) (a .kind) (a .t) (a .s) unfit)
+    refused-derives (a .b .now) (a .l .now) (a .c) refl (handed-unfit (a .b .now) (a .l .now) (a .c) (a .kind) (a .t) (a .s) unfit)
 
 pub derive-spec : {M : Type 1} → statement M
 derive-spec = tie.close (tie.spec table-fits-requires derive-named-requires returns returns-2)

@@ -3,8 +3,8 @@ use mathlib.Core.Path.{refl, sym, subst}
 use Rattle.spec_model.specs.Restriction.{derived}
 use Rattle.spec_model.specs.Check.{kindOf}
 use Rattle.table_record.specs.Store.{tableIn}
-use Rattle.derive_entry.specs.Answer.{Answered, refusedWith}
-use Rattle.derive_entry.proofs.Laws.{ready, refused-answers, full-is, at-answers}
+use Rattle.derive_entry.specs.Result.{DerivesHanded, refusedWith}
+use Rattle.derive_entry.proofs.Laws.{ready, refused-derives, full-is, at-derives}
 use borrow.Author.Needs.{needs}
 use Rattle.derive_entry.proofs.derive_checked.Statement.{statement}
 use Rattle.derive_entry.proofs.derive_checked.Tie as tie
@@ -29,15 +29,15 @@ returns c = λ l.
     let a = c .before .before .before .before .before .before .args in
     let d = c .before .before .derive-kind in
     let full = full-is (a .b .now) (d .last .0) (a .c) (kindOf (a .kind)) (a .t) (a .s) (d .ensures) l (c .enum-told .given .1) in
-    subst (λ z. Answered (a .b .now) l (a .c) (derived (tableIn (a .b .now) l (a .c)) (kindOf (a .kind)) (a .t) (a .s)) (refusedWith 11 z (a .c)))
+    subst (λ z. DerivesHanded (a .b .now) l (a .c) (derived (tableIn (a .b .now) l (a .c)) (kindOf (a .kind)) (a .t) (a .s)) (refusedWith 11 z (a .c)))
     (sym (c .before .before .before .before .copied .ensures .0))
-    (refused-answers (a .b .now) l (a .c) refl full)
+    (refused-derives (a .b .now) l (a .c) refl full)
 
 returns-2 : tie.Need-returns-2
 returns-2 c = λ l.
     let a = c .before .before .before .before .before .before .before .args in
     let d = c .before .before .before .derive-kind in
-    at-answers (a .b .now) (d .last .0) (a .c) (kindOf (a .kind)) (a .t) (a .s) (d .ensures) l (c .before .d .given .1)
+    at-derives (a .b .now) (d .last .0) (a .c) (kindOf (a .kind)) (a .t) (a .s) (d .ensures) l (c .before .d .given .1)
 
 pub derive-checked-spec : {M : Type 1} → statement M
 derive-checked-spec =

@@ -1,6 +1,6 @@
 -- Each case of the answer by its definition.
 use mathlib.Core.Path.{ap, sym, _∙_}
-use Rattle.relation_compare.specs.Answered.{comparedOf}
+use Rattle.relation_compare.specs.Compared.{comparedOf}
 use Rattle.export_table.specs.Codes.{comparedCode}
 use borrow.Author.Needs.{needs}
 use Rattle.export_table.proofs.compared_code.Statement.{statement}

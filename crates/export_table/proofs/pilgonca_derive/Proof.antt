@@ -2,7 +2,7 @@
 use mathlib.Core.Path.{refl, ap, subst}
 use mir.Facts.{toZ-ofZ}
 use Rattle.table_record.specs.Store.{withCount}
-use Rattle.derive_entry.specs.Answer.{left, Answered}
+use Rattle.derive_entry.specs.Result.{left, DerivesHanded}
 use Rattle.state_bytes.specs.Flat.{countsIn}
 use Rattle.export_table.specs.Codes.{lent}
 use Rattle.export_table.proofs.Handing.{derivation-refused, derivation-accepted}
@@ -66,7 +66,7 @@ returns-4 c =
     let old = lent (a .types .now) (a .counts .now) (a .number .now) in
     let d = ap (λ z. left (countsIn (a .counts .now)) z (r .last .0)) (told .1) in
     derivation-accepted (a .links .now) _ (record { refusal = 0; number = told .0 .0; count = told .0 .1 .0; types = r .last .0 }) old _ refl
-    (ap (λ x. withCount x (told .0 .1 .0)) e) refl refl (subst (Answered (a .types .now) (a .links .now) (countsIn (a .counts .now)) _) d g)
+    (ap (λ x. withCount x (told .0 .1 .0)) e) refl refl (subst (DerivesHanded (a .types .now) (a .links .now) (countsIn (a .counts .now)) _) d g)
 
 pub pilgonca-derive-spec : {M : Type 1} → statement M
 pilgonca-derive-spec =

@@ -1,6 +1,6 @@
 -- The C function writes the pair table where the table fits, and leaves the buffer where it doesn't: by the contract of the pair table.
 use Rattle.relation_compare.specs.Pairs.{pairsHanded}
-use Rattle.relation_compare.specs.Answered.{pairsGiven}
+use Rattle.relation_compare.specs.Compared.{pairsGiven}
 use mathlib.Core.Path.{ap, _∙_}
 use borrow.Author.Needs.{needs}
 use Rattle.table_record.specs.Store.{rawTable}

@@ -1,5 +1,5 @@
 -- A refusal's line: the number, and the offset in the rest of the buffer (`fill-rest`).
-use Rattle.pairs_output.specs.Output.{answerLines}
+use Rattle.pairs_output.specs.Output.{resultLines}
 use Rattle.pairs_output.proofs.Whole.{refused-is}
 use Rattle.text_write.proofs.Laws.{fill-rest, fill-is, ended}
 use native.Mathlib.Omega.{arith}
@@ -38,7 +38,7 @@ same-length : tie.Need-same-length
 same-length c = search needs
 
 returns : tie.Need-returns
-unfolding answerLines
+unfolding resultLines
 returns c = (
   ended
       (fill-is

@@ -13,7 +13,7 @@ with-calls-requires c κs = search needs
 
 returns : tie.Need-returns
 returns c = λ b h x e. let p = c .before .before in let a = p .args in let q = c .before .answered in
-    rw (c .with-calls .ensures) (answered-step (whole b (a .s)) h (a .j) (p .pre .0) (q .result) (q .ensures .0) (q .ensures .1) (a .answer) (p .pre .2) x e)
+    rw (c .with-calls .ensures) (answered-step (whole b (a .s)) h (a .j) (p .pre .0) (q .result) (q .ensures .0) (q .ensures .1) (a .outcome) (p .pre .2) x e)
 
 pub answered-spec : {M : Type 1} → statement M
 answered-spec = tie.close (tie.spec answered-requires with-calls-requires returns)

@@ -24,7 +24,7 @@ returns c =
     .before .before .before .serve-coded in
     back-serves b (step .last .0) (c .give-back .last .0) (a .s) (byCode (a .code) (a .ops .now)) (step .result) (c .before .before .before .before .before .before .before .pre .0)
     (c .before .before .before .before .before .before .before .pre .1)
-    (step .ensures) (c .give-back .ensures ∙ ap (λ (x : List ℕ). givenBack x (step .last .0) (step .result .answer)) (old .ensures .0))
+    (step .ensures) (c .give-back .ensures ∙ ap (λ (x : List ℕ). givenBack x (step .last .0) (step .result .outcome)) (old .ensures .0))
 
 pub serve-saved-spec : {M : Type 1} → statement M
 serve-saved-spec = tie.close (tie.spec copied-requires serve-coded-requires give-back-requires returns)

@@ -6,10 +6,10 @@ use borrow.Author.Needs.{needs}
 use Rattle.table_record.proofs.Tables.{types-to-length}
 use Rattle.table_record.specs.Store.{typesIn, typesTo}
 use Rattle.spec_sheet.specs.Lines.{split}
-use Rattle.spec_sheet.specs.Sheet.{sheetAnswer}
+use Rattle.spec_sheet.specs.Sheet.{sheetResult}
 use Rattle.sheet_read.proofs.Readings.{done-no, done-ok, on-done, tableWith, types-no, to-ending}
 use Rattle.sheet_read.proofs.Stored.{sheet-loaded}
-use Rattle.sheet_read.specs.View.{answered}
+use Rattle.sheet_read.specs.View.{sheetFor}
 use Rattle.sheet_read.proofs.after_count.Statement.{statement}
 use Rattle.sheet_read.proofs.after_count.Tie as tie
 
@@ -32,7 +32,7 @@ returns c =
     let a = c9 .args in
     let s = a .s .now in
     let t = c6 .types-into in
-    λ cs e f. c .refused .ensures ∙ ap (λ z. answered (sheetAnswer z))
+    λ cs e f. c .refused .ensures ∙ ap (λ z. sheetFor (sheetResult z))
     (types-no (a .h) cs (a .n) (a .c .at) (split (drop (a .c .at) s)) _ _ (done-no s _ (t .result) _ (t .ensures .0) _ _ (c4 .t .given .1)))
 
 enum-known-t-2 : tie.Need-enum-known-t-2
@@ -65,7 +65,7 @@ returns-2 c =
     let ts = typesTo (a .h .methods) (a .n) (a .n) (typesIn (t .last .1 .1 .1 .1 .1 .0)) in
     let at = c9 .t2 .given .0 .0 in
     let g = c6 .last-line in
-    λ cs e f. c .refused2 .ensures ∙ ap (λ z. answered (sheetAnswer z))
+    λ cs e f. c .refused2 .ensures ∙ ap (λ z. sheetFor (sheetResult z))
     (done-no s (tableWith (a .h) cs (a .n) ts) (g .result) _ (g .ensures (tableWith (a .h) cs (a .n) ts) refl) _ _ (c4 .g .given .1)
     ∙ to-ending (a .h) cs (a .n) (a .c .at) (split (drop (a .c .at) s)) ts (at .at) (split (drop (at .at) s)) (done-ok s ts (t .result) _ (t .ensures .0) at (c9 .t2 .given .1)))
 
@@ -84,7 +84,7 @@ returns-3 c =
     let g = c2 .last-line in
     λ cs e f. sheet-loaded (tableWith (a .h) cs (a .n) ts) b _ (a .n) (a .h .cats)
     (on-done (t .result) at _ (c5 .t2 .given .1) (t .ensures .1)) e (sym (types-to-length (a .h .methods) (a .n) (typesIn b) (a .n))) (sym f)
-    ∙ ap (λ z. answered (sheetAnswer z))
+    ∙ ap (λ z. sheetFor (sheetResult z))
     (done-ok s (tableWith (a .h) cs (a .n) ts) (g .result) _ (g .ensures (tableWith (a .h) cs (a .n) ts) refl) _ (c .enum-told .given .1)
     ∙ to-ending (a .h) cs (a .n) (a .c .at) (split (drop (a .c .at) s)) ts (at .at) (split (drop (at .at) s)) (done-ok s ts (t .result) _ (t .ensures .0) at (c5 .t2 .given .1)))
 

@@ -4,10 +4,10 @@ use lib.ListN.{drop}
 use borrow.Author.Needs.{needs}
 use Rattle.table_record.specs.Store.{linksIn}
 use Rattle.spec_sheet.specs.Lines.{split}
-use Rattle.spec_sheet.specs.Sheet.{sheetAnswer}
+use Rattle.spec_sheet.specs.Sheet.{sheetResult}
 use Rattle.sheet_read.proofs.Readings.{got-no, got-ok, got-at-most, done-no, done-ok, on-done, links-no, count-no, count-ok}
 use Rattle.sheet_read.proofs.Stored.{links-count}
-use Rattle.sheet_read.specs.View.{linksTo, answered}
+use Rattle.sheet_read.specs.View.{linksTo, sheetFor}
 use Rattle.sheet_read.proofs.after_first.Statement.{statement}
 use Rattle.sheet_read.proofs.after_first.Tie as tie
 use Rattle.spec_model.specs.Table.{maxSheetTypes}
@@ -31,7 +31,7 @@ returns c =
     let a = c9 .args in
     let s = a .s .now in
     let u = c6 .links-into in
-    c .refused .ensures ∙ ap (λ z. answered (sheetAnswer z)) (links-no (a .h) (a .c .at) (split (drop (a .c .at) s)) _ _ (done-no s _ (u .result) _ (u .ensures .0) _ _ (c4 .u .given .1)))
+    c .refused .ensures ∙ ap (λ z. sheetFor (sheetResult z)) (links-no (a .h) (a .c .at) (split (drop (a .c .at) s)) _ _ (done-no s _ (u .result) _ (u .ensures .0) _ _ (c4 .u .given .1)))
 
 enum-known-u-2 : tie.Need-enum-known-u-2
 enum-known-u-2 c = search needs
@@ -71,7 +71,7 @@ returns-2 c =
     let links = linksTo (a .h .cats) (linksIn (u .last .1 .1 .1 .0)) in
     let at = c9 .u2 .given .0 .0 in
     let y = c6 .next-number in
-    c .refused2 .ensures ∙ ap (λ z. answered (sheetAnswer z))
+    c .refused2 .ensures ∙ ap (λ z. sheetFor (sheetResult z))
     (count-no (a .h) (a .c .at) (split (drop (a .c .at) s)) links (at .at) (split (drop (at .at) s)) (done-ok s links (u .result) _ (u .ensures .0) at (c9 .u2 .given .1)) _ _
     (got-no (λ n. n) s (at .at) (y .result) _ (y .ensures .0) _ (c4 .y .given .1)))
 
@@ -91,7 +91,7 @@ returns-3 c =
     let y = c6 .next-number in
     let n = c4 .y2 .given .0 .0 in
     let e = c4 .y2 .given .0 .1 .0 in
-    c .after-count .ensures links (on-done (u .result) at _ (c9 .u2 .given .1) (u .ensures .1)) (links-count (a .h .cats) ls) ∙ ap (λ z. answered (sheetAnswer z))
+    c .after-count .ensures links (on-done (u .result) at _ (c9 .u2 .given .1) (u .ensures .1)) (links-count (a .h .cats) ls) ∙ ap (λ z. sheetFor (sheetResult z))
     (count-ok (a .h) (a .c .at) (split (drop (a .c .at) s)) links (at .at) (split (drop (at .at) s)) (done-ok s links (u .result) _ (u .ensures .0) at (c9 .u2 .given .1)) n (e .at)
     (split (drop (e .at) s))
     (got-ok (λ n. n) s (at .at) (y .result) _ (y .ensures .0) n e (c4 .y2 .given .1)))

@@ -3,7 +3,7 @@ use mathlib.Core.Path.{_∙_}
 use Rattle.spec_model.specs.Check.{tableOf}
 use Rattle.spec_sheet.specs.Text.{text}
 use Rattle.text_write.proofs.Written.{short-is, length-is}
-use Rattle.sheet_write.proofs.Answers.{fit-is}
+use Rattle.sheet_write.proofs.Results.{fit-is}
 use Rattle.table_check.proofs.Accepted.{accepted-limits}
 use Rattle.table_record.specs.Store.{rawTable}
 use borrow.Author.Needs.{needs}

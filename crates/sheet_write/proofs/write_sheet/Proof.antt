@@ -1,5 +1,5 @@
 -- Any table: 2 exactly where the check fails, and the buffer stays (`unfit-is`); else `write_checked` answers.
-use Rattle.sheet_write.proofs.Answers.{unfit-is}
+use Rattle.sheet_write.proofs.Results.{unfit-is}
 use Rattle.table_record.specs.Store.{rawTable}
 use mathlib.Core.Path.{sym, _∙_}
 use borrow.Author.Needs.{needs}

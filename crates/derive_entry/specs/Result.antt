@@ -29,7 +29,7 @@ derivationOf l c r = cond (eqb (r .refusal) 0) (ok (tableIn (r .types) l (withCo
 abbrev pub refusedWith : ℕ → List ℕ → Counts → Derivation
 refusedWith n b c = record { refusal = n; number = 0; count = c .types; types = b }
 
--- what the code's answer and the bytes that it leaves say
+-- what the code's result and the bytes that it leaves say
 abbrev pub left : Counts → Made → List ℕ → Derivation
 left c Unfit b = refusedWith outOfRange b c
 left c Unknown b = refusedWith unknownType b c
@@ -38,7 +38,7 @@ left c (At i m) b = record { refusal = 0; number = i; count = m; types = b }
 
 -- What is left, r, of bytes and counts handed in and counts handed in, where the model's is `a`: every counted byte is determined, a refusal hands back what was handed in,
 -- and where every code of the table names something before, every code does after, whatever the links are.
-pub record Answered (b l : List ℕ) (c : Counts) (a : Res (Table × ℕ)) (r : Derivation) : Type 0 where
+pub record DerivesHanded (b l : List ℕ) (c : Counts) (a : Res (Table × ℕ)) (r : Derivation) : Type 0 where
   pub is : derivationOf l c r ≡ a
   pub refused : (r .refusal ≡ 0 → ⊥) → r ≡ refusedWith (r .refusal) b c
   pub writes : Writes (c .types) b (r .types) a

@@ -1,4 +1,4 @@
--- The answers of Compare at a pair of types: which relation each of them is, said here and nowhere else.
+-- The comparison of a pair of types: which relation each part of it is, said here and nowhere else.
 use Prim.Native.Nat.{ℕ}
 use Rattle.spec_model.specs.Table.{Table}
 use Rattle.spec_model.specs.Relations as Model

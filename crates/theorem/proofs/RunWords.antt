@@ -1,4 +1,4 @@
--- The answers of a run tell the book what its outcomes do: the first word of an answer is 0 exactly where the request was accepted.
+-- The words of a run tell the book what its outcomes do: the first of four is 0 exactly where the request was accepted.
 use mathlib.Core.Path.{_≡_, refl, ap, _∙_}
 use mathlib.Core.Bool.{Bool, true, false, cond}
 use mathlib.Core.List.{List, [], _∷_, _++_}
@@ -16,7 +16,7 @@ use Rattle.spec_model.specs.Claim.{feed}
 use Rattle.spec_model.proofs.Tests.{eqb-so}
 use Rattle.law_handed.proofs.Small.{Small, Named, small-serve}
 use Rattle.request_run.specs.Requested.{request, requests, asked, placed, runAsked}
-use Rattle.request_run.specs.Ran.{wordsOf, answersOf, room}
+use Rattle.request_run.specs.Ran.{wordsOf, outcomeWords, room}
 use Rattle.theorem.specs.Shown.{taken, told}
 use Rattle.theorem.specs.OfStates.{isZero, toldBy}
 
@@ -46,14 +46,14 @@ module _ (ws rest : List ℤ) where
   first-word s (refuse e) h = not-zero e (h .0)
   first-word s (ok x) h = first-got (x .1)
 
-told-words : (qs : List (Option Request)) (s : System) (b : Book) (rest : List ℤ) → let os = placed qs (run s (asked qs) .0) in toldBy b qs (answersOf os ++ rest) ≡ told b qs os
-unfolding run answersOf
+told-words : (qs : List (Option Request)) (s : System) (b : Book) (rest : List ℤ) → let os = placed qs (run s (asked qs) .0) in toldBy b qs (outcomeWords os ++ rest) ≡ told b qs os
+unfolding run outcomeWords
 told-words [] s b rest = refl
 told-words (none ∷ qs) s b rest = told-words qs s b rest
 told-words (some q ∷ qs) s b rest =
     let a = serve s q in
     let os = placed qs (run (after s a) (asked qs) .0) in
-    let ws = answersOf os in
+    let ws = outcomeWords os in
     ap (λ c. toldBy (feed b q c) qs (drop 4 ((wordsOf (outcome a) ++ ws) ++ rest))) (first-word ws rest s a (small-serve s q))
     ∙ ap (λ z. toldBy (feed b q (taken (outcome a))) qs z) (behind ws rest (outcome a)) ∙ told-words qs (after s a) (feed b q (taken (outcome a))) rest
 
@@ -70,10 +70,10 @@ words-length (got (pair a b)) = refl
 words-length (got (number v)) = refl
 words-length (got nothing) = refl
 
-answers-length : (os : List Outcome) → length (answersOf os) ≡ length os * 4
-unfolding answersOf
+answers-length : (os : List Outcome) → length (outcomeWords os) ≡ length os * 4
+unfolding outcomeWords
 answers-length [] = refl
-answers-length (o ∷ os) = omega (arith, length-append (wordsOf o) (answersOf os), words-length o, answers-length os)
+answers-length (o ∷ os) = omega (arith, length-append (wordsOf o) (outcomeWords os), words-length o, answers-length os)
 
 requests-few : (f : ℕ) (ws : List ℤ) → length (requests f ws) ≤ f
 unfolding requests
@@ -86,9 +86,9 @@ requests-few (suc f) (code ∷ n ∷ ws) = go (names n (suc (length ws))) (reque
     go true l = omega arith
     go false l = omega arith
 
-pub answers-told : (words old : List ℤ) (s : System) (b : Book) → let qs = requests (room old) words in let os = runAsked s qs .0 in toldBy b qs (sets old 0 (answersOf os)) ≡ told b qs os
-answers-told words old s b =
+pub words-told : (words old : List ℤ) (s : System) (b : Book) → let qs = requests (room old) words in let os = runAsked s qs .0 in toldBy b qs (sets old 0 (outcomeWords os)) ≡ told b qs os
+words-told words old s b =
     let qs = requests (room old) words in
     let os = runAsked s qs .0 in
-    let n : length (answersOf os) ≤ length old = omega (arith, answers-length os, outcomes-length qs s, requests-few (room old) words) in
-    ap (toldBy b qs) (sets-eq (answersOf os) old 0 (omega arith)) ∙ told-words qs s b (drop (0 + length (answersOf os)) old)
+    let n : length (outcomeWords os) ≤ length old = omega (arith, answers-length os, outcomes-length qs s, requests-few (room old) words) in
+    ap (toldBy b qs) (sets-eq (outcomeWords os) old 0 (omega arith)) ∙ told-words qs s b (drop (0 + length (outcomeWords os)) old)

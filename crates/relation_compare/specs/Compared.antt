@@ -1,11 +1,11 @@
--- The refusal's number or the values for each case of Compare's answer, and what the pair table's answer holds in each case.
+-- The refusal's number or the values for each case that Compare comes to, and what the pair table holds in each case.
 use mathlib.Core.Bool.{true, false}
 use mathlib.Core.List.{List}
 use Prim.Native.Nat.{ℕ}
 use Rattle.spec_model.specs.Basics.{Res, refuse, ok}
 use Rattle.spec_model.specs.Relations as Model
 use Rattle.spec_model.specs.Refusals.{outOfRange, unknownType}
-use Rattle.relation_search.specs.Answered.{comparisonOf}
+use Rattle.relation_search.specs.Comparing.{comparisonOf}
 use Rattle.relation_compare.specs.declared.Compared.{Compared}
 use Rattle.relation_compare.specs.declared.Compared.the-variants.{Unfit, Unknown, Comparison}
 use Rattle.relation_compare.specs.declared.Pairs.{Pairs}
