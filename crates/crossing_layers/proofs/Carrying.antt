@@ -21,7 +21,7 @@ use Rattle.table_record.specs.Layout.{typesSize}
 use Rattle.state_record.specs.declared.Places.{Places}
 use Rattle.state_record.specs.View.{placesIn}
 use Rattle.crossing_one.specs.declared.Crossed.{Crossed}
-use Rattle.crossing_one.specs.Crossed.{Ready, Stands, reference, referenceOf, crossedOf, stopped, Came, Leaves}
+use Rattle.crossing_one.specs.Crossed.{Ready, PlaceKnown, reference, referenceOf, crossedOf, stopped, Came, Leaves}
 use Rattle.crossing_one.proofs.Laws.{ready-on, refused-is, came-is, stops, leaves-on}
 use Rattle.crossing_layers.specs.Carried.{crossTo, maxLayers}
 use Rattle.crossing_layers.proofs.Laws.{rest-next, nothing-left}
@@ -113,7 +113,7 @@ module _ (b l : List ℕ) (c : Counts) (ps : Places) (s p r : ℕ) (list : List 
     pub carries : Leaves c ps s b b₁ x
     pub rest : crossLayers (eqb i 0) (referenceOf b₁ l c x) r (map answerOf (drop i (take n list))) ≡ All
 
-  pub goes-starts : Ready l c b → Stands ps p → Goes b (record { refusal = 0; ty = s; place = p; places = ps; types = c .types }) 0
+  pub goes-starts : Ready l c b → PlaceKnown ps p → Goes b (record { refusal = 0; ty = s; place = p; places = ps; types = c .types }) 0
   goes-starts h k = record {
     refusal = refl;
     within = omega arith;
@@ -136,7 +136,7 @@ module _ (b l : List ℕ) (c : Counts) (ps : Places) (s p r : ℕ) (list : List 
     came : Came c ps s b₁ x
     came = w .carries .came (w .refusal)
 
-    pub goes-ready : Ready l (withCount c (x .types)) b₁ × Stands (x .places) (x .place)
+    pub goes-ready : Ready l (withCount c (x .types)) b₁ × PlaceKnown (x .places) (x .place)
     goes-ready = (ready-on l c (x .types) b b₁ h (came .types) (w .carries .long), record { descending = came .descending; place = came .place })
 
     abbrev Done : List ℕ → Crossed → Type 0

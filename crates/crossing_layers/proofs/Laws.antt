@@ -1,4 +1,4 @@
--- Ways and targets as lists, codes of targets, and what one layer asks of a value.
+-- Layers and targets as lists, codes of targets, and what one layer asks of a value.
 use mathlib.Core.Path.{_≡_, refl, sym, ap, _∙_, subst}
 use mathlib.Core.Bool.{Bool, true, false, cond, _||_}
 use mathlib.Core.List.{List, [], _∷_, _++_, map, reverse, reverse-cons, reverse-append, append-nil, map-append}
@@ -46,7 +46,7 @@ stored list i v h = ap (λ (n : ℕ). take n (set list i v)) (add-one i) ∙ tak
 read : (list : List ℕ) (i : ℕ) → i < length list → take (i + 1) list ≡ take i list ++ (getD list i 0 ∷ [])
 read list i h = ap (λ (n : ℕ). take n list) (add-one i) ∙ take-suc list i 0 h
 
--- a way so far: the cell's type, and the first i layers
+-- the layers so far: the cell's type, and the first i of its place
 pub call-layers-next : (list layers : List ℕ) (ty i v : ℕ) → length list ≡ maxLayers → i < maxPlaces → length layers ≡ maxPlaces → v ≡ getD layers i 0 →
     take (i + 1) list ≡ ty ∷ take i layers → take (i + 1 + 1) (set list (i + 1) v) ≡ ty ∷ take (i + 1) layers
 call-layers-next list layers ty i v e h k z w =
@@ -58,7 +58,7 @@ call-layers-end list layers ty n i h g w = let e : i ≡ n = omega arith in subs
 
 -- ---- Codes.
 
--- targets so far: what f gives for the first i types of the way
+-- targets so far: what f gives for the first i layers
 pub targets-next : (f : ℕ → Option ℕ) (list ls : List ℕ) (i v : ℕ) → length list ≡ maxLayers → length ls ≡ maxLayers → i < maxLayers → v ≡ answerCode (f (getD ls i 0)) →
     map answerOf (take i list) ≡ map f (take i ls) → map answerOf (take (i + 1) (set list i v)) ≡ map f (take (i + 1) ls)
 targets-next f list ls i v e k h z w =
@@ -258,7 +258,7 @@ module _ (b l : List ℕ) (c : Counts) (v : ℤ) (target i e : ℕ) where
       pub pass-64 : (h .rep ≡ 0 → ⊥) → (h .rep ≡ 1 → ⊥) → e ≡ 0 → Passes
       pass-64 x y w = ap passedOf w ∙ sym (pass-as w64 (rep-of w64 (rep-wide (h .rep) x y)))
 
--- ---- The rest of a way.
+-- ---- The rest of the layers.
 -- the first n targets: what is left from i on
 module _ (list : List ℕ) (n : ℕ) (long : length list ≡ maxLayers) (few : n ≤ maxLayers) where
   counted : length (take n list) ≡ n

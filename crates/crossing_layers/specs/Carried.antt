@@ -1,4 +1,4 @@
--- What a value on its way over the layers means, in the words of the model: ways, targets, and what comes of crossing or passing them.
+-- What a value on its way over the layers means, in the words of the model: layers, targets, and what comes of crossing or passing them.
 use mathlib.Core.Bool.{Bool, true, false}
 use mathlib.Core.List.{List, map}
 use mathlib.Core.Option.{Option, none, some}

@@ -15,7 +15,7 @@ ghost use Rattle.table_record.specs.Store.{rawMethod, tableIn, withCount};
 ghost use Rattle.table_record.specs.Limits.{Limits};
 ghost use Rattle.state_record.specs.View.{placesIn};
 ghost use Rattle.state_record.specs.Sound.{layersIn};
-ghost use Rattle.crossing_one.specs.Crossed.{Ready, Stands, reference, referenceOf, crossedOf, Leaves};
+ghost use Rattle.crossing_one.specs.Crossed.{Ready, PlaceKnown, reference, referenceOf, crossedOf, Leaves};
 ghost use Rattle.crossing_layers.specs.Carried.{callLayersIn, targetsIn, argumentOf, slotIn, slotAt, widthAt, passTo, passedOf, crossTo, maxLayers};
 use base_numbers::least;
 use base_numbers::refusal;
@@ -237,7 +237,7 @@ fn carry_one(
     r: usize,
     i: usize,
 ) -> Crossed
-    requires { ⌜ Ready (now links) (withCount c (x .types)) (now types) × Stands (x .places) (x .place) ⌝ }
+    requires { ⌜ Ready (now links) (withCount c (x .types)) (now types) × PlaceKnown (x .places) (x .place) ⌝ }
     ensures is { λ q. ⌜ crossedOf (now (types .exit)) (now (links .entry)) c q
         ≡ crossTo (eqb i 0) (referenceOf (now (types .entry)) (now (links .entry)) c x) r (answerOf target) ⌝ }
     ensures leaves { λ q. ⌜ Leaves (withCount c (x .types)) (x .places) (x .ty) (now (types .entry)) (now (types .exit)) q ⌝ }
@@ -269,7 +269,7 @@ pub fn carry(
     targets: Targets,
     r: usize,
 ) -> Crossed
-    requires { ⌜ Ready (now links) c (now types) × Stands ps p × (targets .count ≤ maxLayers) ⌝ }
+    requires { ⌜ Ready (now links) c (now types) × PlaceKnown ps p × (targets .count ≤ maxLayers) ⌝ }
     ensures is { λ q. ⌜ crossedOf (now (types .exit)) (now (links .entry)) c q
         ≡ crossLayers true (reference (tableIn (now (types .entry)) (now (links .entry)) c) (placesIn ps) s p) r (targetsIn targets) ⌝ }
     ensures leaves { λ q. ⌜ Leaves c ps s (now (types .entry)) (now (types .exit)) q ⌝ }

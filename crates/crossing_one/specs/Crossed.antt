@@ -29,7 +29,7 @@ pub record Ready (l : List ℕ) (c : Counts) (b : List ℕ) : Type 0 where
   pub checked : Checked l c
   pub long : length b ≡ typesSize
 
-pub record Stands (ps : Places) (p : ℕ) : Type 0 where
+pub record PlaceKnown (ps : Places) (p : ℕ) : Type 0 where
   pub descending : Descending ps
   pub place : p < ps .count
 

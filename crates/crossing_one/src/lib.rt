@@ -10,7 +10,7 @@ ghost use Rattle.table_record.specs.Store.{tableIn, withCount};
 ghost use Rattle.table_record.specs.Limits.{Checked};
 ghost use Rattle.relation_rule.specs.Asked.{relationOf};
 ghost use Rattle.state_record.specs.View.{placesIn};
-ghost use Rattle.crossing_one.specs.Crossed.{Ready, Stands, ownIn, crossedOf, crossing, Leaves, stopped, landed, Room, placesWith};
+ghost use Rattle.crossing_one.specs.Crossed.{Ready, PlaceKnown, ownIn, crossedOf, crossing, Leaves, stopped, landed, Room, placesWith};
 use base_numbers::narrow;
 use base_numbers::refusal;
 use derive_record::Derived;
@@ -121,7 +121,7 @@ fn meet(
     right: usize,
     p: usize,
 ) -> Crossed
-    requires { ⌜ Ready (now links) c (now types) × Stands ps p ⌝ }
+    requires { ⌜ Ready (now links) c (now types) × PlaceKnown ps p ⌝ }
     ensures is { λ q. ⌜ crossedOf (now (types .exit)) (now (links .entry)) c q
         ≡ adapt (tableIn (now (types .entry)) (now (links .entry)) c) (placesIn ps) to right p ⌝ }
     ensures leaves { λ q. ⌜ Leaves c ps to (now (types .entry)) (now (types .exit)) q ⌝ }
@@ -156,7 +156,7 @@ fn unwrap(
     ps: Places,
     x: Crossing,
 ) -> Crossed
-    requires { ⌜ Ready (now links) c (now types) × Stands ps (x .place) × (ownIn (c .types) (now types) (x .to) ≡ true) ⌝ }
+    requires { ⌜ Ready (now links) c (now types) × PlaceKnown ps (x .place) × (ownIn (c .types) (now types) (x .to) ≡ true) ⌝ }
     ensures is { λ q. ⌜ crossedOf (now (types .exit)) (now (links .entry)) c q ≡ crossing (tableIn (now (types .entry)) (now (links .entry)) c) ps x ⌝ }
     ensures leaves { λ q. ⌜ Leaves c ps (x .from) (now (types .entry)) (now (types .exit)) q ⌝ }
 {
@@ -182,7 +182,7 @@ fn restrict_to(
     ps: Places,
     x: Crossing,
 ) -> Crossed
-    requires { ⌜ Ready (now links) c (now types) × Stands ps (x .place) × (ownIn (c .types) (now types) (x .to) ≡ false) ⌝ }
+    requires { ⌜ Ready (now links) c (now types) × PlaceKnown ps (x .place) × (ownIn (c .types) (now types) (x .to) ≡ false) ⌝ }
     ensures is { λ q. ⌜ crossedOf (now (types .exit)) (now (links .entry)) c q ≡ crossing (tableIn (now (types .entry)) (now (links .entry)) c) ps x ⌝ }
     ensures leaves { λ q. ⌜ Leaves c ps (x .from) (now (types .entry)) (now (types .exit)) q ⌝ }
 {
@@ -207,7 +207,7 @@ pub fn cross(
     ps: Places,
     x: Crossing,
 ) -> Crossed
-    requires { ⌜ Ready (now links) c (now types) × Stands ps (x .place) ⌝ }
+    requires { ⌜ Ready (now links) c (now types) × PlaceKnown ps (x .place) ⌝ }
     ensures is { λ q. ⌜ crossedOf (now (types .exit)) (now (links .entry)) c q ≡ crossing (tableIn (now (types .entry)) (now (links .entry)) c) ps x ⌝ }
     ensures leaves { λ q. ⌜ Leaves c ps (x .from) (now (types .entry)) (now (types .exit)) q ⌝ }
 {

@@ -19,15 +19,15 @@ use Rattle.spec_model.proofs.Rules.{never}
 use Rattle.table_record.specs.declared.Counts.{Counts}
 use Rattle.table_record.specs.declared.Head.{Head}
 use Rattle.table_record.specs.declared.TypeRec.{TypeRec}
-use Rattle.table_record.specs.Store.{rawMethod, rawOf, typesIn, typesTo, headOf, emptyMethod, emptyType, Put, TypeExact}
+use Rattle.table_record.specs.Store.{rawMethod, rawOf, typesIn, typesTo, headOf, refIn, emptyMethod, blankMethod, emptyType, Put, TypeExact}
 use Rattle.table_record.proofs.Lists.{lt-or-ge}
 use Rattle.table_record.proofs.Laws.{types-length, put-length, put-types}
 use Rattle.table_record.proofs.Tables.{types-to-at, types-add}
 use Rattle.table_record.proofs.Codes.{number-rep}
-use Rattle.law_table.proofs.Exact.{blank, derived-key, number-exact}
+use Rattle.law_table.proofs.Exact.{derived-key, number-exact}
 use Rattle.derive_record.specs.declared.Derived.the-variants.{Full, At}
 use Rattle.derive_record.specs.declared.Begun.the-variants.{Settled}
-use Rattle.derive_record.specs.Begins.{foundOf, refIn, tabled}
+use Rattle.derive_record.specs.Begins.{foundOf, tabled}
 use Rattle.derive_sub_sup.specs.Link.{Ready, Gives, Kept, Coded, Exact, ExactAt}
 use Rattle.derive_closed.specs.Numbers.{Alike, NumberIn, NumberRep, NumberType}
 use Rattle.derive_record.proofs.Begins.{found-known, found-full, closed-begins}
@@ -46,9 +46,9 @@ rep-w64 x e = record { is = go x e; some = omega arith; code = omega arith } whe
   go (suc (suc x)) e z = refl
 
 -- the methods of an empty type
-blanks : (j : ℕ) → j < maxMethods → getD (map rawMethod (emptyType .methods)) j noRawMethod ≡ blank
+blanks : (j : ℕ) → j < maxMethods → getD (map rawMethod (emptyType .methods)) j noRawMethod ≡ blankMethod
 blanks j l = go 16 j l where
-  go : (n j : ℕ) → j < n → getD (map rawMethod (replicate n emptyMethod)) j noRawMethod ≡ blank
+  go : (n j : ℕ) → j < n → getD (map rawMethod (replicate n emptyMethod)) j noRawMethod ≡ blankMethod
   go zero j l = absurd (omega arith)
   go (suc n) zero l = refl
   go (suc n) (suc j) l = go n j (omega arith)

@@ -4,8 +4,7 @@ ghost use mathlib.Core.Path.{_≡_};
 ghost use mathlib.Core.Bool.{true};
 ghost use Prim.Native.Nat.{_<_};
 ghost use Rattle.spec_model.specs.Table.{closed};
-ghost use Rattle.table_record.specs.Store.{rawOf};
-ghost use Rattle.derive_record.specs.Begins.{refIn};
+ghost use Rattle.table_record.specs.Store.{rawOf, refIn};
 ghost use Rattle.derive_sub_sup.specs.Link.{Ready, Derives, Gives};
 ghost use Rattle.derive_closed.specs.Numbers.{Alike, NumberIn, NumberRep, NumberType};
 use base_numbers::narrow;
@@ -125,7 +124,7 @@ pub fn closed_any(b: &mut [u8; TYPE_BYTES], c: Counts, r: usize, v: usize) -> De
     requires { ⌜ Ready c (c .types) r v (now b) × Alike (c .types) (now b) r v ⌝ }
     ensures { λ d. ⌜ Derives closed c r v (now (b .entry)) (now (b .exit)) d ⌝ }
 {
-    if derive_record::is_ref(b, c.types, r) {
+    if table_record::names_ref(b, c.types, r) {
         return closed(b, c, r, v);
     }
     closed_numbers(b, c, r, v)

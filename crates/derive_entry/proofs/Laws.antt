@@ -14,17 +14,15 @@ use Rattle.spec_model.specs.Check.{kindOf, tableAccepted}
 use Rattle.spec_model.proofs.Rules.{never}
 use Rattle.spec_model.specs.Refusals.{outOfRange, unknownType, typesFull}
 use Rattle.table_record.specs.declared.Counts.{Counts}
-use Rattle.table_record.specs.Store.{rawTable, tableIn}
+use Rattle.table_record.specs.Store.{rawTable, tableIn, refIn}
 use Rattle.table_record.specs.Limits.{Limits}
-use Rattle.table_record.proofs.Tables.{size-is}
+use Rattle.table_record.proofs.Tables.{size-is, ref-table}
 use Rattle.table_record.specs.Layout.{typesSize}
 use Rattle.base_numbers.specs.Index.{indexOf}
 use Rattle.base_numbers.proofs.Laws.{index-unknown, index-known}
 use Rattle.derive_record.specs.declared.Derived.{Derived}
 use Rattle.derive_record.specs.declared.Derived.the-variants.{Full, At}
-use Rattle.derive_record.specs.Begins.{refIn}
 use Rattle.derive_sub_sup.specs.Link.{Ready, Derives, derivationIn, CodesIn}
-use Rattle.derive_sub_sup.proofs.Ends.{ref-table}
 use Rattle.derive_entry.specs.Handed.{kindAsked, isRefType, deriveNamed, deriveHanded}
 use Rattle.derive_entry.specs.Result.{Derivation, refusedWith, DerivesHanded}
 

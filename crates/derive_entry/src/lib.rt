@@ -8,10 +8,9 @@ ghost use lib.ListN.{length};
 ghost use Rattle.spec_model.specs.Restriction.{derived};
 ghost use Rattle.spec_model.specs.Check.{kindOf};
 ghost use Rattle.spec_model.specs.Table.{maxTypes};
-ghost use Rattle.table_record.specs.Store.{rawTable, tableIn};
+ghost use Rattle.table_record.specs.Store.{rawTable, tableIn, refIn};
 ghost use Rattle.table_record.specs.Limits.{Limits};
 ghost use Rattle.table_record.specs.Layout.{typesSize};
-ghost use Rattle.derive_record.specs.Begins.{refIn};
 ghost use Rattle.derive_sub_sup.specs.Link.{Ready, Derives};
 ghost use Rattle.derive_entry.specs.Handed.{kindAsked, deriveNamed, deriveHanded};
 ghost use Rattle.derive_entry.specs.Result.{DerivesHanded, left};
@@ -40,10 +39,10 @@ fn is_asked(b: &[u8; TYPE_BYTES], n: usize, kind: usize, t: usize, s: usize) -> 
     if kind != 2 {
         return false;
     }
-    if !derive_record::is_ref(b, n, t) {
+    if !table_record::names_ref(b, n, t) {
         return false;
     }
-    derive_record::is_ref(b, n, s)
+    table_record::names_ref(b, n, s)
 }
 
 // One of the three, over lent bytes.

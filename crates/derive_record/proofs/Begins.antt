@@ -8,21 +8,20 @@ use native.Mathlib.Omega.{arith}
 use native.Mathlib.Numerals.{add-one}
 use lib.Dec.{eqb, ltb}
 use lib.ListN.{getD}
-use borrow.Author.Tests.{eq-eqb, ne-eqb, lt-ltb, le-ltb, ltb-true, ltb-false}
+use borrow.Author.Tests.{eq-eqb, ne-eqb, lt-ltb, le-ltb}
 use Rattle.spec_model.specs.Basics.{from}
-use Rattle.spec_model.specs.Table.{Kind, closed, Ty, Table, noType, typeAt, isRef, maxTypes}
+use Rattle.spec_model.specs.Table.{Kind, closed, Ty, Table, typeAt, isRef, maxTypes}
 use Rattle.spec_model.specs.Restriction.{isKey, find, withoutNew, mainSide}
 use Rattle.spec_model.specs.Check.{RawType, noRawType, repOf, kindOf, typeOf}
-use Rattle.spec_model.proofs.Largest.{getD-from-out}
-use Rattle.spec_model.proofs.Rules.{first, second}
+use Rattle.spec_model.proofs.Rules.{second}
 use Rattle.table_record.specs.declared.Counts.{Counts}
-use Rattle.table_record.specs.Store.{typesIn, typesTo, headOf, refAs}
-use Rattle.table_record.proofs.Tables.{types-to-at}
+use Rattle.table_record.specs.Store.{typesIn, typesTo, headOf, refIn}
+use Rattle.table_record.proofs.Tables.{ref-type}
 use Rattle.derive_record.specs.declared.Derived.the-variants.{Full, At}
 use Rattle.derive_record.specs.declared.Begun.{Begun}
 use Rattle.derive_record.specs.declared.Begun.the-variants.{Settled, New}
 use Rattle.derive_slots.specs.Slots.{keyIn}
-use Rattle.derive_record.specs.Begins.{tabled, refIn, foundOf, Begins}
+use Rattle.derive_record.specs.Begins.{tabled, foundOf, Begins}
 
 -- The search, from type i on.
 find-by : (d : Kind) (t s i : ℕ) (x : Ty) (xs : List Ty) (b : Bool) → b ≡ isKey d t s (x .key) → find d t s i (x ∷ xs) ≡ elim b [ true ↦ some i | false ↦ find d t s (suc i) xs ]
@@ -82,25 +81,8 @@ module _ (d : Kind) (t s ms sh n : ℕ) (rs : List RawType) where
     search-end h = ap (λ (b : Bool). cond b (some n) none) (le-ltb n n (omega arith)) ∙ sym (so ∙ find-end d t s n Type-at i h)
 
 -- Reference types.
-pub no-ref : (n t : ℕ) (b : List ℕ) → n ≤ t → false ≡ refIn n b t
-no-ref n t b h = rw (le-ltb t n h)
-
-pub ref-among : (n t : ℕ) (b : List ℕ) (r : Bool) → t < n → r ≡ refAs (getD (typesIn b) t noRawType) → r ≡ refIn n b t
-ref-among n t b r l e = e ∙ sym (ap (λ (a : Bool). a && refAs (getD (typesIn b) t noRawType)) (lt-ltb t n l))
-
-pub ref-below : (n t : ℕ) (b : List ℕ) → refIn n b t ≡ true → t < n
-ref-below n t b e = ltb-true t n (first (ltb t n) _ e)
-
 pub ref-rep : (n t : ℕ) (b : List ℕ) → refIn n b t ≡ true → isRef (repOf (getD (typesIn b) t noRawType .rep)) ≡ true
 ref-rep n t b e = second (ltb t n) _ e
-
-pub ref-type : (T : Table) (c : Counts) (n t : ℕ) (b : List ℕ) → isRef (typeAt (tabled T c n b) t .rep) ≡ refIn n b t
-unfolding typesTo
-ref-type T c n t b = go (ltb t n) refl
-  where
-    go : (a : Bool) → ltb t n ≡ a → isRef (typeAt (tabled T c n b) t .rep) ≡ (a && isRef (repOf (getD (typesIn b) t noRawType .rep)))
-    go true e = ap (λ (x : Ty). isRef (x .rep)) (types-to-at (c .methods) (c .sheet) (typesIn b) n t noType (ltb-true t n e))
-    go false e = ap (λ (x : Ty). isRef (x .rep)) (getD-from-out (λ i. typeOf (c .methods) (c .sheet) i (getD (typesIn b) i noRawType)) noType n 0 t (ltb-false t n e))
 
 -- What the search comes to.
 module _ (o : Table → Option ℕ) (n t s : ℕ) (b : List ℕ) (i : ℕ) (is : (T : Table) → foundOf n i ≡ o T) where
@@ -146,7 +128,7 @@ module _ (kind t s : ℕ) (l : kind < 2) where
     Without T = withoutNew (tabled T c n b) (kindOf kind) t s
 
     refs-are : (T : Table) → (isRef (typeAt (tabled T c n b) t .rep) && isRef (typeAt (tabled T c n b) s .rep)) ≡ (refIn n b t && refIn n b s)
-    refs-are T = rw (ref-type T c n t b, ref-type T c n s b)
+    refs-are T = rw (ref-type n t b (c .methods) (c .sheet), ref-type n s b (c .methods) (c .sheet))
 
     without : (T : Table) → Without T ≡ Plain (tabled T c n b) (eqb t s) (refIn n b t && refIn n b s) kind
     without T = plain (tabled T c n b) kind l ∙ ap (λ (a : Bool). Plain (tabled T c n b) (eqb t s) a kind) (refs-are T)

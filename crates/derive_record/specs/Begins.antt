@@ -1,25 +1,21 @@
 -- How a derivation begins, and how the record of a new type is opened and stored, in the words of the model.
 use mathlib.Core.Path.{_≡_}
-use mathlib.Core.Bool.{Bool, true, _&&_, cond}
+use mathlib.Core.Bool.{true, cond}
 use mathlib.Core.List.{List}
 use mathlib.Core.Option.{Option, none, some}
 use Prim.Native.Nat.{ℕ, _≤_, _<_}
 use lib.Dec.{ltb}
 use lib.ListN.{getD}
-use Rattle.spec_model.specs.Table.{Table, withTypes, isRef, maxTypes}
-use Rattle.spec_model.specs.Check.{noRawType, repOf}
+use Rattle.spec_model.specs.Table.{Table, withTypes, maxTypes}
+use Rattle.spec_model.specs.Check.{noRawType}
 use Rattle.table_record.specs.declared.Counts.{Counts}
 use Rattle.table_record.specs.declared.TypeRec.{TypeRec}
-use Rattle.table_record.specs.Store.{rawOf, typesIn, typesTo, Put}
+use Rattle.table_record.specs.Store.{rawOf, typesIn, typesTo, refIn, Put}
 use Rattle.derive_slots.specs.declared.Work.{Work}
 use Rattle.derive_slots.specs.Slots.{leftIn, rightIn, pendingRecord, Finished}
 use Rattle.derive_record.specs.declared.Derived.the-variants.{Full, At}
 use Rattle.derive_record.specs.declared.Begun.{Begun}
 use Rattle.derive_record.specs.declared.Begun.the-variants.{Settled, New}
-
--- Type t is a reference type of the first n.
-abbrev pub refIn : ℕ → List ℕ → ℕ → Bool
-refIn n b t = ltb t n && isRef (repOf (getD (typesIn b) t noRawType .rep))
 
 -- The table whose types are the first n of the bytes.
 abbrev pub tabled : Table → Counts → ℕ → List ℕ → Table

@@ -9,10 +9,10 @@ ghost use lib.ListN.{length};
 ghost use Rattle.spec_model.specs.Restriction.{find, withoutNew, mainSide};
 ghost use Rattle.spec_model.specs.Check.{kindOf};
 ghost use Rattle.spec_model.specs.Table.{maxMethods, maxTypes};
-ghost use Rattle.table_record.specs.Store.{typesIn, typesTo, withCount};
+ghost use Rattle.table_record.specs.Store.{typesIn, typesTo, refIn, withCount};
 ghost use Rattle.table_record.specs.Limits.{Limits};
 ghost use Rattle.table_record.specs.Layout.{typesSize};
-ghost use Rattle.derive_record.specs.Begins.{Begins, Opened, Stored, foundOf, refIn, tabled};
+ghost use Rattle.derive_record.specs.Begins.{Begins, Opened, Stored, foundOf, tabled};
 use derive_slots::SLOT_BYTES;
 use derive_slots::Work;
 use table_record::Counts;
@@ -45,17 +45,6 @@ pub fn lookup(b: &[u8; TYPE_BYTES], c: Counts, n: usize, key: Key) -> usize
         i += 1;
     }
     n
-}
-
-// Whether type t is a reference type of the first n.
-pub fn is_ref(b: &[u8; TYPE_BYTES], n: usize, t: usize) -> bool
-    requires { ⌜ n ≤ maxTypes ⌝ }
-    ensures { λ r. ⌜ r ≡ refIn n (now (b .entry)) t ⌝ }
-{
-    if n <= t {
-        return false;
-    }
-    table_record::is_ref(b, t)
 }
 
 // Of two reference types: the known type, or whether there is room for a new one (D14, D15).
@@ -97,11 +86,11 @@ pub fn begin(b: &[u8; TYPE_BYTES], c: Counts, n: usize, kind: u8, t: usize, s: u
         return Begun::Settled(Derived::At(t, n));
     }
     let main = main_side(kind, t, s);
-    let left = is_ref(b, n, t);
+    let left = table_record::names_ref(b, n, t);
     if !left {
         return Begun::Settled(Derived::At(main, n));
     }
-    let right = is_ref(b, n, s);
+    let right = table_record::names_ref(b, n, s);
     if !right {
         return Begun::Settled(Derived::At(main, n));
     }

@@ -21,11 +21,11 @@ use Rattle.spec_model.specs.Records.{argumentSlots}
 use Rattle.table_record.specs.declared.Head.{Head}
 use Rattle.table_record.specs.declared.Method.{Method}
 use Rattle.table_record.specs.declared.TypeRec.{TypeRec}
-use Rattle.table_record.specs.Store.{rawMethod, rawOf, emptyMethod, MethodExact, TypeExact}
+use Rattle.table_record.specs.Store.{rawMethod, rawOf, emptyMethod, blankMethod, MethodExact, TypeExact}
 use Rattle.table_record.proofs.Lists.{set-next}
 use Rattle.table_record.proofs.Laws.{absent, four}
 use Rattle.table_record.proofs.Codes.{closed-kind, not-avail}
-use Rattle.law_table.proofs.Exact.{blank, unsigned-exact, signed-exact, derived-key, ref-exact}
+use Rattle.law_table.proofs.Exact.{unsigned-exact, signed-exact, derived-key, ref-exact}
 use Rattle.derive_slots.specs.declared.Work.{Work}
 use Rattle.derive_slots.specs.declared.Slot.the-variants.{Empty, Argument, Answer}
 use Rattle.derive_slots.specs.Slots.{argumentSlot, answerSlot, slotOf, shared, fill, fillAt, leftIn, rightIn, methodIn, rawIn, MethodCoded, bareMethod, slotByte, signedMethod, keyIn}
@@ -294,13 +294,13 @@ module _ (w : Work) (ns : List ℕ) where
     pub low : j ≤ ms
     pub long : length all ≡ 16
     pub made : (i : ℕ) → i < j → Well i (getD all i absent)
-    pub rest : (i : ℕ) → j ≤ i → i < 16 → rawMethod (getD all i absent) ≡ blank
+    pub rest : (i : ℕ) → j ≤ i → i < 16 → rawMethod (getD all i absent) ≡ blankMethod
 
   pub filling-starts : (ms : ℕ) (m : Method) → m ≡ emptyMethod → Filling ms (replicate 16 m) 0
   filling-starts ms m e = subst (λ (m : Method). Filling ms (replicate 16 m) 0)
       (sym e) record { low = omega arith; long = refl; made = λ i h. absurd (not-suc-le-zero h); rest = λ i h l. blank-at 16 i l }
     where
-      blank-at : (n i : ℕ) → i < n → rawMethod (getD (replicate n emptyMethod) i absent) ≡ blank
+      blank-at : (n i : ℕ) → i < n → rawMethod (getD (replicate n emptyMethod) i absent) ≡ blankMethod
       blank-at zero i h = absurd (not-suc-le-zero h)
       blank-at (suc n) zero h = refl
       blank-at (suc n) (suc i) h = blank-at n i (le-of-suc-le-suc h)

@@ -20,7 +20,7 @@ use Rattle.spec_model.proofs.Rules.{never}
 use Rattle.table_record.specs.declared.Counts.{Counts}
 use Rattle.table_record.specs.declared.Key.{Key}
 use Rattle.table_record.specs.declared.TypeRec.{TypeRec}
-use Rattle.table_record.specs.Store.{rawMethod, rawOf, typesIn, typesTo, tableIn, withCount, emptyMethod, Put}
+use Rattle.table_record.specs.Store.{rawMethod, rawOf, typesIn, typesTo, tableIn, refIn, withCount, emptyMethod, Put}
 use Rattle.table_record.specs.Limits.{Limits}
 use Rattle.table_record.specs.Records.{bytesOf}
 use Rattle.spec_model.proofs.Lists.{from-same}
@@ -28,7 +28,7 @@ use Rattle.spec_model.specs.Refusals.{typesFull}
 use Rattle.spec_model.specs.Records.{argumentSlots}
 use Rattle.table_record.proofs.Lists.{lt-or-ge, same-or}
 use Rattle.table_record.proofs.Laws.{types-length, methods-length, method-in, put-length, put-types}
-use Rattle.table_record.proofs.Tables.{types-to-length, types-to-at, types-add, types-put, types-of, size-is}
+use Rattle.table_record.proofs.Tables.{types-to-length, types-to-at, types-add, types-put, types-of, size-is, ref-below}
 use Rattle.table_record.specs.Layout.{typeSize, typesSize}
 use Rattle.derive_record.specs.declared.Derived.{Derived}
 use Rattle.derive_record.specs.declared.Derived.the-variants.{Full, At}
@@ -37,11 +37,11 @@ use Rattle.derive_record.specs.declared.Begun.the-variants.{Settled, New}
 use Rattle.derive_slots.specs.declared.Work.{Work}
 use Rattle.derive_slots.specs.declared.Slot.{Slot}
 use Rattle.derive_slots.specs.Slots.{slotAt, shared, fillAt, leftIn, rightIn, methodIn, methodAt, kindIn, mainOf, newRecord, pendingRecord, Finished}
-use Rattle.derive_record.specs.Begins.{Begins, Opened, Stored, refIn, tabled}
+use Rattle.derive_record.specs.Begins.{Begins, Opened, Stored, tabled}
 use Rattle.derive_sub_sup.specs.Link.{Ready, Writes, recordAt, Kept, ExactAt, Exact, ExactTo, Sized, Leaves, Coded, Derives, Gives, derivedIn, derivationIn}
 use Rattle.derive_slots.proofs.Runs.{Row, methods-run}
 use Rattle.derive_slots.specs.Slots.{slotsSize}
-use Rattle.derive_record.proofs.Begins.{ref-below, ref-rep, ref-type}
+use Rattle.derive_record.proofs.Begins.{ref-rep}
 use Rattle.derive_sub_sup.proofs.Bytes.{record-same, exact-same, put-below, put-above, put-exact, kept-take, exact-take}
 use Rattle.derive_sub_sup.proofs.Codes.{denied-coded, methods-coded, new-coded, codes-stay}
 use Rattle.derive_sub_sup.proofs.Turns.{zeros, slotIn, Whole, Comes, Loop, loop-starts, loop-ends}
@@ -438,8 +438,3 @@ module _ {d : Kind} {t s : ℕ} {b b′ : List ℕ} (c : Counts) {r : Derived} (
     exact = g .exact;
     codes = codes-stay b b′ c r (g .coded);
   }
-
--- For callers: what `refIn` asks, of the table that the bytes mean.
-pub ref-table : (b l : List ℕ) (c : Counts) (t : ℕ) → isRef (typeAt (tableIn b l c) t .rep) ≡ refIn (c .types) b t
-unfolding tableIn tableOf typesTo
-ref-table b l c t = ref-type (tableIn b l c) c (c .types) t b

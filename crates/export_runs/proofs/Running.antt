@@ -17,14 +17,11 @@ use Rattle.state_bytes.specs.Flat.{Flat, rawFlat}
 use Rattle.state_bytes.specs.Records.{stateFrom}
 use Rattle.state_bytes.proofs.Laws.{codesIn, read-counted, codes-refused}
 use Rattle.request_results.specs.Stored.{Stored}
-use Rattle.request_results.proofs.Handing.{stored-counted}
+use Rattle.request_results.proofs.Handing.{withBytes, stored-counted}
 use Rattle.request_run.specs.Requested.{requests, runAsked, runHanded}
 use Rattle.request_run.specs.Ran.{Over as Ran, Runs, RanAs}
 use Rattle.export_runs.specs.Results.{LentRun, lentRun, RanOut, RunsOut}
 use Rattle.table_record.specs.Layout.{typeSize}
-
-abbrev withBytes : Flat → List ℕ → Flat
-withBytes f t = record { types = t; links = f .links; cells = f .cells; places = f .places; calls = f .calls; counts = f .counts }
 
 module _ (f : Flat) (k : ℕ) (ws : List ℤ) where
   abbrev from : Bool → System → Res (List Outcome × System)

@@ -266,7 +266,7 @@ module _ (x : System) (gs : List Page) (j : Joined x gs) (c : Call) (l : c .cell
   call-book = ap (λ cs. record { table = x .table; pages = gs; calls = cs }) (sym (map-append noteOf (x .calls) (c ∷ [])))
 
 module _ (s : System) (gs : List Page) (j : Joined s gs) where
-  -- a page's way is its cell's
+  -- a page's layers are its cell's
   call-layers-same : (k : ℕ) → k < length (s .cells) → pageLayers (getD gs k noPage) ≡ callLayers s (cellAt s k)
   call-layers-same k l = let g = getD gs k noPage in let tr = j .track k l in let u = tr .unwinds in
       rw (tr .last, layers-are (length (s .places)) (s .places) (cellAt s k .place) (g .class) (g .closed) (unwinds-in (s .places) (cellAt s k .place) (g .class) (g .closed) u) u)

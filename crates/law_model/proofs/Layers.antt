@@ -112,33 +112,33 @@ cross-no f to r e = go (typeAt t to .own) e (related subtype t to (f .type))
         no-map _ _ (λ y k. grown-trans g k) (adapt (x .0) ps to (x .1) (f .place)) (adapt-no (x .0) ps to (x .1) (f .place))
 
 -- ---- types of the table without own, where there is one
-abbrev Stands : Table → Option ℕ → Type 0
-Stands t none = Unit
-Stands t (some a) = (a < size t) × (typeAt t a .own ≡ false)
+abbrev TargetUnowned : Table → Option ℕ → Type 0
+TargetUnowned t none = Unit
+TargetUnowned t (some a) = (a < size t) × (typeAt t a .own ≡ false)
 
-abbrev AllStand : Table → List (Option ℕ) → Type 0
-AllStand t [] = Unit
-AllStand t (o ∷ os) = Stands t o × AllStand t os
+abbrev TargetsUnowned : Table → List (Option ℕ) → Type 0
+TargetsUnowned t [] = Unit
+TargetsUnowned t (o ∷ os) = TargetUnowned t o × TargetsUnowned t os
 
-stands-grow : {t u : Table} → Grown t u → (o : Option ℕ) → Stands t o → Stands u o
-stands-grow g none h = tt
-stands-grow g (some a) h = (omega (arith, h .0, g .more), rw (g .same a (h .0)) (h .1))
+target-grow : {t u : Table} → Grown t u → (o : Option ℕ) → TargetUnowned t o → TargetUnowned u o
+target-grow g none h = tt
+target-grow g (some a) h = (omega (arith, h .0, g .more), rw (g .same a (h .0)) (h .1))
 
-all-grow : {t u : Table} → Grown t u → (os : List (Option ℕ)) → AllStand t os → AllStand u os
-all-grow g [] h = tt
-all-grow g (o ∷ os) h = (stands-grow g o (h .0), all-grow g os (h .1))
+targets-grow : {t u : Table} → Grown t u → (os : List (Option ℕ)) → TargetsUnowned t os → TargetsUnowned u os
+targets-grow g [] h = tt
+targets-grow g (o ∷ os) h = (target-grow g o (h .0), targets-grow g os (h .1))
 
-reversed : (t : Table) (os acc : List (Option ℕ)) → AllStand t os → AllStand t acc → AllStand t (reverseAux os acc)
+reversed : (t : Table) (os acc : List (Option ℕ)) → TargetsUnowned t os → TargetsUnowned t acc → TargetsUnowned t (reverseAux os acc)
 reversed t [] acc h k = k
 reversed t (o ∷ os) acc h k = reversed t os (o ∷ acc) (h .1) (h .0, k)
 
 -- ---- a value over such layers
-layers-no : (ts : List (Option ℕ)) (b : Bool) (f : Reference) (r : ℕ) → AllStand (f .table) ts → NoNine (crossLayers b f r ts) (Onto (f .table))
+layers-no : (ts : List (Option ℕ)) (b : Bool) (f : Reference) (r : ℕ) → TargetsUnowned (f .table) ts → NoNine (crossLayers b f r ts) (Onto (f .table))
 unfolding crossLayers
 layers-no [] b f r h = grown-refl (f .table)
 layers-no (none ∷ ts) b f r h = at-no b 8 refl
 layers-no (some to ∷ ts) b f r h = no-try _ (Onto (f .table)) (renumber b (cross f to r)) _ (renumber-no _ b (cross f to r) (cross-no f to r (h .0 .1))) λ g w.
-    no-map _ _ (λ y k. grown-trans w k) (crossLayers false g r ts) (layers-no ts false g r (all-grow w ts (h .1)))
+    no-map _ _ (λ y k. grown-trans w k) (crossLayers false g r ts) (layers-no ts false g r (targets-grow w ts (h .1)))
 
 pass-no : (ts : List (Option ℕ)) (b : Bool) (t : Table) (v : ℤ) → NoNine (passLayers b t v ts) (λ _. Unit {0})
 unfolding passLayers
@@ -155,31 +155,31 @@ pass-no (some a ∷ ts) b t v = go (typeAt t a .rep) (pass-no ts false t v)
     go w32 ih = no-need _ (within 2147483648 v) 16 _ refl λ _. ih
     go w64 ih = ih
 
-send-no : (s : System) (r k : ℕ) (ts : List (Option ℕ)) → AllStand (s .table) ts → NoNine (send s r k ts) (λ x. Grown (s .table) (x .0 .table))
+send-no : (s : System) (r k : ℕ) (ts : List (Option ℕ)) → TargetsUnowned (s .table) ts → NoNine (send s r k ts) (λ x. Grown (s .table) (x .0 .table))
 unfolding send addCell
 send-no s r k ts h = no-try _ _ (crossLayers true (leaving s k) r ts) _ (layers-no ts true (leaving s k) r h) λ f g. no-need _ (ltb (length (s .cells)) maxCells) 13 _ refl λ _. g
 
 -- ---- what signatures without own name, in a table t that has grown to u
-at-stands : (t : Table) (xs : List ℕ) (i : ℕ) → AllBelow (size t) xs → AllUnowned t xs → Stands t (getElem? xs i)
-at-stands t [] i b u = tt
-at-stands t (x ∷ xs) zero b u = (b .0, u .0)
-at-stands t (x ∷ xs) (suc i) b u = at-stands t xs i (b .1) (u .1)
+at-unowned : (t : Table) (xs : List ℕ) (i : ℕ) → AllBelow (size t) xs → AllUnowned t xs → TargetUnowned t (getElem? xs i)
+at-unowned t [] i b u = tt
+at-unowned t (x ∷ xs) zero b u = (b .0, u .0)
+at-unowned t (x ∷ xs) (suc i) b u = at-unowned t xs i (b .1) (u .1)
 
-answer-stands : (t : Table) (o : Option ℕ) → AnswerBelow (size t) o → AnswerUnowned t o → Stands t o
-answer-stands t none b u = tt
-answer-stands t (some a) b u = (b, u)
+answer-unowned : (t : Table) (o : Option ℕ) → AnswerBelow (size t) o → AnswerUnowned t o → TargetUnowned t o
+answer-unowned t none b u = tt
+answer-unowned t (some a) b u = (b, u)
 
 module _ (t : Table) (sigs : SignaturesIn t) (plain : UnownedSignatures t) (m : ℕ) where
-  arguments-stand : (u : Table) → Grown t u → (i : ℕ) (ls : List ℕ) → AllBelow (size t) ls → AllStand u (map (argumentAt u m i) ls)
-  arguments-stand u g i [] l = tt
-  arguments-stand u g i (x ∷ xs) l = (
-    rw (method-same t u g x m (l .0)) (stands-grow g (getElem? (methodAt t x m .args) i) (at-stands t (methodAt t x m .args) i (sigs x m .0) (plain x m .0))),
-    arguments-stand u g i xs (l .1),
+  arguments-unowned : (u : Table) → Grown t u → (i : ℕ) (ls : List ℕ) → AllBelow (size t) ls → TargetsUnowned u (map (argumentAt u m i) ls)
+  arguments-unowned u g i [] l = tt
+  arguments-unowned u g i (x ∷ xs) l = (
+    rw (method-same t u g x m (l .0)) (target-grow g (getElem? (methodAt t x m .args) i) (at-unowned t (methodAt t x m .args) i (sigs x m .0) (plain x m .0))),
+    arguments-unowned u g i xs (l .1),
   )
 
-  answers-stand : (ls : List ℕ) → AllStand t (map (answerAt t m) ls)
-  answers-stand [] = tt
-  answers-stand (x ∷ xs) = (answer-stands t (methodAt t x m .answer) (sigs x m .1) (plain x m .1), answers-stand xs)
+  answers-unowned : (ls : List ℕ) → TargetsUnowned t (map (answerAt t m) ls)
+  answers-unowned [] = tt
+  answers-unowned (x ∷ xs) = (answer-unowned t (methodAt t x m .answer) (sigs x m .1) (plain x m .1), answers-unowned xs)
 
   arguments-no : (r : ℕ) (ls : List ℕ) → AllBelow (size t) ls → (xs : List ℕ) (vs : List ℤ) (i : ℕ) (s : System) → Grown t (s .table)
       → NoNine (sendArguments s r ls m i xs vs) (λ _. Unit {0})
@@ -195,7 +195,7 @@ module _ (t : Table) (sigs : SignaturesIn t) (plain : UnownedSignatures t) (m : 
         | true ↦ try (send s r (named v) ts) λ x. sendArguments (x .0) r ls m (suc i) xs vs
         | false ↦ try (passLayers true (s .table) v ts) λ _. sendArguments s r ls m (suc i) xs vs
       ]) (λ _. Unit {0})
-      go true ih = no-try _ _ (send s r (named v) ts) _ (send-no s r (named v) ts (arguments-stand (s .table) g i ls l)) λ x w. ih (x .0) (grown-trans g w)
+      go true ih = no-try _ _ (send s r (named v) ts) _ (send-no s r (named v) ts (arguments-unowned (s .table) g i ls l)) λ x w. ih (x .0) (grown-trans g w)
       go false ih = no-try _ _ (passLayers true (s .table) v ts) _ (pass-no ts true (s .table) v) λ _ _. ih s g
 
 -- ---- a state that passes the check: the types on a value's way are in its table
@@ -241,14 +241,14 @@ module _ (s : System) (fits : So (systemFits s)) where
       ts : List (Option ℕ)
       ts = reverse (map (answerAt (s .table) m) ls)
 
-      stand : AllStand (s .table) ts
-      stand = reversed (s .table) (map (answerAt (s .table) m) ls) [] (answers-stand (s .table) (fitting-sigs (s .table) t) (fitting-unowned (s .table) t) m ls) tt
+      unowned : TargetsUnowned (s .table) ts
+      unowned = reversed (s .table) (map (answerAt (s .table) m) ls) [] (answers-unowned (s .table) (fitting-sigs (s .table) t) (fitting-unowned (s .table) t) m ls) tt
 
       go : (b : Bool) → NoNine {A = System × Result} (elim b [
         | true ↦ need (held s subject v) wrongValues λ _. try (send s (callAt s j .caller) (named v) ts) λ x. ok (withAnswer (x .0) j, x .1)
         | false ↦ try (passLayers true (s .table) v ts) λ _. ok (withAnswer s j, number v)
       ]) (λ _. Unit {0})
-      go true = no-need _ (held s subject v) 15 _ refl λ _. no-try _ _ (send s (callAt s j .caller) (named v) ts) _ (send-no s (callAt s j .caller) (named v) ts stand) λ x _. tt
+      go true = no-need _ (held s subject v) 15 _ refl λ _. no-try _ _ (send s (callAt s j .caller) (named v) ts) _ (send-no s (callAt s j .caller) (named v) ts unowned) λ x _. tt
       go false = no-try _ _ (passLayers true (s .table) v ts) _ (pass-no ts true (s .table) v) λ _ _. tt
 
   pub answer-not-nine : (subject j : ℤ) (v : Option ℤ) → answerRequest s subject j v ≢ refuse notOwner

@@ -352,7 +352,7 @@ module _ (TP : Table → Type 0) (RF : Table → ℕ → Type 0)
     answer-all = aux-all (size (s .table)) (map (answerAt (s .table) m) (callLayers s (cellAt s k))) []
         (all-in-map (size (s .table)) (answerAt (s .table) m) (λ c. sigs-in (s .table) (h .table) c m .1) (callLayers s (cellAt s k))) tt
 
-  -- the list of types along a way is the same in a table that has grown, if the way lies in the old one
+  -- what the layers have for an argument is the same in a table that has grown, if they lie in the old one
   arguments-grow : (t u : Table) → Grown t u → (m i : ℕ) (ls : List ℕ) → AllBelow (size t) ls → map (argumentAt u m i) ls ≡ map (argumentAt t m i) ls
   arguments-grow t u g m i [] h = refl
   arguments-grow t u g m i (x ∷ xs) h = ap (λ (y : Option ℕ). y ∷ map (argumentAt u m i) xs) (ap (λ y. getElem? (getD (y .methods) m noMethod .args) i) (g .same x (h .0)))

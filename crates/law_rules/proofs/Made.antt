@@ -14,7 +14,7 @@ use Rattle.spec_model.specs.Table.{typeAt, methodAt, argumentAt, answerAt, isRe
 use Rattle.spec_model.specs.Crossing.{Place, object, noPlace, maxPlaces, placeAt, baseOwner, Reference, cross}
 use Rattle.spec_model.specs.Requests.{Call, System, maxCells, maxCalls, Request, new, move, call, answer, Result, pair, number, noCall, cellAt, callAt, isSheetRef, held, leaving, addCell}
 use Rattle.spec_model.specs.Requests.{newRequest, moveRequest, adapterCount, layersOf, callLayers, passLayers, send, argumentsHeld, sendArguments, callRequest, flagged, withAnswer, give}
-use Rattle.spec_model.specs.Requests.{answerRequest, serve}
+use Rattle.spec_model.specs.Requests.{dueFor, answerRequest, serve}
 use Rattle.spec_model.specs.Refusals.{unknownSubject, notHeld, unknownType, placesFull, cellsFull, notCallable, wrongValues, answeredAlready, callsFull}
 use Rattle.law_model.proofs.Steps.{IfOk, ok-try, ok-map, ok-need, whatever}
 use Rattle.law_rules.proofs.Numbering.{NextPlace, crossed, NextCell, Sent, cell-sent, sent-last, send-calls}
@@ -28,10 +28,6 @@ abbrev pub GivenCell : System → ℕ → Option ℕ → System × Result → Ty
 GivenCell s r none x = x .0 .cells ≡ s .cells
 GivenCell s r (some a) x = AnswerCell (isRef (typeAt (s .table) a .rep)) s r a x
 
--- the answer type that is due for call j (A4)
-abbrev pub dueOf : System → ℕ → Option ℕ
-dueOf s j = answerAt (s .table) (callAt s j .method) (cellAt s (callAt s j .cell) .type)
-
 abbrev pub Makes : System → Request → System × Result → Type 0
 -- N8: a cell of the subject, of the cell type
 Makes s (new subject class to) x = NextCell s (named subject) (named to) x × (x .0 .calls ≡ s .calls)
@@ -41,7 +37,7 @@ Makes s (move subject k receiver to) x = NextCell s (named receiver) (named to) 
 Makes s (call subject k m vs) x = (x .0 .calls ≡ s .calls ++ (record { caller = named subject; cell = named k; method = named m; answered = false } ∷ []))
     × (x .1 ≡ pair (length (s .calls)) (adapterCount (s .places) (cellAt s (named k) .place)))
 -- A10: a reference is the caller's, of the type due. A11: the call is answered, and every call is otherwise as it was.
-Makes s (answer subject j v) x = GivenCell s (callAt s (named j) .caller) (dueOf s (named j)) x × (x .0 .calls ≡ set (s .calls) (named j) (flagged (callAt s (named j)) true))
+Makes s (answer subject j v) x = GivenCell s (callAt s (named j) .caller) (dueFor s (named j)) x × (x .0 .calls ≡ set (s .calls) (named j) (flagged (callAt s (named j)) true))
 
 arguments-calls : (r : ℕ) (ls : List ℕ) (m : ℕ) (xs : List ℕ) (vs : List ℤ) (i : ℕ) (s : System) → IfOk (sendArguments s r ls m i xs vs) (λ x. x .calls ≡ s .calls)
 unfolding sendArguments
@@ -63,7 +59,7 @@ arguments-calls r ls m (a ∷ xs) (v ∷ vs) i s = go (isRef (typeAt (s .table) 
 answered : (s u : System) (j : ℕ) → u .calls ≡ s .calls → withAnswer u j .calls ≡ set (s .calls) j (flagged (callAt s j) true)
 answered s u j e = ap (λ cs. set cs j (flagged (getD cs j noCall) true)) e
 
-give-makes : (s : System) (subject : ℤ) (j : ℕ) (due : Option ℕ) (v : Option ℤ) → dueOf s j ≡ due
+give-makes : (s : System) (subject : ℤ) (j : ℕ) (due : Option ℕ) (v : Option ℤ) → dueFor s j ≡ due
     → IfOk (give s subject j due v) (λ x. GivenCell s (callAt s j .caller) due x × (x .0 .calls ≡ set (s .calls) j (flagged (callAt s j) true)))
 unfolding give
 give-makes s subject j none none e = (refl, refl)
@@ -84,8 +80,8 @@ give-makes s subject j (some a) (some v) e = go (isRef (typeAt (s .table) a .rep
     ts = reverse (map f (callLayers s (cellAt s (callAt s j .cell))))
 
     -- the way out ends at the cell's own type
-    ends : reverse outer ++ (dueOf s j ∷ []) ≡ ts
-    ends = sym (reverse-cons (dueOf s j) outer)
+    ends : reverse outer ++ (dueFor s j ∷ []) ≡ ts
+    ends = sym (reverse-cons (dueFor s j) outer)
 
     go : (b : Bool) → IfOk {A = System × Result} (elim b [
       | true ↦ need (held s subject v) wrongValues λ _. try (send s r (named v) ts) λ x. ok (withAnswer (x .0) j, x .1)
@@ -93,7 +89,7 @@ give-makes s subject j (some a) (some v) e = go (isRef (typeAt (s .table) a .rep
     ]) (λ x. AnswerCell b s r a x × (x .0 .calls ≡ set (s .calls) j (flagged (callAt s j) true)))
     go true = ok-need _ (held s subject v) wrongValues _ λ _.
         ok-try _ _ (send s r (named v) ts) _
-        (subst (λ us. IfOk (send s r (named v) us) (λ x. (type : ℕ) × (dueOf s j ≡ some type) × Sent s r type x)) ends (sent-last s r (named v) (reverse outer) (dueOf s j))) λ x w.
+        (subst (λ us. IfOk (send s r (named v) us) (λ x. (type : ℕ) × (dueFor s j ≡ some type) × Sent s r type x)) ends (sent-last s r (named v) (reverse outer) (dueFor s j))) λ x w.
         let q : w .0 ≡ a = Option·some-injective _ _ (sym (w .1) ∙ e) in let n = subst (λ y. Sent s r y x) q (w .2) in
         (record { place = n .next .place; cells = n .next .cells; result = n .next .result }, answered s (x .0) j (n .calls))
     go false = ok-try _ _ (passLayers true (s .table) v ts) _ (whatever (passLayers true (s .table) v ts)) λ _ _. (refl, refl)
@@ -131,7 +127,7 @@ serve-makes s (answer subject j v) =
     let c = cellAt s (callAt s (named j) .cell) in
     ok-need _ (names j (length (s .calls)) && eqb (named subject) (baseOwner (s .places) (c .place))) notHeld _ λ _.
     ok-need _ (not (callAt s (named j) .answered)) answeredAlready _ λ _.
-    give-makes s subject (named j) (dueOf s (named j)) v refl
+    give-makes s subject (named j) (dueFor s (named j)) v refl
 
 -- N5. The object of an accepted new, of the class and owned by the subject, stands at the count of places before.
 pub new-object : (s : System) (subject class to : ℤ) → IfOk (newRequest s subject class to) (λ x. placeAt (x .0 .places) (length (s .places)) ≡ object (named class) (named subject))

@@ -1,7 +1,7 @@
 -- The refusals of each request in the order of their tests: what a request is refused with is the first of them that fails (docs/SPEC.md, Q11, X11, N, M, C, A).
 use mathlib.Core.Path.{_≡_, refl, ap}
 use mathlib.Core.Bool.{Bool, true, false, not, _&&_, cond}
-use mathlib.Core.List.{List, [], _∷_, _++_, map, reverse}
+use mathlib.Core.List.{List, [], _∷_, _++_}
 use mathlib.Core.Option.{Option, none, some}
 use Prim.Native.Nat.{ℕ}
 use native.Mathlib.Omega.{arith}
@@ -9,15 +9,14 @@ use lib.Dec.{eqb, ltb}
 use lib.IntN.{ℤ}
 use lib.ListN.{length}
 use Rattle.spec_model.specs.Basics.{Res, refuse, ok, try, need, names, named}
-use Rattle.spec_model.specs.Table.{sub, closed, Table, maxTypes, typeAt, methodAt, answerAt, isRef, isAvail, isClass, isNone}
+use Rattle.spec_model.specs.Table.{sub, closed, Table, maxTypes, typeAt, methodAt, isRef, isAvail, isClass, isNone}
 use Rattle.spec_model.specs.Relations.{subtype, conforms, strict, loose, free, related}
 use Rattle.spec_model.specs.Restriction.{derive, derived}
 use Rattle.spec_model.specs.Crossing.{Place, object, adapter, placeType, placeAt, baseOf, baseOwner, Reference, adapt, cross, maxPlaces}
 use Rattle.spec_model.specs.Requests.{System, Result, pair, number, cellAt, callAt, isSheetRef, held, leaving, withCell, addCell, newRequest, moveRequest, callLayers, crossLayers, passLayers, send}
-use Rattle.spec_model.specs.Requests.{argumentsHeld, sendArguments, callRequest, withAnswer, give, answerRequest, maxCells, maxCalls}
+use Rattle.spec_model.specs.Requests.{argumentsHeld, sendArguments, callRequest, withAnswer, dueFor, answersMet, give, answerRequest, maxCells, maxCalls}
 use Rattle.spec_model.specs.Refusals.{unknownSubject, notHeld, unknownType, unrelated, notOwner, notStrict, typesFull, placesFull, cellsFull, notCallable}
 use Rattle.spec_model.specs.Refusals.{wrongValues, answeredAlready, callsFull}
-use Rattle.law_rules.proofs.Made.{dueOf}
 
 -- the number of a refusal, if it is one
 abbrev pub refusal : {A : Type 0} → Res A → Option ℕ
@@ -203,29 +202,25 @@ pub send-refusal : (s : System) (r k : ℕ) (ts : List (Option ℕ))
 unfolding send
 send-refusal s r k ts = arrival-refusal s r (crossLayers true (leaving s k) r ts)
 
--- the answer types that the value of call j passes (A7)
-abbrev pub answersOut : System → ℕ → List (Option ℕ)
-answersOut s j = reverse (map (answerAt (s .table) (callAt s j .method)) (callLayers s (cellAt s (callAt s j .cell))))
-
 -- A5, A6, A9, A10, by what is due and what is given
 abbrev pub giveTests : System → ℤ → ℕ → Option ℕ → Option ℤ → List (Option ℕ)
 giveTests s subject j none none = []
 giveTests s subject j none (some v) = some 15 ∷ []
 giveTests s subject j (some a) none = some 15 ∷ []
 giveTests s subject j (some a) (some v) = cond (isRef (typeAt (s .table) a .rep))
-    (unless (held s subject v) wrongValues ∷ refusal (crossLayers true (leaving s (named v)) (callAt s j .caller) (answersOut s j)) ∷ unless (ltb (length (s .cells)) maxCells) cellsFull ∷ [])
-    (refusal (passLayers true (s .table) v (answersOut s j)) ∷ [])
+    (unless (held s subject v) wrongValues ∷ refusal (crossLayers true (leaving s (named v)) (callAt s j .caller) (answersMet s j)) ∷ unless (ltb (length (s .cells)) maxCells) cellsFull ∷ [])
+    (refusal (passLayers true (s .table) v (answersMet s j)) ∷ [])
 
 give-refusal : (s : System) (subject : ℤ) (j : ℕ) (due : Option ℕ) (v : Option ℤ) → refusal (give s subject j due v) ≡ firstOf (giveTests s subject j due v)
 unfolding give
 give-refusal s subject j none none = refl
 give-refusal s subject j none (some v) = refl
 give-refusal s subject j (some a) none = refl
-give-refusal s subject j (some a) (some v) = go (isRef (typeAt (s .table) a .rep)) (held s subject v) (send s (callAt s j .caller) (named v) (answersOut s j))
-    (send-refusal s (callAt s j .caller) (named v) (answersOut s j)) (passLayers true (s .table) v (answersOut s j))
+give-refusal s subject j (some a) (some v) = go (isRef (typeAt (s .table) a .rep)) (held s subject v) (send s (callAt s j .caller) (named v) (answersMet s j))
+    (send-refusal s (callAt s j .caller) (named v) (answersMet s j)) (passLayers true (s .table) v (answersMet s j))
   where
     os : List (Option ℕ)
-    os = refusal (crossLayers true (leaving s (named v)) (callAt s j .caller) (answersOut s j)) ∷ unless (ltb (length (s .cells)) maxCells) cellsFull ∷ []
+    os = refusal (crossLayers true (leaving s (named v)) (callAt s j .caller) (answersMet s j)) ∷ unless (ltb (length (s .cells)) maxCells) cellsFull ∷ []
 
     go : (b h : Bool) (m : Res (System × Result)) → refusal m ≡ firstOf os → (n : Res (Unit {0})) → refusal {A = System × Result} (elim b [
       | true ↦ need h wrongValues λ _. try m λ x. ok (withAnswer (x .0) j, x .1)
@@ -242,11 +237,11 @@ pub answer-refusal : (s : System) (subject j : ℤ) (v : Option ℤ) → refusal
     unless (names subject (s .table .subjects)) unknownSubject
     ∷ unless (names j (length (s .calls)) && eqb (named subject) (baseOwner (s .places) (cellAt s (callAt s (named j) .cell) .place))) notHeld
     ∷ unless (not (callAt s (named j) .answered)) answeredAlready
-    ∷ giveTests s subject (named j) (dueOf s (named j)) v)
+    ∷ giveTests s subject (named j) (dueFor s (named j)) v)
 unfolding answerRequest
 answer-refusal s subject j v = go (names subject (s .table .subjects)) (names j (length (s .calls)) && eqb (named subject) (baseOwner (s .places) (cellAt s (callAt s (named j) .cell) .place)))
     (not (callAt s (named j) .answered))
-    (give s subject (named j) (dueOf s (named j)) v) (giveTests s subject (named j) (dueOf s (named j)) v) (give-refusal s subject (named j) (dueOf s (named j)) v)
+    (give s subject (named j) (dueFor s (named j)) v) (giveTests s subject (named j) (dueFor s (named j)) v) (give-refusal s subject (named j) (dueFor s (named j)) v)
   where
     go : (a b c : Bool) (m : Res (System × Result)) (os : List (Option ℕ)) → refusal m ≡ firstOf os
         → refusal (need a unknownSubject λ _. need b notHeld λ _. need c answeredAlready λ _. m) ≡ firstOf (unless a unknownSubject ∷ unless b notHeld ∷ unless c answeredAlready ∷ os)

@@ -7,11 +7,12 @@ use native.Mathlib.Omega.{arith}
 use lib.ListN.{length, length-append}
 use Rattle.spec_model.specs.Basics.{Res, refuse, ok}
 use Rattle.spec_model.specs.Table.{Table}
-use Rattle.spec_sheet.specs.Lines.{Row, row, cut, split, join, Reading, refused, got, Reader, lineAt, line, follow, bind, endOfInput}
+use Rattle.spec_sheet.specs.Lines.{Row, row, cut, split, join, Reading, refused, got, lineAt, line, follow}
 use Rattle.spec_sheet.specs.Text.{endText}
 use Rattle.spec_sheet.specs.Sheet.{endLine, body, signaturesStand, ending, sheet, malformed, sheetResult, read}
 use Rattle.spec_sheet.proofs.Lines.{rows}
 use Rattle.spec_sheet.proofs.LineKinds.{end-exact}
+use Rattle.spec_sheet.proofs.Exact.{behindEnd}
 use Rattle.law_rules.proofs.Readers.{NotBefore, Took, Wrong, missing, unended, atFault, Stopped, Came, follow-later, wrong-on, goes-on, both-passed, both-offset, second, body-local}
 
 -- What is wrong behind the lines ls of a sheet refused with n at offset k.
@@ -46,10 +47,6 @@ of-line rs n k w =
 abbrev OfSheet : List Row → Reading Table → Type 0
 OfSheet rs (refused n k) = RefusedLine rs n k
 OfSheet rs (got t k rest) = Unit {0}
-
--- what stands behind the last line, which began at `last`
-abbrev behindEnd : Table → ℕ → Unit {0} → Reader Table
-behindEnd t last u = bind endOfInput λ u at rs. cond (signaturesStand t) (got t at rs) (refused 3 last)
 
 ending-later : (t : Table) (last : ℕ) (rs : List Row) → NotBefore last (ending t last rs)
 unfolding ending

@@ -19,7 +19,7 @@ use Rattle.spec_model.specs.Records.{repCode, kindCode, keyCodes, methodRecord,
 use Rattle.spec_model.proofs.Largest.{getD-from-out}
 use Rattle.spec_model.proofs.Codes.{code-back}
 use Rattle.table_record.specs.Records.{padded}
-use Rattle.table_record.specs.Store.{MethodExact, TypeExact}
+use Rattle.table_record.specs.Store.{blankMethod, MethodExact, TypeExact}
 use Rattle.table_record.proofs.Lists.{lt-or-ge, from-first, is-from}
 use Rattle.table_record.proofs.Laws.{four}
 use Rattle.table_record.proofs.Codes.{number-rep, ref-rep, state-back}
@@ -69,10 +69,6 @@ signed-exact m h p n l z =
     (rw (taken (m .count) 0 (m .args) (z 0), taken (m .count) 1 (m .args) (z 1), taken (m .count) 2 (m .args) (z 2), taken (m .count) 3 (m .args) (z 3)) (four (m .args) l))
     (code-back (m .answer)))
 
--- a method that isn't there: denied, and every byte of it is 0
-abbrev pub blank : RawMethod
-blank = record { state = 0; count = 0; args = 0 ∷ 0 ∷ 0 ∷ 0 ∷ []; answer = 0 }
-
 -- the codes of the key of type i: none for a sheet type
 abbrev pub KeyExact : ℕ → ℕ → RawType → Type 0
 KeyExact sh i x = keyCodes (cond (ltb i sh) none (some (record { kind = kindOf (x .kind); left = x .left; right = x .right }))) ≡ (x .kind, x .left, x .right)
@@ -103,7 +99,7 @@ module _ (ms sh i : ℕ) (x : RawType) (l : length (x .methods) ≡ maxMethods) 
 
   -- A reference type whose methods are exact, and blank behind the last.
   pub ref-exact : x .rep ≡ 0 → x .own < 2 → ((j : ℕ) → j < ms → MethodExact (getD (x .methods) j noRawMethod))
-      → ((j : ℕ) → ms ≤ j → j < maxMethods → getD (x .methods) j noRawMethod ≡ blank) → TypeExact ms sh i x
+      → ((j : ℕ) → ms ≤ j → j < maxMethods → getD (x .methods) j noRawMethod ≡ blankMethod) → TypeExact ms sh i x
   unfolding TypeExact mkT from
   ref-exact r o e z =
       let f : ℕ → Method = λ j. methodOf (getD (x .methods) j noRawMethod) in
@@ -116,7 +112,7 @@ module _ (ms sh i : ℕ) (x : RawType) (l : length (x .methods) ≡ maxMethods) 
       (lt-or-ge j ms))))
 
   -- A number type, which has neither own nor methods.
-  pub number-exact : (x .rep ≡ 0 → ⊥) → x .rep < 3 → x .own ≡ 0 → ((j : ℕ) → j < maxMethods → getD (x .methods) j noRawMethod ≡ blank) → TypeExact ms sh i x
+  pub number-exact : (x .rep ≡ 0 → ⊥) → x .rep < 3 → x .own ≡ 0 → ((j : ℕ) → j < maxMethods → getD (x .methods) j noRawMethod ≡ blankMethod) → TypeExact ms sh i x
   unfolding TypeExact mkT from
   number-exact n r o z =
       rw (number-rep (x .rep) n)

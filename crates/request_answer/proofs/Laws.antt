@@ -15,14 +15,16 @@ use Rattle.spec_model.specs.Basics.{Res, refuse, ok, try, need, names, named}
 use Rattle.spec_model.specs.Table.{Table, typeAt, answerAt, isRef}
 use Rattle.spec_model.specs.Crossing.{baseOwner}
 use Rattle.spec_model.specs.Crossing.{Place as Placeᵐ}
-use Rattle.spec_model.specs.Requests.{System, Result, pair, number, nothing, got, noCell, noCall, cellAt, callAt, held, layersOf, passLayers, send, withCalls, flagged, withAnswer, give, answerRequest}
+use Rattle.spec_model.specs.Requests.{System, Result, pair, number, nothing, got, noCell, noCall, cellAt, callAt, held, layersOf, passLayers, send, withCalls, flagged, withAnswer}
+use Rattle.spec_model.specs.Requests.{dueFor, answersMet, give, answerRequest}
 use Rattle.spec_model.specs.Requests.{Cell as Cellᵐ, Call as Callᵐ}
 use Rattle.spec_model.specs.Check.{answerOf}
 use Rattle.spec_model.proofs.Rules.{never}
 use Rattle.spec_model.proofs.Codes.{answer-back}
 use Rattle.spec_model.specs.Records.{answerCode}
 use Rattle.spec_model.specs.Refusals.{unknownSubject, notHeld, wrongValues, answeredAlready}
-use Rattle.table_record.specs.Store.{tableIn}
+use Rattle.table_record.specs.Store.{tableIn, refIn}
+use Rattle.table_record.proofs.Tables.{ref-table}
 use Rattle.table_record.proofs.Codes.{answer-is}
 use Rattle.base_numbers.specs.Index.{indexOf}
 use Rattle.base_numbers.proofs.Laws.{index-unknown, index-known}
@@ -32,7 +34,7 @@ use Rattle.state_record.specs.declared.Cell.{Cell}
 use Rattle.state_record.specs.Whole.{Whole as State}
 use Rattle.state_record.specs.View.{cellOf, callOf, cellsIn, placesIn, callsIn, callAnswered, systemIn}
 use Rattle.state_record.specs.Sound.{CallIn, Sound}
-use Rattle.state_record.proofs.Laws.{calls-length}
+use Rattle.state_record.proofs.Laws.{calls-length, means-counted}
 use Rattle.crossing_layers.specs.Carried.{passedOf}
 use Rattle.request_common.specs.declared.Outcome.{Outcome}
 use Rattle.request_common.specs.declared.Outcome.the-variants.{Refused, Pair, Number, Nothing}
@@ -46,7 +48,7 @@ use Rattle.request_answer.specs.declared.Given.{Given}
 use Rattle.request_answer.specs.declared.Given.the-variants as given
 use Rattle.request_answer.specs.declared.Given.the-variants.{Value}
 use Rattle.request_answer.specs.Given.{givenAs, Keeps}
-use Rattle.request_answer.specs.Parts.{answersMet, dueFor, giveReference, giveValue, answerCall, Called}
+use Rattle.request_answer.specs.Parts.{giveReference, giveValue, answerCall, Called}
 
 -- ---- The flag.
 module _ (s : State) (h : Sound s) (j : ℕ) (low : j < s .calls .count) (calls : Calls) (e : calls ≡ callAnswered (s .calls) j)
@@ -143,7 +145,7 @@ module _ (s : State) (j r : ℕ) (v : ℤ) (ts : List (Option ℕ)) (q : Served)
 
 -- ---- A value where one is due.
 module _ (s : State) (h : Sound s) (subject : ℤ) (j : ℕ) (x : Call) (c : Cell) (k : Called s j x c) (a : ℕ) (v : ℤ) (ts : List (Option ℕ)) (met : ts ≡ answersMet (systemIn s) j)
-    (q : Bool) (kind : (l : List ℕ) → q ≡ isRef (typeAt (tableIn (s .types) l (s .counts)) a .rep)) where
+    (q : Bool) (kind : q ≡ refIn (s .counts .types) (s .types) a) where
   abbrev Either : Bool → Bool → ℕ → List (Option ℕ) → Table → Res (System × Result)
   Either y b r os t = elim y [
     | true ↦ need b wrongValues λ _. giveReference (systemIn s) j r v os
@@ -153,7 +155,8 @@ module _ (s : State) (h : Sound s) (subject : ℤ) (j : ℕ) (x : Call) (c : Cel
   value-is : giveValue (systemIn s) subject j a v ≡ Either q (held (systemIn s) subject v) (x .caller) ts (tableIn (s .types) (s .links) (s .counts))
   value-is =
       ap (λ (t : Table). Either (isRef (typeAt t a .rep)) (held (systemIn s) subject v) (callAt (systemIn s) j .caller) (answersMet (systemIn s) j) t) (table-is s)
-      ∙ ap (λ (y : Bool). Either y (held (systemIn s) subject v) (callAt (systemIn s) j .caller) (answersMet (systemIn s) j) (tableIn (s .types) (s .links) (s .counts))) (sym (kind (s .links)))
+      ∙ ap (λ (y : Bool). Either y (held (systemIn s) subject v) (callAt (systemIn s) j .caller) (answersMet (systemIn s) j) (tableIn (s .types) (s .links) (s .counts)))
+      (ref-table (s .types) (s .links) (s .counts) a ∙ sym kind)
       ∙ ap (λ (y : Callᵐ). Either q (held (systemIn s) subject v) (y .caller) (answersMet (systemIn s) j) (tableIn (s .types) (s .links) (s .counts))) (sym (k .call))
       ∙ ap (λ (os : List (Option ℕ)). Either q (held (systemIn s) subject v) (x .caller) os (tableIn (s .types) (s .links) (s .counts))) (sym met)
 
@@ -292,15 +295,12 @@ module _ (s : State) (h : Sound s) (subject call : ℤ) (o : Option ℤ) where
   step-5 z y e = refuses h (answer-5 (systemIn s) subject call o z) e
 
   module _ (known : names subject (systemIn s .table .subjects) ≡ true) (j : ℕ) (j-is : j ≡ indexOf call (s .calls .count)) where
-    calls-are-counted : length (systemIn s .calls) ≡ s .calls .count
-    calls-are-counted = ap length (calls-are s) ∙ calls-length (s .calls)
-
     pub step-6 : s .calls .count ≤ j → (y : Served) → y ≡ refusal s notHeld → Replies y
-    step-6 l y e = refuses h (answer-6 (systemIn s) subject call o known (ap (names call) calls-are-counted ∙ index-unknown call (s .calls .count) j j-is l)) e
+    step-6 l y e = refuses h (answer-6 (systemIn s) subject call o known (ap (names call) (means-counted s .calls) ∙ index-unknown call (s .calls .count) j j-is l)) e
 
     pub step-goes : j < s .calls .count → (who : ℕ) → who ≡ indexOf subject (s .counts .subjects) → (y : Served)
         → ((z : ℤ) → named z ≡ who → Step s (answerCall (systemIn s) z j o) y) → Replies y
     step-goes l who w y g =
         let x = index-known call (s .calls .count) j j-is l in
-        step-as (answer-goes (systemIn s) subject call o known (ap (names call) calls-are-counted ∙ x .0) ∙ ap (λ (n : ℕ). answerCall (systemIn s) subject n o) (x .1))
+        step-as (answer-goes (systemIn s) subject call o known (ap (names call) (means-counted s .calls) ∙ x .0) ∙ ap (λ (n : ℕ). answerCall (systemIn s) subject n o) (x .1))
         (g subject (sym (subject-at s subject who w known .0)))

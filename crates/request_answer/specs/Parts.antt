@@ -1,28 +1,20 @@
 -- The request answer in the parts that the code has: the call that is answered, what is due and given, and a value on its way back.
 use mathlib.Core.Path.{_≡_}
 use mathlib.Core.Bool.{true, false, not}
-use mathlib.Core.List.{List, map, reverse}
+use mathlib.Core.List.{List}
 use mathlib.Core.Option.{Option}
 use Prim.Native.Nat.{ℕ, _<_}
 use lib.Dec.{eqb}
 use lib.IntN.{ℤ}
 use Rattle.spec_model.specs.Basics.{Res, ok, try, need, named}
-use Rattle.spec_model.specs.Table.{typeAt, answerAt, isRef}
+use Rattle.spec_model.specs.Table.{typeAt, isRef}
 use Rattle.spec_model.specs.Crossing.{baseOwner}
-use Rattle.spec_model.specs.Requests.{System, Result, number, cellAt, callAt, held, callLayers, send, passLayers, withAnswer, give}
+use Rattle.spec_model.specs.Requests.{System, Result, number, cellAt, callAt, held, send, passLayers, withAnswer, dueFor, answersMet, give}
 use Rattle.spec_model.specs.Refusals.{notHeld, wrongValues, answeredAlready}
 use Rattle.state_record.specs.declared.Cell.{Cell}
 use Rattle.state_record.specs.declared.Call.{Call}
 use Rattle.state_record.specs.Whole.{Whole as State}
 use Rattle.state_record.specs.View.{cellOf, callOf, systemIn}
-
--- the answer types that a value meets: the class's first
-abbrev pub answersMet : System → ℕ → List (Option ℕ)
-answersMet s j = reverse (map (answerAt (s .table) (callAt s j .method)) (callLayers s (cellAt s (callAt s j .cell))))
-
--- the answer type that is due for call j
-abbrev pub dueFor : System → ℕ → Option ℕ
-dueFor s j = answerAt (s .table) (callAt s j .method) (cellAt s (callAt s j .cell) .type)
 
 -- A reference on its way back, and any value where one is due: what `give` does with them.
 abbrev pub giveReference : System → ℕ → ℕ → ℤ → List (Option ℕ) → Res (System × Result)

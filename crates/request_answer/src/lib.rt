@@ -5,7 +5,7 @@ ghost use mathlib.Core.Bool.{true};
 ghost use Prim.Native.Nat.{ℕ, _≤_, _<_};
 ghost use lib.IntN.{ℤ};
 ghost use Rattle.spec_model.specs.Basics.{ok, named};
-ghost use Rattle.spec_model.specs.Requests.{Result, got, give, withAnswer, answerRequest, maxCalls};
+ghost use Rattle.spec_model.specs.Requests.{Result, got, dueFor, answersMet, give, withAnswer, answerRequest, maxCalls};
 ghost use Rattle.state_record.specs.Whole.{whole};
 ghost use Rattle.state_record.specs.View.{systemIn};
 ghost use Rattle.state_record.specs.Sound.{Sound};
@@ -13,7 +13,7 @@ ghost use Rattle.crossing_layers.specs.Carried.{targetsIn, maxLayers};
 ghost use Rattle.request_common.specs.Served.{outcomeOf, Step, done};
 ghost use Rattle.request_value.specs.Sent.{isAccepted};
 ghost use Rattle.request_answer.specs.Given.{givenAs, Keeps};
-ghost use Rattle.request_answer.specs.Parts.{answersMet, dueFor, giveReference, giveValue, answerCall, Called};
+ghost use Rattle.request_answer.specs.Parts.{giveReference, giveValue, answerCall, Called};
 use base_numbers::index_of;
 use base_numbers::refusal;
 use base_numbers::wide;
@@ -102,7 +102,7 @@ fn give_value(
     let cells = s.cells;
     let caller = wide(x.caller);
     let targets = answers_met(types, s, j, x, c);
-    if request_value::is_ref(types, counts, a) {
+    if table_record::names_ref(types, counts.types, a) {
         if !request_common::is_held(cells, who, v) {
             return request_common::refused(s, refusal::WRONG_VALUES);
         }

@@ -32,7 +32,7 @@ use Rattle.state_record.specs.declared.Cell.{Cell}
 use Rattle.state_record.specs.Whole.{Whole as State}
 use Rattle.state_record.specs.View.{cellOf, callOf, cellsIn, placesIn, callsIn, callAdded, systemIn, withTypes}
 use Rattle.state_record.specs.Sound.{CallIn, Sound}
-use Rattle.state_record.proofs.Laws.{calls-length, system-is}
+use Rattle.state_record.proofs.Laws.{calls-length, system-is, means-counted}
 use Rattle.request_common.specs.declared.Outcome.{Outcome}
 use Rattle.request_common.specs.declared.Outcome.the-variants.{Pair}
 use Rattle.request_common.specs.Served.{Done as Served}
@@ -91,11 +91,11 @@ module _ (s : State) (h : Sound s) (k : ℕ) (low : k < s .cells .count) (c : Ce
     call-layers-met layers ls y z = z ∙ ap (λ (xs : List ℕ). c .ty ∷ xs) y ∙ ap (λ (x : Cellᵐ). x .type ∷ layersOf (placesIn (s .places)) p) cell-read
 
   module _ (t : ℕ) (e : t ≡ c .ty) where
-    pub sort-here : t ≡ cellAt (systemIn s) k .type
-    sort-here = e ∙ ap (λ (x : Cellᵐ). x .type) cell-read
+    pub type-here : t ≡ cellAt (systemIn s) k .type
+    type-here = e ∙ ap (λ (x : Cellᵐ). x .type) cell-read
 
-    pub sort-low : t < s .counts .types
-    sort-low = subst (λ (n : ℕ). n < s .counts .types) (sym (e ∙ ap (λ (x : Cellᵐ). x .type) is)) (h .cells k low .type)
+    pub type-low : t < s .counts .types
+    type-low = subst (λ (n : ℕ). n < s .counts .types) (sym (e ∙ ap (λ (x : Cellᵐ). x .type) is)) (h .cells k low .type)
 
 -- ---- The call that is left, whose place is p.
 module _ (s : State) (who k m p : ℕ) (here : p ≡ cellAt (systemIn s) k .place) where
@@ -112,7 +112,7 @@ module _ (s : State) (who k m p : ℕ) (here : p ≡ cellAt (systemIn s) k .plac
       ∙ ap (λ (y : ℕ). ok (withCall x (newCall who k m), pair (length (systemIn s .calls)) y)) adapters-same)
     where
       calls-same : n ≡ length (systemIn s .calls)
-      calls-same = calls ∙ sym (ap length (calls-are s) ∙ calls-length (s .calls))
+      calls-same = calls ∙ sym (means-counted s .calls)
 
       adapters-same : adapters ≡ adapterCount (systemIn s .places) (cellAt (systemIn s) k .place)
       adapters-same = count ∙ ap (adapterCount (placesIn (s .places))) here ∙ ap (λ ps. adapterCount ps (cellAt (systemIn s) k .place)) (sym (places-are s))
@@ -228,11 +228,8 @@ module _ (s : State) (subject : ℤ) (k m : ℕ) (vs : List ℤ) (t : ℕ) (ty :
     held-15 z = avail-is ∙ rw z
 
     module _ (fit : argumentsHeld (systemIn s) subject (argumentsOf x) vs ≡ true) where
-      calls-counted : length (systemIn s .calls) ≡ s .calls .count
-      calls-counted = ap length (calls-are s) ∙ calls-length (s .calls)
-
       fit-is : callHeld (systemIn s) subject k m vs ≡ Next true (ltb (s .calls .count) maxCalls)
-      fit-is = avail-is ∙ ap (λ (y : Bool). Next y (ltb (length (systemIn s .calls)) maxCalls)) fit ∙ ap (λ (n : ℕ). Next true (ltb n maxCalls)) calls-counted
+      fit-is = avail-is ∙ ap (λ (y : Bool). Next y (ltb (length (systemIn s .calls)) maxCalls)) fit ∙ ap (λ (n : ℕ). Next true (ltb n maxCalls)) (means-counted s .calls)
 
       pub held-18 : maxCalls ≤ s .calls .count → callHeld (systemIn s) subject k m vs ≡ refuse callsFull
       held-18 l = fit-is ∙ ap (Next true) (le-ltb (s .calls .count) maxCalls l)

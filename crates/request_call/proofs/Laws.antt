@@ -18,8 +18,8 @@ use Rattle.spec_model.specs.Records.{answerCode}
 use Rattle.table_record.specs.declared.Counts.{Counts}
 use Rattle.table_record.specs.declared.Head.{Head}
 use Rattle.table_record.specs.declared.Method.{Method}
-use Rattle.table_record.specs.Store.{typesIn, tableIn, rawMethod, headOf, emptyMethod}
-use Rattle.table_record.proofs.Tables.{type-is}
+use Rattle.table_record.specs.Store.{typesIn, tableIn, refIn, rawMethod, headOf, emptyMethod}
+use Rattle.table_record.proofs.Tables.{type-is, ref-table}
 use Rattle.table_record.proofs.Codes.{rep-code}
 use Rattle.state_record.specs.Whole.{Whole as State}
 use Rattle.state_record.specs.View.{systemIn}
@@ -43,9 +43,9 @@ module _ (b l : List ℕ) (c : Counts) (t m : ℕ) (low : t < c .types) (h : Hea
   method-some z k w = ap methodOf w ∙ sym (method-is b l c t m (sym (ref-is b l c t h low e) ∙ eq-eqb (h .rep) 0 z) k)
 
 -- ---- C4, C5.
-module _ (s : State) (a : ℕ) (r : Bool) (is : (l : List ℕ) → r ≡ isRef (typeAt (tableIn (s .types) l (s .counts)) a .rep)) where
+module _ (s : State) (a : ℕ) (r : Bool) (is : r ≡ refIn (s .counts .types) (s .types) a) where
   seen : isRef (typeAt (systemIn s .table) a .rep) ≡ r
-  seen = ap (λ (t : Table). isRef (typeAt t a .rep)) (table-is s) ∙ sym (is (s .links))
+  seen = ap (λ (t : Table). isRef (typeAt t a .rep)) (table-is s) ∙ ref-table (s .types) (s .links) (s .counts) a ∙ sym is
 
   pub number-held : r ≡ false → (q : Bool) → true ≡ not (isRef (typeAt (systemIn s .table) a .rep)) || q
   number-held z q = sym (ap (λ (y : Bool). not y || q) (seen ∙ z))

@@ -34,9 +34,20 @@ callHeld s subject k m vs =
     need (ltb (length (s .calls)) maxCalls) callsFull λ _.
     callThrough s (named subject) k m (x .args) vs
 
+-- What a plan says of m, which is what the call comes to: its refusal; that there is room for the call, and its numbers name something; the call that is made where
+-- nothing is sent.
+abbrev pub Stops : Res (System × Result) → Plan → Type 0
+Stops m p = (p .refusal ≡ 0 → ⊥) → m ≡ refuse (p .refusal)
+
+abbrev pub Fits : State → Plan → Type 0
+Fits s p = (s .calls .count < maxCalls) × (p .who < 256) × (p .cell < s .cells .count) × (p .method < s .counts .methods)
+
+abbrev pub Adds : State → Res (System × Result) → Plan → Type 0
+Adds s m p = p .refusal ≡ 0 → p .sends ≡ false → m ≡ ok (withCall (systemIn s) (newCall (p .who) (p .cell) (p .method)), pair (s .calls .count) (p .adapters))
+
 -- What is known of a call before anything is sent, m being what it comes to: the refusal, or the call that is left; and all of it where no argument is a reference.
 pub record Planned (s : State) (vs : List ℤ) (m : Res (System × Result)) (p : Plan) : Type 0 where
-  pub stops : (p .refusal ≡ 0 → ⊥) → m ≡ refuse (p .refusal)
-  pub fits : p .refusal ≡ 0 → (s .calls .count < maxCalls) × (p .who < 256) × (p .cell < s .cells .count) × (p .method < s .counts .methods)
+  pub stops : Stops m p
+  pub fits : p .refusal ≡ 0 → Fits s p
   pub goes : p .refusal ≡ 0 → m ≡ callThrough (systemIn s) (p .who) (p .cell) (p .method) (argumentsOf (p .signature)) vs
-  pub adds : p .refusal ≡ 0 → p .sends ≡ false → m ≡ ok (withCall (systemIn s) (newCall (p .who) (p .cell) (p .method)), pair (s .calls .count) (p .adapters))
+  pub adds : Adds s m p

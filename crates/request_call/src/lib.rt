@@ -53,7 +53,7 @@ fn argument_held(types: &[u8; TYPE_BYTES], s: State, who: usize, a: usize, v: i6
 {
     let c = s.counts;
     let cs = s.cells;
-    if !request_value::is_ref(types, c, a) {
+    if !table_record::names_ref(types, c.types, a) {
         return true;
     }
     request_common::is_held(cs, who, v)

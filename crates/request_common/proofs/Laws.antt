@@ -36,7 +36,7 @@ use Rattle.state_record.specs.Whole.{whole}
 use Rattle.state_record.proofs.Kept.{sound-types}
 use Rattle.state_record.specs.View.{cellOf, cellsIn, placesIn, callsIn, cellAdded, systemIn, withTypes}
 use Rattle.state_record.specs.Sound.{CellIn, Sound}
-use Rattle.state_record.proofs.Laws.{cells-length, system-is}
+use Rattle.state_record.proofs.Laws.{cells-length, system-is, means-counted}
 use Rattle.state_check.specs.Parts.{refAs, classAs}
 use Rattle.state_check.proofs.Laws.{ref-is, class-is}
 use Rattle.derive_sub_sup.specs.Link.{Kept}
@@ -145,7 +145,7 @@ module _ (s : State) (z : ℤ) (i : ℕ) where
 
   pub held-at : i ≡ indexOf z (s .cells .count) → (subject : ℤ) → held (systemIn s) subject z ≡ true → (i ≡ named z) × (i < s .cells .count)
   held-at e subject h = index-named z (s .cells .count) i e
-      (ap (names z) (sym (ap length (cells-are s) ∙ cells-length (s .cells))) ∙ first (names z (length (systemIn s .cells))) _ h)
+      (ap (names z) (sym (means-counted s .cells)) ∙ first (names z (length (systemIn s .cells))) _ h)
 
 -- ---- The operands.
 pub subject-is : (c : Counts) (z : ℤ) (i : ℕ) → i ≡ indexOf z (c .subjects) → (s : State) → s .counts ≡ c → ltb i (c .subjects) ≡ names z (systemIn s .table .subjects)

@@ -22,14 +22,13 @@ use Rattle.state_record.specs.declared.Place.the-variants.{Object}
 use Rattle.state_record.specs.Whole.{Whole as State}
 use Rattle.state_record.specs.View.{cellOf, cellsIn, placesIn, placeAdded, systemIn}
 use Rattle.state_record.specs.Sound.{Descending, Sound}
-use Rattle.state_record.proofs.Laws.{places-length, system-is}
+use Rattle.state_record.proofs.Laws.{places-length, system-is, means-counted}
 use Rattle.state_record.proofs.Kept.{descending-more, typed-more}
 use Rattle.crossing_one.specs.declared.Crossing.{Crossing}
 use Rattle.crossing_one.specs.declared.Crossed.{Crossed}
 use Rattle.crossing_one.specs.Crossed.{reference, crossing, crossedOf, Leaves}
 use Rattle.crossing_one.proofs.Laws.{refused-is, came-is}
 use Rattle.request_common.specs.Served.{isSheetClass, arrived, Arrives}
-use Rattle.request_common.proofs.Laws.{places-are}
 use Rattle.request_new_move.specs.Sent.{sentTo, Sends, Made}
 
 -- ---- The way that both go: y came of the crossing.
@@ -96,7 +95,7 @@ module _ (s : State) (subject class to : ℤ) where
 
       module _ (target : isSheetRef (systemIn s .table) to ≡ true) where
         room : (b : Bool) → ltb (s .places .count) maxPlaces ≡ b → ltb (length (systemIn s .places)) maxPlaces ≡ b
-        room b e = ap (λ (n : ℕ). ltb n maxPlaces) (ap length (places-are s) ∙ places-length (s .places)) ∙ e
+        room b e = ap (λ (n : ℕ). ltb n maxPlaces) (means-counted s .places) ∙ e
 
         pub new-12 : maxPlaces ≤ s .places .count → N ≡ refuse placesFull
         unfolding newRequest

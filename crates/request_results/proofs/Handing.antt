@@ -40,7 +40,8 @@ use Rattle.request_results.specs.Stored.{Stored, Back}
 abbrev Bytes : System → ℕ → List ℕ → List ℕ → Type 0
 Bytes x n b b′ = take (size (x .table) * typeSize) b′ ≡ take (n * typeSize) b ++ flatten (map bytesOf (drop n (x .table .types)))
 
-abbrev withBytes : Flat → List ℕ → Flat
+-- what was lent, with other types
+abbrev pub withBytes : Flat → List ℕ → Flat
 withBytes f t = record { types = t; links = f .links; cells = f .cells; places = f .places; calls = f .calls; counts = f .counts }
 
 -- which answers are refusals

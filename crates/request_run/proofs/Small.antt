@@ -11,12 +11,12 @@ use Rattle.law_handed.proofs.Small.{Small, Named, small-serve}
 use Rattle.state_record.specs.Whole.{Whole as State}
 use Rattle.state_record.specs.View.{cellsIn, systemIn}
 use Rattle.state_record.specs.Sound.{Sound}
-use Rattle.state_record.proofs.Laws.{cells-length, places-length}
+use Rattle.state_record.proofs.Laws.{means-counted}
 use Rattle.request_common.specs.declared.Outcome.{Outcome}
 use Rattle.request_common.specs.declared.Outcome.the-variants.{Refused, Pair, Number, Nothing}
 use Rattle.request_common.specs.Served.{Done as Served}
 use Rattle.request_common.specs.Served.{outcomeOf, servedWith, Step}
-use Rattle.request_common.proofs.Laws.{cells-are, places-are}
+use Rattle.request_common.proofs.Laws.{cells-are}
 use Rattle.request_by_code.specs.Coded.{serveAsked}
 use Rattle.request_run.specs.Loop.{SmallOutcome}
 
@@ -32,13 +32,13 @@ step-small s q r h w = go (r .outcome) (subst (Small (λ (x : System × Result).
     go (Refused e) k = omega (arith, k .1)
     go (Pair a b) (inl k) =
         let t : State = r .state in
-        let n : length (systemIn t .cells) ≡ t .cells .count = ap length (cells-are t) ∙ cells-length (t .cells) in
+        let n : length (systemIn t .cells) ≡ t .cells .count = means-counted t .cells in
         let l : a < t .cells .count = omega (arith, n, k .0) in
         let p : getD (cellsIn (t .cells)) a noCell .place < t .places .count = w .sound .cells a l .place in
         let e : getD (cellsIn (t .cells)) a noCell .place ≡ b = ap (λ (cs : List Cell). getD cs a noCell .place) (sym (cells-are t)) ∙ k .1 in
         (omega (arith, l, w .sound .cellCount), omega (arith, p, e, w .sound .descending .count))
     go (Pair a b) (inr k) =
-        let n : length (systemIn s .places) ≡ s .places .count = ap length (places-are s) ∙ places-length (s .places) in
+        let n : length (systemIn s .places) ≡ s .places .count = means-counted s .places in
         (omega (arith, k .0), omega (arith, n, k .1, h .descending .count))
     go (Number v) k = tt
     go Nothing k = tt

@@ -1,4 +1,4 @@
--- A reference that is sent becomes a cell, and the arguments are sent one behind the other: the rest of the way follows from where it stands.
+-- A reference that is sent becomes a cell, and the arguments are sent one behind the other: the rest follows from the state as it stands.
 use mathlib.Core.Path.{_≡_, refl, sym, ap, _∙_, subst}
 use mathlib.Core.Logic.{_⊎_, inl, inr}
 use mathlib.Core.Bool.{Bool, true, false}
@@ -19,15 +19,16 @@ use Rattle.spec_model.specs.Requests.{Cell as Cellᵐ}
 use Rattle.spec_model.proofs.Rules.{never}
 use Rattle.spec_model.specs.Refusals.{cellsFull}
 use Rattle.table_record.specs.declared.Counts.{Counts}
-use Rattle.table_record.specs.Store.{tableIn}
+use Rattle.table_record.specs.Store.{tableIn, refIn}
 use Rattle.table_record.proofs.Lists.{lt-or-ge}
+use Rattle.table_record.proofs.Tables.{ref-table}
 use Rattle.state_record.specs.declared.Cell.{Cell}
 use Rattle.state_record.specs.Whole.{Whole as State}
 use Rattle.state_record.specs.View.{cellOf, cellsIn, placesIn, systemIn}
 use Rattle.state_record.specs.Sound.{CellIn, Sound}
-use Rattle.state_record.proofs.Laws.{cells-length, places-length, calls-length, system-is}
+use Rattle.state_record.proofs.Laws.{cells-length, places-length, system-is, means-counted}
 use Rattle.crossing_one.specs.declared.Crossed.{Crossed}
-use Rattle.crossing_one.specs.Crossed.{reference, Ready, Stands, crossedOf, Leaves}
+use Rattle.crossing_one.specs.Crossed.{reference, Ready, PlaceKnown, crossedOf, Leaves}
 use Rattle.crossing_one.proofs.Laws.{refused-is, came-is}
 use Rattle.crossing_layers.specs.Carried.{passedOf}
 use Rattle.request_common.specs.declared.Outcome.{Outcome}
@@ -35,7 +36,7 @@ use Rattle.request_common.specs.declared.Outcome.the-variants.{Refused, Pair, N
 use Rattle.request_common.specs.Served.{Done as Served, refusalOf as refusal}
 use Rattle.state_record.specs.View.{withTypes}
 use Rattle.request_common.specs.Served.{outcomeOf, servedWith, servedAs, Stored, Step, Arrives, arrived}
-use Rattle.request_common.proofs.Laws.{stored-self, stored-on, refuses, refuses-kept, step-as, table-is, cells-are, places-are, calls-are}
+use Rattle.request_common.proofs.Laws.{stored-self, stored-on, refuses, refuses-kept, step-as, table-is}
 use Rattle.request_value.specs.Sent.{isAccepted, sendArgument, allSent, Went, Sent}
 
 -- ---- Answers.
@@ -104,13 +105,13 @@ any-cell s h p t k = go (lt-or-ge k (s .cells .count))
 went-by : (s q : State) (x : System) → systemIn q ≡ x → length (systemIn s .cells) ≤ length (x .cells) → s .places .count ≤ length (x .places) → x .calls ≡ systemIn s .calls
     → Went s q
 went-by s q x e c p j =
-    let c₀ : length (systemIn s .cells) ≡ s .cells .count = ap length (cells-are s) ∙ cells-length (s .cells) in
-    let c₁ : length (x .cells) ≡ q .cells .count = ap length (sym (ap (λ (y : System). y .cells) e) ∙ cells-are q) ∙ cells-length (q .cells) in
-    let p₁ : length (x .places) ≡ q .places .count = ap length (sym (ap (λ (y : System). y .places) e) ∙ places-are q) ∙ places-length (q .places) in
+    let c₀ : length (systemIn s .cells) ≡ s .cells .count = means-counted s .cells in
+    let c₁ : length (x .cells) ≡ q .cells .count = sym (ap (λ (y : System). length (y .cells)) e) ∙ means-counted q .cells in
+    let p₁ : length (x .places) ≡ q .places .count = sym (ap (λ (y : System). length (y .places)) e) ∙ means-counted q .places in
     record {
       cells = omega arith;
       places = omega arith;
-      calls = sym (calls-length (q .calls)) ∙ ap length (sym (calls-are q) ∙ ap (λ (y : System). y .calls) e ∙ j ∙ calls-are s) ∙ calls-length (s .calls);
+      calls = sym (means-counted q .calls) ∙ ap length (ap (λ (y : System). y .calls) e ∙ j) ∙ means-counted s .calls;
     }
 
 pub added-goes : (s : State) (r : ℕ) (f : Reference) → s .places .count ≤ length (f .places) → (q : Served) → Step s (addCell (systemIn s) r f) q → Went s (q .state)
@@ -123,7 +124,7 @@ added-goes s r f more q k = go (q .outcome) refl (ltb (length (systemIn s .cells
     left : (b : Bool) → systemIn (q .state) ≡ after (systemIn s) (need b cellsFull (λ _. ok new)) → Went s (q .state)
     left true e = went-by s (q .state) (new .0) e (omega (arith, length-append (systemIn s .cells) (record { holder = r; type = f .type; place = f .place } ∷ []))) more refl
     left false e =
-        went-by s (q .state) (systemIn s) e (omega arith) (let p : length (systemIn s .places) ≡ s .places .count = ap length (places-are s) ∙ places-length (s .places) in omega arith) refl
+        went-by s (q .state) (systemIn s) e (omega arith) (let p : length (systemIn s .places) ≡ s .places .count = means-counted s .places in omega arith) refl
 
     go : (a : Outcome) → q .outcome ≡ a → (b : Bool) → servedWith (systemIn (q .state)) (outcomeOf a) ≡ need b cellsFull (λ _. ok new) → Went s (q .state)
     go (Refused d) z b e = subst (Went s) (sym (k .stays d z)) (went-types s (q .state .types))
@@ -132,15 +133,15 @@ added-goes s r f more q k = go (q .outcome) refl (ltb (length (systemIn s .cells
     go Nothing z b e = left b (ap (after (systemIn s)) e)
 
 module _ (s : State) (h : Sound s) (r k : ℕ) (c : Cell) (is : cellOf c ≡ getD (cellsIn (s .cells)) k noCell) (inside : CellIn s (getD (cellsIn (s .cells)) k noCell)) (ts : List (Option ℕ))
-    (ty place : ℕ) (sort-is : ty ≡ c .ty) (place-is : place ≡ c .place) where
-  sort-at : ty ≡ getD (cellsIn (s .cells)) k noCell .type
-  sort-at = sort-is ∙ ap (λ (x : Cellᵐ). x .type) is
+    (ty place : ℕ) (type-is : ty ≡ c .ty) (place-is : place ≡ c .place) where
+  type-at : ty ≡ getD (cellsIn (s .cells)) k noCell .type
+  type-at = type-is ∙ ap (λ (x : Cellᵐ). x .type) is
 
   place-at : place ≡ getD (cellsIn (s .cells)) k noCell .place
   place-at = place-is ∙ ap (λ (x : Cellᵐ). x .place) is
 
-  pub send-stands : Ready (s .links) (s .counts) (s .types) → Ready (s .links) (s .counts) (s .types) × Stands (s .places) place
-  send-stands g = (g, record { descending = h .descending; place = subst (λ (n : ℕ). n < s .places .count) (sym place-at) (inside .place) })
+  pub send-ready : Ready (s .links) (s .counts) (s .types) → Ready (s .links) (s .counts) (s .types) × PlaceKnown (s .places) place
+  send-ready g = (g, record { descending = h .descending; place = subst (λ (n : ℕ). n < s .places .count) (sym place-at) (inside .place) })
 
   abbrev From : Reference
   From = reference (tableIn (s .types) (s .links) (s .counts)) (placesIn (s .places)) ty place
@@ -148,7 +149,7 @@ module _ (s : State) (h : Sound s) (r k : ℕ) (c : Cell) (is : cellOf c ≡ get
   leaving-is : leaving (systemIn s) k ≡ From
   leaving-is =
       ap (λ (x : System). leaving x k) (system-is s)
-      ∙ ap (λ (n : ℕ). reference (tableIn (s .types) (s .links) (s .counts)) (placesIn (s .places)) n (getD (cellsIn (s .cells)) k noCell .place)) (sym sort-at)
+      ∙ ap (λ (n : ℕ). reference (tableIn (s .types) (s .links) (s .counts)) (placesIn (s .places)) n (getD (cellsIn (s .cells)) k noCell .place)) (sym type-at)
       ∙ ap (λ (n : ℕ). reference (tableIn (s .types) (s .links) (s .counts)) (placesIn (s .places)) ty n) (sym place-at)
 
   module _ (b : List ℕ) (x : Crossed) (crossed : crossedOf b (s .links) (s .counts) x ≡ crossLayers true From r ts) (leaves : Leaves (s .counts) (s .places) ty (s .types) b x) where
@@ -178,7 +179,7 @@ module _ (s : State) (h : Sound s) (r k : ℕ) (c : Cell) (is : cellOf c ≡ get
         descending = m .descending;
         typed = m .typed (h .typed);
         more = m .before .more;
-        ty = m .ty (subst (λ (n : ℕ). n < s .counts .types) (sym sort-at) (inside .type));
+        ty = m .ty (subst (λ (n : ℕ). n < s .counts .types) (sym type-at) (inside .type));
         place = m .place;
       }
 
@@ -191,14 +192,15 @@ module _ (s : State) (h : Sound s) (r k : ℕ) (c : Cell) (is : cellOf c ≡ get
 -- ---- One argument.
 module _ (s : State) (h : Sound s) (r : ℕ) (ls : List ℕ) (m i a : ℕ) (v : ℤ) (ts : List (Option ℕ))
     (are : (l : List ℕ) → ts ≡ map (argumentAt (tableIn (s .types) l (s .counts)) m i) ls) (q : Bool)
-    (kind : (l : List ℕ) → q ≡ isRef (typeAt (tableIn (s .types) l (s .counts)) a .rep)) where
+    (kind : q ≡ refIn (s .counts .types) (s .types) a) where
   abbrev Either : Bool → List (Option ℕ) → Table → Res (System × Result)
   Either y os t = elim y [ true ↦ send (systemIn s) r (named v) os | false ↦ try (passLayers true t v os) λ _. ok (systemIn s, nothing) ]
 
   argument-is : sendArgument (systemIn s) r ls m i a v ≡ Either q ts (tableIn (s .types) (s .links) (s .counts))
   argument-is =
       ap (λ (t : Table). Either (isRef (typeAt t a .rep)) (map (argumentAt t m i) ls) t) (table-is s)
-      ∙ ap (λ (y : Bool). Either y (map (argumentAt (tableIn (s .types) (s .links) (s .counts)) m i) ls) (tableIn (s .types) (s .links) (s .counts))) (sym (kind (s .links)))
+      ∙ ap (λ (y : Bool). Either y (map (argumentAt (tableIn (s .types) (s .links) (s .counts)) m i) ls) (tableIn (s .types) (s .links) (s .counts)))
+      (ref-table (s .types) (s .links) (s .counts) a ∙ sym kind)
       ∙ ap (λ (os : List (Option ℕ)). Either q os (tableIn (s .types) (s .links) (s .counts))) (sym (are (s .links)))
 
   abbrev Goes : Served → Type 0
@@ -303,8 +305,8 @@ module _ (s : State) (b : List ℕ) (c : Counts) (t : s .types ≡ b) (n : s .co
   pub table-of : systemIn s .table ≡ tableIn b (s .links) c
   table-of = table-is s ∙ ap (λ (x : List ℕ). tableIn x (s .links) (s .counts)) t ∙ ap (tableIn b (s .links)) n
 
-  pub number-of : (a : ℕ) (q : Bool) → ((l : List ℕ) → q ≡ isRef (typeAt (tableIn b l c) a .rep)) → q ≡ false → isRef (typeAt (systemIn s .table) a .rep) ≡ false
-  number-of a q is z = ap (λ (x : Table). isRef (typeAt x a .rep)) table-of ∙ sym (is (s .links)) ∙ z
+  pub number-of : (a : ℕ) (q : Bool) → q ≡ refIn (c .types) b a → q ≡ false → isRef (typeAt (systemIn s .table) a .rep) ≡ false
+  number-of a q is z = ap (λ (x : Table). isRef (typeAt x a .rep)) table-of ∙ ref-table b (s .links) c a ∙ sym is ∙ z
 
   pub passed-of : (e m i : ℕ) (v : ℤ) (ls : List ℕ) (ts : List (Option ℕ)) → ((l : List ℕ) → ts ≡ map (argumentAt (tableIn b l c) m i) ls) →
       ((l : List ℕ) → passedOf e ≡ passLayers true (tableIn b l c) v ts) → passedOf e ≡ passLayers true (systemIn s .table) v (map (argumentAt (systemIn s .table) m i) ls)

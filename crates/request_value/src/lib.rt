@@ -1,14 +1,11 @@
-// What the arguments of a call and a reference that is answered share: each meets its way by the state as it stands, and a reference becomes a cell (C8 to
+// What the arguments of a call and a reference that is answered share: each meets its layers by the state as it stands, and a reference becomes a cell (C8 to
 // C11, C17; A8, A10).
 ghost use mathlib.Core.Path.{_≡_};
-ghost use mathlib.Core.List.{List};
 ghost use Prim.Native.Nat.{ℕ, _≤_, _<_};
 ghost use lib.IntN.{pos};
 ghost use lib.ListN.{getD};
 ghost use Rattle.spec_model.specs.Basics.{named};
-ghost use Rattle.spec_model.specs.Table.{typeAt, isRef};
 ghost use Rattle.spec_model.specs.Requests.{noCell, send, sendArguments, maxCells};
-ghost use Rattle.table_record.specs.Store.{tableIn};
 ghost use Rattle.table_record.specs.Limits.{Limits};
 ghost use Rattle.state_record.specs.Whole.{Whole, whole};
 ghost use Rattle.state_record.specs.View.{cellOf, cellsIn, systemIn};
@@ -27,7 +24,6 @@ use state_record::Cell;
 use state_record::Cells;
 use state_record::State;
 use table_record::Counts;
-use table_record::Head;
 use table_record::Method;
 use table_record::TYPE_BYTES;
 
@@ -56,18 +52,6 @@ fn named_cell(cs: Cells, v: i64) -> Cell
         ty: 0,
         place: 0,
     }
-}
-
-// Whether a number, which may name no type, names a reference type.
-pub fn is_ref(types: &[u8; TYPE_BYTES], c: Counts, a: usize) -> bool
-    requires { ⌜ Limits c ⌝ }
-    ensures { λ r. ⌜ ((l : List ℕ) → r ≡ isRef (typeAt (tableIn (now (types .entry)) l c) a .rep)) ⌝ }
-{
-    if c.types <= a {
-        return false;
-    }
-    let h = table_record::get_head(types, a);
-    h.rep == Head::REF
 }
 
 // The reference in the cell that v names crosses to each target and becomes a cell of r (C11, C17; A8, A10).
@@ -130,7 +114,7 @@ fn send_argument(
 {
     let c = s.counts;
     let targets = crossing_layers::targets_of(types, c, m, Slot::Argument(i), w);
-    if is_ref(types, c, a) {
+    if table_record::names_ref(types, c.types, a) {
         return send(types, s, r, v, targets);
     }
     let e = crossing_layers::pass(types, c, v, targets);
@@ -170,7 +154,7 @@ pub fn pass_numbers(
         if a == 0 {
             return Numbers::Passed;
         }
-        if is_ref(types, c, a - 1) {
+        if table_record::names_ref(types, c.types, a - 1) {
             return Numbers::Reference;
         }
         let targets = crossing_layers::targets_of(types, c, m, Slot::Argument(i), w);

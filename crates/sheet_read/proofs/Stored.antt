@@ -18,7 +18,7 @@ use Rattle.spec_model.specs.Records.{typeRecord, linksRecord}
 use Rattle.table_record.specs.declared.Method.{Method}
 use Rattle.table_record.specs.declared.Counts.{Counts}
 use Rattle.table_record.specs.declared.Head.{Head}
-use Rattle.table_record.specs.Store.{rawMethod, typesTo, recordBytes, linksBytes, emptyTypes, emptyLinks, emptyCounts, emptyMethod, MethodExact, TypeExact}
+use Rattle.table_record.specs.Store.{rawMethod, typesTo, recordBytes, linksBytes, emptyTypes, emptyLinks, emptyCounts, emptyMethod, blankMethod, MethodExact, TypeExact}
 use Rattle.table_record.specs.Records.{padded, bytesOf, linkBytesOf, typeBytes, linkBytes}
 use Rattle.law_table.proofs.Exact.{padded-next, padded-length}
 use Rattle.law_table.proofs.Whole.{flat-length, bytes-long}
@@ -29,7 +29,7 @@ use Rattle.table_record.proofs.Codes.{number-rep}
 use Rattle.table_record.specs.Layout.{typeSize, linkSize, typesSize, linksSize}
 use Rattle.spec_sheet.specs.Sheet.{sheetType, malformed, loaded}
 use Rattle.sheet_read.specs.declared.Sheet.{Sheet}
-use Rattle.sheet_read.specs.View.{linksTo, methodIs, blankMethod, MethodsExact, sheetFor}
+use Rattle.sheet_read.specs.View.{linksTo, methodIs, MethodsExact, sheetFor}
 
 -- the links of one category more
 pub links-none : (ls : List RawLinks) → linksTo 0 ls ≡ []

@@ -1,13 +1,13 @@
 -- What the reader's results say, in the words of crate `spec_sheet`: the code's records as the model's, and the lines of a sheet in the groups in which the code reads them.
 use mathlib.Core.Path.{_≡_}
-use mathlib.Core.List.{List, [], _∷_, map}
+use mathlib.Core.List.{List, [], map}
 use Prim.Native.Nat.{ℕ, _≤_, _<_}
 use lib.ListN.{getD, drop}
 use Rattle.spec_model.specs.Basics.{from}
 use Rattle.spec_model.specs.Table.{ref, Method as Methodᵐ, Ty, Table, maxSubjects, maxMethods, maxCategories, maxSheetTypes}
-use Rattle.spec_model.specs.Check.{RawMethod, RawLinks, noRawMethod, noRawLinks, methodOf, linksOf}
+use Rattle.spec_model.specs.Check.{RawLinks, noRawMethod, noRawLinks, methodOf, linksOf}
 use Rattle.table_record.specs.declared.Method.{Method}
-use Rattle.table_record.specs.Store.{rawMethod, MethodExact}
+use Rattle.table_record.specs.Store.{rawMethod, blankMethod, MethodExact}
 use Rattle.spec_sheet.specs.Lines.{bytes, split, Reading, refused, got, Reader, pure, line, bind, times}
 use Rattle.spec_sheet.specs.Text.{newestForm}
 use Rattle.spec_sheet.specs.Sheet.{numberLine, underLine, ownLine, methodLine, sheetType, oneType}
@@ -43,10 +43,6 @@ linksTo n ls = from n 1 (λ k. linksOf (getD ls k noRawLinks))
 -- a method of the code
 abbrev pub methodIs : Method → Methodᵐ
 methodIs m = methodOf (rawMethod m)
-
--- a method that isn't there: every byte of it is 0 (B18)
-abbrev pub blankMethod : RawMethod
-blankMethod = record { state = 0; count = 0; args = 0 ∷ 0 ∷ 0 ∷ 0 ∷ []; answer = 0 }
 
 -- Of sixteen methods the first m are the records that stand for what they mean, and the bytes of the others are 0.
 pub record MethodsExact (m : ℕ) (ms : List Method) : Type 0 where

@@ -205,6 +205,13 @@ flagged c b = record { caller = c .caller; cell = c .cell; method = c .method; a
 abbrev pub withAnswer : System → ℕ → System
 withAnswer s j = withCalls s (set (s .calls) j (flagged (callAt s j) true))
 
+-- the answer type that is due for call j (A4), and those that its value meets: the class's first (A7)
+abbrev pub dueFor : System → ℕ → Option ℕ
+dueFor s j = answerAt (s .table) (callAt s j .method) (cellAt s (callAt s j .cell) .type)
+
+abbrev pub answersMet : System → ℕ → List (Option ℕ)
+answersMet s j = reverse (map (answerAt (s .table) (callAt s j .method)) (callLayers s (cellAt s (callAt s j .cell))))
+
 -- What is due and what is given must match (A5, A6). A value passes the layers from the object outward to the caller, who gets a reference as a cell (A7 to A13).
 unfoldable pub give : System → ℤ → ℕ → Option ℕ → Option ℤ → Res (System × Result)
 unfolding send passLayers layers
@@ -212,7 +219,7 @@ give s subject j none none = ok (withAnswer s j, nothing)
 give s subject j none (some v) = refuse wrongValues
 give s subject j (some a) none = refuse wrongValues
 give s subject j (some a) (some v) =
-    let ts = reverse (map (answerAt (s .table) (callAt s j .method)) (callLayers s (cellAt s (callAt s j .cell)))) in
+    let ts = answersMet s j in
     elim (isRef (typeAt (s .table) a .rep)) [
       | true ↦ need (held s subject v) wrongValues λ _. try (send s (callAt s j .caller) (named v) ts) λ x. ok (withAnswer (x .0) j, x .1)
       | false ↦ try (passLayers true (s .table) v ts) λ _. ok (withAnswer s j, number v)
@@ -226,7 +233,7 @@ answerRequest s subject j v =
     let c = cellAt s (callAt s (named j) .cell) in
     need (names j (length (s .calls)) && eqb (named subject) (baseOwner (s .places) (c .place))) notHeld λ _.
     need (not (callAt s (named j) .answered)) answeredAlready λ _.
-    give s subject (named j) (answerAt (s .table) (callAt s (named j) .method) (c .type)) v
+    give s subject (named j) (dueFor s (named j)) v
 
 unfoldable pub serve : System → Request → Res (System × Result)
 unfolding newRequest moveRequest callRequest answerRequest

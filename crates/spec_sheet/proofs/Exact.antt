@@ -37,14 +37,14 @@ endOfInput-got : (at : ℕ) (rs : List Row) (u : Unit {0}) (at′ : ℕ) (rs′ 
 endOfInput-got at [] u at′ rs′ h = refl
 endOfInput-got at (r ∷ rs) u at′ rs′ h = refused-got h
 
--- what stands behind the line `end=sheet` of table t
-abbrev behindEnd : Table → ℕ → Reader Table
-behindEnd t last = bind endOfInput λ u at rs. cond (signaturesStand t) (got t at rs) (refused 3 last)
+-- what stands behind the line `end=sheet` of table t, which began at `last`
+abbrev pub behindEnd : Table → ℕ → Unit {0} → Reader Table
+behindEnd t last v = bind endOfInput λ u at rs. cond (signaturesStand t) (got t at rs) (refused 3 last)
 
 ending-sound : (t : Table) (at : ℕ) (rs : List Row) (u : Table) (at′ : ℕ) (rs′ : List Row) → ending t at rs ≡ got u at′ rs′
     → (t ≡ u) × So (signaturesStand t) × (rs ≡ row endText ∷ [])
 unfolding ending
-ending-sound t at rs u at′ rs′ h = follow-got (line endLine at rs) (λ v. behindEnd t at) h λ v a q e₁ e₂.
+ending-sound t at rs u at′ rs′ h = follow-got (line endLine at rs) (behindEnd t at) h λ v a q e₁ e₂.
     follow-got (endOfInput a q) (λ v b r. cond (signaturesStand t) (got t b r) (refused 3 at)) e₂ λ w b r e₃ e₄.
     cond-cases (signaturesStand t) e₄
     (λ o e. (got-value e, o, line-exact end-exact .sound at rs v a q e₁ .1 ∙ ap (λ z. row endText ∷ z) (endOfInput-got a q w b r e₃)))
@@ -54,7 +54,7 @@ ending-full : (t : Table) (at : ℕ) → So (signaturesStand t) → (at′ : ℕ
 unfolding ending
 ending-full t at o =
     let i = line-exact end-exact .full at tt [] tt in
-    (i .0, ap (λ z. follow z (λ v. behindEnd t at)) (i .1) ∙ ap (λ z. cond z (got t (i .0) []) (refused 3 at)) o)
+    (i .0, ap (λ z. follow z (behindEnd t at)) (i .1) ∙ ap (λ z. cond z (got t (i .0) []) (refused 3 at)) o)
 
 -- The reader accepts bytes with table t if and only if t is a valid sheet's and the bytes are its text.
 pub read-exact : (bs : List ℕ) (t : Table) → (read bs ≡ loaded t) ↔ (So (validSheet t) × (bs ≡ text t))

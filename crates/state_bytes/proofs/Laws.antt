@@ -78,37 +78,34 @@ counted-alike d size n xs ys lx ly h = from-same _ _ n 0 (λ k p q. ⊎-elim
     (λ (l : size ≤ k). List·getD-eq-default xs d (omega (arith, lx, l)) ∙ sym (List·getD-eq-default ys d (omega (arith, ly, l))))
     (lt-or-ge k size))
 
--- k rows were written: as many as are counted, or all that the array has
+-- k rows were written: as many as are counted, or all that the array has. Where each is that of its record, seen through h, the counted records are those written.
+written : {A B : Type 0} (h : A → B) (d : A) (at : ℕ → B) (size n k : ℕ) (xs : List A) → length xs ≡ size → k ≡ min n size → ((i : ℕ) → i < k → at i ≡ h (getD xs i d))
+    → firstOf n (h d) (from size 0 at) ≡ firstOf n (h d) (map h xs)
+written h d at size n k xs e m are = counted-alike (h d) size n (from size 0 at) (map h xs) (length-from at size 0) (length-map xs h ∙ e) (λ i p q.
+    from-first at size i (h d) q ∙ are i (below-least n size k i m p q) ∙ sym (List·getD-map h xs i d))
+
 module _ (old b : List ℕ) (k : ℕ) where
   pub cells-written : (cs : Cells) → length (cs .list) ≡ maxCells → k ≡ min (cs .count) maxCells → k ≤ cs .count → Rows cellSize (cellRow cs) old k b → CellsTo cs old b
   unfolding rawCells
   cells-written cs e m few rows = record {
-    counted = counted-alike noCell maxCells (cs .count) (rawCells b) (cellRecords cs) (length-from (λ i. rawCellAt b (i * cellSize)) maxCells 0) (length-map (cs .list) cellOf ∙ e) (λ i p q.
-        let l : i < k = below-least (cs .count) maxCells k i m p q in
-        from-first (λ i. rawCellAt b (i * cellSize)) maxCells i noCell q
-        ∙ rw (row-first 3 (cellRow cs) old k b rows i l (omega arith), rows .are i l 1 (omega arith), rows .are i l 2 (omega arith)) (sym (List·getD-map cellOf (cs .list) i blankCell)));
+    counted = written cellOf blankCell (λ i. rawCellAt b (i * cellSize)) maxCells (cs .count) k (cs .list) e m (λ i l.
+        rw (row-first 3 (cellRow cs) old k b rows i l (omega arith), rows .are i l 1 (omega arith), rows .are i l 2 (omega arith)));
     behind = rows-behind cellSize (cellRow cs) old (cs .count * cellSize) k b (omega (arith, few)) rows;
   }
 
   pub places-written : (ps : Places) → length (ps .list) ≡ maxPlaces → k ≡ min (ps .count) maxPlaces → k ≤ ps .count → Rows placeSize (placeRow ps) old k b → PlacesTo ps old b
   unfolding rawPlaces
   places-written ps e m few rows = record {
-    counted = counted-alike noRawPlace maxPlaces (ps .count) (rawPlaces b) (placeRecords ps) (length-from (λ i. rawPlaceAt b (i * placeSize)) maxPlaces 0) (length-map (ps .list) recOf ∙ e) (λ i p q.
-        let l : i < k = below-least (ps .count) maxPlaces k i m p q in let x = getD (ps .list) i blankPlace .place in
-        from-first (λ i. rawPlaceAt b (i * placeSize)) maxPlaces i noRawPlace q
-        ∙ rw (row-first 3 (placeRow ps) old k b rows i l (omega arith), rows .are i l 1 (omega arith), rows .are i l 2 (omega arith))
-        (place-read x ∙ sym (List·getD-map recOf (ps .list) i blankPlace)));
+    counted = written recOf blankPlace (λ i. rawPlaceAt b (i * placeSize)) maxPlaces (ps .count) k (ps .list) e m (λ i l.
+        rw (row-first 3 (placeRow ps) old k b rows i l (omega arith), rows .are i l 1 (omega arith), rows .are i l 2 (omega arith)) (place-read (getD (ps .list) i blankPlace .place)));
     behind = rows-behind placeSize (placeRow ps) old (ps .count * placeSize) k b (omega (arith, few)) rows;
   }
 
   pub calls-written : (js : Calls) → length (js .list) ≡ maxCalls → k ≡ min (js .count) maxCalls → k ≤ js .count → Rows callSize (callRow js) old k b → CallsTo js old b
   unfolding rawCalls
   calls-written js e m few rows = record {
-    counted = counted-alike noRawCall maxCalls (js .count) (rawCalls b) (callRecords js) (length-from (λ i. rawCallAt b (i * callSize)) maxCalls 0) (length-map (js .list) callRec ∙ e) (λ i p q.
-        let l : i < k = below-least (js .count) maxCalls k i m p q in
-        from-first (λ i. rawCallAt b (i * callSize)) maxCalls i noRawCall q
-        ∙ rw (row-first 4 (callRow js) old k b rows i l (omega arith), rows .are i l 1 (omega arith), rows .are i l 2 (omega arith), rows .are i l 3 (omega arith))
-        (sym (List·getD-map callRec (js .list) i blankCall)));
+    counted = written callRec blankCall (λ i. rawCallAt b (i * callSize)) maxCalls (js .count) k (js .list) e m (λ i l.
+        rw (row-first 4 (callRow js) old k b rows i l (omega arith), rows .are i l 1 (omega arith), rows .are i l 2 (omega arith), rows .are i l 3 (omega arith)));
     behind = rows-behind callSize (callRow js) old (js .count * callSize) k b (omega (arith, few)) rows;
   }
 

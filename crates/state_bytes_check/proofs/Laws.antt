@@ -29,6 +29,12 @@ unfolding eachFrom
 each-within f g zero i h = refl
 each-within f g (suc c) i h = rw (h i (omega arith), each-within f g c (suc i) (λ k p. h k (omega arith)))
 
+-- the records of an array that are tested, by those that were read into it: f k at k
+read-each : {A : Type 0} (test : ℕ → A → Bool) (l : List A) (d : A) (f : ℕ → A) (n : ℕ) → ((k : ℕ) → k < n → getD l k d ≡ f k)
+    → eachFrom n 0 (λ k. test k (getD l k d)) ≡ eachFrom (n - 0) 0 (λ k. test k (f k))
+read-each test l d f n are = let e : n ≡ n - 0 = omega arith in
+    each-within (λ k. test k (getD l k d)) (λ k. test k (f k)) n 0 (λ k p. ap (test k) (are k (omega arith))) ∙ ap (λ (z : ℕ). eachFrom z 0 (λ k. test k (f k))) e
+
 -- What the loops test at a number.
 abbrev pub CellAt : List ℕ → Counts → ℕ → List ℕ → ℕ → Bool
 CellAt t c places b k = cellAccepted (typesIn t) c places (cellOf (cellFrom b k))
@@ -42,24 +48,17 @@ CallAt c cells b j = callAccepted c cells (callOf (callFrom b j))
 module _ (t : List ℕ) (c : Counts) (b : List ℕ) (n : ℕ) where
   pub cells-each : (places : ℕ) → n ≤ maxCells → cellsAccepted (typesIn t) c places (cellsFrom b n) ≡ eachFrom (n - 0) 0 (CellAt t c places b)
   unfolding cellsAccepted cellsFrom
-  cells-each places few = let e : n ≡ n - 0 = omega arith in
-      each-within (λ k. cellAccepted (typesIn t) c places (cellOf (getD (cellsFrom b n .list) k blankCell))) (CellAt t c places b) n 0
-      (λ k p. ap (λ (x : Cell). cellAccepted (typesIn t) c places (cellOf x)) (cell-found b n k (omega arith) (omega arith)))
-      ∙ ap (λ (z : ℕ). eachFrom z 0 (CellAt t c places b)) e
+  cells-each places few =
+      read-each {A = Cell} (λ k x. cellAccepted (typesIn t) c places (cellOf x)) (cellsFrom b n .list) blankCell (cellFrom b) n (λ k p. cell-found b n k p (omega arith))
 
   pub places-each : n ≤ maxPlaces → placesAccepted (typesIn t) c (placesFrom b n) ≡ eachFrom (n - 0) 0 (PlaceAt t c b)
   unfolding placesAccepted placesFrom
-  places-each few = let e : n ≡ n - 0 = omega arith in
-      each-within (λ p. placeAccepted (typesIn t) c p (placeOf (getD (placesFrom b n .list) p blankPlace .place))) (PlaceAt t c b) n 0
-      (λ p h. ap (λ (x : PlaceRec). placeAccepted (typesIn t) c p (placeOf (x .place))) (place-found b n p (omega arith) (omega arith)))
-      ∙ ap (λ (z : ℕ). eachFrom z 0 (PlaceAt t c b)) e
+  places-each few =
+      read-each {A = PlaceRec} (λ k x. placeAccepted (typesIn t) c k (placeOf (x .place))) (placesFrom b n .list) blankPlace (placeFrom b) n (λ k p. place-found b n k p (omega arith))
 
 pub calls-each : (c : Counts) (cells : ℕ) (b : List ℕ) (n : ℕ) → n ≤ maxCalls → callsAccepted c cells (callsFrom b n) ≡ eachFrom (n - 0) 0 (CallAt c cells b)
 unfolding callsAccepted callsFrom
-calls-each c cells b n few = let e : n ≡ n - 0 = omega arith in
-    each-within (λ j. callAccepted c cells (callOf (getD (callsFrom b n .list) j blankCall))) (CallAt c cells b) n 0
-    (λ j h. ap (λ (x : Call). callAccepted c cells (callOf x)) (call-found b n j (omega arith) (omega arith)))
-    ∙ ap (λ (z : ℕ). eachFrom z 0 (CallAt c cells b)) e
+calls-each c cells b n few = read-each {A = Call} (λ k x. callAccepted c cells (callOf x)) (callsFrom b n .list) blankCall (callFrom b) n (λ k p. call-found b n k p (omega arith))
 
 -- The parts of the check, in the order of the code; c are the counts that were read.
 module _ (f : Flat) where

@@ -19,13 +19,12 @@ use Rattle.spec_model.specs.Check.{noRawType, noRawMethod, stateOf, methodOf, s
 use Rattle.law_handed.proofs.Counted.{means-same}
 use Rattle.table_record.specs.declared.Counts.{Counts}
 use Rattle.table_record.specs.declared.Method.{Method}
-use Rattle.table_record.specs.Store.{typesIn, tableIn, rawMethod}
+use Rattle.table_record.specs.Store.{typesIn, tableIn, refIn, rawMethod}
 use Rattle.table_record.specs.Layout.{typesSize}
 use Rattle.spec_model.specs.Check.{tableOf}
 use Rattle.spec_model.proofs.Codes.{code-back}
 use Rattle.spec_model.specs.Refusals.{outOfRange}
-use Rattle.derive_record.specs.Begins.{refIn}
-use Rattle.derive_sub_sup.proofs.Ends.{ref-table}
+use Rattle.table_record.proofs.Tables.{ref-table}
 use Rattle.state_record.specs.Whole.{Whole as State}
 use Rattle.state_record.specs.declared.Cell.{Cell as CellRec}
 use Rattle.state_record.specs.declared.PlaceRec.{PlaceRec}

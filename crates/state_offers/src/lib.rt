@@ -34,7 +34,7 @@ fn after_method(types: &[u8; TYPE_BYTES], c: Counts, t: usize, z: i64) -> usize
     if c.methods <= m {
         return 0;
     }
-    if !derive_record::is_ref(types, c.types, t) {
+    if !table_record::names_ref(types, c.types, t) {
         return 0;
     }
     let x = table_record::get_method(types, t, m);
@@ -66,7 +66,7 @@ fn type_permits(types: &[u8; TYPE_BYTES], c: Counts, t: usize, chain: &[i64]) ->
         }
         at = a - 2;
     }
-    derive_record::is_ref(types, c.types, at)
+    table_record::names_ref(types, c.types, at)
 }
 
 // Of a state that passes the check: the type of the cell and the type of its place both permit the chain (L18).

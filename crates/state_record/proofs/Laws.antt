@@ -5,7 +5,7 @@ use mathlib.Core.List.{[], _∷_, _++_, map}
 use Prim.Native.Nat.{ℕ, _≤_, _<_}
 use lib.ListN.{length, getD, set, List·getD-map}
 use Rattle.spec_model.specs.Crossing.{Place as Placeᵐ, noPlace, placeAt, placeType, baseOf}
-use Rattle.spec_model.specs.Requests.{Call as Callᵐ, noCell, noCall, flagged, layersOf}
+use Rattle.spec_model.specs.Requests.{System, Call as Callᵐ, noCell, noCall, flagged, layersOf}
 use Rattle.spec_model.specs.Check.{noRawPlace, noRawCall, systemOf}
 use Rattle.spec_model.specs.Check.{placeOf as placeMeant, callOf as callMeant}
 use Rattle.spec_model.specs.Handed.{placeRecord, callRecord}
@@ -81,6 +81,19 @@ system-is s =
       from-same (λ k. callMeant (getD (map (λ c. callRecord (callOf c)) (s .calls .list)) k noRawCall)) (λ k. callOf (getD (s .calls .list) k blankCall)) (s .calls .count) 0
           (λ k p q. ap callMeant (List·getD-map (λ c. callRecord (callOf c)) (s .calls .list) k blankCall) ∙ call-back (callOf (getD (s .calls .list) k blankCall))),
     )
+
+-- It has as many cells, places and calls as are counted.
+pub record MeansCounted (s : State) : Type 0 where
+  pub cells : length (systemIn s .cells) ≡ s .cells .count
+  pub places : length (systemIn s .places) ≡ s .places .count
+  pub calls : length (systemIn s .calls) ≡ s .calls .count
+
+pub means-counted : (s : State) → MeansCounted s
+means-counted s = record {
+  cells = ap (λ (x : System). length (x .cells)) (system-is s) ∙ cells-length (s .cells);
+  places = ap (λ (x : System). length (x .places)) (system-is s) ∙ places-length (s .places);
+  calls = ap (λ (x : System). length (x .calls)) (system-is s) ∙ calls-length (s .calls);
+}
 
 -- a base of the place reached is one of the place that it was reached from
 pub based : (ps : Places) (p q : ℕ) → baseOf (placesIn ps) p ≡ baseOf (placesIn ps) q → BaseAt ps q q → BaseAt ps p q

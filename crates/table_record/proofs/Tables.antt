@@ -1,18 +1,22 @@
 -- What a store does to the table that the bytes mean, for whoever stores types, and what the table's parts are, for whoever reads them.
 use mathlib.Core.Path.{_≡_, refl, ap, sym, subst, _∙_}
+use mathlib.Core.Bool.{Bool, true, false, _&&_}
 use mathlib.Core.Logic.{⊎-elim}
 use mathlib.Core.List.{List, [], _∷_, _++_}
 use Prim.Native.Nat.{ℕ, suc, _≤_, _<_}
 use native.Mathlib.Nat.{zero-add}
 use native.Mathlib.Omega.{arith}
+use lib.Dec.{ltb}
 use lib.ListN.{length, getD, set, length-set}
 use lib.Seq.{ext-getD, getD-set-same, getD-set-other}
+use borrow.Author.Tests.{lt-ltb, le-ltb, ltb-true, ltb-false}
 use Rattle.spec_model.specs.Basics.{from}
-use Rattle.spec_model.specs.Table.{Ty, noType, size, typeAt}
+use Rattle.spec_model.specs.Table.{Ty, noType, size, typeAt, isRef}
 use Rattle.spec_model.specs.Check.{RawType, noRawType, noRawLinks, linksOf, typeOf, tableOf}
 use Rattle.spec_model.proofs.Largest.{getD-from-out}
+use Rattle.spec_model.proofs.Rules.{first}
 use Rattle.table_record.specs.declared.Counts.{Counts}
-use Rattle.table_record.specs.Store.{typesIn, linksIn, tableIn, typesTo}
+use Rattle.table_record.specs.Store.{typesIn, linksIn, tableIn, typesTo, refAs, refIn}
 use Rattle.table_record.proofs.Lists.{same-or, length-from, from-first, from-last, from-same}
 
 -- The first n records as types.
@@ -54,6 +58,25 @@ module _ (ms sh : ℕ) (rs : List RawType) where
       ∙ sym (getD-set-other (from n 0 g) i k x noType e ∙ from-first g n k noType l′))
       (same-or k i))
 
+-- Reference types of the first n.
+module _ (n t : ℕ) (b : List ℕ) where
+  pub no-ref : n ≤ t → false ≡ refIn n b t
+  no-ref h = rw (le-ltb t n h)
+
+  pub ref-among : (r : Bool) → t < n → r ≡ refAs (getD (typesIn b) t noRawType) → r ≡ refIn n b t
+  ref-among r l e = e ∙ sym (ap (λ (a : Bool). a && refAs (getD (typesIn b) t noRawType)) (lt-ltb t n l))
+
+  pub ref-below : refIn n b t ≡ true → t < n
+  ref-below e = ltb-true t n (first (ltb t n) _ e)
+
+  pub ref-type : (ms sh : ℕ) → isRef (getD (typesTo ms sh n (typesIn b)) t noType .rep) ≡ refIn n b t
+  unfolding typesTo
+  ref-type ms sh = go (ltb t n) refl
+    where
+      go : (a : Bool) → ltb t n ≡ a → isRef (getD (typesTo ms sh n (typesIn b)) t noType .rep) ≡ (a && refAs (getD (typesIn b) t noRawType))
+      go true e = ap (λ (x : Ty). isRef (x .rep)) (types-to-at ms sh (typesIn b) n t noType (ltb-true t n e))
+      go false e = ap (λ (x : Ty). isRef (x .rep)) (getD-from-out (λ i. typeOf ms sh i (getD (typesIn b) i noRawType)) noType n 0 t (ltb-false t n e))
+
 -- The parts of the table that the bytes mean.
 module _ (b l : List ℕ) (c : Counts) where
   pub types-of : tableIn b l c .types ≡ typesTo (c .methods) (c .sheet) (c .types) (typesIn b)
@@ -71,6 +94,10 @@ module _ (b l : List ℕ) (c : Counts) where
   pub type-out : (i : ℕ) → c .types ≤ i → typeAt (tableIn b l c) i ≡ noType
   unfolding tableIn tableOf
   type-out i h = getD-from-out (λ i. typeOf (c .methods) (c .sheet) i (getD (typesIn b) i noRawType)) noType (c .types) 0 i h
+
+  pub ref-table : (t : ℕ) → isRef (typeAt (tableIn b l c) t .rep) ≡ refIn (c .types) b t
+  unfolding tableIn tableOf typesTo
+  ref-table t = ref-type (c .types) t b (c .methods) (c .sheet)
 
   pub cats-length : length (tableIn b l c .cats) ≡ c .cats
   unfolding tableIn tableOf

@@ -2,7 +2,7 @@
 use mathlib.Core.Path.{_≡_}
 use mathlib.Core.Bool.{Bool, not, _&&_}
 use Prim.Native.Nat.{ℕ, _*_, _<_}
-use lib.Dec.{eqb}
+use lib.Dec.{eqb, ltb}
 use mathlib.Core.List.{List, [], _∷_, map}
 use lib.ListN.{length, getD, replicate}
 use lib.Seq.{sets}
@@ -46,6 +46,10 @@ broaderOf l k = linksOf (getD (linksIn l) k noRawLinks)
 abbrev pub refAs : RawType → Bool
 refAs x = isRef (repOf (x .rep))
 
+-- Type t is a reference type of the first n.
+abbrev pub refIn : ℕ → List ℕ → ℕ → Bool
+refIn n b t = ltb t n && refAs (getD (typesIn b) t noRawType)
+
 -- own=yes: only a reference type has the flag
 abbrev pub ownOf : RawType → Bool
 ownOf x = isRef (repOf (x .rep)) && eqb (x .own) 1
@@ -66,6 +70,10 @@ pub record Put (b : List ℕ) (i : ℕ) (x : RawType) (b′ : List ℕ) : Type 0
 
 abbrev pub emptyMethod : Method
 emptyMethod = record { state = 0; count = 0; args = 0 ∷ 0 ∷ 0 ∷ 0 ∷ []; answer = 0 }
+
+-- the record of a method that isn't there: denied, and every byte of it is 0 (B18)
+abbrev pub blankMethod : RawMethod
+blankMethod = record { state = 0; count = 0; args = 0 ∷ 0 ∷ 0 ∷ 0 ∷ []; answer = 0 }
 
 abbrev pub emptyType : TypeRec
 emptyType = record { head = record { rep = 0; cat = 0; own = 0; kind = 0; left = 0; right = 0 }; methods = replicate maxMethods emptyMethod }

@@ -2,13 +2,13 @@
 // by crate `table_store`: these two alone know where in the bytes a record stands. Contracts speak of the list of records that the bytes hold
 // (specs/Layout.antt).
 ghost use mathlib.Core.Path.{_≡_};
-ghost use Prim.Native.Nat.{suc, _+_, _*_, _<_};
+ghost use Prim.Native.Nat.{suc, _+_, _*_, _≤_, _<_};
 ghost use lib.ListN.{length, getD};
 ghost use Rattle.spec_model.specs.Table.{permit, maxMethods, maxCategories, maxTypes};
 ghost use Rattle.spec_model.specs.Records.{argumentSlots};
 ghost use Rattle.spec_model.specs.Check.{noRawType, noRawLinks, stateOf};
 ghost use Rattle.table_record.specs.Store.{typesIn, linksIn, rawMethod, rawOf, rawIn, headOf, rawLinks, typeSize, headSize, methodSize};
-ghost use Rattle.table_record.specs.Store.{refAs, mayStandAs, withCount, emptyCounts, emptyMethod, emptyType, emptyTypes, emptyLinks};
+ghost use Rattle.table_record.specs.Store.{refAs, refIn, mayStandAs, withCount, emptyCounts, emptyMethod, emptyType, emptyTypes, emptyLinks};
 
 // The bytes of the types of a table, and of its broader links: those of category 0, which names none, are there too.
 pub const TYPE_BYTES: usize = Counts::TYPES * TypeRec::BYTES;
@@ -308,6 +308,17 @@ pub fn is_ref(b: &[u8; TYPE_BYTES], i: usize) -> bool
 {
     let h = get_head(b, i);
     h.rep == Head::REF
+}
+
+// Whether t names a reference type of the first n.
+pub fn names_ref(b: &[u8; TYPE_BYTES], n: usize, t: usize) -> bool
+    requires { ⌜ n ≤ maxTypes ⌝ }
+    ensures { λ r. ⌜ r ≡ refIn n (now (b .entry)) t ⌝ }
+{
+    if n <= t {
+        return false;
+    }
+    is_ref(b, t)
 }
 
 // Whether type i may stand in a signature: a type without own, which a number type always is.

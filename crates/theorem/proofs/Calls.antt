@@ -40,6 +40,10 @@ use Rattle.theorem.proofs.Runs.{follow-both}
 abbrev noNote : Note
 noNote = record { page = 0; method = 0 }
 
+pub if-accepted : {P : Type 0} (m : Res (System × Result)) → IfOk m (λ _. P) → So (accepted m) → P
+if-accepted (refuse e) p h = never h
+if-accepted (ok x) p h = p
+
 -- ---- Where T is a subtype of V, own not compared, what is avail in T is permitted by both.
 module _ (t : Table) (a b : ℕ) (h : So (related conforms t a b)) where
   avail-below : (m : ℕ) → So (isAvail (methodAt t a m .state)) → So (permit (methodAt t b m .state))

@@ -25,7 +25,7 @@ use Rattle.law_handed.proofs.Laws.{returns-reached}
 use Rattle.request_run.specs.Requested.{asked}
 use Rattle.theorem.specs.Shown.{taken, told, RunReturns, Permitted, NotePermitted}
 use Rattle.theorem.proofs.Runs.{run-follows, follow-both, stored-means, stored-accepted}
-use Rattle.theorem.proofs.Calls.{call-tested, answer-tested, tested-permitted, follow-on, noted-permitted}
+use Rattle.theorem.proofs.Calls.{if-accepted, call-tested, answer-tested, tested-permitted, follow-on, noted-permitted}
 
 handed-taken : (r : RawSystem) (m : Res (System × Result)) → taken (handBack r m .outcome) ≡ accepted m
 handed-taken r (refuse n) = refl
@@ -96,16 +96,12 @@ module _ (t : Table) (v : So (validSheet t)) where
     module _ (o : Outcome) (r′ : RawSystem) (e : So (taken o)) where
       if-taken : {P : Type 0} (q : Request) → Returns r q o r′ → IfOk (serve (reached t (h .requests) .0) q) (λ _. P) → P
       unfolding serveHanded
-      if-taken q w p = last (serve (reached t (h .requests) .0) q) p (subst (λ s. So (accepted (serve s q))) (h .state)
+      if-taken q w p = if-accepted (serve (reached t (h .requests) .0) q) p (subst (λ s. So (accepted (serve s q))) (h .state)
           (passed (systemAccepted r) (serve (systemOf r) q) (sym (ap taken (w .outcome) ∙ handed-taken r (need (systemAccepted r) outOfRange λ _. serve (systemOf r) q)) ∙ e)))
         where
           passed : (c : Bool) (x : Res (System × Result)) → So (accepted (need c outOfRange λ _. x)) → So (accepted x)
           passed true x z = z
           passed false x z = never z
-
-          last : {P : Type 0} (x : Res (System × Result)) → IfOk x (λ _. P) → So (accepted x) → P
-          last (refuse n) p z = never z
-          last (ok y) p z = p
 
       pub means-called : (subject k m : ℤ) (vs : List ℤ) → Returns r (call subject k m vs) o r′ → Permitted b k (m ∷ [])
       means-called subject k m vs w = subst (λ x. Permitted x k (m ∷ [])) (sym (h .book))

@@ -20,7 +20,6 @@ use Rattle.spec_model.specs.Book.{Book, opened}
 use Rattle.spec_model.specs.Claim.{accepted, feed, follow}
 use Rattle.spec_model.proofs.Rules.{never}
 use Rattle.spec_model.specs.Refusals.{shortBuffer}
-use Rattle.law_model.proofs.Steps.{IfOk}
 use Rattle.spec_sheet.specs.Lines.{Row, row, cut, bytes, split, join, starts, firstLine}
 use Rattle.spec_sheet.specs.Clean.{notLF, clean}
 use Rattle.spec_sheet.specs.Numbers.{decimal}
@@ -38,7 +37,7 @@ use Rattle.script_output.proofs.Short.{output-short, output-fits}
 use Rattle.script_output.proofs.Whole.{lastLine}
 use Rattle.theorem.specs.Shown.{Permitted}
 use Rattle.theorem.specs.Scripted.{Fits, TooShort, lineOf, requestsOf, endsMalformed, stateAfter, bookAfter, Served, Script, ShownOfScripts, writtenIn, ShownOfScriptBytes}
-use Rattle.theorem.proofs.Calls.{call-tested, tested-permitted}
+use Rattle.theorem.proofs.Calls.{if-accepted, call-tested, tested-permitted}
 
 -- ---- the buffer
 written : (text old : List ℕ) → let w = writeText text old in Fits text old w ⊎ TooShort text old w
@@ -139,10 +138,6 @@ got-accepted : (m : Res (System × Result)) → So (starts (bytes "got=") (outco
 unfolding outcomeText numberText starts
 got-accepted (refuse e) h = never h
 got-accepted (ok x) h = refl
-
-if-accepted : {P : Type 0} (m : Res (System × Result)) → IfOk m (λ _. P) → So (accepted m) → P
-if-accepted (refuse e) p h = never h
-if-accepted (ok x) p h = p
 
 -- ---- the output by its cases
 

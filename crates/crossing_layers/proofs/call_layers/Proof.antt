@@ -1,4 +1,4 @@
--- The invariant is the way so far.
+-- The invariant is the layers so far.
 use mathlib.Core.Path.{_≡_, refl, _∙_}
 use mathlib.Core.List.{_∷_}
 use Prim.Native.Nat.{_+_, _-_, _≤_}

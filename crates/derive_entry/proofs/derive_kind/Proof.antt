@@ -6,7 +6,7 @@ use Rattle.spec_model.specs.Table.{Kind}
 use Rattle.spec_model.specs.Check.{kindOf}
 use Rattle.spec_model.proofs.Rules.{first, second}
 use Rattle.table_record.proofs.Codes.{closed-kind}
-use Rattle.derive_record.specs.Begins.{refIn}
+use Rattle.table_record.specs.Store.{refIn}
 use Rattle.derive_sub_sup.specs.Link.{Derives}
 use Rattle.derive_entry.proofs.Laws.{closed-asked}
 use Rattle.derive_entry.proofs.derive_kind.Statement.{statement}

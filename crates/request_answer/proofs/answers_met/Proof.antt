@@ -1,4 +1,4 @@
--- The way of the called cell, its answer types, and these from the class on.
+-- The layers of the called cell, their answer types, and these from the class on.
 use mathlib.Core.Path.{subst, sym}
 use Prim.Native.Nat.{ℕ, _<_}
 use native.Mathlib.Omega.{arith}

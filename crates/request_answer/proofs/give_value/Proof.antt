@@ -19,8 +19,8 @@ wide-requires c κs = search needs
 answers-met-requires : tie.Need-answers-met-requires
 answers-met-requires c κs = c .before .before .before .before .pre
 
-is-ref-requires : tie.Need-is-ref-requires
-is-ref-requires c κs = c .before .before .before .before .before .before .pre .0 .checked .limits
+names-ref-requires : tie.Need-names-ref-requires
+names-ref-requires c κs = c .before .before .before .before .before .before .pre .0 .checked .limits .types
 
 is-held-requires : tie.Need-is-held-requires
 is-held-requires c κs = c .before .before .before .before .before .before .before .before .pre .0 .cellCount
@@ -33,7 +33,7 @@ returns c = λ subject w. let a = c .before .before .before .before .before .bef
     value-15 s (c .before .before .before .before .before .before .before .before .before .before .before .pre .0) subject (a .j) (a .x) (a .c)
     (c .before .before .before .before .before .before .before .before .before .before .before .pre .1) (a .a) (a .v)
     (targetsIn (c .before .before .before .before .before .before .answers-met .result)) (c .before .before .before .before .before .before .answers-met .ensures .0)
-    (c .before .before .before .before .is-ref .result) (c .before .before .before .before .is-ref .ensures) (c .before .before .before .if1 .taken)
+    (c .before .before .before .before .names-ref .result) (c .before .before .before .before .names-ref .ensures) (c .before .before .before .if1 .taken)
     (sym (rw (toZ-ofZ (c .before .before .before .before .before .before .before .before .before .before .before .fits .v)) at (c .before .before .is-held .ensures s subject refl w))
     ∙ not-true (c .before .before .is-held .result) (c .before .if2 .taken)) (done (a .types .now) (c .refused .result)) (ap (done (a .types .now)) (c .refused .ensures))
 
@@ -52,7 +52,7 @@ returns-2 c = λ subject w. let a = c .before .before .before .before .before .b
     value-reference s (c .before .before .before .before .before .before .before .before .before .before .before .before .pre .0) subject (a .j) (a .x) (a .c)
     (c .before .before .before .before .before .before .before .before .before .before .before .before .pre .1) (a .a) (a .v)
     (targetsIn (c .before .before .before .before .before .before .before .answers-met .result)) (c .before .before .before .before .before .before .before .answers-met .ensures .0)
-    (c .before .before .before .before .before .is-ref .result) (c .before .before .before .before .before .is-ref .ensures) (c .before .before .before .before .if1 .taken)
+    (c .before .before .before .before .before .names-ref .result) (c .before .before .before .before .before .names-ref .ensures) (c .before .before .before .before .if1 .taken)
     (sym (rw (toZ-ofZ (c .before .before .before .before .before .before .before .before .before .before .before .before .fits .v)) at (c .before .before .before .is-held .ensures s subject refl w))
     ∙ not-false (c .before .before .before .is-held .result) (c .before .before .if2 .left)) _ (c .before .before .before .before .before .before .before .before .before .wide .ensures .0)
     (done (c .give-reference .last .0) (c .give-reference .result)) (rw (toZ-ofZ (c .before .before .before .before .before .before .before .before .before .before .before .before
@@ -70,8 +70,8 @@ returns-3 c = λ subject w. let a = c .before .before .before .before .before .b
     number-refused s (c .before .before .before .before .before .before .before .before .before .before .before .before .pre .0) subject (a .j) (a .x) (a .c)
     (c .before .before .before .before .before .before .before .before .before .before .before .before .pre .1) (a .a) (a .v)
     (targetsIn (c .before .before .before .before .before .before .before .answers-met .result))
-    (c .before .before .before .before .before .before .before .answers-met .ensures .0) (c .before .before .before .before .before .is-ref .result)
-    (c .before .before .before .before .before .is-ref .ensures) (c .before .before .before .before .if1 .left)
+    (c .before .before .before .before .before .before .before .answers-met .ensures .0) (c .before .before .before .before .before .names-ref .result)
+    (c .before .before .before .before .before .names-ref .ensures) (c .before .before .before .before .if1 .left)
     (c .before .before .pass .result) (rw (toZ-ofZ (c .before .before .before .before .before .before .before .before .before .before .before .before .fits .v)) at
     (c .before .before .pass .ensures)) (c .before .if3 .taken) (done (a .types .now) (c .refused2 .result)) (ap (done (a .types .now)) (c .refused2 .ensures))
 
@@ -88,8 +88,8 @@ returns-4 c = λ subject w. let a = c .before .before .before .before .before .b
     number-answers s (c .before .before .before .before .before .before .before .before .before .before .before .before .pre .0) subject (a .j) (a .x) (a .c)
     (c .before .before .before .before .before .before .before .before .before .before .before .before .pre .1) (a .a) (a .v)
     (targetsIn (c .before .before .before .before .before .before .before .answers-met .result))
-    (c .before .before .before .before .before .before .before .answers-met .ensures .0) (c .before .before .before .before .before .is-ref .result)
-    (c .before .before .before .before .before .is-ref .ensures) (c .before .before .before .before .if1 .left)
+    (c .before .before .before .before .before .before .before .answers-met .ensures .0) (c .before .before .before .before .before .names-ref .result)
+    (c .before .before .before .before .before .names-ref .ensures) (c .before .before .before .before .if1 .left)
     (c .before .before .pass .result) (rw (toZ-ofZ (c .before .before .before .before .before .before .before .before .before .before .before .before .fits .v)) at
     (c .before .before .pass .ensures)) (c .before .if3 .left) (done (a .types .now) (c .answered .result))
     (c .answered .ensures (a .types .now) (c .before .before .before .before .before .before .before .before .before .before .before .before .pre .0) (number (a .v))
@@ -101,7 +101,7 @@ give-value-spec =
     (tie.spec
     wide-requires
     answers-met-requires
-    is-ref-requires
+    names-ref-requires
     is-held-requires
     refused-requires
     returns

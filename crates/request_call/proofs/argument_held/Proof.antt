@@ -9,13 +9,13 @@ use Rattle.state_record.specs.Whole.{whole}
 use Rattle.request_call.proofs.argument_held.Statement.{statement}
 use Rattle.request_call.proofs.argument_held.Tie as tie
 
-is-ref-requires : tie.Need-is-ref-requires
-is-ref-requires c κs = c .before .before .pre .checked .limits
+names-ref-requires : tie.Need-names-ref-requires
+names-ref-requires c κs = c .before .before .pre .checked .limits .types
 
 returns : tie.Need-returns
 returns c = λ subject w. number-held (whole (c .before .before .before .before .args .types .now) (c .before .before .before .before .args .s))
-    (c .before .before .before .before .args .a) (c .before .is-ref .result)
-    (c .before .is-ref .ensures) (not-true (c .before .is-ref .result) (c .if1 .taken)) (held
+    (c .before .before .before .before .args .a) (c .before .names-ref .result)
+    (c .before .names-ref .ensures) (not-true (c .before .names-ref .result) (c .if1 .taken)) (held
     (systemIn (whole (c .before .before .before .before .args .types .now) (c .before .before .before .before .args .s))) subject
     (c .before .before .before .before .args .v))
 
@@ -25,11 +25,11 @@ is-held-requires c κs = c .before .before .before .before .pre .cellCount
 returns-2 : tie.Need-returns-2
 returns-2 c = λ subject w. reference-held (whole (c .before .before .before .before .before .args .types .now) (c .before .before .before .before .before .args .s))
     (c .before .before .before .before .before .args .a)
-    (c .before .before .is-ref .result) (c .before .before .is-ref .ensures) (not-false (c .before .before .is-ref .result) (c .before .if1 .left)) (c .is-held .result)
+    (c .before .before .names-ref .result) (c .before .before .names-ref .ensures) (not-false (c .before .before .names-ref .result) (c .before .if1 .left)) (c .is-held .result)
     (held (systemIn (whole (c .before .before .before .before .before .args .types .now) (c .before .before .before .before .before .args .s))) subject
     (c .before .before .before .before .before .args .v))
     (rw (toZ-ofZ (c .before .before .before .before .before .fits .v)) at (c .is-held .ensures
     (whole (c .before .before .before .before .before .args .types .now) (c .before .before .before .before .before .args .s)) subject refl w))
 
 pub argument-held-spec : {M : Type 1} → statement M
-argument-held-spec = tie.close (tie.spec is-ref-requires returns is-held-requires returns-2)
+argument-held-spec = tie.close (tie.spec names-ref-requires returns is-held-requires returns-2)

@@ -7,7 +7,7 @@ use Rattle.state_record.specs.Whole.{whole}
 use Rattle.request_common.specs.Served.{done}
 use Rattle.state_record.specs.Sound.{layersIn}
 use Rattle.crossing_layers.specs.Carried.{callLayersIn}
-use Rattle.request_call.proofs.Calling.{call-byte, place-here, place-low, call-layers-met, sort-low, through-stops, through-room, through-adds}
+use Rattle.request_call.proofs.Calling.{call-byte, place-here, place-low, call-layers-met, type-low, through-stops, through-room, through-adds}
 use Rattle.request_value.specs.Sent.{argumentsOf}
 use Rattle.request_call.proofs.call_through.Statement.{statement}
 use Rattle.request_call.proofs.call_through.Tie as tie
@@ -42,7 +42,7 @@ send-arguments-requires c κs =
     let y = c .before .before .before .before .before .before .cell-at in
     let p = place-low s (h .0) (a .k) (h .3) (y .result) (y .ensures .1 (h .3)) (c .before .before .before .before .before .wide .result)
     (c .before .before .before .before .before .wide .ensures .0) in
-    let t = sort-low s (h .0) (a .k) (h .3) (y .result) (y .ensures .1 (h .3)) _ refl in
+    let t = type-low s (h .0) (a .k) (h .3) (y .result) (y .ensures .1 (h .3)) _ refl in
     (h .0, omega (arith, p), omega (arith, t), c .before .before .before .base-owner .ensures .1, omega (arith, c .call-layers .ensures .1, c .before .before .layers-of .ensures .few))
 
 accepted-requires : tie.Need-accepted-requires

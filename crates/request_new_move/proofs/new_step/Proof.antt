@@ -43,11 +43,11 @@ abbrev fourth : tie.Else4 → tie.Else3
 fourth c = c .before .before .before
 
 -- from the last test: where each other one is passed
-abbrev at-sort : tie.Else4 → tie.Else2
-at-sort c = third (fourth c)
+abbrev at-type : tie.Else4 → tie.Else2
+at-type c = third (fourth c)
 
 abbrev at-known : tie.Else4 → tie.Else1
-at-known c = second (at-sort c)
+at-known c = second (at-type c)
 
 abbrev begun : tie.Else4 → tie.Start
 begun c = start (at-known c)
@@ -59,7 +59,7 @@ owner c = let b = begun (c .before) in
 
 class : (c : tie.After-index-of2) → let b = begun (c .before .before) in (c .index-of2 .result ≡ named (b .args .class)) × (c .index-of2 .result < b .args .s .counts .sheet)
 class c = let b = begun (c .before .before) in
-    sheet-at (state b) (b .args .class) _ (rw (toZ-ofZ (b .fits .class)) at (c .index-of2 .ensures)) _ (ty (at-sort (c .before .before)))
+    sheet-at (state b) (b .args .class) _ (rw (toZ-ofZ (b .fits .class)) at (c .index-of2 .ensures)) _ (ty (at-type (c .before .before)))
 
 type : (c : tie.After-index-of3) → let b = begun (c .before .before .before) in (c .index-of3 .result ≡ named (b .args .to)) × (c .index-of3 .result < b .args .s .counts .sheet)
 type c = let b = begun (c .before .before .before) in
@@ -121,12 +121,12 @@ make-requires c κs = let p = c .before .before .before in let h = begun p .pre 
 
 send-requires : tie.Need-send-requires
 send-requires c κs = let o = c .before .before .before .before in let p = o .before in let b = begun p in
-    new-sends (state b) (b .args .subject) (b .args .class) (b .args .to) (known (at-known p)) (ty (at-sort p)) (target (fourth p)) (b .pre) (p .if4 .left) _ _ _ (owner o .1)
+    new-sends (state b) (b .args .subject) (b .args .class) (b .args .to) (known (at-known p)) (ty (at-type p)) (target (fourth p)) (b .pre) (p .if4 .left) _ _ _ (owner o .1)
     (class (c .before .before .before) .1) _ (c .before .make .ensures)
 
 returns-5 : tie.Need-returns-5
 returns-5 c = let o = c .before .before .before .before .before in let p = o .before in let b = begun p in
-    step-as (new-goes (state b) (b .args .subject) (b .args .class) (b .args .to) (known (at-known p)) (ty (at-sort p)) (target (fourth p)) (p .if4 .left) _ _ _ (owner o .0)
+    step-as (new-goes (state b) (b .args .subject) (b .args .class) (b .args .to) (known (at-known p)) (ty (at-type p)) (target (fourth p)) (p .if4 .left) _ _ _ (owner o .0)
     (class (c .before .before .before .before) .0) (type (c .before .before .before) .0) _ (c .before .before .make .ensures)) (c .send .ensures)
 
 pub new-step-spec : {M : Type 1} → statement M

@@ -34,11 +34,11 @@ returns c = λ s r t n. let a = c .before .before .before .before .args in let l
     numbers-over (systemIn s) r (callLayersIn (a .w)) (a .m) (argumentsOf (a .x)) (a .vs .now) (l .i) (l .inv .1 s r t n)
     (none-left (a .x) (l .i) (c .before .argument-in .result) (c .before .argument-in .ensures) (c .if1 .taken))
 
-sub-is-ref : tie.Need-sub-is-ref Inv-loop μ-loop
-sub-is-ref c = search needs
+sub-names-ref : tie.Need-sub-names-ref Inv-loop μ-loop
+sub-names-ref c = search needs
 
-is-ref-requires : tie.Need-is-ref-requires Inv-loop μ-loop
-is-ref-requires c κs = c .before .before .before .before .pre .0
+names-ref-requires : tie.Need-names-ref-requires Inv-loop μ-loop
+names-ref-requires c κs = c .before .before .before .before .pre .0 .types
 
 returns-2 : tie.Need-returns-2 Inv-loop μ-loop
 returns-2 c = λ s r t n. tt
@@ -68,7 +68,7 @@ returns-3 c = λ s r t n.
           (some-left (a .x) (l .i) (c .before .before .before .before .before .before .before .argument-in .result)
           (c .before .before .before .before .before .before .before .argument-in .ensures) (c .before .before .before .before .before .before .if1 .left))
           v (value-next (a .vs .now) (l .i) (c .before .before .before .before .before .before .before .before .loop-test .taken))
-          (number-of s (a .types .now) (a .c) t n _ (c .before .before .before .before .before .is-ref .result) (c .before .before .before .before .before .is-ref .ensures)
+          (number-of s (a .types .now) (a .c) t n _ (c .before .before .before .before .before .names-ref .result) (c .before .before .before .before .before .names-ref .ensures)
           (c .before .before .before .before .if2 .left)) (c .before .pass .result)
           (passed-of s (a .types .now) (a .c) t n (c .before .pass .result) (a .m) (l .i) v (callLayersIn (a .w)) (targetsIn (c .before .before .before .targets-of .result))
           (c .before .before .before .targets-of .ensures .0) passed)
@@ -98,7 +98,7 @@ loop-again c = (
       (some-left (a .x) (l .i) (c .before .before .before .before .before .before .before .argument-in .result)
       (c .before .before .before .before .before .before .before .argument-in .ensures) (c .before .before .before .before .before .before .if1 .left))
       v (value-next (a .vs .now) (l .i) (c .before .before .before .before .before .before .before .before .loop-test .taken))
-      (number-of s (a .types .now) (a .c) t n _ (c .before .before .before .before .before .is-ref .result) (c .before .before .before .before .before .is-ref .ensures)
+      (number-of s (a .types .now) (a .c) t n _ (c .before .before .before .before .before .names-ref .result) (c .before .before .before .before .before .names-ref .ensures)
       (c .before .before .before .before .if2 .left)) (c .before .pass .result)
       (passed-of s (a .types .now) (a .c) t n (c .before .pass .result) (a .m) (l .i) v (callLayersIn (a .w)) (targetsIn (c .before .before .before .targets-of .result))
       (c .before .before .before .targets-of .ensures .0) passed)
@@ -118,8 +118,8 @@ pass-numbers-spec =
     loop-holds
     argument-in-requires
     returns
-    sub-is-ref
-    is-ref-requires
+    sub-names-ref
+    names-ref-requires
     returns-2
     targets-of-requires
     mul-pass

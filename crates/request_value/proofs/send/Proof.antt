@@ -1,4 +1,4 @@
--- The way was refused (`send-refused`), or what arrived becomes a cell (`send-adds`).
+-- The crossing was refused (`send-refused`), or what arrived becomes a cell (`send-adds`).
 use mir.Facts.{toZ-ofZ}
 use mathlib.Core.Path.{ap}
 use borrow.Author.Needs.{needs}
@@ -7,7 +7,7 @@ use Rattle.request_common.specs.Served.{done}
 use Rattle.request_common.proofs.Laws.{ty-byte, place-byte}
 use Rattle.spec_model.specs.Basics.{named}
 use Rattle.crossing_layers.specs.Carried.{targetsIn}
-use Rattle.request_value.proofs.Sending.{any-cell, send-stands, send-refused, send-arrives, send-adds}
+use Rattle.request_value.proofs.Sending.{any-cell, send-ready, send-refused, send-arrives, send-adds}
 use Rattle.request_value.proofs.send.Statement.{statement}
 use Rattle.request_value.proofs.send.Tie as tie
 
@@ -24,7 +24,7 @@ carry-requires : tie.Need-carry-requires
 carry-requires c κs =
     let a = c .before .before .before .before .before .before .before .before .args in let s = whole (a .types .now) (a .s) in
     let h = c .before .before .before .before .before .before .before .before .pre in
-    let g = send-stands s (h .0) (a .r) (named (a .v)) (c .before .before .before .before .before .before .before .named-cell .result)
+    let g = send-ready s (h .0) (a .r) (named (a .v)) (c .before .before .before .before .before .before .before .named-cell .result)
     (rw (toZ-ofZ (c .before .before .before .before .before .before .before .before .fits .v)) at
     (c .before .before .before .before .before .before .before .named-cell .ensures)) (any-cell s (h .0) (h .1) (h .2) (named (a .v)))
     (targetsIn (a .targets)) (c .before .wide .result) (c .wide2 .result) (c .before .wide .ensures .0) (c .wide2 .ensures .0) (record { checked = h .0 .checked; long = h .0 .long })

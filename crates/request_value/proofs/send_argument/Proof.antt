@@ -13,8 +13,8 @@ use Rattle.request_value.proofs.send_argument.Tie as tie
 targets-of-requires : tie.Need-targets-of-requires
 targets-of-requires c κs = (c .before .before .pre .0 .checked .limits, c .before .before .pre .4)
 
-is-ref-requires : tie.Need-is-ref-requires
-is-ref-requires c κs = c .before .before .before .before .pre .0 .checked .limits
+names-ref-requires : tie.Need-names-ref-requires
+names-ref-requires c κs = c .before .before .before .before .pre .0 .checked .limits .types
 
 send-requires : tie.Need-send-requires
 send-requires c κs = let h = c .before .before .before .before .before .before .before .pre in (
@@ -30,7 +30,7 @@ returns : tie.Need-returns
 returns c = let a = c .before .before .before .before .before .before .before .before .args in let s = whole (a .types .now) (a .s) in argument-sent s
     (c .before .before .before .before .before .before .before .before .pre .0) (a .r) (callLayersIn (a .w)) (a .m) (a .i) (a .a) (a .v)
     (targetsIn (c .before .before .before .before .before .targets-of .result)) (c .before .before .before .before .before .targets-of .ensures .0)
-    (c .before .before .before .is-ref .result) (c .before .before .before .is-ref .ensures) (c .before .before .if1 .taken) (done (c .send .last .0) (c .send .result))
+    (c .before .before .before .names-ref .result) (c .before .before .before .names-ref .ensures) (c .before .before .if1 .taken) (done (c .send .last .0) (c .send .result))
     (rw (toZ-ofZ (c .before .before .before .before .before .before .before .before .fits .v)) at (c .send .ensures))
 
 pass-requires : tie.Need-pass-requires
@@ -48,7 +48,7 @@ returns-2 c = let a = c .before .before .before .before .before .before .before 
     (c .before .before .before .before .before .before .before .before .before .before .pre .0) (a .r) (callLayersIn (a .w)) (a .m) (a .i) (a .a) (a .v)
     (targetsIn (c .before .before .before .before .before .before .before .targets-of .result))
     (c .before .before .before .before .before .before .before .targets-of .ensures .0)
-    (c .before .before .before .before .before .is-ref .result) (c .before .before .before .before .before .is-ref .ensures)
+    (c .before .before .before .before .before .names-ref .result) (c .before .before .before .before .before .names-ref .ensures)
     (c .before .before .before .before .if1 .left) (c .before .before .pass .result) (rw (toZ-ofZ
     (c .before .before .before .before .before .before .before .before .before .before .fits .v)) at (c .before .before .pass .ensures)) (c .before .if2 .taken)
     (done (a .types .now) (c .refused .result)) (ap (done (a .types .now)) (c .refused .ensures))
@@ -58,7 +58,7 @@ returns-3 c = let a = c .before .before .before .before .before .before .before 
     (c .before .before .before .before .before .before .before .before .before .pre .0) (a .r) (callLayersIn (a .w)) (a .m) (a .i) (a .a) (a .v)
     (targetsIn (c .before .before .before .before .before .before .targets-of .result))
     (c .before .before .before .before .before .before .targets-of .ensures .0)
-    (c .before .before .before .before .is-ref .result) (c .before .before .before .before .is-ref .ensures) (c .before .before .before .if1 .left)
+    (c .before .before .before .before .names-ref .result) (c .before .before .before .before .names-ref .ensures) (c .before .before .before .if1 .left)
     (c .before .pass .result) (rw (toZ-ofZ (c .before .before .before .before .before .before .before .before .before .fits .v)) at (c .before .pass .ensures))
     (c .if2 .left)
 
@@ -67,7 +67,7 @@ send-argument-spec =
     tie.close
     (tie.spec
     targets-of-requires
-    is-ref-requires
+    names-ref-requires
     send-requires
     returns
     pass-requires

@@ -4,7 +4,7 @@ use mir.Facts.{toZ-ofZ}
 use native.Mathlib.Omega.{arith}
 use borrow.Author.Needs.{needs}
 use borrow.Author.Tests.{not-true, not-false}
-use Rattle.derive_record.proofs.Begins.{ref-below}
+use Rattle.table_record.proofs.Tables.{ref-below}
 use Rattle.state_offers.proofs.Laws.{step-unknown, step-number, step-off, step-on}
 use Rattle.state_offers.proofs.after_method.Statement.{statement}
 use Rattle.state_offers.proofs.after_method.Tie as tie
@@ -18,18 +18,18 @@ returns c =
     λ l. step-unknown (a .types .now) l (a .c) (a .t) (a .z) (c .before .before .index-of .result) (rw (toZ-ofZ (c .before .before .before .fits .z)) at (c .before .before .index-of .ensures))
     (c .if1 .taken)
 
-is-ref-requires : tie.Need-is-ref-requires
-is-ref-requires c κs = c .before .before .before .pre .types
+names-ref-requires : tie.Need-names-ref-requires
+names-ref-requires c κs = c .before .before .before .pre .types
 
 returns-2 : tie.Need-returns-2
 returns-2 c = let a = c .before .before .before .before .before .args in
     λ l. step-number (a .types .now) l (a .c) (a .t) (a .z) (c .before .before .before .before .index-of .result)
     (rw (toZ-ofZ (c .before .before .before .before .before .fits .z)) at (c .before .before .before .before .index-of .ensures)) (c .before .before .if1 .left)
-    (sym (c .before .is-ref .ensures) ∙ not-true (c .before .is-ref .result) (c .if2 .taken))
+    (sym (c .before .names-ref .ensures) ∙ not-true (c .before .names-ref .result) (c .if2 .taken))
 
 get-method-requires : tie.Need-get-method-requires
 get-method-requires c κs = let a = c .before .before .before .before .before .args in
-    let l = ref-below (a .c .types) (a .t) (a .types .now) (sym (c .before .is-ref .ensures) ∙ not-false (c .before .is-ref .result) (c .if2 .left)) in
+    let l = ref-below (a .c .types) (a .t) (a .types .now) (sym (c .before .names-ref .ensures) ∙ not-false (c .before .names-ref .result) (c .if2 .left)) in
     (omega (arith, l, c .before .before .before .before .before .pre .types), omega (arith, c .before .before .if1 .left, c .before .before .before .before .before .pre .methods))
 
 permits-requires : tie.Need-permits-requires
@@ -41,7 +41,7 @@ returns-3 c = let a = c .before .before .before .before .before .before .before 
     step-off (a .types .now) l (a .c) (a .t) (a .z) (c .before .before .before .before .before .before .before .index-of .result)
     (rw (toZ-ofZ (c .before .before .before .before .before .before .before .before .fits .z)) at (c .before .before .before .before .before .before .before .index-of .ensures))
     (c .before .before .before .before .before .if1 .left)
-    (sym (c .before .before .before .before .is-ref .ensures) ∙ not-false (c .before .before .before .before .is-ref .result) (c .before .before .before .if2 .left))
+    (sym (c .before .before .before .before .names-ref .ensures) ∙ not-false (c .before .before .before .before .names-ref .result) (c .before .before .before .if2 .left))
     (c .before .before .get-method .result) (c .before .before .get-method .ensures)
     (sym (c .before .permits .ensures) ∙ not-true (c .before .permits .result) (c .if3 .taken))
 
@@ -57,9 +57,9 @@ returns-4 c = let a = c .before .before .before .before .before .before .before 
     step-on (a .types .now) l (a .c) (a .t) (a .z) (c .before .before .before .before .before .before .before .before .index-of .result)
     (rw (toZ-ofZ (c .before .before .before .before .before .before .before .before .before .fits .z)) at (c .before .before .before .before .before .before .before .before .index-of .ensures))
     (c .before .before .before .before .before .before .if1 .left)
-    (sym (c .before .before .before .before .before .is-ref .ensures) ∙ not-false (c .before .before .before .before .before .is-ref .result) (c .before .before .before .before .if2 .left))
+    (sym (c .before .before .before .before .before .names-ref .ensures) ∙ not-false (c .before .before .before .before .before .names-ref .result) (c .before .before .before .before .if2 .left))
     (c .before .before .before .get-method .result) (c .before .before .before .get-method .ensures)
     (sym (c .before .before .permits .ensures) ∙ not-false (c .before .before .permits .result) (c .before .if3 .left)) (c .wide .result) (c .wide .ensures .0)
 
 pub after-method-spec : {M : Type 1} → statement M
-after-method-spec = tie.close (tie.spec index-of-requires returns is-ref-requires returns-2 get-method-requires permits-requires returns-3 wide-requires add-result returns-4)
+after-method-spec = tie.close (tie.spec index-of-requires returns names-ref-requires returns-2 get-method-requires permits-requires returns-3 wide-requires add-result returns-4)

@@ -11,7 +11,7 @@ use mir.Syntax.{w64}
 use mir.Val.{toZ, ofZ, SFits}
 use borrow.Author.Needs.{needs}
 use Rattle.table_record.specs.Store.{tableIn}
-use Rattle.derive_sub_sup.proofs.Ends.{ref-table}
+use Rattle.table_record.proofs.Tables.{ref-table}
 use Rattle.state_offers.proofs.Laws.{Rest, rest-starts, rest-refused, rest-last, rest-silent, rest-next, rest-ends}
 use Rattle.state_offers.proofs.type_permits.Statement.{statement}
 use Rattle.state_offers.proofs.type_permits.Tie as tie
@@ -78,12 +78,12 @@ loop-again c = let a = c .before .before .before .before .before .before .before
       (c .before .before .if1 .left) (c .before .if2 .left) (c .if3 .left),
 )
 
-is-ref-requires : tie.Need-is-ref-requires Inv-loop μ-loop
-is-ref-requires c κs = c .before .before .pre .types
+names-ref-requires : tie.Need-names-ref-requires Inv-loop μ-loop
+names-ref-requires c κs = c .before .before .pre .types
 
 returns-4 : tie.Need-returns-4 Inv-loop μ-loop
 returns-4 c = let a = c .before .before .before .args in let at = c .before .before .loop .at in
-    λ l. c .is-ref .ensures ∙ sym (ref-table (a .types .now) l (a .c) at)
+    λ l. c .names-ref .ensures ∙ sym (ref-table (a .types .now) l (a .c) at)
     ∙ rest-ends (tableIn (a .types .now) l (a .c)) (a .chain .now) (a .t) at (c .before .before .loop .i) (c .before .before .loop .inv .1 l)
     (c .before .loop-test .left)
 
@@ -104,5 +104,5 @@ type-permits-spec =
     sub-at
     loop-less
     loop-again
-    is-ref-requires
+    names-ref-requires
     returns-4)
