@@ -19,15 +19,17 @@ use conformance::inputs::{with_48_types, worst};
 use conformance::{chains, compare, counts, Asked, Loaded, PAIRS_LENGTH};
 use measure::{head, ratio};
 use reference::raw::{RawTable, BROADER_LENGTH, TYPES_LENGTH};
+use reference::refusal::Refusal;
 use reference::relations::RELATIONS;
 use reference::sheet;
 use reference::table::MAX_CATEGORIES;
 use std::hint::black_box;
 
 /// Compare at one pair of a table, both ways: the same answer, which is returned, and the ratio of their times.
-fn measure(name: &str, table: &RawTable, t: usize, s: usize) -> Result<[bool; 4], usize> {
+fn measure(name: &str, table: &RawTable, t: usize, s: usize) -> Result<[bool; 4], Refusal> {
     let answer = search::compare(table, t, s);
-    assert_eq!(compare(table, t as i64, s as i64), answer);
+    let expected = answer.map_err(|refusal| refusal as usize);
+    assert_eq!(compare(table, t as i64, s as i64), expected);
     ratio(
         name,
         || {
@@ -116,8 +118,11 @@ fn same_reading(text: &[u8]) -> usize {
     let (mut loaded, mut table) = (unread(), RawTable::default());
     let code = conformance::read(text, &mut loaded);
     let result = sheets::read(text, &mut table);
-    assert_eq!(code, result.map_or_else(|refusal| refusal.0, |()| 0));
-    assert!(result.is_ok() || result == Err((code, loaded.at)));
+    assert_eq!(
+        code as Refusal,
+        result.map_or_else(|refusal| refusal.0, |()| 0)
+    );
+    assert!(result.is_ok() || result == Err((code as Refusal, loaded.at)));
     assert!(loaded.table() == table, "the tables differ");
     code
 }
@@ -259,6 +264,7 @@ mod tests {
     use super::*;
     use conformance::inputs::damaged;
     use reference::hostile;
+    use reference::refusal::OUT_OF_RANGE;
 
     /// What is measured against refuses what the proved core refuses, so that both do the same work.
     #[test]
@@ -271,7 +277,7 @@ mod tests {
         let mut unfit = 0;
         for seed in 0..1000 {
             let table = hostile::generate(seed).state.table;
-            let refused = compare(&table, 0, 0) == Err(2);
+            let refused = compare(&table, 0, 0) == Err(OUT_OF_RANGE as usize);
             assert_eq!(fits::table(&table), !refused, "hostile seed {seed}");
             unfit += u32::from(refused);
         }

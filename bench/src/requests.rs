@@ -6,7 +6,11 @@
 use crate::measure::in_place;
 use crate::{fits, restriction, search};
 use reference::raw::{self, RawState, METHOD_BYTES};
-use reference::refusal::Refusal;
+use reference::refusal::{
+    Refusal, ANSWERED_ALREADY, CALLS_FULL, CELLS_FULL, LATER_LAYER, NOT_CALLABLE, NOT_HELD,
+    NOT_OWNER, NOT_STRICT, OUT_OF_RANGE, PLACES_FULL, TOO_WIDE, UNKNOWN_SUBJECT, UNKNOWN_TYPE,
+    UNRELATED, WRONG_VALUES,
+};
 use reference::relations::Relation;
 use reference::requests::{Got, Request};
 use reference::state::{MAX_CALLS, MAX_CELLS, MAX_PLACES};
@@ -28,7 +32,7 @@ enum Value {
 /// A request on a state handed in: a refusal leaves every byte as it was.
 pub fn request(raw: &mut RawState, request: &Request) -> Result<Got, Refusal> {
     if !fits::state(raw) {
-        return Err(2);
+        return Err(OUT_OF_RANGE);
     }
     if !in_place() {
         return on_a_copy(raw, request);
@@ -92,7 +96,7 @@ fn step(state: &mut RawState, request: &Request) -> Result<Got, Refusal> {
 /// Whether a cell offers a chain: its type and its place's both permit it.
 pub fn offers(raw: &RawState, cell: i64, chain: &[i64]) -> Result<bool, Refusal> {
     if !fits::state(raw) {
-        return Err(2);
+        return Err(OUT_OF_RANGE);
     }
     let Some(cell) = below(cell, raw.cells) else {
         return Ok(false);
@@ -125,7 +129,7 @@ fn below(number: i64, count: u32) -> Option<usize> {
 }
 
 fn subject(state: &RawState, number: i64) -> Result<usize, Refusal> {
-    below(number, state.table.subjects).ok_or(5)
+    below(number, state.table.subjects).ok_or(UNKNOWN_SUBJECT)
 }
 
 fn held(state: &RawState, subject: usize, cell: i64) -> Option<usize> {
@@ -135,7 +139,7 @@ fn held(state: &RawState, subject: usize, cell: i64) -> Option<usize> {
 fn sheet_ref(state: &RawState, number: i64) -> Result<usize, Refusal> {
     below(number, state.table.sheet_types)
         .filter(|number| state.table.entry(*number)[0] == 0)
-        .ok_or(7)
+        .ok_or(UNKNOWN_TYPE)
 }
 
 /// The bytes of a method that a type permits.
@@ -176,7 +180,7 @@ fn layers(state: &RawState, cell: usize) -> Vec<usize> {
 fn add_place(state: &mut RawState, bytes: [usize; 3]) -> Result<usize, Refusal> {
     let number = state.places as usize;
     if number == MAX_PLACES {
-        return Err(12);
+        return Err(PLACES_FULL);
     }
     state
         .place_mut(number)
@@ -188,7 +192,7 @@ fn add_place(state: &mut RawState, bytes: [usize; 3]) -> Result<usize, Refusal> 
 fn add_cell(state: &mut RawState, holder: usize, given: Reference) -> Result<Got, Refusal> {
     let number = state.cells as usize;
     if number == MAX_CELLS {
-        return Err(13);
+        return Err(CELLS_FULL);
     }
     let bytes = [holder, given.static_type, given.place].map(|byte| byte as u8);
     state.cell_mut(number).copy_from_slice(&bytes);
@@ -215,43 +219,39 @@ fn cross(
         |state: &RawState, relation, t, s| search::reached(&state.table, relation, t, s).is_some();
     let (place, r) = if state.table.entry(t)[2] == 1 {
         if !holds(state, Relation::Free, t, s) {
-            return Err(8);
+            return Err(UNRELATED);
         }
         if owner(state, from.place) != receiver {
-            return Err(9);
+            return Err(NOT_OWNER);
         }
         (base(state, from.place), t)
     } else {
         // in the order of the rules, or as the core asks: a subtype is loosely related, so that one search is enough for it
         let passes = in_place() && holds(state, Relation::Subtype, t, s);
         if !passes && !holds(state, Relation::Loose, t, s) {
-            return Err(8);
+            return Err(UNRELATED);
         }
         if passes || !in_place() && holds(state, Relation::Subtype, t, s) {
             return Ok(to(from.place));
         }
-        (from.place, full(restriction::sub(&mut state.table, t, s))?)
+        (from.place, restriction::sub(&mut state.table, t, s)?)
     };
     let v = place_type(state, place);
     if holds(state, Relation::SubtypeOwnAside, r, v) {
         return Ok(to(place));
     }
     if !holds(state, Relation::Strict, r, v) {
-        return Err(10);
+        return Err(NOT_STRICT);
     }
-    let closed = full(restriction::closed(&mut state.table, r, v))?;
+    let closed = restriction::closed(&mut state.table, r, v)?;
     add_place(state, [1, place, closed]).map(to)
-}
-
-fn full(result: Result<usize, usize>) -> Result<usize, Refusal> {
-    result.map_err(|_| 11)
 }
 
 fn new(state: &mut RawState, by: i64, class: i64, type_: i64) -> Result<Got, Refusal> {
     let by = subject(state, by)?;
     let class = below(class, state.table.sheet_types)
         .filter(|class| fits::class(&state.table, *class))
-        .ok_or(7u32)?;
+        .ok_or(UNKNOWN_TYPE)?;
     let type_ = sheet_ref(state, type_)?;
     let place = add_place(state, [0, class, by])?;
     let start = Reference {
@@ -271,7 +271,7 @@ fn moved(
 ) -> Result<Got, Refusal> {
     let by = subject(state, by)?;
     let receiver = subject(state, receiver)?;
-    let cell = held(state, by, cell).ok_or(6u32)?;
+    let cell = held(state, by, cell).ok_or(NOT_HELD)?;
     let type_ = sheet_ref(state, type_)?;
     let given = cross(state, reference(state, cell), type_, receiver)?;
     add_cell(state, receiver, given)
@@ -290,7 +290,7 @@ fn value(state: &RawState, by: usize, operand: i64, named: usize) -> Result<Valu
     if state.table.entry(named)[0] != 0 {
         return Ok(Value::Number(operand));
     }
-    let cell = held(state, by, operand).ok_or(15u32)?;
+    let cell = held(state, by, operand).ok_or(WRONG_VALUES)?;
     Ok(Value::Reference(reference(state, cell)))
 }
 
@@ -301,12 +301,12 @@ fn pass(
     named: Option<usize>,
     receiver: usize,
 ) -> Result<Value, Refusal> {
-    let t = named.ok_or(8u32)?;
+    let t = named.ok_or(UNRELATED)?;
     match (value, state.table.entry(t)[0]) {
-        (Value::Number(number), 1) if i32::try_from(number).is_err() => Err(16),
+        (Value::Number(number), 1) if i32::try_from(number).is_err() => Err(TOO_WIDE),
         (Value::Number(number), 1 | 2) => Ok(Value::Number(number)),
         (Value::Reference(from), 0) => cross(state, from, t, receiver).map(Value::Reference),
-        _ => Err(8),
+        _ => Err(UNRELATED),
     }
 }
 
@@ -319,7 +319,7 @@ fn pass_all(
 ) -> Result<Value, Refusal> {
     for (index, one) in named.enumerate() {
         value = pass(state, value, one, receiver).map_err(|number| match number {
-            8 | 10 if index > 0 => 19,
+            UNRELATED | NOT_STRICT if index > 0 => LATER_LAYER,
             _ => number,
         })?;
     }
@@ -348,14 +348,14 @@ fn call(
     arguments: &[i64],
 ) -> Result<Got, Refusal> {
     let by = subject(state, by)?;
-    let cell = held(state, by, cell).ok_or(6u32)?;
-    let method = below(method, state.table.methods).ok_or(14u32)?;
+    let cell = held(state, by, cell).ok_or(NOT_HELD)?;
+    let method = below(method, state.table.methods).ok_or(NOT_CALLABLE)?;
     let bytes = permitted(state, usize::from(state.cell(cell)[1]), method)
         .filter(|bytes| bytes[0] == 2)
-        .ok_or(14u32)?;
+        .ok_or(NOT_CALLABLE)?;
     let named = raw::signature(&bytes).arguments;
     if named.len() != arguments.len() {
-        return Err(15);
+        return Err(WRONG_VALUES);
     }
     let operands = arguments.iter().zip(named);
     let values: Vec<Value> = operands
@@ -363,7 +363,7 @@ fn call(
         .collect::<Result<_, _>>()?;
     let number = state.calls as usize;
     if number == MAX_CALLS {
-        return Err(18);
+        return Err(CALLS_FULL);
     }
     let layers = layers(state, cell);
     let receiver = owner(state, usize::from(state.cell(cell)[2]));
@@ -384,15 +384,15 @@ fn call(
 
 fn answer(state: &mut RawState, by: i64, call: i64, given: Option<i64>) -> Result<Got, Refusal> {
     let by = subject(state, by)?;
-    let call = below(call, state.calls).ok_or(6u32)?;
+    let call = below(call, state.calls).ok_or(NOT_HELD)?;
     let [caller, cell, method, answered]: [u8; 4] =
         state.call(call).try_into().expect("four bytes");
     let (cell, method) = (usize::from(cell), usize::from(method));
     if owner(state, usize::from(state.cell(cell)[2])) != by {
-        return Err(6);
+        return Err(NOT_HELD);
     }
     if answered == 1 {
-        return Err(17);
+        return Err(ANSWERED_ALREADY);
     }
     let mut layers = layers(state, cell);
     layers.reverse();
@@ -410,7 +410,7 @@ fn answer(state: &mut RawState, by: i64, call: i64, given: Option<i64>) -> Resul
                 Value::Reference(given) => add_cell(state, caller, given)?,
             }
         }
-        _ => return Err(15),
+        _ => return Err(WRONG_VALUES),
     };
     state.call_mut(call)[3] = 1;
     Ok(got)

@@ -4,26 +4,27 @@
 use crate::fits;
 use crate::measure::in_place;
 use reference::raw::{RawTable, METHODS_AT, METHOD_BYTES, TYPE_BYTES};
+use reference::refusal::{Refusal, OUT_OF_RANGE, TYPES_FULL, UNKNOWN_TYPE};
 use reference::table::MAX_TYPES;
 
 const SUB: u8 = 0;
 const SUP: u8 = 1;
 const CLOSED: u8 = 2;
 
-type Full = usize;
+type Full = Refusal;
 
 /// A derivation on a table handed in: the type's number, or 2, 7 or 11.
-pub fn derive(raw: &mut RawTable, kind: usize, t: usize, s: usize) -> Result<usize, usize> {
+pub fn derive(raw: &mut RawTable, kind: usize, t: usize, s: usize) -> Result<usize, Refusal> {
     if !fits::table(raw) {
-        return Err(2);
+        return Err(OUT_OF_RANGE);
     }
     let types = raw.types as usize;
     if kind > usize::from(CLOSED) || t >= types || s >= types {
-        return Err(7);
+        return Err(UNKNOWN_TYPE);
     }
     let kind = kind as u8;
     if kind == CLOSED && !both_ref(raw, t, s) {
-        return Err(7);
+        return Err(UNKNOWN_TYPE);
     }
     if !in_place() {
         let mut table = raw.clone();
@@ -78,7 +79,7 @@ fn known_or_new(raw: &mut RawTable, kind: u8, t: usize, s: usize) -> Result<usiz
         return Ok(known);
     }
     if types == MAX_TYPES {
-        return Err(11);
+        return Err(TYPES_FULL);
     }
     let category = raw.entry(if kind == SUP { s } else { t })[1];
     let mut entry = [0; TYPE_BYTES];

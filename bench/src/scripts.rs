@@ -13,6 +13,7 @@ use reference::generators::{self, Plan, BIG, MEDIUM};
 use reference::model::Model;
 use reference::random::Random;
 use reference::raw::RawTable;
+use reference::refusal::{FORM, OUT_OF_RANGE};
 use reference::script::{self, got_line, MAX_INPUT};
 use reference::sheet;
 use reference::state::State;
@@ -50,14 +51,14 @@ fn in_bytes(input: &[u8]) -> Vec<u8> {
     let (text, rest) = script::split(input);
     let mut table = RawTable::default();
     if input.len() > MAX_INPUT {
-        print("no=2".to_string());
+        print(format!("no={OUT_OF_RANGE}"));
     } else if let Err((number, _)) = sheets::read(text, &mut table) {
         print(format!("no={number}"));
     } else {
         let mut state = of_table(table);
         for line in rest.split_inclusive(|byte| *byte == b'\n') {
             let Some(request) = line.strip_suffix(b"\n").and_then(script::parse) else {
-                print("no=1".to_string());
+                print(format!("no={FORM}"));
                 break;
             };
             print(match requests::serve(&mut state, &request) {

@@ -5,6 +5,7 @@ use crate::fits;
 use crate::measure::in_place;
 use conformance::PAIRS_LENGTH;
 use reference::raw::{RawTable, BROADER_BYTES, METHODS_AT, METHOD_BYTES};
+use reference::refusal::{Refusal, OUT_OF_RANGE, UNKNOWN_TYPE};
 use reference::relations::{Relation, RELATIONS};
 use reference::table::{MAX_CATEGORIES, MAX_SHEET_TYPES, MAX_TYPES};
 
@@ -173,12 +174,12 @@ fn reached_in(
 }
 
 /// Compare on a table handed in, as the exported function does it.
-pub fn compare(raw: &RawTable, t: usize, s: usize) -> Result<[bool; 4], usize> {
+pub fn compare(raw: &RawTable, t: usize, s: usize) -> Result<[bool; 4], Refusal> {
     if !fits::table(raw) {
-        return Err(2);
+        return Err(OUT_OF_RANGE);
     }
     if t >= raw.types as usize || s >= raw.types as usize {
-        return Err(7);
+        return Err(UNKNOWN_TYPE);
     }
     Ok(answers(raw, t, s))
 }
@@ -188,9 +189,9 @@ fn answers(raw: &RawTable, t: usize, s: usize) -> [bool; 4] {
 }
 
 /// The pair table of a sheet, a search for each relation at each pair; or 2.
-pub fn pairs(raw: &RawTable, out: &mut [u8; PAIRS_LENGTH]) -> usize {
+pub fn pairs(raw: &RawTable, out: &mut [u8; PAIRS_LENGTH]) -> Refusal {
     if !fits::table(raw) {
-        return 2;
+        return OUT_OF_RANGE;
     }
     out.fill(0);
     for t in 0..raw.sheet_types as usize {

@@ -3,9 +3,10 @@
 
 use crate::fits;
 use reference::raw::{RawTable, BROADER_BYTES};
+use reference::refusal::{Refusal, FORM, NOT_BELOW, OUT_OF_RANGE, SHORT_BUFFER};
 use reference::table::{MAX_ARGUMENTS, MAX_CATEGORIES, MAX_METHODS, MAX_SHEET_TYPES, MAX_SUBJECTS};
 
-type Refused = (usize, usize);
+type Refused = (Refusal, usize);
 
 /// Sheet read into a new table; on a refusal, number and offset, and a table with every count 0.
 pub fn read(input: &[u8], table: &mut RawTable) -> Result<(), Refused> {
@@ -34,12 +35,18 @@ fn fill(input: &[u8], table: &mut RawTable) -> Result<(), Refused> {
         read_type(&mut lines, table, number)?;
     }
     let last = lines.at;
-    lines.next(|line| if line == b"end=sheet" { Ok(()) } else { Err(1) })?;
+    lines.next(|line| {
+        if line == b"end=sheet" {
+            Ok(())
+        } else {
+            Err(FORM)
+        }
+    })?;
     if lines.at < input.len() {
-        return Err((1, lines.at));
+        return Err((FORM, lines.at));
     }
     if fits::own_in_signature(table) {
-        return Err((3, last));
+        return Err((NOT_BELOW, last));
     }
     Ok(())
 }
@@ -71,10 +78,13 @@ struct Lines<'a> {
 }
 
 impl<'a> Lines<'a> {
-    fn next<T>(&mut self, reader: impl FnOnce(&'a [u8]) -> Result<T, usize>) -> Result<T, Refused> {
+    fn next<T>(
+        &mut self,
+        reader: impl FnOnce(&'a [u8]) -> Result<T, Refusal>,
+    ) -> Result<T, Refused> {
         let rest = &self.input[self.at..];
         let end = rest.iter().position(|byte| *byte == b'\n');
-        let end = end.ok_or((1, self.at))?;
+        let end = end.ok_or((FORM, self.at))?;
         let value = reader(&rest[..end]).map_err(|number| (number, self.at))?;
         self.at += end + 1;
         Ok(value)
@@ -82,10 +92,10 @@ impl<'a> Lines<'a> {
 }
 
 /// A decimal and what is behind it.
-fn decimal(text: &[u8]) -> Result<(usize, &[u8]), usize> {
+fn decimal(text: &[u8]) -> Result<(usize, &[u8]), Refusal> {
     let length = text.iter().take_while(|byte| byte.is_ascii_digit()).count();
     if length == 0 || length > 1 && text[0] == b'0' {
-        return Err(1);
+        return Err(FORM);
     }
     let value = text[..length].iter().fold(0usize, |value, digit| {
         value
@@ -95,52 +105,52 @@ fn decimal(text: &[u8]) -> Result<(usize, &[u8]), usize> {
     Ok((value, &text[length..]))
 }
 
-fn ranged(line: &[u8], word: &[u8], lowest: usize, highest: usize) -> Result<u32, usize> {
-    match decimal(line.strip_prefix(word).ok_or(1usize)?)? {
+fn ranged(line: &[u8], word: &[u8], lowest: usize, highest: usize) -> Result<u32, Refusal> {
+    match decimal(line.strip_prefix(word).ok_or(FORM)?)? {
         (number, []) if (lowest..=highest).contains(&number) => Ok(number as u32),
-        (_, []) => Err(2),
-        _ => Err(1),
+        (_, []) => Err(OUT_OF_RANGE),
+        _ => Err(FORM),
     }
 }
 
-fn under(line: &[u8], category: u32, categories: u32) -> Result<[u8; BROADER_BYTES], usize> {
-    let (first, rest) = decimal(line.strip_prefix(b"under=").ok_or(1usize)?)?;
+fn under(line: &[u8], category: u32, categories: u32) -> Result<[u8; BROADER_BYTES], Refusal> {
+    let (first, rest) = decimal(line.strip_prefix(b"under=").ok_or(FORM)?)?;
     let (count, second) = match rest {
         [] => (1, 0),
         [b',', rest @ ..] => match decimal(rest)? {
             (second, []) => (2, second),
-            _ => return Err(1),
+            _ => return Err(FORM),
         },
-        _ => return Err(1),
+        _ => return Err(FORM),
     };
     let most = first.max(second);
     if most > categories as usize {
-        return Err(2);
+        return Err(OUT_OF_RANGE);
     }
     if most >= category as usize {
-        return Err(3);
+        return Err(NOT_BELOW);
     }
     Ok([count, first as u8, second as u8])
 }
 
-fn representation(line: &[u8]) -> Result<u8, usize> {
+fn representation(line: &[u8]) -> Result<u8, Refusal> {
     match line {
         b"rep=ref" => Ok(0),
         b"rep=w32" => Ok(1),
         b"rep=w64" => Ok(2),
-        _ => Err(1),
+        _ => Err(FORM),
     }
 }
 
-fn own(line: &[u8]) -> Result<u8, usize> {
+fn own(line: &[u8]) -> Result<u8, Refusal> {
     match line {
         b"own=no" => Ok(0),
         b"own=yes" => Ok(1),
-        _ => Err(1),
+        _ => Err(FORM),
     }
 }
 
-fn method_state(line: &[u8], types: u32) -> Result<[u8; 7], usize> {
+fn method_state(line: &[u8], types: u32) -> Result<[u8; 7], Refusal> {
     match line {
         b"m=denied" => return Ok([0; 7]),
         b"m=unavail" => return Ok([3, 0, 0, 0, 0, 0, 0]),
@@ -151,20 +161,20 @@ fn method_state(line: &[u8], types: u32) -> Result<[u8; 7], usize> {
     }
     signature(
         2,
-        line.strip_prefix(b"m=avail(").ok_or(1usize)?,
+        line.strip_prefix(b"m=avail(").ok_or(FORM)?,
         types as usize,
     )
 }
 
 /// The signature behind `(`.
-fn signature(state: u8, text: &[u8], types: usize) -> Result<[u8; 7], usize> {
+fn signature(state: u8, text: &[u8], types: usize) -> Result<[u8; 7], Refusal> {
     let mut bytes = [state, 0, 0, 0, 0, 0, 0];
     let mut most = 0;
     let mut rest = text;
     while !matches!(rest, [b')', ..]) {
         let slot = usize::from(bytes[1]);
         if slot == MAX_ARGUMENTS {
-            return Err(1);
+            return Err(FORM);
         }
         let (number, behind) = decimal(rest)?;
         most = most.max(number);
@@ -173,27 +183,27 @@ fn signature(state: u8, text: &[u8], types: usize) -> Result<[u8; 7], usize> {
         rest = match behind {
             [b',', next @ ..] if !matches!(next, [b')', ..]) => next,
             [b')', ..] => behind,
-            _ => return Err(1),
+            _ => return Err(FORM),
         };
     }
     if &rest[1..] != b"-" {
         let (number, behind) = decimal(&rest[1..])?;
         if !behind.is_empty() {
-            return Err(1);
+            return Err(FORM);
         }
         most = most.max(number);
         bytes[6] = (number as u8).wrapping_add(1);
     }
     if most >= types {
-        return Err(2);
+        return Err(OUT_OF_RANGE);
     }
     Ok(bytes)
 }
 
 /// Sheet write of a table handed in: the length, or 2 or 4 and the buffer as it was.
-pub fn write(table: &RawTable, buffer: &mut [u8]) -> Result<usize, usize> {
+pub fn write(table: &RawTable, buffer: &mut [u8]) -> Result<usize, Refusal> {
     if !fits::table(table) {
-        return Err(2);
+        return Err(OUT_OF_RANGE);
     }
     let mut count = Text {
         buffer: &mut [],
@@ -201,7 +211,7 @@ pub fn write(table: &RawTable, buffer: &mut [u8]) -> Result<usize, usize> {
     };
     put_sheet(&mut count, table);
     if buffer.len() < count.at {
-        return Err(4);
+        return Err(SHORT_BUFFER);
     }
     let mut text = Text { buffer, at: 0 };
     put_sheet(&mut text, table);

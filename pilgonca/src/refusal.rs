@@ -15,7 +15,7 @@ macro_rules! refusals {
         }
 
         const WORDS: &[&str] = &[$($words,)*];
-        const ALL: [Refusal; WORDS.len()] = [$(Refusal::$name,)*];
+        const ALL: &[Refusal] = &[$(Refusal::$name,)*];
     };
 }
 
@@ -42,13 +42,13 @@ refusals! {
 }
 
 impl Refusal {
-    /// All of them, by number.
+    /// All of them, by number; their count is no part of the type, since more will come.
     ///
     /// ```
     /// use pilgonca::Refusal;
     /// assert!(Refusal::ALL.iter().zip(1..).all(|(refusal, number)| refusal.number() == number));
     /// ```
-    pub const ALL: [Refusal; WORDS.len()] = ALL;
+    pub const ALL: &'static [Refusal] = ALL;
 
     /// Its number.
     ///
@@ -75,7 +75,7 @@ impl Refusal {
     pub(crate) fn check(code: usize) -> Result<(), Refusal> {
         match code {
             0 => Ok(()),
-            _ => Err(Refusal::from_number(code).expect("the core refuses with 1 to 19")),
+            _ => Err(Refusal::from_number(code).expect("the number of a refusal")),
         }
     }
 

@@ -1,7 +1,11 @@
 //! What requests met: accepted or refused with which number, and situations.
 
 use crate::model::Model;
-use crate::refusal::Refusal;
+use crate::refusal::{
+    Refusal, ANSWERED_ALREADY, CALLS_FULL, CELLS_FULL, NOT_CALLABLE, NOT_HELD, NOT_OWNER,
+    NOT_STRICT, PLACES_FULL, TOO_WIDE, TYPES_FULL, UNKNOWN_SUBJECT, UNKNOWN_TYPE, UNRELATED,
+    WRONG_VALUES,
+};
 use crate::requests::{Got, Request};
 use crate::situations::{self, Situation};
 use crate::state::State;
@@ -123,11 +127,72 @@ pub fn serve(state: State, requests: &[Request]) -> Seen {
 
 /// The refusals each request can meet on a loaded sheet. On a state handed in each can meet 2, call and answer also 19.
 pub const OF_REQUESTS: &[(&str, &[Refusal])] = &[
-    ("new", &[5, 7, 8, 10, 11, 12, 13]),
-    ("move", &[5, 6, 7, 8, 9, 10, 11, 12, 13]),
-    ("call", &[5, 6, 8, 10, 11, 12, 13, 14, 15, 16, 18]),
-    ("answer", &[5, 6, 8, 10, 11, 12, 13, 15, 16, 17]),
+    (
+        "new",
+        &[
+            UNKNOWN_SUBJECT,
+            UNKNOWN_TYPE,
+            UNRELATED,
+            NOT_STRICT,
+            TYPES_FULL,
+            PLACES_FULL,
+            CELLS_FULL,
+        ],
+    ),
+    (
+        "move",
+        &[
+            UNKNOWN_SUBJECT,
+            NOT_HELD,
+            UNKNOWN_TYPE,
+            UNRELATED,
+            NOT_OWNER,
+            NOT_STRICT,
+            TYPES_FULL,
+            PLACES_FULL,
+            CELLS_FULL,
+        ],
+    ),
+    (
+        "call",
+        &[
+            UNKNOWN_SUBJECT,
+            NOT_HELD,
+            UNRELATED,
+            NOT_STRICT,
+            TYPES_FULL,
+            PLACES_FULL,
+            CELLS_FULL,
+            NOT_CALLABLE,
+            WRONG_VALUES,
+            TOO_WIDE,
+            CALLS_FULL,
+        ],
+    ),
+    (
+        "answer",
+        &[
+            UNKNOWN_SUBJECT,
+            NOT_HELD,
+            UNRELATED,
+            NOT_STRICT,
+            TYPES_FULL,
+            PLACES_FULL,
+            CELLS_FULL,
+            WRONG_VALUES,
+            TOO_WIDE,
+            ANSWERED_ALREADY,
+        ],
+    ),
 ];
 
 /// The refusals that an argument of a call can meet on a loaded sheet, at each position.
-pub const OF_ARGUMENTS: [Refusal; 7] = [8, 10, 11, 12, 13, 15, 16];
+pub const OF_ARGUMENTS: [Refusal; 7] = [
+    UNRELATED,
+    NOT_STRICT,
+    TYPES_FULL,
+    PLACES_FULL,
+    CELLS_FULL,
+    WRONG_VALUES,
+    TOO_WIDE,
+];

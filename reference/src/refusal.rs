@@ -1,6 +1,6 @@
 //! The numbers of the refusals: each is that of the first test that failed.
 
-/// A refusal's number, from 1 to 19.
+/// A refusal's number: one of these.
 pub type Refusal = u32;
 
 /// A line is not of the form that is due (S28, P11).

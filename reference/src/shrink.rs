@@ -110,6 +110,7 @@ mod tests {
     use super::*;
     use crate::entry;
     use crate::hostile::Hostile;
+    use crate::refusal::LATER_LAYER;
 
     #[test]
     fn shrinks_what_is_not_a_sheet() {
@@ -131,7 +132,7 @@ mod tests {
             hostile
                 .requests
                 .iter()
-                .any(|request| entry::request(&mut state, request) == Err(19))
+                .any(|request| entry::request(&mut state, request) == Err(LATER_LAYER))
         };
         let hostile = (0..)
             .map(crate::hostile::generate)

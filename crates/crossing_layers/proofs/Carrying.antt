@@ -13,7 +13,7 @@ use Rattle.spec_model.specs.Basics.{Res, refuse, ok, try}
 use Rattle.spec_model.specs.Crossing.{Reference, cross}
 use Rattle.spec_model.specs.Requests.{atLayer, renumber, crossLayers}
 use Rattle.spec_model.specs.Check.{answerOf}
-use Rattle.spec_model.specs.Refusals.{unrelated}
+use Rattle.spec_model.specs.Refusals.{unrelated, notStrict, laterLayer}
 use Rattle.table_record.specs.declared.Counts.{Counts}
 use Rattle.table_record.specs.Store.{tableIn, withCount}
 use Rattle.table_record.proofs.Codes.{answer-is}
@@ -33,9 +33,9 @@ none-or (suc n) = inr (λ z. omega (arith, z))
 
 layer-some : (first : Bool) (n : ℕ) → (n ≡ 0 → ⊥) → atLayer first n ≡ 0 → ⊥
 layer-some true n h e = h e
-layer-some false n h e = go (eqb n 8 || eqb n 10) e where
-  go : (p : Bool) → cond p 19 n ≡ 0 → ⊥
-  go true z = let w : _≡_ {A = ℕ} 19 0 = z in omega arith
+layer-some false n h e = go (eqb n unrelated || eqb n notStrict) e where
+  go : (p : Bool) → cond p laterLayer n ≡ 0 → ⊥
+  go true z = let w : _≡_ {A = ℕ} laterLayer 0 = z in omega arith
   go false z = h z
 
 layer-none : (first : Bool) → atLayer first 0 ≡ 0
@@ -70,7 +70,7 @@ module _ (b l : List ℕ) (c : Counts) (x : Crossed) (target r i : ℕ) where
 
   pub one-none : length b ≡ typesSize → target ≡ 0 → (e : ℕ) → e ≡ atLayer (eqb i 0) unrelated → (q : Crossed) → q ≡ stopped (x .places) e → Steps b q
   one-none long z e w =
-      let some-no : e ≡ 0 → ⊥ = λ y. layer-some (eqb i 0) 8 (λ u. omega (arith, u)) (sym w ∙ y) in
+      let some-no : e ≡ 0 → ⊥ = λ y. layer-some (eqb i 0) unrelated (λ u. omega (arith, u)) (sym w ∙ y) in
       stops b b l (withCount c (x .types)) (x .places) (x .ty) e (positive e some-no)
       (ap (λ (n : ℕ). refuse n) w ∙ sym (ap (λ (n : ℕ). crossTo (eqb i 0) (referenceOf b l c x) r (answerOf n)) z)) long (λ j h. refl)
     where

@@ -180,14 +180,14 @@ module _ (i e : ℕ) where
     later : atLayer (eqb i 0) e ≡ cond (eqb e unrelated || eqb e notStrict) laterLayer e
     later = ap (λ (q : Bool). atLayer q e) (ne-eqb i 0 h)
 
-    pub at-later-8 : e ≡ unrelated → laterLayer ≡ atLayer (eqb i 0) e
-    at-later-8 z = sym (later ∙ ap (λ (n : ℕ). cond (eqb n unrelated || eqb n notStrict) laterLayer n) z)
+    pub at-later-unrelated : e ≡ unrelated → laterLayer ≡ atLayer (eqb i 0) e
+    at-later-unrelated z = sym (later ∙ ap (λ (n : ℕ). cond (eqb n unrelated || eqb n notStrict) laterLayer n) z)
 
-    pub at-later-10 : e ≡ notStrict → laterLayer ≡ atLayer (eqb i 0) e
-    at-later-10 z = sym (later ∙ ap (λ (n : ℕ). cond (eqb n unrelated || eqb n notStrict) laterLayer n) z)
+    pub at-later-not-strict : e ≡ notStrict → laterLayer ≡ atLayer (eqb i 0) e
+    at-later-not-strict z = sym (later ∙ ap (λ (n : ℕ). cond (eqb n unrelated || eqb n notStrict) laterLayer n) z)
 
     pub at-later : (e ≡ unrelated → ⊥) → (e ≡ notStrict → ⊥) → e ≡ atLayer (eqb i 0) e
-    at-later y z = sym (later ∙ rw (ne-eqb e 8 y, ne-eqb e 10 z))
+    at-later y z = sym (later ∙ rw (ne-eqb e unrelated y, ne-eqb e notStrict z))
 
 abbrev passedAs : ℕ → Bool → Res (Unit {0})
 passedAs e q = elim q [ false ↦ refuse e | true ↦ ok tt ]
@@ -195,9 +195,9 @@ passedAs e q = elim q [ false ↦ refuse e | true ↦ ok tt ]
 passed-no : (e : ℕ) → eqb e 0 ≡ false → passedOf e ≡ refuse e
 passed-no e z = ap (λ (q : Bool). passedAs e q) z
 
-refused-8 : (q : Bool) → eqb (atLayer q 8) 0 ≡ false
-refused-8 true = refl
-refused-8 false = refl
+refused-unrelated : (q : Bool) → eqb (atLayer q unrelated) 0 ≡ false
+refused-unrelated true = refl
+refused-unrelated false = refl
 
 -- ---- Numbers. A width has h + 1 numbers on each side of 0.
 no-such : {A : Type 0} → false ≡ true → A
@@ -218,7 +218,7 @@ inside-width (negsuc a) h e f = let z : a ≤ h = ltb-false h a e in sym (lt-ltb
 pub fits-32 : (v : ℤ) → true ≡ within 2147483648 v → passedOf 0 ≡ widthAt v
 fits-32 v e = rw (← e)
 
-pub exceeds-32 : (v : ℤ) → false ≡ within 2147483648 v → passedOf 16 ≡ widthAt v
+pub exceeds-32 : (v : ℤ) → false ≡ within 2147483648 v → passedOf tooWide ≡ widthAt v
 exceeds-32 v e = rw (← e)
 
 rep-wide : (n : ℕ) → (n ≡ 0 → ⊥) → (n ≡ 1 → ⊥) → repOf n ≡ w64
@@ -232,7 +232,7 @@ module _ (b l : List ℕ) (c : Counts) (v : ℤ) (target i e : ℕ) where
   Passes = passedOf e ≡ passTo (eqb i 0) (tableIn b l c) v (answerOf target)
 
   refused-there : e ≡ atLayer (eqb i 0) unrelated → passedOf e ≡ refuse (atLayer (eqb i 0) unrelated)
-  refused-there z = ap passedOf z ∙ passed-no (atLayer (eqb i 0) unrelated) (refused-8 (eqb i 0))
+  refused-there z = ap passedOf z ∙ passed-no (atLayer (eqb i 0) unrelated) (refused-unrelated (eqb i 0))
 
   pub pass-none : target ≡ 0 → e ≡ atLayer (eqb i 0) unrelated → Passes
   pass-none z w = refused-there w ∙ sym (ap (λ (n : ℕ). passTo (eqb i 0) (tableIn b l c) v (answerOf n)) z)
@@ -277,7 +277,7 @@ nothing-left (x ∷ xs) (suc n) (suc i) h = nothing-left xs n i (le-of-suc-le-su
 
 -- what `passLayers` does at a type of the representation, with what comes after
 abbrev onward : Bool → ℤ → Res (Unit {0}) → Rep → Res (Unit {0})
-onward first v k r = elim r [ ref ↦ refuse (atLayer first 8) | w32 ↦ need (within 2147483648 v) tooWide (λ _. k) | w64 ↦ k ]
+onward first v k r = elim r [ ref ↦ refuse (atLayer first unrelated) | w32 ↦ need (within 2147483648 v) tooWide (λ _. k) | w64 ↦ k ]
 
 abbrev tested : Bool → Res (Unit {0})
 tested q = need q tooWide λ _. ok tt

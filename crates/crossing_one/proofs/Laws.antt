@@ -54,14 +54,14 @@ subtype→loose t = weaken subtype loose t (λ a b h. same-sort (a .rep) (b .rep
 module _ (t : Table) (ps : List Place) (s p to r : ℕ) where
   -- an own target
   module _ (own : typeAt t to .own ≡ true) where
-    own-8 : related free t to s ≡ false → refuse unrelated ≡ cross (reference t ps s p) to r
+    own-unrelated : related free t to s ≡ false → refuse unrelated ≡ cross (reference t ps s p) to r
     unfolding cross
-    own-8 e = rw (own, e)
+    own-unrelated e = rw (own, e)
 
     module _ (met : related free t to s ≡ true) where
-      own-9 : eqb r (baseOwner ps p) ≡ false → refuse notOwner ≡ cross (reference t ps s p) to r
+      own-not-owner : eqb r (baseOwner ps p) ≡ false → refuse notOwner ≡ cross (reference t ps s p) to r
       unfolding cross
-      own-9 e = rw (own, met, e)
+      own-not-owner e = rw (own, met, e)
 
       own-meets : eqb r (baseOwner ps p) ≡ true → adapt t ps to to (baseOf ps p) ≡ cross (reference t ps s p) to r
       unfolding cross
@@ -69,9 +69,9 @@ module _ (t : Table) (ps : List Place) (s p to r : ℕ) where
 
   -- any other
   module _ (own : typeAt t to .own ≡ false) where
-    other-8 : related loose t to s ≡ false → refuse unrelated ≡ cross (reference t ps s p) to r
+    other-unrelated : related loose t to s ≡ false → refuse unrelated ≡ cross (reference t ps s p) to r
     unfolding cross
-    other-8 e = rw (own, e)
+    other-unrelated e = rw (own, e)
 
     module _ (met : related loose t to s ≡ true) where
       other-stays : related subtype t to s ≡ true → ok (reference t ps to p) ≡ cross (reference t ps s p) to r
@@ -79,9 +79,9 @@ module _ (t : Table) (ps : List Place) (s p to r : ℕ) where
       other-stays e = rw (own, met, e)
 
       module _ (less : related subtype t to s ≡ false) where
-        other-11 : refuse typesFull ≡ derived t sub to s → refuse typesFull ≡ cross (reference t ps s p) to r
+        other-types-full : refuse typesFull ≡ derived t sub to s → refuse typesFull ≡ cross (reference t ps s p) to r
         unfolding cross
-        other-11 e = rw (own, met, less, ← e)
+        other-types-full e = rw (own, met, less, ← e)
 
         other-meets : (u : Table) (i : ℕ) → ok (u, i) ≡ derived t sub to s → adapt u ps to i p ≡ cross (reference t ps s p) to r
         unfolding cross
@@ -103,16 +103,16 @@ module _ (t : Table) (ps : List Place) (to r p v : ℕ) (is : v ≡ placeType (p
   meet-passes e = sym (adapt-is ∙ rw e)
 
   module _ (less : related conforms t r v ≡ false) where
-    meet-10 : related strict t r v ≡ false → refuse notStrict ≡ adapt t ps to r p
-    meet-10 e = sym (adapt-is ∙ rw (less, e))
+    meet-not-strict : related strict t r v ≡ false → refuse notStrict ≡ adapt t ps to r p
+    meet-not-strict e = sym (adapt-is ∙ rw (less, e))
 
     module _ (met : related strict t r v ≡ true) where
-      meet-11 : refuse typesFull ≡ derived t closed r v → refuse typesFull ≡ adapt t ps to r p
-      meet-11 e = sym (adapt-is ∙ rw (less, met, ← e))
+      meet-types-full : refuse typesFull ≡ derived t closed r v → refuse typesFull ≡ adapt t ps to r p
+      meet-types-full e = sym (adapt-is ∙ rw (less, met, ← e))
 
       module _ (u : Table) (i : ℕ) (e : ok (u, i) ≡ derived t closed r v) where
-        meet-12 : ltb (length ps) maxPlaces ≡ false → refuse placesFull ≡ adapt t ps to r p
-        meet-12 f = sym (adapt-is ∙ rw (less, met, ← e, f))
+        meet-places-full : ltb (length ps) maxPlaces ≡ false → refuse placesFull ≡ adapt t ps to r p
+        meet-places-full f = sym (adapt-is ∙ rw (less, met, ← e, f))
 
         meet-adapts : ltb (length ps) maxPlaces ≡ true → ok (reference u (ps ++ (adapter p i ∷ [])) to (length ps)) ≡ adapt t ps to r p
         meet-adapts f = sym (adapt-is ∙ rw (less, met, ← e, f))
@@ -252,8 +252,8 @@ module _ (b l : List ℕ) (c : Counts) (h : Ready l c b) (ps : Places) (desc : D
   )
 
   module _ (less : false ≡ related conforms U r v) where
-    pub meets-10 : false ≡ related strict U r v → (q : Crossed) → q ≡ stopped ps 10 → Meets-as b q
-    meets-10 e = stops b b l c ps to 10 (omega arith) (meet-10 U (placesIn ps) to r p v is (sym less) (sym e)) (h .long) (same-kept (c .types) b)
+    pub meets-not-strict : false ≡ related strict U r v → (q : Crossed) → q ≡ stopped ps notStrict → Meets-as b q
+    meets-not-strict e = stops b b l c ps to notStrict (omega arith) (meet-not-strict U (placesIn ps) to r p v is (sym less) (sym e)) (h .long) (same-kept (c .types) b)
 
     module _ (met : true ≡ related strict U r v) where
       meets-free : So (related free U r v)
@@ -278,8 +278,8 @@ module _ (b l : List ℕ) (c : Counts) (h : Ready l c b) (ps : Places) (desc : D
         gives : (x : Derived) → d ≡ x → derivationIn b′ l c x ≡ derived U closed r v
         gives x e = sym (ap (derivationIn b′ l c) e) ∙ g .is l
 
-        pub meets-11 : d ≡ Full → (q : Crossed) → q ≡ stopped ps 11 → Meets-as b′ q
-        meets-11 e = stops b b′ l c ps to 11 (omega arith) (meet-11 U (placesIn ps) to r p v is (sym less) (sym met) (gives Full e)) (g .keeps .long) (g .keeps .kept)
+        pub meets-types-full : d ≡ Full → (q : Crossed) → q ≡ stopped ps typesFull → Meets-as b′ q
+        meets-types-full e = stops b b′ l c ps to typesFull (omega arith) (meet-types-full U (placesIn ps) to r p v is (sym less) (sym met) (gives Full e)) (g .keeps .long) (g .keeps .kept)
 
         module _ (i m : ℕ) (e : d ≡ At i m) where
           closed-low : i < m
@@ -290,9 +290,9 @@ module _ (b l : List ℕ) (c : Counts) (h : Ready l c b) (ps : Places) (desc : D
           pub closed-byte : i < 256
           closed-byte = let z = derives-sized (c .types) r v e (g .keeps) in let w = closed-low in let u = z .1 in omega arith
 
-          pub meets-12 : maxPlaces ≤ ps .count → (q : Crossed) → q ≡ stopped ps 12 → Meets-as b′ q
-          meets-12 f = stops b b′ l c ps to 12 (omega arith)
-              (meet-12 U (placesIn ps) to r p v is (sym less) (sym met) (tableIn b′ l (withCount c m)) i (gives (At i m) e)
+          pub meets-places-full : maxPlaces ≤ ps .count → (q : Crossed) → q ≡ stopped ps placesFull → Meets-as b′ q
+          meets-places-full f = stops b b′ l c ps to placesFull (omega arith)
+              (meet-places-full U (placesIn ps) to r p v is (sym less) (sym met) (tableIn b′ l (withCount c m)) i (gives (At i m) e)
               (ap (λ (n : ℕ). ltb n maxPlaces) (places-length ps) ∙ le-ltb (ps .count) maxPlaces f))
               (g .keeps .long) (g .keeps .kept)
 
@@ -338,14 +338,14 @@ module _ (b l : List ℕ) (c : Counts) (h : Ready l c b) (ps : Places) (x : Cros
   known e = subst (λ (n : ℕ). x .to < n) (size-is b l c) (keeps-related free T (x .to) (x .from) e .low)
 
   module _ (own : ownIn (c .types) b (x .to) ≡ true) where
-    pub unwrap-8 : false ≡ related free T (x .to) (x .from) → (q : Crossed) → q ≡ stopped ps 8 → Crosses b q
-    unwrap-8 e = stops b b l c ps (x .from) 8 (omega arith) (own-8 T (placesIn ps) (x .from) (x .place) (x .to) (x .receiver) (own-table b l c (x .to) ∙ own) (sym e)) (h .long)
+    pub unwrap-unrelated : false ≡ related free T (x .to) (x .from) → (q : Crossed) → q ≡ stopped ps unrelated → Crosses b q
+    unwrap-unrelated e = stops b b l c ps (x .from) unrelated (omega arith) (own-unrelated T (placesIn ps) (x .from) (x .place) (x .to) (x .receiver) (own-table b l c (x .to) ∙ own) (sym e)) (h .long)
         (same-kept (c .types) b)
 
     module _ (met : true ≡ related free T (x .to) (x .from)) (o : ℕ) (is : o ≡ baseOwner (placesIn ps) (x .place)) where
-      pub unwrap-9 : (o ≡ x .receiver → ⊥) → (q : Crossed) → q ≡ stopped ps 9 → Crosses b q
-      unwrap-9 e = stops b b l c ps (x .from) 9 (omega arith)
-          (own-9 T (placesIn ps) (x .from) (x .place) (x .to) (x .receiver) (own-table b l c (x .to) ∙ own) (sym met) (differ (λ z. e (is ∙ sym z)))) (h .long) (same-kept (c .types) b)
+      pub unwrap-not-owner : (o ≡ x .receiver → ⊥) → (q : Crossed) → q ≡ stopped ps notOwner → Crosses b q
+      unwrap-not-owner e = stops b b l c ps (x .from) notOwner (omega arith)
+          (own-not-owner T (placesIn ps) (x .from) (x .place) (x .to) (x .receiver) (own-table b l c (x .to) ∙ own) (sym met) (differ (λ z. e (is ∙ sym z)))) (h .long) (same-kept (c .types) b)
 
       pub unwrap-meets : o ≡ x .receiver → (base : ℕ) → BaseAt ps (x .place) base → (b′ : List ℕ) (q : Crossed) →
           crossedOf b′ l c q ≡ adapt T (placesIn ps) (x .to) (x .to) base → Leaves c ps (x .to) b b′ q → Crosses b′ q
@@ -361,9 +361,9 @@ module _ (b l : List ℕ) (c : Counts) (h : Ready l c b) (ps : Places) (x : Cros
       )
 
   module _ (desc : Descending ps) (place : x .place < ps .count) (own : ownIn (c .types) b (x .to) ≡ false) where
-    pub restrict-8 : false ≡ related loose T (x .to) (x .from) → (q : Crossed) → q ≡ stopped ps 8 → Crosses b q
-    restrict-8 e = stops b b l c ps (x .from) 8 (omega arith) (other-8 T (placesIn ps) (x .from) (x .place) (x .to) (x .receiver) (own-table b l c (x .to) ∙ own) (sym e)) (h .long)
-        (same-kept (c .types) b)
+    pub restrict-unrelated : false ≡ related loose T (x .to) (x .from) → (q : Crossed) → q ≡ stopped ps unrelated → Crosses b q
+    restrict-unrelated e = stops b b l c ps (x .from) unrelated (omega arith)
+        (other-unrelated T (placesIn ps) (x .from) (x .place) (x .to) (x .receiver) (own-table b l c (x .to) ∙ own) (sym e)) (h .long) (same-kept (c .types) b)
 
     pub restrict-stays : true ≡ related subtype T (x .to) (x .from) → (q : Crossed) → q ≡ landed ps (x .to) (landing.Stands (x .place)) (c .types) → Crosses b q
     restrict-stays e q z = let met = subtype→loose T (x .to) (x .from) (sym e) in subst (Crosses b) (sym z) (
@@ -383,9 +383,9 @@ module _ (b l : List ℕ) (c : Counts) (h : Ready l c b) (ps : Places) (x : Cros
         answer : (y : Derived) → d ≡ y → derivationIn b₁ l c y ≡ derived T sub (x .to) (x .from)
         answer y e = sym (ap (derivationIn b₁ l c) e) ∙ g .is l
 
-        pub restrict-11 : d ≡ Full → (q : Crossed) → q ≡ stopped ps 11 → Crosses b₁ q
-        restrict-11 e = stops b b₁ l c ps (x .from) 11 (omega arith)
-            (other-11 T (placesIn ps) (x .from) (x .place) (x .to) (x .receiver) (own-table b l c (x .to) ∙ own) (sym met) (sym less) (answer Full e)) (g .keeps .long) (g .keeps .kept)
+        pub restrict-types-full : d ≡ Full → (q : Crossed) → q ≡ stopped ps typesFull → Crosses b₁ q
+        restrict-types-full e = stops b b₁ l c ps (x .from) typesFull (omega arith)
+            (other-types-full T (placesIn ps) (x .from) (x .place) (x .to) (x .receiver) (own-table b l c (x .to) ∙ own) (sym met) (sym less) (answer Full e)) (g .keeps .long) (g .keeps .kept)
 
         module _ (i m : ℕ) (e : d ≡ At i m) (n : Counts) (en : n ≡ withCount c m) where
           pub restrict-ready : Ready l n b₁

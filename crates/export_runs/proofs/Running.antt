@@ -11,6 +11,7 @@ use Rattle.spec_model.specs.Table.{size}
 use Rattle.spec_model.specs.Requests.{System, Outcome}
 use Rattle.spec_model.specs.Check.{systemOf, systemAccepted}
 use Rattle.spec_model.specs.Handed.{counted}
+use Rattle.spec_model.specs.Refusals.{outOfRange}
 use Rattle.law_handed.proofs.Counted.{means-same, accepted-same, stored-same}
 use Rattle.state_record.specs.View.{rawState}
 use Rattle.state_bytes.specs.Flat.{Flat, rawFlat}
@@ -25,12 +26,12 @@ use Rattle.table_record.specs.Layout.{typeSize}
 
 module _ (f : Flat) (k : ℕ) (ws : List ℤ) where
   abbrev from : Bool → System → Res (List Outcome × System)
-  from b s = need b 2 λ _. ok (runAsked s (requests k ws))
+  from b s = need b outOfRange λ _. ok (runAsked s (requests k ws))
 
   -- a code that names nothing
-  pub run-unfit : (l : LentRun) → codesIn f ≡ false → RunsOut (runHanded (rawFlat f) k ws) 2 l l
+  pub run-unfit : (l : LentRun) → codesIn f ≡ false → RunsOut (runHanded (rawFlat f) k ws) outOfRange l l
   unfolding runHanded
-  run-unfit l h = subst (λ (b : Bool). RunsOut (from b (systemOf (rawFlat f))) 2 l l) (sym (codes-refused f h)) (refl, refl)
+  run-unfit l h = subst (λ (b : Bool). RunsOut (from b (systemOf (rawFlat f))) outOfRange l l) (sym (codes-refused f h)) (refl, refl)
 
   same : codesIn f ≡ true → runHanded (rawState (stateFrom f)) k ws ≡ runHanded (rawFlat f) k ws
   unfolding runHanded
@@ -70,4 +71,4 @@ module _ (f : Flat) (k : ℕ) (ws : List ℤ) where
           go : (b : Bool) → Runs (stateFrom f) old new (from b (systemOf (rawState (stateFrom f)))) r
               → RunsOut (from b (systemOf (rawState (stateFrom f)))) 0 (lentRun f old served) (lentRun g new (r .served))
           go true v = taken-as _ _ v
-          go false v = let e : 2 ≡ r .refusal = sym (ap (λ (x : Ran). x .refusal) (v .0)) in absurd (omega (arith, e, h))
+          go false v = let e : outOfRange ≡ r .refusal = sym (ap (λ (x : Ran). x .refusal) (v .0)) in absurd (omega (arith, e, h))

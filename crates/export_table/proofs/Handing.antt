@@ -7,6 +7,7 @@ use lib.Dec.{eqb}
 use Rattle.spec_model.specs.Basics.{Res, ok, need}
 use Rattle.spec_model.specs.Table.{Table}
 use Rattle.spec_model.specs.Check.{RawTable, tableOf, tableAccepted, codesFit}
+use Rattle.spec_model.specs.Refusals.{outOfRange}
 use Rattle.spec_model.proofs.Rules.{never}
 use Rattle.table_record.specs.declared.Counts.{Counts}
 use Rattle.table_record.specs.Store.{rawTable, withCount}
@@ -21,13 +22,13 @@ use Rattle.export_table.specs.Codes.{handedOut, derivationLeft, Lent, le
 -- by whether the table is accepted
 module _ (old entries : List ℕ) (r : Pairs) where
   abbrev Given : Bool → Res (List ℕ)
-  Given accepted = need accepted 2 λ _. ok entries
+  Given accepted = need accepted outOfRange λ _. ok entries
 
   out-new : (b : Bool) → r ≡ pairsGiven (Given b) → r .fits ≡ true → (0, r .entries) ≡ handedOut old (Given b)
   out-new true e h = ap (λ (z : Pairs). (0, z .entries)) e
   out-new false e h = never (sym (ap (λ (z : Pairs). z .fits) e) ∙ h)
 
-  out-old : (b : Bool) → r ≡ pairsGiven (Given b) → r .fits ≡ false → (2, old) ≡ handedOut old (Given b)
+  out-old : (b : Bool) → r ≡ pairsGiven (Given b) → r .fits ≡ false → (outOfRange, old) ≡ handedOut old (Given b)
   out-old true e h = never (sym h ∙ ap (λ (z : Pairs). z .fits) e)
   out-old false e h = refl
 
@@ -36,7 +37,7 @@ module _ (t : RawTable) (old : List ℕ) (r : Pairs) (e : r ≡ pairsGiven (pair
   unfolding pairsHanded
   pairs-new = out-new old (pairTable (tableOf t)) r (tableAccepted t) e
 
-  pub pairs-old : r .fits ≡ false → (2, old) ≡ handedOut old (pairsHanded t)
+  pub pairs-old : r .fits ≡ false → (outOfRange, old) ≡ handedOut old (pairsHanded t)
   unfolding pairsHanded
   pairs-old = out-old old (pairTable (tableOf t)) r (tableAccepted t) e
 

@@ -22,7 +22,8 @@ use Rattle.spec_model.specs.Requests.{serve, leaving, cellAt, callAt, callLayer
 use Rattle.spec_model.specs.Check.{RawSystem, systemOf, systemAccepted}
 use Rattle.spec_model.specs.Handed.{handBack, serveHanded}
 use Rattle.spec_model.proofs.Tests.{ltb-so}
-use Rattle.spec_model.specs.Refusals.{outOfRange, typesFull, tooWide}
+use Rattle.spec_model.specs.Refusals.{outOfRange, unknownSubject, notHeld, unknownType, unrelated, notOwner, notStrict, typesFull, placesFull, cellsFull, notCallable, wrongValues, tooWide}
+use Rattle.spec_model.specs.Refusals.{answeredAlready, callsFull, laterLayer}
 
 -- a refusal's number: never 0, which says that all went well
 abbrev pub Number : ℕ → Type 0
@@ -60,25 +61,25 @@ small-derived t d l r = go (derive maxTypes t d l r)
 small-adapt : (t : Table) (ps : List Place) (to r p : ℕ) → Small any (adapt t ps to r p)
 unfolding adapt
 small-adapt t ps to r p = small-if any (related conforms t r (placeType (placeAt ps p))) _ _ tt
-    (small-need any (related strict t r (placeType (placeAt ps p))) 10 _ (omega arith, omega arith) λ _.
+    (small-need any (related strict t r (placeType (placeAt ps p))) notStrict _ (omega arith, omega arith) λ _.
     small-try any any (derived t closed r (placeType (placeAt ps p))) _ (small-derived t closed r (placeType (placeAt ps p))) λ x _.
-    small-need any (ltb (length ps) maxPlaces) 12 _ (omega arith, omega arith) λ _. tt)
+    small-need any (ltb (length ps) maxPlaces) placesFull _ (omega arith, omega arith) λ _. tt)
 
 small-cross : (f : Reference) (to r : ℕ) → Small any (cross f to r)
 unfolding cross
 small-cross f to r = small-if any (typeAt (f .table) to .own) _ _
-    (small-need any (related free (f .table) to (f .type)) 8 _ (omega arith, omega arith) λ _.
-    small-need any (eqb r (baseOwner (f .places) (f .place))) 9 _ (omega arith, omega arith) λ _.
+    (small-need any (related free (f .table) to (f .type)) unrelated _ (omega arith, omega arith) λ _.
+    small-need any (eqb r (baseOwner (f .places) (f .place))) notOwner _ (omega arith, omega arith) λ _.
     small-adapt (f .table) (f .places) to to (baseOf (f .places) (f .place)))
-    (small-need any (related loose (f .table) to (f .type)) 8 _ (omega arith, omega arith) λ _.
+    (small-need any (related loose (f .table) to (f .type)) unrelated _ (omega arith, omega arith) λ _.
     small-if any (related subtype (f .table) to (f .type)) _ _ tt
     (small-try any any (derived (f .table) sub to (f .type)) _ (small-derived (f .table) sub to (f .type)) λ x _. small-adapt (x .0) (f .places) to (x .1) (f .place)))
 
 small-layer : (first : Bool) (e : ℕ) → Number e → Number (atLayer first e)
 small-layer true e h = h
-small-layer false e h = go (eqb e 8 || eqb e 10)
+small-layer false e h = go (eqb e unrelated || eqb e notStrict)
   where
-    go : (q : Bool) → Number (cond q 19 e)
+    go : (q : Bool) → Number (cond q laterLayer e)
     go true = (omega arith, omega arith)
     go false = h
 
@@ -89,22 +90,22 @@ small-renumber first (ok a) h = tt
 small-layers : (first : Bool) (f : Reference) (r : ℕ) (ts : List (Option ℕ)) → Small any (crossLayers first f r ts)
 unfolding crossLayers
 small-layers first f r [] = tt
-small-layers first f r (none ∷ ts) = small-layer first 8 (omega arith, omega arith)
+small-layers first f r (none ∷ ts) = small-layer first unrelated (omega arith, omega arith)
 small-layers first f r (some t ∷ ts) = small-try any any (renumber first (cross f t r)) _ (small-renumber first (cross f t r) (small-cross f t r)) λ g _. small-layers false g r ts
 
 small-pass : (first : Bool) (t : Table) (v : ℤ) (ts : List (Option ℕ)) → Small any (passLayers first t v ts)
 unfolding passLayers
 small-pass first t v [] = tt
-small-pass first t v (none ∷ ts) = small-layer first 8 (omega arith, omega arith)
+small-pass first t v (none ∷ ts) = small-layer first unrelated (omega arith, omega arith)
 small-pass first t v (some a ∷ ts) = go (typeAt t a .rep) (small-pass false t v ts)
   where
     go : (r : Rep) → Small any (passLayers false t v ts) → Small {A = Unit {0}} any (elim r [
-      | ref ↦ refuse (atLayer first 8)
+      | ref ↦ refuse (atLayer first unrelated)
       | w32 ↦ need (within 2147483648 v) tooWide λ _. passLayers false t v ts
       | w64 ↦ passLayers false t v ts
     ])
-    go ref h = small-layer first 8 (omega arith, omega arith)
-    go w32 h = small-need any (within 2147483648 v) 16 _ (omega arith, omega arith) λ _. h
+    go ref h = small-layer first unrelated (omega arith, omega arith)
+    go w32 h = small-need any (within 2147483648 v) tooWide _ (omega arith, omega arith) λ _. h
     go w64 h = h
 
 -- ---- The numbers given.
@@ -130,7 +131,7 @@ module _ (s₀ : System) where
 
   small-cell : (s : System) (r : ℕ) (f : Reference) → Small Q (addCell s r f)
   unfolding addCell
-  small-cell s r f = small-need Q (ltb (length (s .cells)) maxCells) 13 _ (omega arith, omega arith) λ room.
+  small-cell s r f = small-need Q (ltb (length (s .cells)) maxCells) cellsFull _ (omega arith, omega arith) λ room.
       let c : Cell = record { holder = r; type = f .type; place = f .place } in
       inl (omega (arith, length-append (s .cells) (c ∷ [])), ap (λ (x : Cell). x .place) (getD-at (s .cells) c [] noCell (length (s .cells)) refl))
 
@@ -158,18 +159,18 @@ module _ (s : System) where
   unfolding newRequest
   small-new subject class to =
       let f : Reference = record { table = s .table; places = s .places ++ (object (named class) (named subject) ∷ []); type = named class; place = length (s .places) } in
-      small-need (Q s) (names subject (s .table .subjects)) 5 _ (omega arith, omega arith) λ _.
-      small-need (Q s) (names class (s .table .sheet) && isClass (typeAt (s .table) (named class))) 7 _ (omega arith, omega arith) λ _.
-      small-need (Q s) (isSheetRef (s .table) to) 7 _ (omega arith, omega arith) λ _.
-      small-need (Q s) (ltb (length (s .places)) maxPlaces) 12 _ (omega arith, omega arith) λ _.
+      small-need (Q s) (names subject (s .table .subjects)) unknownSubject _ (omega arith, omega arith) λ _.
+      small-need (Q s) (names class (s .table .sheet) && isClass (typeAt (s .table) (named class))) unknownType _ (omega arith, omega arith) λ _.
+      small-need (Q s) (isSheetRef (s .table) to) unknownType _ (omega arith, omega arith) λ _.
+      small-need (Q s) (ltb (length (s .places)) maxPlaces) placesFull _ (omega arith, omega arith) λ _.
       small-try any (Q s) (cross f (named to) (named subject)) _ (small-cross f (named to) (named subject)) λ g _. small-cell s s (named subject) g
 
   small-move : (subject k receiver to : ℤ) → Small (Q s) (moveRequest s subject k receiver to)
   unfolding moveRequest
   small-move subject k receiver to =
-      small-need (Q s) (names subject (s .table .subjects) && names receiver (s .table .subjects)) 5 _ (omega arith, omega arith) λ _.
-      small-need (Q s) (held s subject k) 6 _ (omega arith, omega arith) λ _.
-      small-need (Q s) (isSheetRef (s .table) to) 7 _ (omega arith, omega arith) λ _.
+      small-need (Q s) (names subject (s .table .subjects) && names receiver (s .table .subjects)) unknownSubject _ (omega arith, omega arith) λ _.
+      small-need (Q s) (held s subject k) notHeld _ (omega arith, omega arith) λ _.
+      small-need (Q s) (isSheetRef (s .table) to) unknownType _ (omega arith, omega arith) λ _.
       small-try any (Q s) (cross (leaving s (named k)) (named to) (named receiver)) _ (small-cross (leaving s (named k)) (named to) (named receiver)) λ g _. small-cell s s (named receiver) g
 
   small-call : (subject k m : ℤ) (vs : List ℤ) → Small (Q s) (callRequest s subject k m vs)
@@ -177,11 +178,11 @@ module _ (s : System) where
   small-call subject k m vs =
       let c = cellAt s (named k) in
       let xs = methodAt (s .table) (c .type) (named m) .args in
-      small-need (Q s) (names subject (s .table .subjects)) 5 _ (omega arith, omega arith) λ _.
-      small-need (Q s) (held s subject k) 6 _ (omega arith, omega arith) λ _.
-      small-need (Q s) (names m (s .table .methods) && isAvail (methodAt (s .table) (c .type) (named m) .state)) 14 _ (omega arith, omega arith) λ _.
-      small-need (Q s) (argumentsHeld s subject xs vs) 15 _ (omega arith, omega arith) λ _.
-      small-need (Q s) (ltb (length (s .calls)) maxCalls) 18 _ (omega arith, omega arith) λ room.
+      small-need (Q s) (names subject (s .table .subjects)) unknownSubject _ (omega arith, omega arith) λ _.
+      small-need (Q s) (held s subject k) notHeld _ (omega arith, omega arith) λ _.
+      small-need (Q s) (names m (s .table .methods) && isAvail (methodAt (s .table) (c .type) (named m) .state)) notCallable _ (omega arith, omega arith) λ _.
+      small-need (Q s) (argumentsHeld s subject xs vs) wrongValues _ (omega arith, omega arith) λ _.
+      small-need (Q s) (ltb (length (s .calls)) maxCalls) callsFull _ (omega arith, omega arith) λ room.
       small-try any (Q s) (sendArguments s (baseOwner (s .places) (c .place)) (callLayers s c) (named m) 0 xs vs) _
       (small-arguments s s (baseOwner (s .places) (c .place)) (callLayers s c) (named m) 0 xs vs) λ x _.
       let few = layers-few (length (s .places)) (s .places) (c .place) in
@@ -195,16 +196,16 @@ module _ (s : System) where
   small-give subject j (some a) (some v) =
       let ts : List (Option ℕ) = reverse (map (answerAt (s .table) (callAt s j .method)) (callLayers s (cellAt s (callAt s j .cell)))) in
       small-if (Q s) (isRef (typeAt (s .table) a .rep)) _ _
-      (small-need (Q s) (held s subject v) 15 _ (omega arith, omega arith) λ _.
+      (small-need (Q s) (held s subject v) wrongValues _ (omega arith, omega arith) λ _.
       small-try (Q s) (Q s) (send s (callAt s j .caller) (named v) ts) _ (small-send s s (callAt s j .caller) (named v) ts) λ x h. answered-named s (x .0) j (x .1) h)
       (small-try any (Q s) (passLayers true (s .table) v ts) _ (small-pass true (s .table) v ts) λ _ _. tt)
 
   small-answer : (subject j : ℤ) (v : Option ℤ) → Small (Q s) (answerRequest s subject j v)
   unfolding answerRequest
   small-answer subject j v =
-      small-need (Q s) (names subject (s .table .subjects)) 5 _ (omega arith, omega arith) λ _.
-      small-need (Q s) (names j (length (s .calls)) && eqb (named subject) (baseOwner (s .places) (cellAt s (callAt s (named j) .cell) .place))) 6 _ (omega arith, omega arith) λ _.
-      small-need (Q s) (not (callAt s (named j) .answered)) 17 _ (omega arith, omega arith) λ _.
+      small-need (Q s) (names subject (s .table .subjects)) unknownSubject _ (omega arith, omega arith) λ _.
+      small-need (Q s) (names j (length (s .calls)) && eqb (named subject) (baseOwner (s .places) (cellAt s (callAt s (named j) .cell) .place))) notHeld _ (omega arith, omega arith) λ _.
+      small-need (Q s) (not (callAt s (named j) .answered)) answeredAlready _ (omega arith, omega arith) λ _.
       small-give subject (named j) (answerAt (s .table) (callAt s (named j) .method) (cellAt s (callAt s (named j) .cell) .type)) v
 
   pub small-serve : (q : Request) → Small (λ (x : System × Result). Named s (x .0) (x .1)) (serve s q)

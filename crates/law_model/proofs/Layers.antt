@@ -21,7 +21,8 @@ use Rattle.spec_model.specs.Check.{systemFits}
 use Rattle.spec_model.proofs.Rules.{never}
 use Rattle.spec_model.proofs.Derived.{AnswerBelow, SignaturesIn}
 use Rattle.spec_model.proofs.Growth.{Grown, grown-refl, grown-trans, method-same}
-use Rattle.spec_model.specs.Refusals.{unrelated, notOwner, notStrict, typesFull, placesFull, wrongValues, tooWide}
+use Rattle.spec_model.specs.Refusals.{unknownSubject, notHeld, unrelated, notOwner, notStrict, typesFull, placesFull, cellsFull, notCallable, wrongValues, tooWide, answeredAlready, callsFull}
+use Rattle.spec_model.specs.Refusals.{laterLayer}
 use Rattle.law_model.proofs.Unowned.{AllUnowned, AnswerUnowned, UnownedSignatures}
 use Rattle.law_model.proofs.Deriving.{IfSome, derive-grown}
 use Rattle.law_model.proofs.Demand3.{held-in}
@@ -29,35 +30,35 @@ use Rattle.law_model.proofs.Fitting.{TableFitting, table-fitting, fitti
 use Rattle.law_model.proofs.Checked.{SystemFitting, bounded-layers, system-fitting, fits-bounded}
 
 -- not refused with 9; if accepted, Q
-abbrev NoNine : {A : Type 0} → Res A → (A → Type 0) → Type 0
-NoNine (refuse e) Q = eqb e 9 ≡ false
-NoNine (ok a) Q = Q a
+abbrev NeverNotOwner : {A : Type 0} → Res A → (A → Type 0) → Type 0
+NeverNotOwner (refuse e) Q = eqb e notOwner ≡ false
+NeverNotOwner (ok a) Q = Q a
 
-no-try : {A B : Type 0} (P : A → Type 0) (Q : B → Type 0) (m : Res A) (k : A → Res B) → NoNine m P → ((a : A) → P a → NoNine (k a) Q) → NoNine (try m k) Q
+no-try : {A B : Type 0} (P : A → Type 0) (Q : B → Type 0) (m : Res A) (k : A → Res B) → NeverNotOwner m P → ((a : A) → P a → NeverNotOwner (k a) Q) → NeverNotOwner (try m k) Q
 no-try P Q (refuse e) k h f = h
 no-try P Q (ok a) k h f = f a h
 
-no-need : {B : Type 0} (Q : B → Type 0) (b : Bool) (e : ℕ) (k : Unit {0} → Res B) → eqb e 9 ≡ false → (So b → NoNine (k tt) Q) → NoNine (need b e k) Q
+no-need : {B : Type 0} (Q : B → Type 0) (b : Bool) (e : ℕ) (k : Unit {0} → Res B) → eqb e notOwner ≡ false → (So b → NeverNotOwner (k tt) Q) → NeverNotOwner (need b e k) Q
 no-need Q true e k n h = h refl
 no-need Q false e k n h = n
 
-no-map : {A : Type 0} (P Q : A → Type 0) → ((a : A) → P a → Q a) → (m : Res A) → NoNine m P → NoNine m Q
+no-map : {A : Type 0} (P Q : A → Type 0) → ((a : A) → P a → Q a) → (m : Res A) → NeverNotOwner m P → NeverNotOwner m Q
 no-map P Q f (refuse e) h = h
 no-map P Q f (ok a) h = f a h
 
-not-nine : {A : Type 0} (Q : A → Type 0) (m : Res A) → NoNine m Q → m ≢ refuse notOwner
-not-nine Q m h e = never (sym (subst (λ x. NoNine x Q) e h))
+never-not-owner : {A : Type 0} (Q : A → Type 0) (m : Res A) → NeverNotOwner m Q → m ≢ refuse notOwner
+never-not-owner Q m h e = never (sym (subst (λ x. NeverNotOwner x Q) e h))
 
 -- a number at a layer is 9 only where it was
-at-no : (b : Bool) (e : ℕ) → eqb e 9 ≡ false → eqb (atLayer b e) 9 ≡ false
+at-no : (b : Bool) (e : ℕ) → eqb e notOwner ≡ false → eqb (atLayer b e) notOwner ≡ false
 at-no true e n = n
-at-no false e n = go (eqb e 8 || eqb e 10)
+at-no false e n = go (eqb e unrelated || eqb e notStrict)
   where
-    go : (c : Bool) → eqb (cond c 19 e) 9 ≡ false
+    go : (c : Bool) → eqb (cond c laterLayer e) notOwner ≡ false
     go true = refl
     go false = n
 
-renumber-no : {A : Type 0} (Q : A → Type 0) (b : Bool) (m : Res A) → NoNine m Q → NoNine (renumber b m) Q
+renumber-no : {A : Type 0} (Q : A → Type 0) (b : Bool) (m : Res A) → NeverNotOwner m Q → NeverNotOwner (renumber b m) Q
 renumber-no Q b (refuse e) h = at-no b e h
 renumber-no Q b (ok a) h = h
 
@@ -65,31 +66,31 @@ renumber-no Q b (ok a) h = h
 abbrev Onto : Table → Reference → Type 0
 Onto t g = Grown t (g .table)
 
-derived-no : (t : Table) (d : Kind) (l r : ℕ) → NoNine (derived t d l r) (λ x. Grown t (x .0))
+derived-no : (t : Table) (d : Kind) (l r : ℕ) → NeverNotOwner (derived t d l r) (λ x. Grown t (x .0))
 unfolding derived
 derived-no t d l r = go (derive maxTypes t d l r) (derive-grown maxTypes t d l r)
   where
-    go : (o : Option (Table × ℕ)) → IfSome o (λ x. Grown t (x .0)) → NoNine {A = Table × ℕ} (elim o [ none ↦ refuse typesFull | some p ↦ ok p ]) (λ x. Grown t (x .0))
+    go : (o : Option (Table × ℕ)) → IfSome o (λ x. Grown t (x .0)) → NeverNotOwner {A = Table × ℕ} (elim o [ none ↦ refuse typesFull | some p ↦ ok p ]) (λ x. Grown t (x .0))
     go none h = refl
     go (some p) h = h
 
-adapt-no : (t : Table) (ps : List Place) (to r p : ℕ) → NoNine (adapt t ps to r p) (Onto t)
+adapt-no : (t : Table) (ps : List Place) (to r p : ℕ) → NeverNotOwner (adapt t ps to r p) (Onto t)
 unfolding adapt
 adapt-no t ps to r p = go (related conforms t r v)
   where
     v : ℕ
     v = placeType (placeAt ps p)
 
-    go : (b : Bool) → NoNine (elim b [
+    go : (b : Bool) → NeverNotOwner (elim b [
       | true ↦ ok (record { table = t; places = ps; type = to; place = p })
       | false ↦ need (related strict t r v) notStrict λ _. try (derived t closed r v) λ x. need (ltb (length ps) maxPlaces) placesFull λ _.
           ok (record { table = x .0; places = ps ++ (adapter p (x .1) ∷ []); type = to; place = length ps })
     ]) (Onto t)
     go true = grown-refl t
-    go false = no-need _ (related strict t r v) 10 _ refl λ _.
-        no-try _ (Onto t) (derived t closed r v) _ (derived-no t closed r v) λ x g. no-need _ (ltb (length ps) maxPlaces) 12 _ refl λ _. g
+    go false = no-need _ (related strict t r v) notStrict _ refl λ _.
+        no-try _ (Onto t) (derived t closed r v) _ (derived-no t closed r v) λ x g. no-need _ (ltb (length ps) maxPlaces) placesFull _ refl λ _. g
 
-cross-no : (f : Reference) (to r : ℕ) → typeAt (f .table) to .own ≡ false → NoNine (cross f to r) (Onto (f .table))
+cross-no : (f : Reference) (to r : ℕ) → typeAt (f .table) to .own ≡ false → NeverNotOwner (cross f to r) (Onto (f .table))
 unfolding cross
 cross-no f to r e = go (typeAt t to .own) e (related subtype t to (f .type))
   where
@@ -99,7 +100,7 @@ cross-no f to r e = go (typeAt t to .own) e (related subtype t to (f .type))
     ps : List Place
     ps = f .places
 
-    go : (own : Bool) → own ≡ false → (st : Bool) → NoNine (elim own [
+    go : (own : Bool) → own ≡ false → (st : Bool) → NeverNotOwner (elim own [
       | true ↦ need (related free t to (f .type)) unrelated λ _. need (eqb r (baseOwner ps (f .place))) notOwner λ _. adapt t ps to to (baseOf ps (f .place))
       | false ↦ need (related loose t to (f .type)) unrelated λ _. elim st [
         | true ↦ ok (record { table = t; places = ps; type = to; place = f .place })
@@ -107,8 +108,8 @@ cross-no f to r e = go (typeAt t to .own) e (related subtype t to (f .type))
       ]
     ]) (Onto t)
     go true q st = never (sym q)
-    go false q true = no-need _ (related loose t to (f .type)) 8 _ refl λ _. grown-refl t
-    go false q false = no-need _ (related loose t to (f .type)) 8 _ refl λ _. no-try _ (Onto t) (derived t sub to (f .type)) _ (derived-no t sub to (f .type)) λ x g.
+    go false q true = no-need _ (related loose t to (f .type)) unrelated _ refl λ _. grown-refl t
+    go false q false = no-need _ (related loose t to (f .type)) unrelated _ refl λ _. no-try _ (Onto t) (derived t sub to (f .type)) _ (derived-no t sub to (f .type)) λ x g.
         no-map _ _ (λ y k. grown-trans g k) (adapt (x .0) ps to (x .1) (f .place)) (adapt-no (x .0) ps to (x .1) (f .place))
 
 -- ---- types of the table without own, where there is one
@@ -133,31 +134,31 @@ reversed t [] acc h k = k
 reversed t (o ∷ os) acc h k = reversed t os (o ∷ acc) (h .1) (h .0, k)
 
 -- ---- a value over such layers
-layers-no : (ts : List (Option ℕ)) (b : Bool) (f : Reference) (r : ℕ) → TargetsUnowned (f .table) ts → NoNine (crossLayers b f r ts) (Onto (f .table))
+layers-no : (ts : List (Option ℕ)) (b : Bool) (f : Reference) (r : ℕ) → TargetsUnowned (f .table) ts → NeverNotOwner (crossLayers b f r ts) (Onto (f .table))
 unfolding crossLayers
 layers-no [] b f r h = grown-refl (f .table)
-layers-no (none ∷ ts) b f r h = at-no b 8 refl
+layers-no (none ∷ ts) b f r h = at-no b unrelated refl
 layers-no (some to ∷ ts) b f r h = no-try _ (Onto (f .table)) (renumber b (cross f to r)) _ (renumber-no _ b (cross f to r) (cross-no f to r (h .0 .1))) λ g w.
     no-map _ _ (λ y k. grown-trans w k) (crossLayers false g r ts) (layers-no ts false g r (targets-grow w ts (h .1)))
 
-pass-no : (ts : List (Option ℕ)) (b : Bool) (t : Table) (v : ℤ) → NoNine (passLayers b t v ts) (λ _. Unit {0})
+pass-no : (ts : List (Option ℕ)) (b : Bool) (t : Table) (v : ℤ) → NeverNotOwner (passLayers b t v ts) (λ _. Unit {0})
 unfolding passLayers
 pass-no [] b t v = tt
-pass-no (none ∷ ts) b t v = at-no b 8 refl
+pass-no (none ∷ ts) b t v = at-no b unrelated refl
 pass-no (some a ∷ ts) b t v = go (typeAt t a .rep) (pass-no ts false t v)
   where
-    go : (x : Rep) → NoNine (passLayers false t v ts) (λ _. Unit {0}) → NoNine {A = Unit {0}} (elim x [
-      | ref ↦ refuse (atLayer b 8)
+    go : (x : Rep) → NeverNotOwner (passLayers false t v ts) (λ _. Unit {0}) → NeverNotOwner {A = Unit {0}} (elim x [
+      | ref ↦ refuse (atLayer b unrelated)
       | w32 ↦ need (within 2147483648 v) tooWide λ _. passLayers false t v ts
       | w64 ↦ passLayers false t v ts
     ]) (λ _. Unit {0})
-    go ref ih = at-no b 8 refl
-    go w32 ih = no-need _ (within 2147483648 v) 16 _ refl λ _. ih
+    go ref ih = at-no b unrelated refl
+    go w32 ih = no-need _ (within 2147483648 v) tooWide _ refl λ _. ih
     go w64 ih = ih
 
-send-no : (s : System) (r k : ℕ) (ts : List (Option ℕ)) → TargetsUnowned (s .table) ts → NoNine (send s r k ts) (λ x. Grown (s .table) (x .0 .table))
+send-no : (s : System) (r k : ℕ) (ts : List (Option ℕ)) → TargetsUnowned (s .table) ts → NeverNotOwner (send s r k ts) (λ x. Grown (s .table) (x .0 .table))
 unfolding send addCell
-send-no s r k ts h = no-try _ _ (crossLayers true (leaving s k) r ts) _ (layers-no ts true (leaving s k) r h) λ f g. no-need _ (ltb (length (s .cells)) maxCells) 13 _ refl λ _. g
+send-no s r k ts h = no-try _ _ (crossLayers true (leaving s k) r ts) _ (layers-no ts true (leaving s k) r h) λ f g. no-need _ (ltb (length (s .cells)) maxCells) cellsFull _ refl λ _. g
 
 -- ---- what signatures without own name, in a table t that has grown to u
 at-unowned : (t : Table) (xs : List ℕ) (i : ℕ) → AllBelow (size t) xs → AllUnowned t xs → TargetUnowned t (getElem? xs i)
@@ -182,7 +183,7 @@ module _ (t : Table) (sigs : SignaturesIn t) (plain : UnownedSignatures t) (m : 
   answers-unowned (x ∷ xs) = (answer-unowned t (methodAt t x m .answer) (sigs x m .1) (plain x m .1), answers-unowned xs)
 
   arguments-no : (r : ℕ) (ls : List ℕ) → AllBelow (size t) ls → (xs : List ℕ) (vs : List ℤ) (i : ℕ) (s : System) → Grown t (s .table)
-      → NoNine (sendArguments s r ls m i xs vs) (λ _. Unit {0})
+      → NeverNotOwner (sendArguments s r ls m i xs vs) (λ _. Unit {0})
   unfolding sendArguments
   arguments-no r ls l [] vs i s g = tt
   arguments-no r ls l (a ∷ xs) [] i s g = tt
@@ -191,7 +192,7 @@ module _ (t : Table) (sigs : SignaturesIn t) (plain : UnownedSignatures t) (m : 
       ts : List (Option ℕ)
       ts = map (argumentAt (s .table) m i) ls
 
-      go : (b : Bool) → ((u : System) → Grown t (u .table) → NoNine (sendArguments u r ls m (suc i) xs vs) (λ _. Unit {0})) → NoNine {A = System} (elim b [
+      go : (b : Bool) → ((u : System) → Grown t (u .table) → NeverNotOwner (sendArguments u r ls m (suc i) xs vs) (λ _. Unit {0})) → NeverNotOwner {A = System} (elim b [
         | true ↦ try (send s r (named v) ts) λ x. sendArguments (x .0) r ls m (suc i) xs vs
         | false ↦ try (passLayers true (s .table) v ts) λ _. sendArguments s r ls m (suc i) xs vs
       ]) (λ _. Unit {0})
@@ -210,22 +211,22 @@ module _ (s : System) (fits : So (systemFits s)) where
   call-layers-in k l = let c = fits-bounded s fits .cells k l in (omega (arith, c .sheet, t .sheet), bounded-layers s (fits-bounded s fits) (length (s .places)) (cellAt s k .place) (c .place))
 
   -- C13, of a call and of an answer
-  pub call-not-nine : (subject k m : ℤ) (vs : List ℤ) → callRequest s subject k m vs ≢ refuse notOwner
+  pub call-never-not-owner : (subject k m : ℤ) (vs : List ℤ) → callRequest s subject k m vs ≢ refuse notOwner
   unfolding callRequest
-  call-not-nine subject k m vs = not-nine (λ _. Unit {0}) (callRequest s subject k m vs) (
-      no-need _ (names subject (s .table .subjects)) 5 _ refl λ _.
-      no-need _ (held s subject k) 6 _ refl λ h.
+  call-never-not-owner subject k m vs = never-not-owner (λ _. Unit {0}) (callRequest s subject k m vs) (
+      no-need _ (names subject (s .table .subjects)) unknownSubject _ refl λ _.
+      no-need _ (held s subject k) notHeld _ refl λ h.
       let c = cellAt s (named k) in
-      no-need _ (names m (s .table .methods) && isAvail (methodAt (s .table) (c .type) (named m) .state)) 14 _ refl λ _.
+      no-need _ (names m (s .table .methods) && isAvail (methodAt (s .table) (c .type) (named m) .state)) notCallable _ refl λ _.
       let xs = methodAt (s .table) (c .type) (named m) .args in
-      no-need _ (argumentsHeld s subject xs vs) 15 _ refl λ _.
-      no-need _ (ltb (length (s .calls)) maxCalls) 18 _ refl λ _.
+      no-need _ (argumentsHeld s subject xs vs) wrongValues _ refl λ _.
+      no-need _ (ltb (length (s .calls)) maxCalls) callsFull _ refl λ _.
       no-try (λ _. Unit {0}) _ (sendArguments s (baseOwner (s .places) (c .place)) (callLayers s c) (named m) 0 xs vs) _
       (arguments-no (s .table) (fitting-sigs (s .table) t) (fitting-unowned (s .table) t) (named m) (baseOwner (s .places) (c .place)) (callLayers s c)
       (call-layers-in (named k) (held-in s subject k h)) xs vs 0 s (grown-refl (s .table)))
       λ x _. tt)
 
-  give-no : (subject : ℤ) (j : ℕ) (due : Option ℕ) (v : Option ℤ) → NoNine (give s subject j due v) (λ _. Unit {0})
+  give-no : (subject : ℤ) (j : ℕ) (due : Option ℕ) (v : Option ℤ) → NeverNotOwner (give s subject j due v) (λ _. Unit {0})
   unfolding give
   give-no subject j none none = tt
   give-no subject j none (some v) = refl
@@ -244,18 +245,18 @@ module _ (s : System) (fits : So (systemFits s)) where
       unowned : TargetsUnowned (s .table) ts
       unowned = reversed (s .table) (map (answerAt (s .table) m) ls) [] (answers-unowned (s .table) (fitting-sigs (s .table) t) (fitting-unowned (s .table) t) m ls) tt
 
-      go : (b : Bool) → NoNine {A = System × Result} (elim b [
+      go : (b : Bool) → NeverNotOwner {A = System × Result} (elim b [
         | true ↦ need (held s subject v) wrongValues λ _. try (send s (callAt s j .caller) (named v) ts) λ x. ok (withAnswer (x .0) j, x .1)
         | false ↦ try (passLayers true (s .table) v ts) λ _. ok (withAnswer s j, number v)
       ]) (λ _. Unit {0})
-      go true = no-need _ (held s subject v) 15 _ refl λ _. no-try _ _ (send s (callAt s j .caller) (named v) ts) _ (send-no s (callAt s j .caller) (named v) ts unowned) λ x _. tt
+      go true = no-need _ (held s subject v) wrongValues _ refl λ _. no-try _ _ (send s (callAt s j .caller) (named v) ts) _ (send-no s (callAt s j .caller) (named v) ts unowned) λ x _. tt
       go false = no-try _ _ (passLayers true (s .table) v ts) _ (pass-no ts true (s .table) v) λ _ _. tt
 
-  pub answer-not-nine : (subject j : ℤ) (v : Option ℤ) → answerRequest s subject j v ≢ refuse notOwner
+  pub answer-never-not-owner : (subject j : ℤ) (v : Option ℤ) → answerRequest s subject j v ≢ refuse notOwner
   unfolding answerRequest
-  answer-not-nine subject j v = not-nine (λ _. Unit {0}) (answerRequest s subject j v) (
-      no-need _ (names subject (s .table .subjects)) 5 _ refl λ _.
+  answer-never-not-owner subject j v = never-not-owner (λ _. Unit {0}) (answerRequest s subject j v) (
+      no-need _ (names subject (s .table .subjects)) unknownSubject _ refl λ _.
       let c = cellAt s (callAt s (named j) .cell) in
-      no-need _ (names j (length (s .calls)) && eqb (named subject) (baseOwner (s .places) (c .place))) 6 _ refl λ _.
-      no-need _ (not (callAt s (named j) .answered)) 17 _ refl λ _.
+      no-need _ (names j (length (s .calls)) && eqb (named subject) (baseOwner (s .places) (c .place))) notHeld _ refl λ _.
+      no-need _ (not (callAt s (named j) .answered)) answeredAlready _ refl λ _.
       give-no subject (named j) (answerAt (s .table) (callAt s (named j) .method) (c .type)) v)

@@ -13,7 +13,7 @@ use Rattle.spec_model.specs.Table.{Rep, ref, w32, w64, Table, typeAt}
 use Rattle.spec_model.specs.Crossing.{Reference, cross}
 use Rattle.spec_model.specs.Requests.{atLayer, renumber, crossLayers, within, passLayers}
 use Rattle.spec_model.proofs.Tests.{eqb-no}
-use Rattle.spec_model.specs.Refusals.{tooWide}
+use Rattle.spec_model.specs.Refusals.{unrelated, notStrict, tooWide, laterLayer}
 use Rattle.law_model.proofs.Steps.{IfOk, whatever}
 
 -- P holds of the number of a refusal, if it is one
@@ -31,12 +31,12 @@ refused-try P Q (ok a) k h q f = f a q
 
 -- ---- C13: 8 and 10 are the first layer's own
 abbrev pub Later : ℕ → Type 0
-Later e = (e ≢ 8) × (e ≢ 10)
+Later e = (e ≢ unrelated) × (e ≢ notStrict)
 
 later-of : (e : ℕ) → Later (atLayer false e)
-later-of e = go (eqb e 8) (eqb e 10) refl refl
+later-of e = go (eqb e unrelated) (eqb e notStrict) refl refl
   where
-    go : (a b : Bool) → eqb e 8 ≡ a → eqb e 10 ≡ b → Later (cond (a || b) 19 e)
+    go : (a b : Bool) → eqb e unrelated ≡ a → eqb e notStrict ≡ b → Later (cond (a || b) laterLayer e)
     go true b p q = ((λ z. omega arith), λ z. omega arith)
     go false true p q = ((λ z. omega arith), λ z. omega arith)
     go false false p q = (eqb-no p, eqb-no q)
@@ -49,7 +49,7 @@ renumber-later (ok a) = tt
 pub later-number : (ts : List (Option ℕ)) (f : Reference) (r : ℕ) → IfRefused (crossLayers false f r ts) Later
 unfolding crossLayers
 later-number [] f r = tt
-later-number (none ∷ ts) f r = later-of 8
+later-number (none ∷ ts) f r = later-of unrelated
 later-number (some to ∷ ts) f r = let m = renumber false (cross f to r) in
     refused-try Later (λ _. Unit {0}) m _ (renumber-later (cross f to r)) (whatever m) λ g _. later-number ts g r
 
@@ -60,7 +60,7 @@ first-number f to r e ts h = ap (λ m. try (renumber true m) λ g. crossLayers f
 
 -- ---- C14, C15: a number meets 16, or a layer that is unfit for it: 8 at the first, 19 later
 abbrev pub NumberRefusal : Bool → ℕ → Type 0
-NumberRefusal first e = (e ≡ 16) ⊎ ((e ≡ atLayer first 8) ⊎ (e ≡ 19))
+NumberRefusal first e = (e ≡ tooWide) ⊎ ((e ≡ atLayer first unrelated) ⊎ (e ≡ laterLayer))
 
 late : (b : Bool) (e : ℕ) → NumberRefusal false e → NumberRefusal b e
 late b e (inl q) = inl q
@@ -78,10 +78,10 @@ number-refusals (none ∷ ts) b t v = inr (inl refl)
 number-refusals (some a ∷ ts) b t v = go (typeAt t a .rep) (refused-map (NumberRefusal false) (NumberRefusal b) (late b) (passLayers false t v ts) (number-refusals ts false t v))
   where
     go : (r : Rep) → IfRefused (passLayers false t v ts) (NumberRefusal b) → IfRefused {A = Unit {0}} (elim r [
-      | ref ↦ refuse (atLayer b 8)
+      | ref ↦ refuse (atLayer b unrelated)
       | w32 ↦ need (within 2147483648 v) tooWide λ _. passLayers false t v ts
       | w64 ↦ passLayers false t v ts
     ]) (NumberRefusal b)
     go ref h = inr (inl refl)
-    go w32 h = refused-need (NumberRefusal b) (within 2147483648 v) 16 _ (inl refl) h
+    go w32 h = refused-need (NumberRefusal b) (within 2147483648 v) tooWide _ (inl refl) h
     go w64 h = h

@@ -6,6 +6,7 @@ use native.Mathlib.Omega.{arith}
 use lib.ListN.{length, length-append}
 use Rattle.spec_model.specs.Basics.{Res, refuse, ok}
 use Rattle.spec_model.specs.Table.{Rep, ref, w32, w64}
+use Rattle.spec_model.specs.Refusals.{form}
 use Rattle.spec_sheet.specs.Lines.{Row, row, cut, join, Reading, refused, got, Reader, pure, lineAt, line, follow, bind, times}
 use Rattle.spec_sheet.specs.Sheet.{underLine, ownLine, methodLine, members, oneType, body}
 use Rattle.spec_sheet.proofs.Lines.{rows, rows-append}
@@ -25,8 +26,8 @@ pub record Took {A : Type 0} (p : Reader A) (at : ℕ) (rs : List Row) (x : A) (
 
 -- What is wrong behind the lines ls: no line is left (S9), the last one has no LF (S8), or the line there is refused whatever follows it (S6, S7).
 pub data Wrong {A : Type 0} (p : Reader A) (at : ℕ) (ls : List (List ℕ)) (rest : List Row) (n k : ℕ) : Type 0 where
-  missing : rest ≡ [] → n ≡ 1 → Wrong p at ls rest n k
-  unended : (l : List ℕ) (qs : List Row) → rest ≡ cut l ∷ qs → n ≡ 1 → Wrong p at ls rest n k
+  missing : rest ≡ [] → n ≡ form → Wrong p at ls rest n k
+  unended : (l : List ℕ) (qs : List Row) → rest ≡ cut l ∷ qs → n ≡ form → Wrong p at ls rest n k
   atFault : (l : List ℕ) (qs : List Row) → rest ≡ row l ∷ qs → ((os : List Row) → p at (rows ls ++ (row l ∷ os)) ≡ refused n k) → Wrong p at ls rest n k
 
 -- Refused: the offset is behind whole lines that are right, since nothing that follows them is refused in front of it; and what stands there is wrong.

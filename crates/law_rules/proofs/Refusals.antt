@@ -65,7 +65,7 @@ adaptTests t ps r p = let v = placeType (placeAt ps p) in
 
 -- X5 and what follows, by what Sub(T,S) comes to
 abbrev pub subTests : Option (Table × ℕ) → List Place → ℕ → List (Option ℕ)
-subTests none ps p = some 11 ∷ []
+subTests none ps p = some typesFull ∷ []
 subTests (some x) ps p = adaptTests (x .0) ps (x .1) p
 
 abbrev pub crossTests : Reference → ℕ → ℕ → List (Option ℕ)
@@ -205,8 +205,8 @@ send-refusal s r k ts = arrival-refusal s r (crossLayers true (leaving s k) r ts
 -- A5, A6, A9, A10, by what is due and what is given
 abbrev pub giveTests : System → ℤ → ℕ → Option ℕ → Option ℤ → List (Option ℕ)
 giveTests s subject j none none = []
-giveTests s subject j none (some v) = some 15 ∷ []
-giveTests s subject j (some a) none = some 15 ∷ []
+giveTests s subject j none (some v) = some wrongValues ∷ []
+giveTests s subject j (some a) none = some wrongValues ∷ []
 giveTests s subject j (some a) (some v) = cond (isRef (typeAt (s .table) a .rep))
     (unless (held s subject v) wrongValues ∷ refusal (crossLayers true (leaving s (named v)) (callAt s j .caller) (answersMet s j)) ∷ unless (ltb (length (s .cells)) maxCells) cellsFull ∷ [])
     (refusal (passLayers true (s .table) v (answersMet s j)) ∷ [])

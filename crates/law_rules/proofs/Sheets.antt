@@ -7,6 +7,7 @@ use native.Mathlib.Omega.{arith}
 use lib.ListN.{length, length-append}
 use Rattle.spec_model.specs.Basics.{Res, refuse, ok}
 use Rattle.spec_model.specs.Table.{Table}
+use Rattle.spec_model.specs.Refusals.{form, notBelow}
 use Rattle.spec_sheet.specs.Lines.{Row, row, cut, split, join, Reading, refused, got, lineAt, line, follow}
 use Rattle.spec_sheet.specs.Text.{endText}
 use Rattle.spec_sheet.specs.Sheet.{endLine, body, signaturesStand, ending, sheet, malformed, sheetResult, read}
@@ -20,9 +21,9 @@ pub data SheetWrong (ls : List (List ℕ)) (rest : List Row) (n k : ℕ) : Type 
   -- S6 to S9: the line there, of which all is said in Wrong
   ofLine : Wrong sheet 0 ls rest n k → SheetWrong ls rest n k
   -- S10: something stands behind the last line, whatever it is
-  extra : n ≡ 1 → (r : Row) (qs : List Row) → rest ≡ r ∷ qs → ((r : Row) (qs : List Row) → sheet 0 (rows ls ++ (r ∷ qs)) ≡ refused 1 k) → SheetWrong ls rest n k
+  extra : n ≡ form → (r : Row) (qs : List Row) → rest ≡ r ∷ qs → ((r : Row) (qs : List Row) → sheet 0 (rows ls ++ (r ∷ qs)) ≡ refused form k) → SheetWrong ls rest n k
   -- S13: every line is right, and the offset is the last line's
-  own : n ≡ 3 → rest ≡ row endText ∷ [] → SheetWrong ls rest n k
+  own : n ≡ notBelow → rest ≡ row endText ∷ [] → SheetWrong ls rest n k
 
 -- S31. The offset is behind whole lines, which are right: no sheet that goes on behind them is refused in front of it. What stands there is wrong.
 pub record RefusedLine (rs : List Row) (n k : ℕ) : Type 0 where
@@ -54,7 +55,7 @@ ending-later t last [] = omega arith
 ending-later t last (cut l ∷ qs) = omega arith
 ending-later t last (row l ∷ qs) = go (endLine l)
   where
-    own : (b : Bool) (a : ℕ) → last ≤ a → NotBefore last (cond b (got t a []) (refused 3 last))
+    own : (b : Bool) (a : ℕ) → last ≤ a → NotBefore last (cond b (got t a []) (refused notBelow last))
     own true a h = h
     own false a h = omega arith
 
@@ -75,7 +76,7 @@ module _ (rs : List Row) (t : Table) (a : ℕ) (q : List Row) (w : Took body 0 r
   first-offset : a ≡ length (join (w .lines))
   first-offset = let e : a ≡ 0 + length (join (w .lines)) = w .offset in omega arith
 
-  stops-own : q ≡ row endText ∷ [] → OfSheet rs (refused 3 a)
+  stops-own : q ≡ row endText ∷ [] → OfSheet rs (refused notBelow a)
   unfolding sheet
   stops-own e = record {
     lines = w .lines;
@@ -86,13 +87,13 @@ module _ (rs : List Row) (t : Table) (a : ℕ) (q : List Row) (w : Took body 0 r
     wrong = own refl e;
   }
 
-  stops-extra : (l : List ℕ) → endLine l ≡ ok tt → (r : Row) (qs : List Row) → q ≡ row l ∷ r ∷ qs → OfSheet rs (refused 1 (a + (length l + 1)))
+  stops-extra : (l : List ℕ) → endLine l ≡ ok tt → (r : Row) (qs : List Row) → q ≡ row l ∷ r ∷ qs → OfSheet rs (refused form (a + (length l + 1)))
   unfolding sheet ending join
   stops-extra l e r qs h =
       let k = a + (length l + 1) in
       let n : length (l ++ 10 ∷ []) ≡ length l + 1 = length-append l (10 ∷ []) in
       let z : k ≡ 0 + length (join (w .lines ++ (l ∷ []))) = both-offset body ending 0 rs t a q w (l ∷ []) k (omega arith) in
-      let always : (r : Row) (qs : List Row) → sheet 0 (rows (w .lines ++ (l ∷ [])) ++ (r ∷ qs)) ≡ refused 1 k =
+      let always : (r : Row) (qs : List Row) → sheet 0 (rows (w .lines ++ (l ∷ [])) ++ (r ∷ qs)) ≡ refused form k =
       λ r qs. second body ending 0 rs t a q w (l ∷ []) (r ∷ qs) ∙ ap (λ z. follow (lineAt z a l (r ∷ qs)) (behindEnd t a)) e in
       record {
         lines = w .lines ++ (l ∷ []);
@@ -107,7 +108,7 @@ module _ (rs : List Row) (t : Table) (a : ℕ) (q : List Row) (w : Took body 0 r
   unfolding ending
   ends = go q refl
     where
-      signed : (b : Bool) (k : ℕ) → q ≡ row endText ∷ [] → OfSheet rs (cond b (got t k []) (refused 3 a))
+      signed : (b : Bool) (k : ℕ) → q ≡ row endText ∷ [] → OfSheet rs (cond b (got t k []) (refused notBelow a))
       signed true k e = tt
       signed false k e = stops-own e
 
@@ -120,8 +121,8 @@ module _ (rs : List Row) (t : Table) (a : ℕ) (q : List Row) (w : Took body 0 r
       last l qs e (ok tt) h = behind l qs e h
 
       go : (qs : List Row) → q ≡ qs → OfSheet rs (follow (line endLine a qs) (behindEnd t a))
-      go [] e = stops 1 (missing e refl)
-      go (cut l ∷ qs) e = stops 1 (unended l qs e refl)
+      go [] e = stops form (missing e refl)
+      go (cut l ∷ qs) e = stops form (unended l qs e refl)
       go (row l ∷ qs) e = last l qs e (endLine l) refl
 
 of-sheet : (rs : List Row) → OfSheet rs (sheet 0 rs)

@@ -167,8 +167,8 @@ module _ (s : State) (h : Sound s) (subject : ℤ) (j : ℕ) (x : Call) (c : Cel
     asks : giveValue (systemIn s) subject j a v ≡ Either true (held (systemIn s) subject v) (x .caller) ts (tableIn (s .types) (s .links) (s .counts))
     asks = value-is ∙ ap (λ (y : Bool). Either y (held (systemIn s) subject v) (x .caller) ts (tableIn (s .types) (s .links) (s .counts))) z
 
-    pub value-15 : held (systemIn s) subject v ≡ false → (y : Served) → y ≡ refusal s wrongValues → Gives y
-    value-15 w y e = refuses h (asks ∙ ap (λ (b : Bool). Either true b (x .caller) ts (tableIn (s .types) (s .links) (s .counts))) w) e
+    pub value-wrong-values : held (systemIn s) subject v ≡ false → (y : Served) → y ≡ refusal s wrongValues → Gives y
+    value-wrong-values w y e = refuses h (asks ∙ ap (λ (b : Bool). Either true b (x .caller) ts (tableIn (s .types) (s .links) (s .counts))) w) e
 
     pub value-reference : held (systemIn s) subject v ≡ true → (r : ℕ) → r ≡ x .caller → (y : Served) → Step s (giveReference (systemIn s) j r v ts) y → Gives y
     value-reference w r e y g = step-as
@@ -259,29 +259,29 @@ module _ (s : State) (h : Sound s) (subject : ℤ) (j : ℕ) (o : Option ℤ) (x
   abbrev Answered : Served → Type 0
   Answered y = Step s (answerCall (systemIn s) subject j o) y
 
-  pub owner-6 : (owner ≡ who → ⊥) → (y : Served) → y ≡ refusal s notHeld → Answered y
-  owner-6 z y e = refuses h (tests-are ∙ ap (λ (b : Bool). Tests b (x .answered)) (ne-eqb who owner (λ w. z (sym w)))) e
+  pub owner-not-held : (owner ≡ who → ⊥) → (y : Served) → y ≡ refusal s notHeld → Answered y
+  owner-not-held z y e = refuses h (tests-are ∙ ap (λ (b : Bool). Tests b (x .answered)) (ne-eqb who owner (λ w. z (sym w)))) e
 
   module _ (z : owner ≡ who) where
     mine : answerCall (systemIn s) subject j o ≡ Tests true (x .answered)
     mine = tests-are ∙ ap (λ (b : Bool). Tests b (x .answered)) (eq-eqb who owner (sym z))
 
-    pub answered-17 : x .answered ≡ true → (y : Served) → y ≡ refusal s answeredAlready → Answered y
-    answered-17 w y e = refuses h (mine ∙ ap (Tests true) w) e
+    pub answered-already : x .answered ≡ true → (y : Served) → y ≡ refusal s answeredAlready → Answered y
+    answered-already w y e = refuses h (mine ∙ ap (Tests true) w) e
 
     pub call-gives : x .answered ≡ false → (y : Served) → Step s (give (systemIn s) subject j (dueFor (systemIn s) j) o) y → Answered y
     call-gives w y g = step-as (mine ∙ ap (Tests true) w) g
 
 -- ---- The operands.
 module _ (s : System) (subject j : ℤ) (o : Option ℤ) where
-  answer-5 : names subject (s .table .subjects) ≡ false → answerRequest s subject j o ≡ refuse unknownSubject
+  answer-unknown-subject : names subject (s .table .subjects) ≡ false → answerRequest s subject j o ≡ refuse unknownSubject
   unfolding answerRequest
-  answer-5 e = rw e
+  answer-unknown-subject e = rw e
 
   module _ (known : names subject (s .table .subjects) ≡ true) where
-    answer-6 : names j (length (s .calls)) ≡ false → answerRequest s subject j o ≡ refuse notHeld
+    answer-not-held : names j (length (s .calls)) ≡ false → answerRequest s subject j o ≡ refuse notHeld
     unfolding answerRequest
-    answer-6 e = rw (known, e)
+    answer-not-held e = rw (known, e)
 
     answer-goes : names j (length (s .calls)) ≡ true → answerRequest s subject j o ≡ answerCall s subject (named j) o
     unfolding answerRequest
@@ -291,12 +291,12 @@ module _ (s : State) (h : Sound s) (subject call : ℤ) (o : Option ℤ) where
   abbrev Replies : Served → Type 0
   Replies y = Step s (answerRequest (systemIn s) subject call o) y
 
-  pub step-5 : names subject (systemIn s .table .subjects) ≡ false → (y : Served) → y ≡ refusal s unknownSubject → Replies y
-  step-5 z y e = refuses h (answer-5 (systemIn s) subject call o z) e
+  pub step-unknown-subject : names subject (systemIn s .table .subjects) ≡ false → (y : Served) → y ≡ refusal s unknownSubject → Replies y
+  step-unknown-subject z y e = refuses h (answer-unknown-subject (systemIn s) subject call o z) e
 
   module _ (known : names subject (systemIn s .table .subjects) ≡ true) (j : ℕ) (j-is : j ≡ indexOf call (s .calls .count)) where
-    pub step-6 : s .calls .count ≤ j → (y : Served) → y ≡ refusal s notHeld → Replies y
-    step-6 l y e = refuses h (answer-6 (systemIn s) subject call o known (ap (names call) (means-counted s .calls) ∙ index-unknown call (s .calls .count) j j-is l)) e
+    pub step-not-held : s .calls .count ≤ j → (y : Served) → y ≡ refusal s notHeld → Replies y
+    step-not-held l y e = refuses h (answer-not-held (systemIn s) subject call o known (ap (names call) (means-counted s .calls) ∙ index-unknown call (s .calls .count) j j-is l)) e
 
     pub step-goes : j < s .calls .count → (who : ℕ) → who ≡ indexOf subject (s .counts .subjects) → (y : Served)
         → ((z : ℤ) → named z ≡ who → Step s (answerCall (systemIn s) z j o) y) → Replies y

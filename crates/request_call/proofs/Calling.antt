@@ -214,8 +214,8 @@ module _ (s : State) (subject : ℤ) (k m : ℕ) (vs : List ℤ) (t : ℕ) (ty :
   held-is = ap By (sym (read (s .links) ∙ ap (λ (n : ℕ). methodAt (tableIn (s .types) (s .links) (s .counts)) n m) ty
       ∙ ap (λ (y : Table). methodAt y (cellAt (systemIn s) k .type) m) (sym (table-is s))))
 
-  pub held-14 : (x .state ≡ 2 → ⊥) → callHeld (systemIn s) subject k m vs ≡ refuse notCallable
-  held-14 z = held-is ∙ rw (not-avail (x .state) z)
+  pub held-not-callable : (x .state ≡ 2 → ⊥) → callHeld (systemIn s) subject k m vs ≡ refuse notCallable
+  held-not-callable z = held-is ∙ rw (not-avail (x .state) z)
 
   module _ (avail : x .state ≡ 2) where
     abbrev Next : Bool → Bool → Res (System × Result)
@@ -224,34 +224,34 @@ module _ (s : State) (subject : ℤ) (k m : ℕ) (vs : List ℤ) (t : ℕ) (ty :
     avail-is : callHeld (systemIn s) subject k m vs ≡ Next (argumentsHeld (systemIn s) subject (argumentsOf x) vs) (ltb (length (systemIn s .calls)) maxCalls)
     avail-is = held-is ∙ ap (λ (n : ℕ). By (signed (stateOf n) (cond (permit (stateOf n)) (argumentsOf x) []) (cond (permit (stateOf n)) (answerOf (x .answer)) none))) avail
 
-    pub held-15 : argumentsHeld (systemIn s) subject (argumentsOf x) vs ≡ false → callHeld (systemIn s) subject k m vs ≡ refuse wrongValues
-    held-15 z = avail-is ∙ rw z
+    pub held-wrong-values : argumentsHeld (systemIn s) subject (argumentsOf x) vs ≡ false → callHeld (systemIn s) subject k m vs ≡ refuse wrongValues
+    held-wrong-values z = avail-is ∙ rw z
 
     module _ (fit : argumentsHeld (systemIn s) subject (argumentsOf x) vs ≡ true) where
       fit-is : callHeld (systemIn s) subject k m vs ≡ Next true (ltb (s .calls .count) maxCalls)
       fit-is = avail-is ∙ ap (λ (y : Bool). Next y (ltb (length (systemIn s .calls)) maxCalls)) fit ∙ ap (λ (n : ℕ). Next true (ltb n maxCalls)) (means-counted s .calls)
 
-      pub held-18 : maxCalls ≤ s .calls .count → callHeld (systemIn s) subject k m vs ≡ refuse callsFull
-      held-18 l = fit-is ∙ ap (Next true) (le-ltb (s .calls .count) maxCalls l)
+      pub held-calls-full : maxCalls ≤ s .calls .count → callHeld (systemIn s) subject k m vs ≡ refuse callsFull
+      held-calls-full l = fit-is ∙ ap (Next true) (le-ltb (s .calls .count) maxCalls l)
 
       pub held-goes : s .calls .count < maxCalls → (who : ℕ) → named subject ≡ who → callHeld (systemIn s) subject k m vs ≡ callThrough (systemIn s) who k m (argumentsOf x) vs
       held-goes l who w = fit-is ∙ ap (Next true) (lt-ltb (s .calls .count) maxCalls l) ∙ ap (λ (n : ℕ). callThrough (systemIn s) n k m (argumentsOf x) vs) w
 
 -- ---- The operands.
 module _ (s : System) (subject k m : ℤ) (vs : List ℤ) where
-  call-5 : names subject (s .table .subjects) ≡ false → callRequest s subject k m vs ≡ refuse unknownSubject
+  call-unknown-subject : names subject (s .table .subjects) ≡ false → callRequest s subject k m vs ≡ refuse unknownSubject
   unfolding callRequest
-  call-5 e = rw e
+  call-unknown-subject e = rw e
 
   module _ (known : names subject (s .table .subjects) ≡ true) where
-    call-6 : held s subject k ≡ false → callRequest s subject k m vs ≡ refuse notHeld
+    call-not-held : held s subject k ≡ false → callRequest s subject k m vs ≡ refuse notHeld
     unfolding callRequest
-    call-6 e = rw (known, e)
+    call-not-held e = rw (known, e)
 
     module _ (has : held s subject k ≡ true) where
-      call-14 : names m (s .table .methods) ≡ false → callRequest s subject k m vs ≡ refuse notCallable
+      call-not-callable : names m (s .table .methods) ≡ false → callRequest s subject k m vs ≡ refuse notCallable
       unfolding callRequest
-      call-14 e = rw (known, has, e)
+      call-not-callable e = rw (known, has, e)
 
       call-is : names m (s .table .methods) ≡ true → callRequest s subject k m vs ≡ callHeld s subject (named k) (named m) vs
       unfolding callRequest
@@ -265,22 +265,22 @@ module _ (s : State) (h : Sound s) (subject cell method : ℤ) (vs : List ℤ) w
   unfolding tableIn tableOf
   methods-are = ap (λ (x : System). x .table .methods) (system-is s)
 
-  pub asked-5 : names subject (systemIn s .table .subjects) ≡ false → Asked ≡ refuse unknownSubject
-  asked-5 z = call-5 (systemIn s) subject cell method vs z
+  pub asked-unknown-subject : names subject (systemIn s .table .subjects) ≡ false → Asked ≡ refuse unknownSubject
+  asked-unknown-subject z = call-unknown-subject (systemIn s) subject cell method vs z
 
   module _ (known : names subject (systemIn s .table .subjects) ≡ true) (who : ℕ) (who-is : who ≡ indexOf subject (s .counts .subjects)) where
     pub who-named : (named subject ≡ who) × (who < 256)
     who-named = let x = subject-at s subject who who-is known in (sym (x .0), omega (arith, x .1, h .checked .limits .subjects))
 
-    pub asked-6 : held (systemIn s) subject cell ≡ false → Asked ≡ refuse notHeld
-    asked-6 z = call-6 (systemIn s) subject cell method vs known z
+    pub asked-not-held : held (systemIn s) subject cell ≡ false → Asked ≡ refuse notHeld
+    asked-not-held z = call-not-held (systemIn s) subject cell method vs known z
 
     module _ (has : held (systemIn s) subject cell ≡ true) (k : ℕ) (k-is : k ≡ indexOf cell (s .cells .count)) (m : ℕ) (m-is : m ≡ indexOf method (s .counts .methods)) where
       pub cell-here : (k ≡ named cell) × (k < s .cells .count)
       cell-here = held-at s cell k k-is subject has
 
-      pub asked-14 : s .counts .methods ≤ m → Asked ≡ refuse notCallable
-      asked-14 l = call-14 (systemIn s) subject cell method vs known has (ap (names method) methods-are ∙ index-unknown method (s .counts .methods) m m-is l)
+      pub asked-not-callable : s .counts .methods ≤ m → Asked ≡ refuse notCallable
+      asked-not-callable l = call-not-callable (systemIn s) subject cell method vs known has (ap (names method) methods-are ∙ index-unknown method (s .counts .methods) m m-is l)
 
       pub asked-goes : m < s .counts .methods → Asked ≡ callHeld (systemIn s) subject k m vs
       asked-goes l =

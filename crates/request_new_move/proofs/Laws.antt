@@ -79,9 +79,9 @@ module _ (s : State) (subject class to : ℤ) where
   abbrev N : Res (System × Result)
   N = newRequest (systemIn s) subject class to
 
-  pub new-5 : names subject (systemIn s .table .subjects) ≡ false → N ≡ refuse unknownSubject
+  pub new-unknown-subject : names subject (systemIn s .table .subjects) ≡ false → N ≡ refuse unknownSubject
   unfolding newRequest
-  new-5 e = rw e
+  new-unknown-subject e = rw e
 
   module _ (known : names subject (systemIn s .table .subjects) ≡ true) where
     pub new-class : isSheetClass (systemIn s .table) class ≡ false → N ≡ refuse unknownType
@@ -97,9 +97,9 @@ module _ (s : State) (subject class to : ℤ) where
         room : (b : Bool) → ltb (s .places .count) maxPlaces ≡ b → ltb (length (systemIn s .places)) maxPlaces ≡ b
         room b e = ap (λ (n : ℕ). ltb n maxPlaces) (means-counted s .places) ∙ e
 
-        pub new-12 : maxPlaces ≤ s .places .count → N ≡ refuse placesFull
+        pub new-places-full : maxPlaces ≤ s .places .count → N ≡ refuse placesFull
         unfolding newRequest
-        new-12 l = rw (known, ty, target, room false (le-ltb (s .places .count) maxPlaces l))
+        new-places-full l = rw (known, ty, target, room false (le-ltb (s .places .count) maxPlaces l))
 
         -- the object of class k, owned by o, and the reference to it
         abbrev Goes : Table → List Placeᵐ → ℕ → ℕ → ℕ → ℕ → Res (System × Result)
@@ -139,9 +139,9 @@ module _ (s : State) (subject k receiver to : ℤ) where
   abbrev M : Res (System × Result)
   M = moveRequest (systemIn s) subject k receiver to
 
-  pub move-5 : names subject (systemIn s .table .subjects) ≡ false → M ≡ refuse unknownSubject
+  pub move-unknown-subject : names subject (systemIn s .table .subjects) ≡ false → M ≡ refuse unknownSubject
   unfolding moveRequest
-  move-5 e = rw e
+  move-unknown-subject e = rw e
 
   module _ (known : names subject (systemIn s .table .subjects) ≡ true) where
     pub move-receiver : names receiver (systemIn s .table .subjects) ≡ false → M ≡ refuse unknownSubject
@@ -149,14 +149,14 @@ module _ (s : State) (subject k receiver to : ℤ) where
     move-receiver e = rw (known, e)
 
     module _ (met : names receiver (systemIn s .table .subjects) ≡ true) where
-      pub move-6 : held (systemIn s) subject k ≡ false → M ≡ refuse notHeld
+      pub move-not-held : held (systemIn s) subject k ≡ false → M ≡ refuse notHeld
       unfolding moveRequest
-      move-6 e = rw (known, met, e)
+      move-not-held e = rw (known, met, e)
 
       module _ (holds : held (systemIn s) subject k ≡ true) where
-        pub move-7 : isSheetRef (systemIn s .table) to ≡ false → M ≡ refuse unknownType
+        pub move-unknown-type : isSheetRef (systemIn s .table) to ≡ false → M ≡ refuse unknownType
         unfolding moveRequest
-        move-7 e = rw (known, met, holds, e)
+        move-unknown-type e = rw (known, met, holds, e)
 
         module _ (target : isSheetRef (systemIn s .table) to ≡ true) where
           abbrev Leads : Table → List Placeᵐ → Cellᵐ → ℕ → ℕ → Res (System × Result)

@@ -87,8 +87,8 @@ module _ (f : Flat) (q : Request) (v : List ℤ) (bad : codesIn f ≡ false) whe
       ap (λ (k : ℕ). take (k * typeSize) (f .types)) sized
       ∙ sym (ap (λ (xs : List Ty). take (n * typeSize) (f .types) ++ flatten (map bytesOf xs)) (drop-of-length-le (systemOf (rawFlat f) .table .types) e) ∙ append-nil (take (n * typeSize) (f .types)))
 
-  codes-handed : Handed q 2 (lentState f v) (lentState f v)
-  codes-handed = let o : outcomeOn f q ≡ refused 2 = ap (λ x. x .outcome) refuses in record {
+  codes-handed : Handed q outOfRange (lentState f v) (lentState f v)
+  codes-handed = let o : outcomeOn f q ≡ refused outOfRange = ap (λ x. x .outcome) refuses in record {
     number = ap outcomeNumber (sym o);
     values = ap (outcomeValues v) (sym o);
     returns = record { outcome = refl; records = ap (λ x. counted (x .state)) (sym refuses); untouched = λ e p. refl };
@@ -163,7 +163,7 @@ module _ (f : Flat) (q : Request) (v : List ℤ) (fits : codesIn f ≡ true) (r 
 
 -- ---- As the C functions use it: b says whether the codes fit, s is the state that was read.
 module _ (f : Flat) (q : Request) (v : List ℤ) (b : Bool) (tested : b ≡ codesIn f) where
-  pub request-unfit : not b ≡ true → Handed q 2 (lentState f v) (lentState f v)
+  pub request-unfit : not b ≡ true → Handed q outOfRange (lentState f v) (lentState f v)
   request-unfit h = codes-handed f q v (unfit b _ tested h)
 
   pub request-handed : not b ≡ false → (s : State) → s ≡ stateFrom f → (r : Served) → Serves s q r → (g : Flat) (n : ℕ) (u : List ℤ) → g .links ≡ f .links

@@ -207,7 +207,7 @@ module _ (s₀ : State) (ws old : List ℤ) where
 
 -- ---- A state handed in.
 module _ (s : State) (ws old new : List ℤ) (r : Ran) where
-  pub handed-unfit : systemAccepted (rawState s) ≡ false → r ≡ record { refusal = 2; served = 0; state = s } → new ≡ old → Runs s old new (runHanded (rawState s) (room old) ws) r
+  pub handed-unfit : systemAccepted (rawState s) ≡ false → r ≡ record { refusal = outOfRange; served = 0; state = s } → new ≡ old → Runs s old new (runHanded (rawState s) (room old) ws) r
   unfolding runHanded
   handed-unfit h e k = subst (λ (q : Bool). Runs s old new (need q outOfRange λ _. ok (runAsked (systemOf (rawState s)) (requests (room old) ws))) r) (sym h) (e, k)
 

@@ -117,9 +117,9 @@ module _ (s : State) (q : Request) (r : Done) (h : So (systemAccepted (rawState 
 pub back-serves : (b t t′ : List ℕ) (s : Rest) (q : Option Request) (r : Served) → Sound (whole b s) → So (systemAccepted (rawState (whole b s)))
     → Step (whole b s) (serveAsked (systemIn (whole b s)) q) (done t r) → t′ ≡ givenBack b t (r .outcome) → ServesAsked (whole b s) q (done t′ r)
 unfolding serveAsked
-back-serves b t t′ s none r h k w e = let z = refused-answer (r .outcome) 1 (sym (outcome-is (whole b s) (refuse form) (done t r) w)) in
-    ap (λ (x : State). record { outcome = r .outcome; state = x }) (back-stays h w e 1 z) ∙ ap (λ (a : Outcome). record { outcome = a; state = whole b s }) z
-    ∙ ap (λ (x : Bool). refusal (whole b s) (cond x 1 2)) (sym k)
+back-serves b t t′ s none r h k w e = let z = refused-answer (r .outcome) form (sym (outcome-is (whole b s) (refuse form) (done t r) w)) in
+    ap (λ (x : State). record { outcome = r .outcome; state = x }) (back-stays h w e form z) ∙ ap (λ (a : Outcome). record { outcome = a; state = whole b s }) z
+    ∙ ap (λ (x : Bool). refusal (whole b s) (cond x form outOfRange)) (sym k)
 back-serves b t t′ s (some q) r h k w e = step-serves (whole b s) q (done t′ r) k (back-step h w e) (back-stays h w e)
 
 -- ---- A request that stores no type: what it leaves is what it would give back.
@@ -140,9 +140,9 @@ known-call s vs m m′ e p h = record { stops = λ z. e ∙ h .stops z; fits = �
 
 -- ---- a refusal with 2
 module _ (s : State) (q : Request) (no : systemAccepted (rawState s) ≡ false) where
-  refuses-2 : serveHanded (rawState s) q ≡ handBack (rawState s) (refuse outOfRange)
+  refuses-out-of-range : serveHanded (rawState s) q ≡ handBack (rawState s) (refuse outOfRange)
   unfolding serveHanded
-  refuses-2 = ap (λ (b : Bool). handBack (rawState s) (need b outOfRange λ _. serve (systemOf (rawState s)) q)) no
+  refuses-out-of-range = ap (λ (b : Bool). handBack (rawState s) (need b outOfRange λ _. serve (systemOf (rawState s)) q)) no
 
   untouched : leaves s q ≡ systemIn s
   untouched = ap (λ (b : Bool). after (systemIn s) (need b outOfRange λ _. serve (systemIn s) q)) no
@@ -156,8 +156,8 @@ module _ (s : State) (q : Request) (no : systemAccepted (rawState s) ≡ false) 
   two-serves : Serves s q (refusal s outOfRange)
   two-serves = record {
     returns = record {
-      outcome = ap (λ x. x .outcome) (sym refuses-2);
-      records = ap (λ x. counted (x .state)) (sym refuses-2);
+      outcome = ap (λ x. x .outcome) (sym refuses-out-of-range);
+      records = ap (λ x. counted (x .state)) (sym refuses-out-of-range);
       untouched = λ e p. refl;
     };
     stays = λ e p. refl;
@@ -170,7 +170,7 @@ module _ (s : State) (q : Request) (no : systemAccepted (rawState s) ≡ false) 
 
 -- of a request or of none
 pub refused-serves : (s : State) (q : Option Request) → systemAccepted (rawState s) ≡ false → (r : Done) → r ≡ refusal s outOfRange → ServesAsked s q r
-refused-serves s none h r e = e ∙ ap (λ (x : Bool). refusal s (cond x 1 2)) (sym h)
+refused-serves s none h r e = e ∙ ap (λ (x : Bool). refusal s (cond x form outOfRange)) (sym h)
 refused-serves s (some q) h r e = subst (λ x. Serves s q x) (sym e) (two-serves s q h)
 
 -- ---- what `Serves` says in the words of the model: the answer, and the meaning of the state that comes back
@@ -189,7 +189,7 @@ module _ (s : State) (q : Request) (r : Done) (w : Serves s q r) where
     where
       go : (b : Bool) → systemAccepted (rawState s) ≡ b → systemIn (r .state) ≡ after (systemIn s) (need b outOfRange λ _. serve (systemIn s) q)
       go true e = returns-means (rawState s) q (outcomeOf (r .outcome)) (rawState (r .state)) (w .returns) e
-      go false e = ap systemIn (w .stays 2 (refused-answer (r .outcome) 2 (w .returns .outcome ∙ ap (λ x. x .outcome) (refuses-2 s q e))))
+      go false e = ap systemIn (w .stays outOfRange (refused-answer (r .outcome) outOfRange (w .returns .outcome ∙ ap (λ x. x .outcome) (refuses-out-of-range s q e))))
 
   -- every record counted before is stored as it was, a call's but for its flag (Q15)
   pub serves-before : Before (rawState s) (rawState (r .state))

@@ -75,7 +75,7 @@ module _ (s : State) (rest : List ℕ) (at : ℕ) (l : List ℕ) (h : LineAt res
           → linesFrom (systemIn s) (split (drop at rest)) ≡ outcomeText (outcomeOf (r .outcome)) ∷ linesFrom (systemIn (r .state)) (split (drop next rest))
       go none e =
           let m : serveAsked (systemIn s) (askedAs q) ≡ refuse form = ap (serveAsked (systemIn s)) (a .is ∙ e) in
-          let o : refused 1 ≡ outcomeOf (r .outcome) = ap outcome (sym m) ∙ outcome-is s _ r t in
+          let o : refused form ≡ outcomeOf (r .outcome) = ap outcome (sym m) ∙ outcome-is s _ r t in
           let w : q .right ≡ false = a .right ∙ ap (λ z. not (isNone z)) e in
           let d : drop next rest ≡ [] = ap (λ z. drop z rest) (n ∙ ap (λ z. cond z (at + (length l + 1)) (length rest)) w) ∙ drop-of-length-le rest {i = length rest} (omega arith) in
           lines-end (systemIn s) rest at l h k e ∙ ap (λ z. outcomeText z ∷ []) o

@@ -9,6 +9,7 @@ use lib.ListN.{length, getD, drop}
 use borrow.Author.Tests.{eq-eqb, ne-eqb}
 use Rattle.spec_model.specs.Table.{ref, Ty, Table, maxSubjects, maxMethods, maxCategories, maxSheetTypes, Rep, Method}
 use Rattle.spec_model.specs.Check.{repOf, linksOf}
+use Rattle.spec_model.specs.Refusals.{form, notBelow}
 use Rattle.spec_sheet.specs.Lines.{bytes, Row, row, cut, push, split, Reading, refused, got, Reader, pure, line, follow, bind, times, endOfInput}
 use Rattle.spec_sheet.specs.Text.{newestForm}
 use Rattle.spec_sheet.specs.Sheet.{numberLine, repLine, ownLine, endLine, sheetType, members, oneType, body, signaturesStand, ending, sheet, sheetResult, read}
@@ -204,23 +205,23 @@ module _ (h : Front) (links : List (List ℕ)) (n at : ℕ) (rs : List Row) wher
   to-ending ts at₁ rs₁ e = ap (λ z. follow (follow z tabled) ending) e ∙ count-of
 
 -- The last line: bytes that are left make a row
-push-some : (at b : ℕ) (rs : List Row) → endOfInput at (push b rs) ≡ refused 1 at
+push-some : (at b : ℕ) (rs : List Row) → endOfInput at (push b rs) ≡ refused form at
 push-some at b [] = refl
 push-some at b (row l ∷ rs) = refl
 push-some at b (cut l ∷ rs) = refl
 
-more-left : (at b : ℕ) (l : List ℕ) → endOfInput at (split (b ∷ l)) ≡ refused 1 at
+more-left : (at b : ℕ) (l : List ℕ) → endOfInput at (split (b ∷ l)) ≡ refused form at
 unfolding split
 more-left at b l = go (eqb b 10)
   where
-    go : (t : Bool) → endOfInput at (cond t (row [] ∷ split l) (push b (split l))) ≡ refused 1 at
+    go : (t : Bool) → endOfInput at (cond t (row [] ∷ split l) (push b (split l))) ≡ refused form at
     go true = refl
     go false = push-some at b (split l)
 
 module _ (t : Table) (s : List ℕ) (last : ℕ) where
   after-endOfInput : Unit {0} → Reader Table
   unfolding signaturesStand
-  after-endOfInput u at rs = cond (signaturesStand t) (got t at rs) (refused 3 last)
+  after-endOfInput u at rs = cond (signaturesStand t) (got t at rs) (refused notBelow last)
 
   after-end : Unit {0} → Reader Table
   unfolding after-endOfInput
@@ -238,18 +239,18 @@ module _ (t : Table) (s : List ℕ) (last : ℕ) where
     unfolding after-end
     to-endOfInput = step-ok after-end ending-of e
 
-    pub ending-more : a < length s → refused 1 a ≡ ending t last (split (drop last s))
+    pub ending-more : a < length s → refused form a ≡ ending t last (split (drop last s))
     ending-more h = step-no after-endOfInput to-endOfInput (sym (ap (λ z. endOfInput a (split z)) (from-here s a h) ∙ more-left a (getD s a 0) (drop (a + 1) s)))
 
     module _ (h : length s ≤ a) where
-      alone : cond (signaturesStand t) (got t a (split (drop a s))) (refused 3 last) ≡ ending t last (split (drop last s))
+      alone : cond (signaturesStand t) (got t a (split (drop a s))) (refused notBelow last) ≡ ending t last (split (drop last s))
       unfolding after-endOfInput split
       alone =
-          ap (λ z. cond (signaturesStand t) (got t a (split z)) (refused 3 last)) (at-end s a h)
+          ap (λ z. cond (signaturesStand t) (got t a (split z)) (refused notBelow last)) (at-end s a h)
           ∙ ap (λ z. follow (endOfInput a (split z)) after-endOfInput) (sym (at-end s a h)) ∙ to-endOfInput
 
-      pub ending-own : signaturesStand t ≡ false → refused 3 last ≡ ending t last (split (drop last s))
-      ending-own q = ap (λ z. cond z (got t a (split (drop a s))) (refused 3 last)) (sym q) ∙ alone
+      pub ending-own : signaturesStand t ≡ false → refused notBelow last ≡ ending t last (split (drop last s))
+      ending-own q = ap (λ z. cond z (got t a (split (drop a s))) (refused notBelow last)) (sym q) ∙ alone
 
       pub ending-good : signaturesStand t ≡ true → got t a (split (drop a s)) ≡ ending t last (split (drop last s))
-      ending-good q = ap (λ z. cond z (got t a (split (drop a s))) (refused 3 last)) (sym q) ∙ alone
+      ending-good q = ap (λ z. cond z (got t a (split (drop a s))) (refused notBelow last)) (sym q) ∙ alone

@@ -16,7 +16,7 @@ use Rattle.spec_model.specs.Basics.{refuse, ok}
 use Rattle.spec_model.specs.Table.{Table, tableFits, validSheet}
 use Rattle.spec_model.specs.Check.{RawTable, tableOf, codesFit, tableAccepted}
 use Rattle.spec_model.proofs.Rules.{second}
-use Rattle.spec_model.specs.Refusals.{outOfRange, shortBuffer}
+use Rattle.spec_model.specs.Refusals.{outOfRange, notBelow, shortBuffer}
 use Rattle.spec_sheet.specs.Lines.{Row, row, split, join, Reading, refused, got, Reader, line, follow, bind, endOfInput}
 use Rattle.spec_sheet.specs.Text.{endText, sheetLines, withoutDerived, text, Written, writeText, write}
 use Rattle.spec_sheet.specs.Sheet.{endLine, body, signaturesStand, ending, sheet, malformed, loaded, sheetResult, read}
@@ -39,13 +39,13 @@ endOfInput-got at (r ∷ rs) u at′ rs′ h = refused-got h
 
 -- what stands behind the line `end=sheet` of table t, which began at `last`
 abbrev pub behindEnd : Table → ℕ → Unit {0} → Reader Table
-behindEnd t last v = bind endOfInput λ u at rs. cond (signaturesStand t) (got t at rs) (refused 3 last)
+behindEnd t last v = bind endOfInput λ u at rs. cond (signaturesStand t) (got t at rs) (refused notBelow last)
 
 ending-sound : (t : Table) (at : ℕ) (rs : List Row) (u : Table) (at′ : ℕ) (rs′ : List Row) → ending t at rs ≡ got u at′ rs′
     → (t ≡ u) × So (signaturesStand t) × (rs ≡ row endText ∷ [])
 unfolding ending
 ending-sound t at rs u at′ rs′ h = follow-got (line endLine at rs) (behindEnd t at) h λ v a q e₁ e₂.
-    follow-got (endOfInput a q) (λ v b r. cond (signaturesStand t) (got t b r) (refused 3 at)) e₂ λ w b r e₃ e₄.
+    follow-got (endOfInput a q) (λ v b r. cond (signaturesStand t) (got t b r) (refused notBelow at)) e₂ λ w b r e₃ e₄.
     cond-cases (signaturesStand t) e₄
     (λ o e. (got-value e, o, line-exact end-exact .sound at rs v a q e₁ .1 ∙ ap (λ z. row endText ∷ z) (endOfInput-got a q w b r e₃)))
     (λ o e. refused-got e)
@@ -54,7 +54,7 @@ ending-full : (t : Table) (at : ℕ) → So (signaturesStand t) → (at′ : ℕ
 unfolding ending
 ending-full t at o =
     let i = line-exact end-exact .full at tt [] tt in
-    (i .0, ap (λ z. follow z (behindEnd t at)) (i .1) ∙ ap (λ z. cond z (got t (i .0) []) (refused 3 at)) o)
+    (i .0, ap (λ z. follow z (behindEnd t at)) (i .1) ∙ ap (λ z. cond z (got t (i .0) []) (refused notBelow at)) o)
 
 -- The reader accepts bytes with table t if and only if t is a valid sheet's and the bytes are its text.
 pub read-exact : (bs : List ℕ) (t : Table) → (read bs ≡ loaded t) ↔ (So (validSheet t) × (bs ≡ text t))

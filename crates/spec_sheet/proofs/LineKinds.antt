@@ -55,7 +55,7 @@ number-exact key low high h ck = record { sound = from; full = to; lf = λ n b. 
     fits n b = let q : n ≤ high = between-high low high n b in omega arith
 
     from : (l : List ℕ) (x : ℕ) → numberLine key low high l ≡ ok x → So (between low high x) × (l ≡ numberText key x)
-    from l x e = try-ok (keyed key l) _ e λ r e₁ e. try-ok (whole (number r)) (within low high) e λ n e₂ e. need-ok (between low high n) 2 _ e λ b e.
+    from l x e = try-ok (keyed key l) _ e λ r e₁ e. try-ok (whole (number r)) (within low high) e λ n e₂ e. need-ok (between low high n) outOfRange _ e λ b e.
         subst (λ z. So (between low high z) × (l ≡ numberText key z)) (ok-value e)
         (b, keyed-sound key l r e₁ ∙ ap (λ z. key ++ z) (number-sound r n [] (whole-ok (number r) e₂) (fits n b) ∙ append-nil (decimal n)))
 
@@ -79,7 +79,7 @@ under-exact c k h kc = record { sound = from; full = to; lf = λ links b. all-ap
 
     from : (l links : List ℕ) → underLine c k l ≡ ok links → So (linksFit k links) × (l ≡ underText links)
     from l links e = try-ok (keyed (bytes "under=") l) _ e λ r e₁ e. try-ok (whole (numbers 2 [] r)) (linksTried c k) e λ ns e₂ e.
-        need-ok (all (λ n. leb n c) ns) 2 _ e λ t e. need-ok (all (λ n. ltb n k) ns) 3 _ e λ u e.
+        need-ok (all (λ n. leb n c) ns) outOfRange _ e λ t e. need-ok (all (λ n. ltb n k) ns) notBelow _ e λ u e.
         let i = numbers-sound 2 [] r ns [] (whole-ok (numbers 2 [] r) e₂) in
         let len : length ns ≡ suc (length (i .1)) = ap length (i .2) in
         let fit : So (linksFit k ns) = both (in-between 1 2 (length ns) (omega arith) (omega (arith, i .3))) u in
@@ -220,7 +220,7 @@ answer-small n m h b = missing-weaken (below n) small (m .answer) (below-small n
 
 signature-sound : (n : ℕ) (s : State) (l : List ℕ) (m : Method) → n ≤ top → signature n s l ≡ ok m → SignatureOf n s l m
 unfolding signature
-signature-sound n s l m h e = try-ok (whole (bindScan (arguments l) _)) (named n) e λ y e₁ e. need-ok (all (below n) (y .args) && unlessMissing (y .answer) (below n)) 2 _ e λ b e.
+signature-sound n s l m h e = try-ok (whole (bindScan (arguments l) _)) (named n) e λ y e₁ e. need-ok (all (below n) (y .args) && unlessMissing (y .answer) (below n)) outOfRange _ e λ b e.
     bindScan-took (arguments l) _ (whole-ok _ e₁) λ xs q a e₂. bindScan-took (answer q) _ e₂ λ o p w e₃. go y b (ok-value e) xs q a o p w (took-value e₃) (took-rest e₃)
   where
     go : (y : Method) → So (all (below n) (y .args) && unlessMissing (y .answer) (below n)) → y ≡ m →

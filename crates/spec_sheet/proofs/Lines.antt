@@ -129,7 +129,7 @@ same-sound k l h =
 
 pub keyed-sound : (key l r : List ℕ) → keyed key l ≡ ok r → l ≡ key ++ r
 unfolding keyed
-keyed-sound key l r h = need-ok (starts key l) 1 (λ u. ok (drop (length key) l)) h (λ t e. starts-sound key l t ∙ ap (λ z. key ++ z) (ok-value e))
+keyed-sound key l r h = need-ok (starts key l) form (λ u. ok (drop (length key) l)) h (λ t e. starts-sound key l t ∙ ap (λ z. key ++ z) (ok-value e))
 
 pub keyed-full : (key r : List ℕ) → keyed key (key ++ r) ≡ ok r
 unfolding keyed

@@ -7,6 +7,7 @@ use native.Mathlib.Omega.{arith}
 use lib.ListN.{length, length-append}
 use Rattle.spec_model.specs.Basics.{Res, refuse, ok}
 use Rattle.spec_model.specs.Table.{Rep, ref, w32, w64, Table}
+use Rattle.spec_model.specs.Refusals.{notBelow}
 use Rattle.spec_sheet.specs.Lines.{Row, row, cut, split, join, Reading, refused, got, Reader, lineAt, line, follow, bind, times, endOfInput}
 use Rattle.spec_sheet.specs.Sheet.{underLine, ownLine, endLine, methodLine, members, oneType, body, signaturesStand, ending, sheet, malformed, loaded, sheetResult, read}
 use Rattle.spec_sheet.proofs.Lines.{unsplit, unsplit-split, rows, rows-append}
@@ -98,15 +99,15 @@ ending-places : (t : Table) → Places (ending t)
 unfolding ending
 ending-places t last rs = go (line endLine last rs) (line-places endLine last rs)
   where
-    own : (b : Bool) (a : ℕ) (q : List Row) → Ahead last rs a q → Placed last rs (cond b (got t a q) (refused 3 last))
+    own : (b : Bool) (a : ℕ) (q : List Row) → Ahead last rs a q → Placed last rs (cond b (got t a q) (refused notBelow last))
     own true a q h = h
     own false a q h = (rs, ahead-none last rs)
 
-    behind : (a : ℕ) (q : List Row) → Ahead last rs a q → Placed last rs (follow (endOfInput a q) λ u at rs. cond (signaturesStand t) (got t at rs) (refused 3 last))
+    behind : (a : ℕ) (q : List Row) → Ahead last rs a q → Placed last rs (follow (endOfInput a q) λ u at rs. cond (signaturesStand t) (got t at rs) (refused notBelow last))
     behind a [] h = own (signaturesStand t) a [] h
     behind a (r ∷ q) h = (r ∷ q, h)
 
-    go : (r : Reading (Unit {0})) → Placed last rs r → Placed last rs (follow r λ u. bind endOfInput λ u at rs. cond (signaturesStand t) (got t at rs) (refused 3 last))
+    go : (r : Reading (Unit {0})) → Placed last rs r → Placed last rs (follow r λ u. bind endOfInput λ u at rs. cond (signaturesStand t) (got t at rs) (refused notBelow last))
     go (refused n k) h = h
     go (got u a q) h = behind a q h
 

@@ -8,7 +8,7 @@ use lib.Dec.{ltb, leb}
 use lib.ListN.{drop, length}
 use Rattle.spec_model.specs.Basics.{Res, refuse, ok, try, need, all, unlessMissing}
 use Rattle.spec_model.specs.Table.{State, avail, optional, denied, unavail, Rep, ref, w32, w64, Method, Table, between, maxSubjects, maxMethods, maxCategories, maxSheetTypes, bare}
-use Rattle.spec_model.specs.Refusals.{form}
+use Rattle.spec_model.specs.Refusals.{form, outOfRange, notBelow}
 use Rattle.spec_sheet.specs.Lines.{bytes, Row, row, cut, split, Reading, refused, got, Reader, line, lineAt, follow, times, endOfInput, starts, same, keyed, choice}
 use Rattle.spec_sheet.specs.Numbers.{Scan, fail, took, bindScan, whole, number, numbers}
 use Rattle.spec_sheet.specs.Text.{newestForm, repText, ownText, stateText, endText}
@@ -16,7 +16,7 @@ use Rattle.spec_sheet.specs.Sheet.{numberLine, underLine, repLine, ownLi
 use Rattle.spec_sheet.specs.Sheet.{sheet, SheetResult, malformed, loaded, sheetResult, read}
 
 abbrev pub Number : ℕ → Type 0
-Number n = (1 ≤ n) × (n ≤ 3)
+Number n = (form ≤ n) × (n ≤ notBelow)
 
 -- of the answer for a line, and of a reading
 abbrev Told : {A : Type 0} → Res A → Type 0
@@ -42,7 +42,7 @@ whole-told (took x (b ∷ r)) = (omega arith, omega arith)
 
 keyed-told : (key l : List ℕ) → Told (keyed key l)
 unfolding keyed
-keyed-told key l = need-told (starts key l) 1 (λ u. ok (drop (length key) l)) (omega arith, omega arith) tt
+keyed-told key l = need-told (starts key l) form (λ u. ok (drop (length key) l)) (omega arith, omega arith) tt
 
 cond-told : {A : Type 0} (b : Bool) (x y : Res A) → Told x → Told y → Told (cond b x y)
 cond-told true x y h k = h
@@ -55,19 +55,19 @@ choice-told f (x ∷ xs) l = cond-told (same (f x) l) (ok x) (choice f xs l) tt 
 
 number-told : (key : List ℕ) (low high : ℕ) (l : List ℕ) → Told (numberLine key low high l)
 unfolding numberLine
-number-told key low high l = try-told (keyed key l) _ (keyed-told key l) λ r. try-told (whole (number r)) _ (whole-told (number r)) λ n. need-told (between low high n) 2 _
+number-told key low high l = try-told (keyed key l) _ (keyed-told key l) λ r. try-told (whole (number r)) _ (whole-told (number r)) λ n. need-told (between low high n) outOfRange _
     (omega arith, omega arith) tt
 
 under-told : (cats k : ℕ) (l : List ℕ) → Told (underLine cats k l)
 unfolding underLine
 under-told cats k l = try-told (keyed (bytes "under=") l) _ (keyed-told (bytes "under=") l) λ r. try-told (whole (numbers 2 [] r)) _ (whole-told (numbers 2 [] r)) λ links.
-    need-told (all (λ n. leb n cats) links) 2 _ (omega arith, omega arith) (need-told (all (λ n. ltb n k) links) 3 (λ _. ok links) (omega arith, omega arith) tt)
+    need-told (all (λ n. leb n cats) links) outOfRange _ (omega arith, omega arith) (need-told (all (λ n. ltb n k) links) notBelow (λ _. ok links) (omega arith, omega arith) tt)
 
 signature-told : (n : ℕ) (s : State) (l : List ℕ) → Told (signature n s l)
 unfolding signature
 signature-told n s l =
     let scan : Scan Method = bindScan (arguments l) λ xs r. bindScan (answer r) λ o q. took (record { state = s; args = xs; answer = o }) q in
-    try-told (whole scan) _ (whole-told scan) λ (m : Method). need-told (all (below n) (m .args) && unlessMissing (m .answer) (below n)) 2 (λ _. ok m) (omega arith, omega arith) tt
+    try-told (whole scan) _ (whole-told scan) λ (m : Method). need-told (all (below n) (m .args) && unlessMissing (m .answer) (below n)) outOfRange (λ _. ok m) (omega arith, omega arith) tt
 
 method-told : (n : ℕ) (l : List ℕ) → Told (methodLine n l)
 unfolding methodLine
@@ -140,7 +140,7 @@ ending-numbered t last rs = follow-numbered (line endLine last rs) _ (line-numbe
     nothing-left at [] = tt
     nothing-left at (r ∷ rs) = (omega arith, omega arith)
 
-    own : (b : Bool) (at : ℕ) (rs : List Row) → Numbered (cond b (got t at rs) (refused 3 last))
+    own : (b : Bool) (at : ℕ) (rs : List Row) → Numbered (cond b (got t at rs) (refused notBelow last))
     own true at rs = tt
     own false at rs = (omega arith, omega arith)
 

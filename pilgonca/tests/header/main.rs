@@ -281,7 +281,9 @@ fn in_capitals(refusal: Refusal) -> String {
 
 #[test]
 fn the_refusals_are_the_crates() {
-    let refusals = Refusal::ALL.map(|one| (in_capitals(one), usize::from(one.number())));
+    let refusals = Refusal::ALL
+        .iter()
+        .map(|one| (in_capitals(*one), usize::from(one.number())));
     let named = [("PILGONCA_OK".to_string(), 0)].into_iter().chain(refusals);
     let named: Vec<(String, usize)> = named.collect();
     assert_eq!(header().constants("pilgonca_refusal"), named);

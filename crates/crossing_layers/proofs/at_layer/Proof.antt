@@ -1,5 +1,5 @@
 -- The four ways in which it returns.
-use Rattle.crossing_layers.proofs.Laws.{at-first, at-later-8, at-later-10, at-later}
+use Rattle.crossing_layers.proofs.Laws.{at-first, at-later-unrelated, at-later-not-strict, at-later}
 use Rattle.crossing_layers.proofs.at_layer.Statement.{statement}
 use Rattle.crossing_layers.proofs.at_layer.Tie as tie
 
@@ -7,10 +7,10 @@ returns : tie.Need-returns
 returns c = at-first (c .before .args .i) (c .before .args .e) (c .if1 .taken)
 
 returns-2 : tie.Need-returns-2
-returns-2 c = at-later-8 (c .before .before .args .i) (c .before .before .args .e) (c .before .if1 .left) (c .if2 .taken)
+returns-2 c = at-later-unrelated (c .before .before .args .i) (c .before .before .args .e) (c .before .if1 .left) (c .if2 .taken)
 
 returns-3 : tie.Need-returns-3
-returns-3 c = at-later-10 (c .before .before .before .args .i) (c .before .before .before .args .e) (c .before .before .if1 .left) (c .if3 .taken)
+returns-3 c = at-later-not-strict (c .before .before .before .args .i) (c .before .before .before .args .e) (c .before .before .if1 .left) (c .if3 .taken)
 
 returns-4 : tie.Need-returns-4
 returns-4 c = at-later (c .before .before .before .args .i) (c .before .before .before .args .e) (c .before .before .if1 .left) (c .before .if2 .left) (c .if3 .left)

@@ -10,7 +10,7 @@ use Rattle.spec_model.specs.Relations.{related, conforms, strict}
 use Rattle.spec_model.specs.Crossing.{placeAt, placeType}
 use Rattle.table_record.specs.Store.{tableIn}
 use Rattle.state_record.specs.View.{placesIn}
-use Rattle.crossing_one.proofs.Laws.{meets-passes, meets-10, closable, meets-11, closed-byte, meets-12, meets-adapts}
+use Rattle.crossing_one.proofs.Laws.{meets-passes, meets-not-strict, closable, meets-types-full, closed-byte, meets-places-full, meets-adapts}
 use Rattle.crossing_one.proofs.meet.Statement.{statement}
 use Rattle.crossing_one.proofs.meet.Tie as tie
 
@@ -71,7 +71,7 @@ refused-requires c κs = search needs
 
 returns-2 : tie.Need-returns-2
 returns-2 c = let e = c .before .before .before .before in let v = met-type e in let a = v .before .before .args in let h = v .before .before .pre in
-    meets-10 (a .types .now) (a .links .now) (a .c) (h .0) (a .ps) (h .1 .descending) (a .to) (a .right) (a .p) (h .1 .place) (kind v) (kind-is v) (less e)
+    meets-not-strict (a .types .now) (a .links .now) (a .c) (h .0) (a .ps) (h .1 .descending) (a .to) (a .right) (a .p) (h .1 .place) (kind v) (kind-is v) (less e)
     (sym (not-true (c .before .before .asked2 .result) (c .before .if2 .taken)) ∙ c .before .before .asked2 .ensures) (c .refused .result) (c .refused .ensures)
 
 closed-any-requires : tie.Need-closed-any-requires
@@ -90,7 +90,7 @@ refused-requires-2 c κs = search needs
 
 returns-3 : tie.Need-returns-3
 returns-3 c = let d = c .before .before .before in let v = met-type (first (second d)) in let a = v .before .before .args in let h = v .before .before .pre in
-    meets-11 (a .types .now) (a .links .now) (a .c) (h .0) (a .ps) (h .1 .descending) (a .to) (a .right) (a .p) (h .1 .place) (kind v) (kind-is v)
+    meets-types-full (a .types .now) (a .links .now) (a .c) (h .0) (a .ps) (h .1 .descending) (a .to) (a .right) (a .p) (h .1 .place) (kind v) (kind-is v)
     (less (first (second d))) (met (second d)) (d .closed-any .last .0) (d .closed-any .result) (d .closed-any .ensures) (c .before .enum-told .given .1) (c .refused2 .result) (c .refused2 .ensures)
 
 refused-requires-3 : tie.Need-refused-requires-3
@@ -98,7 +98,7 @@ refused-requires-3 c κs = search needs
 
 returns-4 : tie.Need-returns-4
 returns-4 c = let k = c .before .before .before .before in let d = derived k in let v = met-type (first (second d)) in let a = v .before .before .args in let h = v .before .before .pre in
-    meets-12 (a .types .now) (a .links .now) (a .c) (h .0) (a .ps) (h .1 .descending) (a .to) (a .right) (a .p) (h .1 .place) (kind v) (kind-is v)
+    meets-places-full (a .types .now) (a .links .now) (a .c) (h .0) (a .ps) (h .1 .descending) (a .to) (a .right) (a .p) (h .1 .place) (kind v) (kind-is v)
     (less (first (second d))) (met (second d)) (d .closed-any .last .0) (d .closed-any .result) (d .closed-any .ensures) _ _ (k .closed .given .1) (c .before .if3 .taken) (c .refused3 .result)
     (c .refused3 .ensures)
 

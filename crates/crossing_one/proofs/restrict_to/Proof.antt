@@ -5,7 +5,7 @@ use borrow.Author.Needs.{needs}
 use borrow.Author.Tests.{not-true, not-false}
 use Rattle.spec_model.specs.Relations.{related, loose, subtype}
 use Rattle.table_record.specs.Store.{tableIn}
-use Rattle.crossing_one.proofs.Laws.{restrict-8, restrict-stays, sub-asked, restrict-11, restrict-ready, restrict-meets}
+use Rattle.crossing_one.proofs.Laws.{restrict-unrelated, restrict-stays, sub-asked, restrict-types-full, restrict-ready, restrict-meets}
 use Rattle.crossing_one.proofs.restrict_to.Statement.{statement}
 use Rattle.crossing_one.proofs.restrict_to.Tie as tie
 
@@ -47,7 +47,7 @@ refused-requires c κs = search needs
 
 returns-2 : tie.Need-returns-2
 returns-2 c = let b = start (c .before .before .before .before) in let a = b .args in let h = b .pre in
-    restrict-8 (a .types .now) (a .links .now) (a .c) (h .0) (a .ps) (a .x) (h .1 .descending) (h .1 .place) (h .2)
+    restrict-unrelated (a .types .now) (a .links .now) (a .c) (h .0) (a .ps) (a .x) (h .1 .descending) (h .1 .place) (h .2)
     (sym (not-true (c .before .before .asked2 .result) (c .before .if2 .taken)) ∙ c .before .before .asked2 .ensures) (c .refused .result) (c .refused .ensures)
 
 sub-type-requires : tie.Need-sub-type-requires
@@ -65,7 +65,7 @@ refused-requires-2 c κs = search needs
 
 returns-3 : tie.Need-returns-3
 returns-3 c = let d = c .before .before .before in let b = start (first (second d)) in let a = b .args in let h = b .pre in
-    restrict-11 (a .types .now) (a .links .now) (a .c) (h .0) (a .ps) (a .x) (h .1 .descending) (h .1 .place) (h .2)
+    restrict-types-full (a .types .now) (a .links .now) (a .c) (h .0) (a .ps) (a .x) (h .1 .descending) (h .1 .place) (h .2)
     (met (second d)) (less (first (second d))) (d .sub-type .last .0) (d .sub-type .result) (d .sub-type .ensures) (c .before .enum-told .given .1) (c .refused2 .result) (c .refused2 .ensures)
 
 with-types-requires : tie.Need-with-types-requires

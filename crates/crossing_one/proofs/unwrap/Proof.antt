@@ -5,7 +5,7 @@ use borrow.Author.Needs.{needs}
 use borrow.Author.Tests.{not-true, not-false}
 use Rattle.spec_model.specs.Relations.{related, free}
 use Rattle.table_record.specs.Store.{tableIn}
-use Rattle.crossing_one.proofs.Laws.{unwrap-8, unwrap-9, unwrap-meets}
+use Rattle.crossing_one.proofs.Laws.{unwrap-unrelated, unwrap-not-owner, unwrap-meets}
 use Rattle.crossing_one.proofs.unwrap.Statement.{statement}
 use Rattle.crossing_one.proofs.unwrap.Tie as tie
 
@@ -27,7 +27,7 @@ refused-requires c κs = search needs
 
 returns : tie.Need-returns
 returns c = let b = c .before .before .before .before in let a = b .args in let h = b .pre in
-    unwrap-8 (a .types .now) (a .links .now) (a .c) (h .0) (a .ps) (a .x) (h .2)
+    unwrap-unrelated (a .types .now) (a .links .now) (a .c) (h .0) (a .ps) (a .x) (h .2)
     (sym (not-true (c .before .before .asked .result) (c .before .if1 .taken)) ∙ c .before .before .asked .ensures) (c .refused .result) (c .refused .ensures)
 
 base-owner-requires : tie.Need-base-owner-requires
@@ -38,7 +38,7 @@ refused-requires-2 c κs = search needs
 
 returns-2 : tie.Need-returns-2
 returns-2 c = let e = c .before .before .before in let o = c .before .before .base-owner in let b = start e in let a = b .args in let h = b .pre in
-    unwrap-9 (a .types .now) (a .links .now) (a .c) (h .0) (a .ps) (a .x) (h .2) (met e) (o .result) (o .ensures .0) (c .before .if2 .taken)
+    unwrap-not-owner (a .types .now) (a .links .now) (a .c) (h .0) (a .ps) (a .x) (h .2) (met e) (o .result) (o .ensures .0) (c .before .if2 .taken)
     (c .refused2 .result) (c .refused2 .ensures)
 
 base-of-requires : tie.Need-base-of-requires

@@ -2,6 +2,7 @@
 use mathlib.Core.Path.{refl, sym, subst}
 use Rattle.spec_model.specs.Restriction.{derived}
 use Rattle.spec_model.specs.Check.{kindOf}
+use Rattle.spec_model.specs.Refusals.{typesFull}
 use Rattle.table_record.specs.Store.{tableIn}
 use Rattle.derive_entry.specs.Result.{DerivesHanded, refusedWith}
 use Rattle.derive_entry.proofs.Laws.{ready, refused-derives, full-is, at-derives}
@@ -29,7 +30,7 @@ returns c = λ l.
     let a = c .before .before .before .before .before .before .args in
     let d = c .before .before .derive-kind in
     let full = full-is (a .b .now) (d .last .0) (a .c) (kindOf (a .kind)) (a .t) (a .s) (d .ensures) l (c .enum-told .given .1) in
-    subst (λ z. DerivesHanded (a .b .now) l (a .c) (derived (tableIn (a .b .now) l (a .c)) (kindOf (a .kind)) (a .t) (a .s)) (refusedWith 11 z (a .c)))
+    subst (λ z. DerivesHanded (a .b .now) l (a .c) (derived (tableIn (a .b .now) l (a .c)) (kindOf (a .kind)) (a .t) (a .s)) (refusedWith typesFull z (a .c)))
     (sym (c .before .before .before .before .copied .ensures .0))
     (refused-derives (a .b .now) l (a .c) refl full)
 

@@ -1,6 +1,7 @@
 -- The C function stores what the derivation answers, and on a refusal what was there: by the derivation's contract, with operands read back from 64 bits (`toZ-ofZ`).
 use mathlib.Core.Path.{refl, ap, subst}
 use mir.Facts.{toZ-ofZ}
+use Rattle.spec_model.specs.Refusals.{outOfRange, unknownType, typesFull}
 use Rattle.table_record.specs.Store.{withCount}
 use Rattle.derive_entry.specs.Result.{left, DerivesHanded}
 use Rattle.state_bytes.specs.Flat.{countsIn}
@@ -34,7 +35,7 @@ returns c =
     let a = s .args in
     let r = c .before .before .derive in
     let g = rw (toZ-ofZ (s .fits .t), toZ-ofZ (s .fits .s), c .before .before .before .before .counts-of .ensures) at (r .ensures) in
-    derivation-refused (a .links .now) _ 2 (lent (a .types .now) (a .counts .now) (a .number .now)) (r .last .0) refl
+    derivation-refused (a .links .now) _ outOfRange (lent (a .types .now) (a .counts .now) (a .number .now)) (r .last .0) refl
     (ap (λ z. left (countsIn (a .counts .now)) z (r .last .0)) (c .enum-told .given .1)) g
 
 returns-2 : tie.Need-returns-2
@@ -43,7 +44,7 @@ returns-2 c =
     let a = s .args in
     let r = c .before .before .derive in
     let g = rw (toZ-ofZ (s .fits .t), toZ-ofZ (s .fits .s), c .before .before .before .before .counts-of .ensures) at (r .ensures) in
-    derivation-refused (a .links .now) _ 7 (lent (a .types .now) (a .counts .now) (a .number .now)) (r .last .0) refl
+    derivation-refused (a .links .now) _ unknownType (lent (a .types .now) (a .counts .now) (a .number .now)) (r .last .0) refl
     (ap (λ z. left (countsIn (a .counts .now)) z (r .last .0)) (c .enum-told2 .given .1)) g
 
 returns-3 : tie.Need-returns-3
@@ -52,7 +53,7 @@ returns-3 c =
     let a = s .args in
     let r = c .before .before .derive in
     let g = rw (toZ-ofZ (s .fits .t), toZ-ofZ (s .fits .s), c .before .before .before .before .counts-of .ensures) at (r .ensures) in
-    derivation-refused (a .links .now) _ 11 (lent (a .types .now) (a .counts .now) (a .number .now)) (r .last .0) refl
+    derivation-refused (a .links .now) _ typesFull (lent (a .types .now) (a .counts .now) (a .number .now)) (r .last .0) refl
     (ap (λ z. left (countsIn (a .counts .now)) z (r .last .0)) (c .enum-told3 .given .1)) g
 
 returns-4 : tie.Need-returns-4

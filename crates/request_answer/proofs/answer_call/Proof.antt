@@ -4,7 +4,7 @@ use mathlib.Core.Path.{ap}
 use borrow.Author.Needs.{needs}
 use Rattle.state_record.specs.Whole.{whole}
 use Rattle.request_common.specs.Served.{done}
-use Rattle.request_answer.proofs.Laws.{keeps-same, cell-low, called, owner-6, answered-17, call-gives}
+use Rattle.request_answer.proofs.Laws.{keeps-same, cell-low, called, owner-not-held, answered-already, call-gives}
 use Rattle.request_answer.specs.Given.{givenAs}
 use Rattle.request_answer.proofs.answer_call.Statement.{statement}
 use Rattle.request_answer.proofs.answer_call.Tie as tie
@@ -47,7 +47,7 @@ returns c = (
       let k = called s (h .0) (a .j) (h .1) (y .result) (y .ensures .1 (h .1)) (c .before .before .before .before .before .before .wide .result)
       (c .before .before .before .before .before .before .wide .ensures .0) (c .before .before .before .before .before .cell-at .result)
       (c .before .before .before .before .before .cell-at .ensures .1 l) in
-      owner-6 s (h .0) subject (a .j) (givenAs (a .given)) (y .result) (c .before .before .before .before .before .cell-at .result) k (c .before .before .before .wide2 .result)
+      owner-not-held s (h .0) subject (a .j) (givenAs (a .given)) (y .result) (c .before .before .before .before .before .cell-at .result) k (c .before .before .before .wide2 .result)
       (c .before .before .base-owner .result) (a .who) (c .before .before .before .wide2 .ensures .0) (c .before .before .base-owner .ensures .0) w (c .before .if1 .taken)
       (done (a .types .now) (c .refused .result)) (ap (done (a .types .now)) (c .refused .ensures)),
   keeps-same (c .before .before .before .before .before .before .before .before .args .given) (c .before .before .before .before .before .before .before .before .args .types .now),
@@ -67,7 +67,7 @@ returns-2 c = (
       let k = called s (h .0) (a .j) (h .1) (y .result) (y .ensures .1 (h .1)) (c .before .before .before .before .before .before .before .wide .result)
       (c .before .before .before .before .before .before .before .wide .ensures .0) (c .before .before .before .before .before .before .cell-at .result)
       (c .before .before .before .before .before .before .cell-at .ensures .1 l) in
-      answered-17 s (h .0) subject (a .j) (givenAs (a .given)) (y .result) (c .before .before .before .before .before .before .cell-at .result) k
+      answered-already s (h .0) subject (a .j) (givenAs (a .given)) (y .result) (c .before .before .before .before .before .before .cell-at .result) k
       (c .before .before .before .before .wide2 .result) (c .before .before .before .base-owner .result) (a .who) (c .before .before .before .before .wide2 .ensures .0)
       (c .before .before .before .base-owner .ensures .0) w (c .before .before .if1 .left) (c .before .if2 .taken) (done (a .types .now) (c .refused2 .result))
       (ap (done (a .types .now)) (c .refused2 .ensures)),

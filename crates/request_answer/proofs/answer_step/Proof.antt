@@ -5,7 +5,7 @@ use borrow.Author.Tests.{not-true, not-false}
 use borrow.Author.Needs.{needs}
 use Rattle.state_record.specs.Whole.{whole}
 use Rattle.request_common.specs.Served.{done}
-use Rattle.request_answer.proofs.Laws.{keeps-same, step-5, step-6, step-goes}
+use Rattle.request_answer.proofs.Laws.{keeps-same, step-unknown-subject, step-not-held, step-goes}
 use Rattle.request_answer.specs.Given.{givenAs}
 use Rattle.request_answer.proofs.answer_step.Statement.{statement}
 use Rattle.request_answer.proofs.answer_step.Tie as tie
@@ -19,7 +19,7 @@ refused-requires c κs = search needs
 returns : tie.Need-returns
 returns c = (
   let a = c .before .before .before .before .before .args in let s = whole (a .types .now) (a .s) in let f = c .before .before .before .before .before .fits in
-      step-5 s (c .before .before .before .before .before .pre) (a .subject) (a .call) (givenAs (a .given))
+      step-unknown-subject s (c .before .before .before .before .before .pre) (a .subject) (a .call) (givenAs (a .given))
       (sym (rw (toZ-ofZ (f .subject)) at (c .before .before .is-subject .ensures s refl)) ∙ not-true (c .before .before .is-subject .result) (c .before .if1 .taken))
       (done (a .types .now) (c .refused .result)) (ap (done (a .types .now)) (c .refused .ensures)),
   keeps-same (c .before .before .before .before .before .args .given) (c .before .before .before .before .before .args .types .now),
@@ -38,7 +38,7 @@ returns-2 : tie.Need-returns-2
 returns-2 c = (
   let a = c .before .before .before .before .before .before .before .before .before .args in let s = whole (a .types .now) (a .s) in
       let f = c .before .before .before .before .before .before .before .before .before .fits in
-      step-6 s (c .before .before .before .before .before .before .before .before .before .pre) (a .subject) (a .call) (givenAs (a .given))
+      step-not-held s (c .before .before .before .before .before .before .before .before .before .pre) (a .subject) (a .call) (givenAs (a .given))
       (sym (rw (toZ-ofZ (f .subject)) at (c .before .before .before .before .before .before .is-subject .ensures s refl)) ∙ not-false
       (c .before .before .before .before .before .before .is-subject .result) (c .before .before .before .before .before .if1 .left))
       (c .before .before .before .index-of2 .result) (rw (toZ-ofZ (f .call)) at (c .before .before .before .index-of2 .ensures)) (c .before .if2 .taken)

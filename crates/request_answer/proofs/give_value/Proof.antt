@@ -9,7 +9,7 @@ use Rattle.state_record.specs.Whole.{whole}
 use Rattle.request_common.specs.Served.{done}
 use Rattle.spec_model.specs.Requests.{number, got}
 use Rattle.crossing_layers.specs.Carried.{targetsIn}
-use Rattle.request_answer.proofs.Laws.{value-15, value-reference, number-refused, number-answers}
+use Rattle.request_answer.proofs.Laws.{value-wrong-values, value-reference, number-refused, number-answers}
 use Rattle.request_answer.proofs.give_value.Statement.{statement}
 use Rattle.request_answer.proofs.give_value.Tie as tie
 
@@ -30,7 +30,7 @@ refused-requires c κs = search needs
 
 returns : tie.Need-returns
 returns c = λ subject w. let a = c .before .before .before .before .before .before .before .before .before .before .before .args in let s = whole (a .types .now) (a .s) in
-    value-15 s (c .before .before .before .before .before .before .before .before .before .before .before .pre .0) subject (a .j) (a .x) (a .c)
+    value-wrong-values s (c .before .before .before .before .before .before .before .before .before .before .before .pre .0) subject (a .j) (a .x) (a .c)
     (c .before .before .before .before .before .before .before .before .before .before .before .pre .1) (a .a) (a .v)
     (targetsIn (c .before .before .before .before .before .before .answers-met .result)) (c .before .before .before .before .before .before .answers-met .ensures .0)
     (c .before .before .before .before .names-ref .result) (c .before .before .before .before .names-ref .ensures) (c .before .before .before .if1 .taken)

@@ -4,8 +4,9 @@ use mathlib.Core.Path.{refl, sym, _∙_}
 use native.Mathlib.Omega.{arith}
 use borrow.Author.Tests.{not-true, not-false}
 use borrow.Author.Needs.{needs}
+use Rattle.spec_model.specs.Refusals.{unknownSubject, notHeld, notCallable}
 use Rattle.state_record.specs.Whole.{whole}
-use Rattle.request_call.proofs.Calling.{planned-as, planned-refuses, asked-5, who-named, asked-6, cell-here, asked-14, asked-goes}
+use Rattle.request_call.proofs.Calling.{planned-as, planned-refuses, asked-unknown-subject, who-named, asked-not-held, cell-here, asked-not-callable, asked-goes}
 use Rattle.request_call.proofs.plan_call.Statement.{statement}
 use Rattle.request_call.proofs.plan_call.Tie as tie
 
@@ -17,8 +18,8 @@ stops-requires c κs = search needs
 
 returns : tie.Need-returns
 returns c = let a = c .before .before .before .before .before .args in let s = whole (a .types .now) (a .s) in let f = c .before .before .before .before .before .fits in
-    planned-refuses s (a .arguments .now) 5 (omega arith)
-    (asked-5 s (c .before .before .before .before .before .pre) (a .subject) (a .cell) (a .method) (a .arguments .now)
+    planned-refuses s (a .arguments .now) unknownSubject (omega arith)
+    (asked-unknown-subject s (c .before .before .before .before .before .pre) (a .subject) (a .cell) (a .method) (a .arguments .now)
     (sym (rw (toZ-ofZ (f .subject)) at (c .before .before .is-subject .ensures s refl)) ∙ not-true (c .before .before .is-subject .result) (c .before .if1 .taken)))
     (c .stops .result) (c .stops .ensures)
 
@@ -40,8 +41,9 @@ returns-2 c =
     let who = rw (toZ-ofZ (f .subject)) at (c .before .before .before .index-of .ensures) in
     let w = who-named s (c .before .before .before .before .before .before .before .before .pre) (a .subject) (a .cell) (a .method) (a .arguments .now) known
     (c .before .before .before .index-of .result) who in
-    planned-refuses s (a .arguments .now) 6 (omega arith)
-    (asked-6 s (c .before .before .before .before .before .before .before .before .pre) (a .subject) (a .cell) (a .method) (a .arguments .now) known (c .before .before .before .index-of .result) who
+    planned-refuses s (a .arguments .now) notHeld (omega arith)
+    (asked-not-held s (c .before .before .before .before .before .before .before .before .pre) (a .subject) (a .cell) (a .method) (a .arguments .now) known
+    (c .before .before .before .index-of .result) who
     (sym (rw (toZ-ofZ (f .cell)) at (c .before .before .is-held .ensures s (a .subject) refl (w .0))) ∙ not-true (c .before .before .is-held .result) (c .before .if2 .taken)))
     (c .stops2 .result) (c .stops2 .ensures)
 
@@ -65,8 +67,8 @@ returns-3 c =
     known (c .before .before .before .before .before .before .before .index-of .result) who in
     let has = sym (rw (toZ-ofZ (f .cell)) at (c .before .before .before .before .before .before .is-held .ensures s (a .subject) refl (w .0)))
     ∙ not-false (c .before .before .before .before .before .before .is-held .result) (c .before .before .before .before .before .if2 .left) in
-    planned-refuses s (a .arguments .now) 14 (omega arith)
-    (asked-14 s (c .before .before .before .before .before .before .before .before .before .before .before .before .pre) (a .subject) (a .cell) (a .method) (a .arguments .now) known
+    planned-refuses s (a .arguments .now) notCallable (omega arith)
+    (asked-not-callable s (c .before .before .before .before .before .before .before .before .before .before .before .before .pre) (a .subject) (a .cell) (a .method) (a .arguments .now) known
     (c .before .before .before .before .before .before .before .index-of .result) who has
     (c .before .before .before .before .index-of2 .result) (rw (toZ-ofZ (f .cell)) at (c .before .before .before .before .index-of2 .ensures))
     (c .before .before .before .index-of3 .result) (rw (toZ-ofZ (f .method)) at (c .before .before .before .index-of3 .ensures)) (c .before .if3 .taken))

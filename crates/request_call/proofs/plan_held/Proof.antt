@@ -3,8 +3,9 @@ use mathlib.Core.Path.{sym, _∙_}
 use native.Mathlib.Omega.{arith}
 use borrow.Author.Tests.{not-true, not-false}
 use borrow.Author.Needs.{needs}
+use Rattle.spec_model.specs.Refusals.{notCallable, wrongValues, callsFull}
 use Rattle.state_record.specs.Whole.{whole}
-use Rattle.request_call.proofs.Calling.{type-here, type-low, planned-as, planned-refuses, held-14, held-15, held-18, held-goes}
+use Rattle.request_call.proofs.Calling.{type-here, type-low, planned-as, planned-refuses, held-not-callable, held-wrong-values, held-calls-full, held-goes}
 use Rattle.request_call.proofs.plan_held.Statement.{statement}
 use Rattle.request_call.proofs.plan_held.Tie as tie
 
@@ -28,8 +29,8 @@ returns : tie.Need-returns
 returns c = λ subject w.
     let a = c .before .before .before .before .before .before .before .args in let s = whole (a .types .now) (a .s) in let h = c .before .before .before .before .before .before .before
     .pre in let y = c .before .before .before .before .before .before .cell-at in let z = c .before .before .before .before .wide in let x = c .before .before .before .method-at in
-    planned-refuses s (a .vs .now) 14 (omega arith)
-    (held-14 s subject (a .k) (a .m) (a .vs .now) (z .result) (type-here s (h .0) (a .k) (h .2) (y .result) (y .ensures .1 (h .2)) (z .result) (z .ensures .0))
+    planned-refuses s (a .vs .now) notCallable (omega arith)
+    (held-not-callable s subject (a .k) (a .m) (a .vs .now) (z .result) (type-here s (h .0) (a .k) (h .2) (y .result) (y .ensures .1 (h .2)) (z .result) (z .ensures .0))
     (x .result) (x .ensures) (c .before .if1 .taken)) (c .stops .result) (c .stops .ensures)
 
 arguments-held-requires : tie.Need-arguments-held-requires
@@ -43,8 +44,8 @@ returns-2 c = λ subject w.
     let a = c .before .before .before .before .before .before .before .before .before .args in let s = whole (a .types .now) (a .s) in let h = c .before .before .before .before .before
     .before .before .before .before .pre in let y = c .before .before .before .before .before .before .before .before .cell-at in let z = c .before .before .before .before .before
     .before .wide in let x = c .before .before .before .before .before .method-at in let v = c .before .before .arguments-held in
-    planned-refuses s (a .vs .now) 15 (omega arith)
-    (held-15 s subject (a .k) (a .m) (a .vs .now) (z .result) (type-here s (h .0) (a .k) (h .2) (y .result) (y .ensures .1 (h .2)) (z .result) (z .ensures .0))
+    planned-refuses s (a .vs .now) wrongValues (omega arith)
+    (held-wrong-values s subject (a .k) (a .m) (a .vs .now) (z .result) (type-here s (h .0) (a .k) (h .2) (y .result) (y .ensures .1 (h .2)) (z .result) (z .ensures .0))
     (x .result) (x .ensures) (c .before .before .before .if1 .left) (sym (v .ensures subject w) ∙ not-true (v .result) (c .before .if2 .taken))) (c .stops2 .result) (c .stops2 .ensures)
 
 stops-requires-3 : tie.Need-stops-requires-3
@@ -56,8 +57,8 @@ returns-3 c = λ subject w.
     .before .before .before .before .before .before .before .before .pre in let y = c .before .before .before .before .before .before .before .before .before .before .cell-at in
     let z = c .before .before .before .before .before .before .before .before .wide in let x = c .before .before .before .before .before .before .before .method-at in let v = c
     .before .before .before .before .arguments-held in
-    planned-refuses s (a .vs .now) 18 (omega arith)
-    (held-18 s subject (a .k) (a .m) (a .vs .now) (z .result) (type-here s (h .0) (a .k) (h .2) (y .result) (y .ensures .1 (h .2)) (z .result) (z .ensures .0))
+    planned-refuses s (a .vs .now) callsFull (omega arith)
+    (held-calls-full s subject (a .k) (a .m) (a .vs .now) (z .result) (type-here s (h .0) (a .k) (h .2) (y .result) (y .ensures .1 (h .2)) (z .result) (z .ensures .0))
     (x .result) (x .ensures) (c .before .before .before .before .before .if1 .left) (sym (v .ensures subject w) ∙ not-false (v .result) (c .before .before .before .if2 .left))
     (c .before .if3 .taken)) (c .stops3 .result) (c .stops3 .ensures)
 

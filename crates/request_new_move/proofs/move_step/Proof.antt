@@ -11,7 +11,7 @@ use Rattle.state_record.specs.Whole.{Whole, whole}
 use Rattle.state_record.specs.View.{systemIn}
 use Rattle.table_check.proofs.Steps as test
 use Rattle.request_common.proofs.Laws.{step-refuses, step-as, subject-at, sheet-at, held-at}
-use Rattle.request_new_move.proofs.Laws.{move-5, move-receiver, move-6, move-7, move-sends, move-goes}
+use Rattle.request_new_move.proofs.Laws.{move-unknown-subject, move-receiver, move-not-held, move-unknown-type, move-sends, move-goes}
 use Rattle.request_new_move.proofs.move_step.Statement.{statement}
 use Rattle.request_new_move.proofs.move_step.Tie as tie
 
@@ -83,7 +83,7 @@ refused-requires c κs = search needs
 
 returns : tie.Need-returns
 returns c = let b = c .before .before .before .before in
-    step-refuses (b .pre) (move-5 (state b) (b .args .subject) (b .args .cell) (b .args .receiver) (b .args .to)
+    step-refuses (b .pre) (move-unknown-subject (state b) (b .args .subject) (b .args .cell) (b .args .receiver) (b .args .to)
     (test.refused _ _ (rw (toZ-ofZ (b .fits .subject)) at (c .before .before .is-subject .ensures (state b) refl)) (c .before .if1 .taken))) (c .refused .ensures)
 
 is-subject-requires-2 : tie.Need-is-subject-requires-2
@@ -108,7 +108,7 @@ refused-requires-3 c κs = search needs
 
 returns-3 : tie.Need-returns-3
 returns-3 c = let p = c .before .before .before in let b = start (second (asked p)) in
-    step-refuses (b .pre) (move-6 (state b) (b .args .subject) (b .args .cell) (b .args .receiver) (b .args .to) (known (second (asked p))) (met (asked p))
+    step-refuses (b .pre) (move-not-held (state b) (b .args .subject) (b .args .cell) (b .args .receiver) (b .args .to) (known (second (asked p))) (met (asked p))
     (test.refused _ _ (rw (toZ-ofZ (b .fits .cell)) at (c .before .before .is-held .ensures (state b) (b .args .subject) refl (sym (who p .0)))) (c .before .if3 .taken))) (c .refused3 .ensures)
 
 is-sheet-ref-requires : tie.Need-is-sheet-ref-requires
@@ -119,7 +119,7 @@ refused-requires-4 c κs = search needs
 
 returns-4 : tie.Need-returns-4
 returns-4 c = let p = c .before .before .before .before in let b = start (second (asked (third p))) in
-    step-refuses (b .pre) (move-7 (state b) (b .args .subject) (b .args .cell) (b .args .receiver) (b .args .to) (known (second (asked (third p)))) (met (asked (third p))) (holds p)
+    step-refuses (b .pre) (move-unknown-type (state b) (b .args .subject) (b .args .cell) (b .args .receiver) (b .args .to) (known (second (asked (third p)))) (met (asked (third p))) (holds p)
     (test.refused _ _ (rw (toZ-ofZ (b .fits .to)) at (c .before .before .is-sheet-ref .ensures (state b) refl refl)) (c .before .if4 .taken))) (c .refused4 .ensures)
 
 index-of-requires-2 : tie.Need-index-of-requires-2

@@ -12,7 +12,7 @@ use Rattle.state_record.specs.View.{systemIn}
 use Rattle.table_check.proofs.Steps as test
 use Rattle.request_common.specs.Served.{isSheetClass}
 use Rattle.request_common.proofs.Laws.{step-refuses, step-as, subject-at, sheet-at}
-use Rattle.request_new_move.proofs.Laws.{new-5, new-class, new-type, new-12, new-sends, new-goes}
+use Rattle.request_new_move.proofs.Laws.{new-unknown-subject, new-class, new-type, new-places-full, new-sends, new-goes}
 use Rattle.request_new_move.proofs.new_step.Statement.{statement}
 use Rattle.request_new_move.proofs.new_step.Tie as tie
 
@@ -73,7 +73,7 @@ refused-requires c κs = search needs
 
 returns : tie.Need-returns
 returns c = let b = c .before .before .before .before in
-    step-refuses (b .pre) (new-5 (state b) (b .args .subject) (b .args .class) (b .args .to)
+    step-refuses (b .pre) (new-unknown-subject (state b) (b .args .subject) (b .args .class) (b .args .to)
     (test.refused _ _ (rw (toZ-ofZ (b .fits .subject)) at (c .before .before .is-subject .ensures (state b) refl)) (c .before .if1 .taken))) (c .refused .ensures)
 
 is-sheet-class-requires : tie.Need-is-sheet-class-requires
@@ -104,7 +104,8 @@ refused-requires-4 c κs = search needs
 
 returns-4 : tie.Need-returns-4
 returns-4 c = let p = c .before .before .before .before in let b = start (second (third p)) in
-    step-refuses (b .pre) (new-12 (state b) (b .args .subject) (b .args .class) (b .args .to) (known (second (third p))) (ty (third p)) (target p) (c .before .if4 .taken)) (c .refused4 .ensures)
+    step-refuses (b .pre) (new-places-full (state b) (b .args .subject) (b .args .class) (b .args .to) (known (second (third p))) (ty (third p)) (target p) (c .before .if4 .taken))
+    (c .refused4 .ensures)
 
 index-of-requires : tie.Need-index-of-requires
 index-of-requires c κs = search needs
