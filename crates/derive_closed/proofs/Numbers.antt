@@ -47,7 +47,7 @@ rep-w64 x e = record { is = go x e; some = omega arith; code = omega arith } whe
 
 -- the methods of an empty type
 blanks : (j : ℕ) → j < maxMethods → getD (map rawMethod (emptyType .methods)) j noRawMethod ≡ blankMethod
-blanks j l = go 16 j l where
+blanks j l = go maxMethods j l where
   go : (n j : ℕ) → j < n → getD (map rawMethod (replicate n emptyMethod)) j noRawMethod ≡ blankMethod
   go zero j l = absurd (omega arith)
   go (suc n) zero l = refl

@@ -19,6 +19,13 @@ use table_record::Counts;
 use table_record::LINK_BYTES;
 use table_record::TYPE_BYTES;
 
+// The codes of the three kinds, as they are asked for: those of `Key`, which a type's bytes have.
+const SUB: usize = 0;
+
+const SUP: usize = 1;
+
+const CLOSED: usize = 2;
+
 // What a derivation comes to: the table is unfit (2), a number names no type or there is no such derived type (7), the table is full (11); or the derived type's
 // number and how many types there are now.
 pub enum Made {
@@ -33,10 +40,10 @@ fn is_asked(b: &[u8; TYPE_BYTES], n: usize, kind: usize, t: usize, s: usize) -> 
     requires { ⌜ n ≤ maxTypes ⌝ }
     ensures { λ r. ⌜ r ≡ kindAsked kind (refIn n (now (b .entry)) t && refIn n (now (b .entry)) s) ⌝ }
 {
-    if kind < 2 {
+    if kind < CLOSED {
         return true;
     }
-    if kind != 2 {
+    if kind != CLOSED {
         return false;
     }
     if !table_record::names_ref(b, n, t) {
@@ -50,10 +57,10 @@ fn derive_kind(b: &mut [u8; TYPE_BYTES], c: Counts, kind: usize, t: usize, s: us
     requires { ⌜ Ready c (c .types) t s (now b) × (kindAsked kind (refIn (c .types) (now b) t && refIn (c .types) (now b) s) ≡ true) ⌝ }
     ensures { λ r. ⌜ Derives (kindOf kind) c t s (now (b .entry)) (now (b .exit)) r ⌝ }
 {
-    if kind == 0 {
+    if kind == SUB {
         return derive_sub_sup::sub_type(b, c, t, s);
     }
-    if kind == 1 {
+    if kind == SUP {
         return derive_sub_sup::sup_type(b, c, t, s);
     }
     derive_closed::closed_type(b, c, t, s)

@@ -10,7 +10,7 @@ use lib.ListN.{length, getD, set, take, replicate, length-set, length-map, List�
 use lib.Seq.{take-nil, getD-set-other}
 use borrow.Author.Tests.{eq-eqb, ne-eqb, le-leb, lt-ltb, le-ltb}
 use Rattle.spec_model.specs.Basics.{_⇒_}
-use Rattle.spec_model.specs.Table.{State, denied, optional, avail, unavail, Kind, sub, sup, closed, permit, maxArguments}
+use Rattle.spec_model.specs.Table.{State, denied, optional, avail, unavail, Kind, sub, sup, closed, permit, maxArguments, maxMethods}
 use Rattle.spec_model.specs.Table as model
 use Rattle.spec_model.specs.Restriction.{restricted, sameKind, isKey}
 use Rattle.spec_model.specs.Check.{RawMethod, RawType, noRawMethod, stateOf, kindOf, answerOf, methodOf}
@@ -149,7 +149,7 @@ take-capped zero (n ∷ ns) = rw (zero-min (suc (length ns)))
 take-capped (suc k) (n ∷ ns) = rw (suc-min-suc k (length ns)) (ap (λ (l : List ℕ). n ∷ l) (take-capped k ns))
 
 -- slots past the count don't matter
-take-slots : (n a b c d : ℕ) → n ≤ 4 → let l : List ℕ = a ∷ b ∷ c ∷ d ∷ [] in take n (slotByte n l 0 ∷ slotByte n l 1 ∷ slotByte n l 2 ∷ slotByte n l 3 ∷ []) ≡ take n l
+take-slots : (n a b c d : ℕ) → n ≤ argumentSlots → let l : List ℕ = a ∷ b ∷ c ∷ d ∷ [] in take n (slotByte n l 0 ∷ slotByte n l 1 ∷ slotByte n l 2 ∷ slotByte n l 3 ∷ []) ≡ take n l
 take-slots zero a b c d h = refl
 take-slots (suc zero) a b c d h = refl
 take-slots (suc (suc zero)) a b c d h = refl
@@ -179,18 +179,18 @@ module _ (d : Kind) (p q : RawMethod) where
     right-on : permit (stateOf (q .state)) ≡ true
     right-on = right-permits d (stateOf (p .state)) (stateOf (q .state)) e
 
-    pub slot-answer : (i : ℕ) → i ≡ 4 → answerSlot (answerOf (p .answer)) (answerOf (q .answer)) ≡ slotOf d (methodOf p) (methodOf q) i
+    pub slot-answer : (i : ℕ) → i ≡ argumentSlots → answerSlot (answerOf (p .answer)) (answerOf (q .answer)) ≡ slotOf d (methodOf p) (methodOf q) i
     slot-answer i h = rw (h, e, left-on, right-on)
 
     pub slot-argument : (i : ℕ) → i < argumentSlots → argumentSlot i (take (p .count) (p .args)) (take (q .count) (q .args)) ≡ slotOf d (methodOf p) (methodOf q) i
-    slot-argument i h = rw (e, lt-ltb i 4 h, left-on, right-on)
+    slot-argument i h = rw (e, lt-ltb i argumentSlots h, left-on, right-on)
 
   -- The method from its slots: what it means, that it is stored exactly, and that its codes name something where the left side's do.
   abbrev count : ℕ
-  count = min (min (p .count) (q .count)) 4
+  count = min (min (p .count) (q .count)) argumentSlots
 
-  pub shared-low : count ≤ 4
-  shared-low = min-le-right (min (p .count) (q .count)) 4
+  pub shared-low : count ≤ argumentSlots
+  shared-low = min-le-right (min (p .count) (q .count)) argumentSlots
 
   module _ (st : ℕ) (es : stateOf st ≡ restricted d (stateOf (p .state)) (stateOf (q .state))) (low : st < 4) (args : List ℕ) (a : ℕ) where
     abbrev pub Made : RawMethod → Type 0
@@ -221,7 +221,7 @@ module _ (d : Kind) (p q : RawMethod) where
         few : MethodCoded p → count ≤ maxArguments
         few h =
             let w : p .count ≤ maxArguments = leb-so (applied (second (ltb (p .state) 4) _ h) (left-on s)) in
-            let u = min-le-left (min (p .count) (q .count)) 4 in
+            let u = min-le-left (min (p .count) (q .count)) argumentSlots in
             let v = min-le-left (p .count) (q .count) in omega arith
 
 -- A method's bytes, and a type's head, put together from their parts.
@@ -292,20 +292,20 @@ module _ (w : Work) (ns : List ℕ) where
 
   pub record Filling (ms : ℕ) (all : List Method) (j : ℕ) : Type 0 where
     pub low : j ≤ ms
-    pub long : length all ≡ 16
+    pub long : length all ≡ maxMethods
     pub made : (i : ℕ) → i < j → Well i (getD all i absent)
-    pub rest : (i : ℕ) → j ≤ i → i < 16 → rawMethod (getD all i absent) ≡ blankMethod
+    pub rest : (i : ℕ) → j ≤ i → i < maxMethods → rawMethod (getD all i absent) ≡ blankMethod
 
-  pub filling-starts : (ms : ℕ) (m : Method) → m ≡ emptyMethod → Filling ms (replicate 16 m) 0
-  filling-starts ms m e = subst (λ (m : Method). Filling ms (replicate 16 m) 0)
-      (sym e) record { low = omega arith; long = refl; made = λ i h. absurd (not-suc-le-zero h); rest = λ i h l. blank-at 16 i l }
+  pub filling-starts : (ms : ℕ) (m : Method) → m ≡ emptyMethod → Filling ms (replicate maxMethods m) 0
+  filling-starts ms m e = subst (λ (m : Method). Filling ms (replicate maxMethods m) 0)
+      (sym e) record { low = omega arith; long = refl; made = λ i h. absurd (not-suc-le-zero h); rest = λ i h l. blank-at maxMethods i l }
     where
       blank-at : (n i : ℕ) → i < n → rawMethod (getD (replicate n emptyMethod) i absent) ≡ blankMethod
       blank-at zero i h = absurd (not-suc-le-zero h)
       blank-at (suc n) zero h = refl
       blank-at (suc n) (suc i) h = blank-at n i (le-of-suc-le-suc h)
 
-  pub filling-next : {ms : ℕ} {all : List Method} {j : ℕ} → Filling ms all j → j < ms → ms ≤ 16 → (p q m : Method) → rawMethod p ≡ rawIn (leftIn w) j
+  pub filling-next : {ms : ℕ} {all : List Method} {j : ℕ} → Filling ms all j → j < ms → ms ≤ maxMethods → (p q m : Method) → rawMethod p ≡ rawIn (leftIn w) j
       → rawMethod q ≡ rawIn (rightIn w) j
       → (methodOf (rawMethod m) ≡ fill (kindIn w) (methodOf (rawMethod p)) (methodOf (rawMethod q))
       (getD ns (j * methodSlots) 0 ∷ getD ns (j * methodSlots + 1) 0 ∷ getD ns (j * methodSlots + 2) 0 ∷ getD ns (j * methodSlots + 3) 0 ∷ []) (getD ns (j * methodSlots + argumentSlots) 0))

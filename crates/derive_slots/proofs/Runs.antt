@@ -64,11 +64,11 @@ bytes c k ns = from c k (λ i. getD ns i 0)
 abbrev four : ℕ → List ℕ → List ℕ
 four k ns = getD ns k 0 ∷ getD ns (k + 1) 0 ∷ getD ns (k + 2) 0 ∷ getD ns (k + 3) 0 ∷ []
 
-four-bytes : (k : ℕ) (ns : List ℕ) → bytes 4 k ns ≡ four k ns
+four-bytes : (k : ℕ) (ns : List ℕ) → bytes argumentSlots k ns ≡ four k ns
 unfolding from
 four-bytes k ns = let a : suc k ≡ k + 1 = omega arith in let b : suc (k + 1) ≡ k + 2 = omega arith in let c : suc (k + 2) ≡ k + 3 = omega arith in rw (a, b, c)
 
-four-same : (k : ℕ) (ns ms : List ℕ) → ((i : ℕ) → i < k + 4 → getD ms i 0 ≡ getD ns i 0) → four k ns ≡ four k ms
+four-same : (k : ℕ) (ns ms : List ℕ) → ((i : ℕ) → i < k + argumentSlots → getD ms i 0 ≡ getD ns i 0) → four k ns ≡ four k ms
 four-same k ns ms e = rw (e k (omega arith), e (k + 1) (omega arith), e (k + 2) (omega arith), e (k + 3) (omega arith))
 
 module _ (rec : Derivation) (d : Kind) where
@@ -186,32 +186,32 @@ module _ (rec : Derivation) (d : Kind) where
     Signs x y s t zs = then (deriveAnswer rec d t (x .answer) (y .answer)) λ z. some (z .0, signed s zs (z .1))
 
     permitted-run : {B : Type 0} (x y : Method) (s : State) (k : ℕ) (q : Row) (go : Table → Method → Option B) → shared (x .args) (y .args) ≤ argumentSlots → k + methodSlots ≤ length (q .1)
-        → getD (q .1) (k + 4) 0 ≡ 0
+        → getD (q .1) (k + argumentSlots) 0 ≡ 0
         → ((i : ℕ) → i < argumentSlots → f (k + i) ≡ argumentSlot i (x .args) (y .args)) → f (k + argumentSlots) ≡ answerSlot (x .answer) (y .answer)
         → _≡_ {A = Option B} (then (then (deriveArgs rec d (q .0) (x .args) (y .args)) λ p. Signs x y s (p .0) (p .1)) (λ p. go (p .0) (p .1)))
-        (then (Run 5 k q) λ p. go (p .0) (signed s (take (shared (x .args) (y .args)) (four k (p .1))) (answerOf (getD (p .1) (k + 4) 0))))
+        (then (Run methodSlots k q) λ p. go (p .0) (signed s (take (shared (x .args) (y .args)) (four k (p .1))) (answerOf (getD (p .1) (k + argumentSlots) 0))))
     permitted-run {B} x y s k q go few room blank args ans =
         bind (deriveArgs rec d (q .0) (x .args) (y .args)) (λ p. Signs x y s (p .0) (p .1)) (λ p. go (p .0) (p .1))
-        ∙ args-run 4 k (x .args) (y .args) q (λ t zs. then (Signs x y s t zs) (λ p. go (p .0) (p .1))) few (omega arith) args
-        ∙ runs-same 4 k q (λ p. then (Signs x y s (p .0) (zs p)) (λ p. go (p .0) (p .1))) (λ p. then (Run 1 (k + 4) p) end)
+        ∙ args-run argumentSlots k (x .args) (y .args) q (λ t zs. then (Signs x y s t zs) (λ p. go (p .0) (p .1))) few (omega arith) args
+        ∙ runs-same argumentSlots k q (λ p. then (Signs x y s (p .0) (zs p)) (λ p. go (p .0) (p .1))) (λ p. then (Run 1 (k + argumentSlots) p) end)
         (λ p b. bind (deriveAnswer rec d (p .0) (x .answer) (y .answer)) (λ z. some (z .0, signed s (zs p) (z .1))) (λ p. go (p .0) (p .1))
-        ∙ answer-run (k + 4) (x .answer) (y .answer) p (λ t z. go t (signed s (zs p) z)) (let l = b .0 in omega arith) (b .1 (k + 4) (inr (omega arith)) ∙ blank)
-        ∙ step-same (answerSlot (x .answer) (y .answer)) (k + 4) (p .0) (p .1) (λ r. go (r .0) (signed s (zs p) (answerOf (getD (r .1) (k + 4) 0)))) end
-        (λ r g. ap (λ (l : List ℕ). go (r .0) (signed s (take (shared (x .args) (y .args)) l) (answerOf (getD (r .1) (k + 4) 0))))
+        ∙ answer-run (k + argumentSlots) (x .answer) (y .answer) p (λ t z. go t (signed s (zs p) z)) (let l = b .0 in omega arith) (b .1 (k + argumentSlots) (inr (omega arith)) ∙ blank)
+        ∙ step-same (answerSlot (x .answer) (y .answer)) (k + argumentSlots) (p .0) (p .1) (λ r. go (r .0) (signed s (zs p) (answerOf (getD (r .1) (k + argumentSlots) 0)))) end
+        (λ r g. ap (λ (l : List ℕ). go (r .0) (signed s (take (shared (x .args) (y .args)) l) (answerOf (getD (r .1) (k + argumentSlots) 0))))
         (four-bytes k (p .1) ∙ four-same k (p .1) (r .1) (λ i l. g .1 i (inl l))))
-        ∙ ap (λ (u : Slot). then (step rec d u (k + 4) (p .0) (p .1)) end) (sym ans) ∙ sym (last-one (k + 4) p end))
-        ∙ sym (bind (Run 4 k q) (Run 1 (k + 4)) end) ∙ sym (ap (λ (o : Option Row). then o end) (runs-parts 4 1 k q))
+        ∙ ap (λ (u : Slot). then (step rec d u (k + argumentSlots) (p .0) (p .1)) end) (sym ans) ∙ sym (last-one (k + argumentSlots) p end))
+        ∙ sym (bind (Run argumentSlots k q) (Run 1 (k + argumentSlots)) end) ∙ sym (ap (λ (o : Option Row). then o end) (runs-parts argumentSlots 1 k q))
       where
         zs : Row → List ℕ
-        zs p = take (shared (x .args) (y .args)) (bytes 4 k (p .1))
+        zs p = take (shared (x .args) (y .args)) (bytes argumentSlots k (p .1))
 
         end : Row → Option B
-        end p = go (p .0) (signed s (take (shared (x .args) (y .args)) (four k (p .1))) (answerOf (getD (p .1) (k + 4) 0)))
+        end p = go (p .0) (signed s (take (shared (x .args) (y .args)) (four k (p .1))) (answerOf (getD (p .1) (k + argumentSlots) 0)))
 
     method-run : {B : Type 0} (x y : Method) (k : ℕ) (q : Row) (go : Table → Method → Option B) → shared (x .args) (y .args) ≤ argumentSlots → k + methodSlots ≤ length (q .1)
-        → getD (q .1) (k + 4) 0 ≡ 0 →
+        → getD (q .1) (k + argumentSlots) 0 ≡ 0 →
         ((i : ℕ) → i < methodSlots → f (k + i) ≡ slotOf d x y i)
-        → then (deriveMethod rec d (q .0) x y) (λ p. go (p .0) (p .1)) ≡ then (Run 5 k q) λ p. go (p .0) (fill d x y (four k (p .1)) (getD (p .1) (k + 4) 0))
+        → then (deriveMethod rec d (q .0) x y) (λ p. go (p .0) (p .1)) ≡ then (Run methodSlots k q) λ p. go (p .0) (fill d x y (four k (p .1)) (getD (p .1) (k + argumentSlots) 0))
     unfolding deriveMethod
     method-run {B} x y k q go few room blank slots = by (permit s) refl
       where
@@ -222,10 +222,10 @@ module _ (rec : Derivation) (d : Kind) where
           | false ↦ some (q .0, signed s [] none)
           | true ↦ then (deriveArgs rec d (q .0) (x .args) (y .args)) λ p. Signs x y s (p .0) (p .1)
         ]) (λ p. go (p .0) (p .1)))
-            (then (Run 5 k q) λ p. go (p .0) (signed s (cond b (take (shared (x .args) (y .args)) (four k (p .1))) []) (cond b (answerOf (getD (p .1) (k + 4) 0)) none)))
+            (then (Run methodSlots k q) λ p. go (p .0) (signed s (cond b (take (shared (x .args) (y .args)) (four k (p .1))) []) (cond b (answerOf (getD (p .1) (k + argumentSlots) 0)) none)))
         by true e = permitted-run x y s k q go few room blank
-            (λ i l. slots i (omega arith) ∙ rw (e, lt-ltb i 4 l)) (slots 4 (omega arith) ∙ rw e)
-        by false e = sym (ap (λ (o : Option Row). then o λ p. go (p .0) (signed s [] none)) (runs-empty 5 k q (λ i l. slots i l ∙ rw e)))
+            (λ i l. slots i (omega arith) ∙ rw (e, lt-ltb i argumentSlots l)) (slots argumentSlots (omega arith) ∙ rw e)
+        by false e = sym (ap (λ (o : Option Row). then o λ p. go (p .0) (signed s [] none)) (runs-empty methodSlots k q (λ i l. slots i l ∙ rw e)))
 
   -- All methods: what they come to reads only their own slots, which nothing later changes.
   module _ (x y : ℕ → Method) (few : (i : ℕ) → shared (x i .args) (y i .args) ≤ argumentSlots) where

@@ -40,7 +40,7 @@ use Rattle.derive_slots.specs.Slots.{slotAt, shared, fillAt, leftIn, rightIn, m
 use Rattle.derive_record.specs.Begins.{Begins, Opened, Stored, tabled}
 use Rattle.derive_sub_sup.specs.Link.{Ready, Writes, recordAt, Kept, ExactAt, Exact, ExactTo, Sized, Leaves, Coded, Derives, Gives, derivedIn, derivationIn}
 use Rattle.derive_slots.proofs.Runs.{Row, methods-run}
-use Rattle.derive_slots.specs.Slots.{slotsSize}
+use Rattle.derive_slots.specs.Slots.{methodSlots, slotsSize}
 use Rattle.derive_record.proofs.Begins.{ref-rep}
 use Rattle.derive_sub_sup.proofs.Bytes.{record-same, exact-same, put-below, put-above, put-exact, kept-take, exact-take}
 use Rattle.derive_sub_sup.proofs.Codes.{denied-coded, methods-coded, new-coded, codes-stay}
@@ -163,22 +163,23 @@ take-le (suc c) (x ∷ l) = let h = take-le c l in omega arith
 
 raw-four : (b : List ℕ) (t j : ℕ) → t < maxTypes → length (getD (getD (typesIn b) t noRawType .methods) j noRawMethod .args) ≤ argumentSlots
 raw-four b t j h = ⊎-elim
-    (λ (l : j < maxMethods). let e : length (getD (getD (typesIn b) t noRawType .methods) j noRawMethod .args) ≡ 4 = ap (λ (m : RawMethod). length (m .args)) (method-in b t j h l) in omega arith)
-    (λ (l : 16 ≤ j). let g = methods-length b t h in
+    (λ (l : j < maxMethods). let e : length (getD (getD (typesIn b) t noRawType .methods) j noRawMethod .args) ≡ argumentSlots = ap (λ (m : RawMethod). length (m .args))
+    (method-in b t j h l) in omega arith)
+    (λ (l : maxMethods ≤ j). let g = methods-length b t h in
     let e : length (getD (getD (typesIn b) t noRawType .methods) j noRawMethod .args) ≡ 0 = ap (λ (m : RawMethod). length (m .args))
     (List·getD-eq-default (getD (typesIn b) t noRawType .methods) noRawMethod {n = j} (omega arith)) in omega arith)
-    (lt-or-ge j 16)
+    (lt-or-ge j maxMethods)
 
 method-four : (m : RawMethod) → length (m .args) ≤ argumentSlots → length (methodOf m .args) ≤ argumentSlots
 method-four m h = go (permit (stateOf (m .state)))
   where
-    go : (b : Bool) → length (cond b (take (m .count) (m .args)) []) ≤ 4
+    go : (b : Bool) → length (cond b (take (m .count) (m .args)) []) ≤ argumentSlots
     go true = let e = take-le (m .count) (m .args) in omega arith
     go false = omega arith
 
 -- every method of a type at work is denied
 pending-method : (j : ℕ) → methodOf (getD (map rawMethod (replicate maxMethods emptyMethod)) j noRawMethod) ≡ noMethod
-pending-method j = go 16 j
+pending-method j = go maxMethods j
   where
     go : (n j : ℕ) → methodOf (getD (map rawMethod (replicate n emptyMethod)) j noRawMethod) ≡ noMethod
     go zero j = refl
@@ -259,14 +260,14 @@ module _ {d : Kind} {c : Counts} {n t s : ℕ} {w : Work} {b b₀ : List ℕ} (f
       subst (λ (k : ℕ). So (rawTypeFits ms sh k (getD (typesIn b₀) k noRawType))) (sym e)
       (subst (λ (r : RawType). So (rawTypeFits ms sh n r)) (sym
       (ap (λ (rs : List RawType). getD rs n noRawType) stored ∙ getD-set-same (typesIn b) n (pendingRecord w) noRawType (let z = types-length b in let r = from-start .room in omega arith)))
-      (new-coded ms sh n w (map rawMethod (replicate maxMethods emptyMethod)) (from-start .known) (λ j l. denied-coded 16 j))))
+      (new-coded ms sh n w (map rawMethod (replicate maxMethods emptyMethod)) (from-start .known) (λ j l. denied-coded maxMethods j))))
       (lt-or-ge i n)
 
   finished-coded : Coded c n b → (z : TypeRec) {ns : List ℕ} → Finished w ms ns z → So (rawTypeFits ms sh n (rawOf z))
   finished-coded h z fin = subst (λ (r : RawType). So (rawTypeFits ms sh n r)) (sym (fin .head))
       (new-coded ms sh n w (rawOf z .methods) (from-start .known) (λ j l. fin .coded j l (side-coded h j l)))
 
-  pub start-loop : Loop d c n w b₀ b₀ (ms * 5) zeros (n + 1) 0
+  pub start-loop : Loop d c n w b₀ b₀ (ms * methodSlots) zeros (n + 1) 0
   start-loop = loop-starts d c n w b₀ (from-start .limits) (from-start .kinds) (from-start .room) (put-length (from-start .put) ∙ from-start .long)
 
   -- Both sides stand in the bytes as they were read, so that a slot is that of the type at work; and what reading it asks.

@@ -3,7 +3,7 @@ use mathlib.Core.Path.{_≡_, refl, ap, _∙_}
 use mathlib.Core.Bool.{Bool, true, false, So}
 use mathlib.Core.List.{List, [], _∷_, _++_}
 use mathlib.Core.Option.{Option, none, some}
-use Prim.Native.Nat.{ℕ}
+use Prim.Native.Nat.{ℕ, _-_}
 use lib.Dec.{ltb}
 use lib.IntN.{pos, negsuc}
 use lib.ListN.{set, replicate}
@@ -95,7 +95,7 @@ making t n d l r known room ms = elim (elim known as (λ _. Option (Table × ℕ
 ]) [ none ↦ refuse 11 | some p ↦ ok p ]
 
 abbrev derivedMethods : Table → Kind → ℕ → ℕ → Methods
-derivedMethods t d l r = deriveMethods (derive 127) d (withTypes t (t .types ++ (pending t d l r ∷ []))) (typeAt t l .methods) (typeAt t r .methods)
+derivedMethods t d l r = deriveMethods (derive (maxTypes - 1)) d (withTypes t (t .types ++ (pending t d l r ∷ []))) (typeAt t l .methods) (typeAt t r .methods)
 
 derived-by : (t : Table) (d : Kind) (l r n : ℕ) → size t ≡ n → withoutNew t d l r ≡ none → derived t d l r ≡ making t n d l r none (ltb n maxTypes) (derivedMethods t d l r)
 unfolding derived derive make
@@ -104,9 +104,9 @@ derived-by t d l r n e w = ap (λ o. making t (size t) d l r o (ltb (size t) max
 pub full-refused : (t : Table) (d : Kind) (l r : ℕ) → size t ≡ maxTypes → withoutNew t d l r ≡ none → derived t d l r ≡ refuse 11
 full-refused t d l r e w = derived-by t d l r maxTypes e w
 
-pub last-made : (t : Table) (d : Kind) (l r : ℕ) → size t ≡ 127 → withoutNew t d l r ≡ none → (p : Table × List Method) → derivedMethods t d l r ≡ some p
-    → derived t d l r ≡ ok (withTypes (p .0) (set (p .0 .types) 127 (entry t d l r (p .1))), 127)
-last-made t d l r e w p m = derived-by t d l r 127 e w ∙ ap (making t 127 d l r none true) m
+pub last-made : (t : Table) (d : Kind) (l r : ℕ) → size t ≡ maxTypes - 1 → withoutNew t d l r ≡ none → (p : Table × List Method) → derivedMethods t d l r ≡ some p
+    → derived t d l r ≡ ok (withTypes (p .0) (set (p .0 .types) (maxTypes - 1) (entry t d l r (p .1))), maxTypes - 1)
+last-made t d l r e w p m = derived-by t d l r (maxTypes - 1) e w ∙ ap (making t (maxTypes - 1) d l r none true) m
 
 -- a crossing that wants a new Sub in such a table is refused with 11 (X5)
 pub full-crossing : (f : Reference) (to r : ℕ) → typeAt (f .table) to .own ≡ false → So (related loose (f .table) to (f .type)) → related subtype (f .table) to (f .type) ≡ false

@@ -3,7 +3,7 @@ use mathlib.Core.Path.{_≡_, refl, ap, sym, _∙_}
 use mathlib.Core.Bool.{Bool, true, false}
 use mathlib.Core.List.{List, [], _∷_}
 use mathlib.Core.Option.{Option, none, some}
-use Prim.Native.Nat.{ℕ, zero, suc, _+_, _≤_, _<_}
+use Prim.Native.Nat.{ℕ, zero, suc, _+_, _-_, _≤_, _<_}
 use native.Mathlib.Omega.{arith}
 use lib.Dec.{ltb}
 use lib.ListN.{set, length-append}
@@ -96,4 +96,4 @@ derive-fuel (suc f) (suc g) t d l r p q = make-agree (derive f) (derive g) (deri
 -- the equation that a function meets which calls itself
 pub derive-self : (t : Table) (d : Kind) (l r : ℕ) → derive maxTypes t d l r ≡ make (derive maxTypes) t d l r
 unfolding derive
-derive-self t d l r = make-agree (derive 127) (derive maxTypes) (derive-larger 127) t (λ u e a b h. derive-fuel 127 maxTypes u e a b (omega arith) (omega arith)) d l r
+derive-self t d l r = make-agree (derive (maxTypes - 1)) (derive maxTypes) (derive-larger (maxTypes - 1)) t (λ u e a b h. derive-fuel (maxTypes - 1) maxTypes u e a b (omega arith) (omega arith)) d l r

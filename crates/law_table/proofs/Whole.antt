@@ -9,7 +9,7 @@ use lib.Dec.{leb}
 use lib.ListN.{length, getD, replicate, length-append, List·getD-append}
 use lib.Seq.{getD-append-add}
 use Rattle.spec_model.specs.Basics.{from}
-use Rattle.spec_model.specs.Table.{Ty, Table, noType, noMethod, size, between, tableFits, maxMethods, maxCategories, maxTypes}
+use Rattle.spec_model.specs.Table.{Ty, Table, noType, noMethod, size, between, tableFits, maxSubjects, maxMethods, maxCategories, maxTypes}
 use Rattle.spec_model.specs.Check.{RawMethod, RawType, RawLinks, RawTable, noRawType, noRawMethod, noRawLinks, typeOf, linksOf, tableOf, codesFit}
 use Rattle.spec_model.specs.Records.{methodRecord, typeRecord, linksRecord}
 use Rattle.spec_model.proofs.Codes.{rawTableOf}
@@ -73,7 +73,7 @@ pub links-back-at : (cs : List (List ℕ)) (k : ℕ) → length cs ≤ maxCatego
 unfolding linkBytes padded
 links-back-at cs k m l =
     let xs : List (List ℕ) = [] ∷ cs in
-    let at : (p : ℕ) → p < 3 → getD (linkBytes cs) (k * linkSize + p) 0 ≡ getD (linkBytesOf (getD xs k [])) p 0 =
+    let at : (p : ℕ) → p < linkSize → getD (linkBytes cs) (k * linkSize + p) 0 ≡ getD (linkBytesOf (getD xs k [])) p 0 =
     λ p h. flat-at linkBytesOf linkSize (λ x. refl) xs (replicate (linksSize - length (flatten (map linkBytesOf xs))) 0) [] k p l h in
     let z : k * linkSize ≡ k * linkSize + 0 = omega arith in
     links-in (linkBytes cs) k noRawLinks (omega arith)
@@ -91,7 +91,7 @@ module _ (t : Table) (fits : So (tableFits t)) where
   few : (length (t .cats) ≤ maxCategories) × (size t ≤ maxTypes)
   few =
       let f = table-fitting t fits in
-      let c = second (between 1 16 (t .methods)) _ (second (between 1 16 (t .subjects)) _ (f .counts)) in
+      let c = second (between 1 maxMethods (t .methods)) _ (second (between 1 maxSubjects (t .subjects)) _ (f .counts)) in
       (leb-so (first (leb (length (t .cats)) maxCategories) _ c), f .room)
 
   type-agrees : (i : ℕ) → i < size t → getD (typesIn (typeBytes (t .types))) i noRawType ≡ getD (map typeRecord (t .types)) i noRawType

@@ -11,12 +11,9 @@ use Rattle.relation_search.specs.Comparing.{comparisonAt}
 use Rattle.spec_sheet.specs.Lines.{bytes, join}
 use Rattle.spec_sheet.specs.Numbers.{decimalIn}
 use Rattle.spec_sheet.specs.Text.{numberText}
+pub use Rattle.spec_sheet.specs.Text.{maxInput}
 use Rattle.pairs_write_lines.specs.Spaced.{spaced}
 use Rattle.spec_sheet.specs.Sheet.{SheetResult, malformed, loaded, read}
-
--- a sheet of at most so many bytes (P1)
-abbrev pub maxInput : ℕ
-maxInput = 32768
 
 -- the parts of a comparison, 1 or 0, in the order in which they are printed
 abbrev pub comparisonBits : Comparison → List ℕ

@@ -10,6 +10,10 @@ ghost use lib.ListN.{length, take};
 ghost use Rattle.spec_sheet.specs.Sheet.{malformed};
 ghost use Rattle.text_write.specs.Fill.{Filled, Lined};
 ghost use Rattle.pairs_output.specs.Output.{resultLines, pairsOutput};
+ghost use Rattle.pairs_output.specs.Room.{printedSize};
+
+// The longest input that is read (P1).
+const INPUT_BYTES: usize = 32768;
 
 // Room for what is printed: 48 * 48 lines of at most 14 bytes are 32,256.
 pub const PRINTED_BYTES: usize = 32768;
@@ -35,7 +39,7 @@ fn put_report(buf: &mut [u8], s: &[u8]) -> usize
     ensures is { λ r. ⌜ Filled (now (buf .entry)) (now (buf .exit)) (pairsOutput (now (s .entry))) r ⌝ }
     ensures few { λ r. ⌜ r ≤ 32256 ⌝ }
 {
-    if 32768 < s.len() {
+    if INPUT_BYTES < s.len() {
         return write_word(buf, b"no=2");
     }
     let x = sheet_read::read(s);
@@ -49,7 +53,7 @@ fn put_report(buf: &mut [u8], s: &[u8]) -> usize
 }
 
 fn blank() -> [u8; PRINTED_BYTES]
-    ensures { λ r. ⌜ length r ≡ 32768 ⌝ }
+    ensures { λ r. ⌜ length r ≡ printedSize ⌝ }
 {
     [0u8; PRINTED_BYTES]
 }

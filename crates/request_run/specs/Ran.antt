@@ -16,6 +16,10 @@ use Rattle.state_record.specs.Whole.{whole}
 use Rattle.state_record.specs.Meaning.{rawState}
 use Rattle.request_run.specs.declared.Ran.{Ran}
 
+-- the words of one outcome
+abbrev pub outcomeSize : ℕ
+outcomeSize = 4
+
 -- Four words for each request: the refusal or 0, how many values there are, and the values (U8).
 abbrev pub wordsOf : Outcome → List ℤ
 wordsOf (refused e) = pos e ∷ pos 0 ∷ pos 0 ∷ pos 0 ∷ []
@@ -38,7 +42,7 @@ over b r = record { refusal = r .refusal; served = r .served; state = whole b (r
 
 -- how many requests there is room for (U9)
 abbrev pub room : List ℤ → ℕ
-room answers = length answers / 4
+room answers = length answers / outcomeSize
 
 -- no request of a run was taken
 abbrev pub AllRefused : List Outcome → Type 0

@@ -14,7 +14,7 @@ ghost use Rattle.state_record.specs.Sound.{Sound};
 ghost use Rattle.request_common.specs.Served.{outcomeOf, Step, done};
 ghost use Rattle.request_by_code.specs.Coded.{serveAsked};
 ghost use Rattle.request_run.specs.Requested.{request, requests, runAsked, runHanded};
-ghost use Rattle.request_run.specs.Ran.{wordsOf, room, over, Runs};
+ghost use Rattle.request_run.specs.Ran.{outcomeSize, wordsOf, room, over, Runs};
 ghost use Rattle.request_run.specs.Loop.{SmallOutcome, countAt, askedAt, nextAt};
 use base_numbers::index_of;
 use base_numbers::refusal;
@@ -47,7 +47,7 @@ fn word(n: usize) -> i64
 }
 
 fn put_words(out: &mut [i64], at: usize, first: i64, second: i64, third: i64, fourth: i64)
-    requires { ⌜ at + 4 ≤ length (now out) ⌝ }
+    requires { ⌜ at + outcomeSize ≤ length (now out) ⌝ }
     ensures { λ _. ⌜ now (out .exit) ≡ sets (now (out .entry)) at (first ∷ second ∷ third ∷ fourth ∷ []) ⌝ }
 {
     out[at] = first;
@@ -58,7 +58,7 @@ fn put_words(out: &mut [i64], at: usize, first: i64, second: i64, third: i64, fo
 
 // An outcome as four words (U8).
 fn put_outcome(out: &mut [i64], at: usize, a: Outcome)
-    requires { ⌜ (at + 4 ≤ length (now out)) × SmallOutcome a ⌝ }
+    requires { ⌜ (at + outcomeSize ≤ length (now out)) × SmallOutcome a ⌝ }
     ensures { λ _. ⌜ now (out .exit) ≡ sets (now (out .entry)) at (wordsOf (outcomeOf a)) ⌝ }
 {
     match a {

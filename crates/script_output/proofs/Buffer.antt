@@ -18,12 +18,12 @@ use Rattle.spec_sheet.proofs.Steps.{ok-value, refuse-ok}
 use Rattle.text_write.specs.declared.Wrote.{Wrote}
 use Rattle.text_write.specs.declared.Wrote.the-variants.{Length}
 use Rattle.text_write.specs.Written.{writtenOf}
-use Rattle.script_output.specs.Output.{maxInput, scriptOutput}
+use Rattle.script_output.specs.Output.{maxInput, maxLonger, scriptOutput}
 use Rattle.script_output.proofs.Whole.{long-prints}
 use Rattle.script_output.proofs.Short.{output-short}
 
 -- five bytes more than the input, of which no more than maxInput count
-pub enough : (s : List ℕ) (k n : ℕ) → k ≡ min (length s) maxInput → k + 5 ≤ n → length (scriptOutput s) ≤ n
+pub enough : (s : List ℕ) (k n : ℕ) → k ≡ min (length s) maxInput → k + maxLonger ≤ n → length (scriptOutput s) ≤ n
 unfolding join
 enough s k n e l = ⊎-elim
     (λ (h : maxInput < length s). let q : k ≡ maxInput = e ∙ min-eq-right (omega arith) in let w : 5 ≡ length (scriptOutput s) = ap length (long-prints s h) in omega arith)

@@ -36,7 +36,7 @@ use Rattle.spec_sheet.proofs.Refusals.{refusal-number}
 use Rattle.script_read_request.specs.Asked.{requestLine}
 use Rattle.script_read_request.proofs.Long.{long, line-long, line-given}
 use Rattle.script_write_outcome.specs.Outcomes.{integerText, outcomeText}
-use Rattle.script_output.specs.Output.{maxInput, sheetEnd, asked, servedLines, printedLines, sheetPart, requestPart, scriptOutput}
+use Rattle.script_output.specs.Output.{maxInput, maxLonger, sheetEnd, asked, servedLines, printedLines, sheetPart, requestPart, scriptOutput}
 use Rattle.script_output.proofs.Whole.{printed}
 
 -- ---- a number below 10 to the g has at most g digits
@@ -188,22 +188,22 @@ line-short l q e s h = go (serve s q) (small-serve s q) (serve-few s h q)
     go (refuse n) w f = omega (arith, k, word-few (bytes "no=") n (omega (arith, w .1)))
     go (ok x) w f = result (x .1) f
 
-served-short : (rs : List Row) (s : System) → Bounded s → length (join (printed s (asked rs))) ≤ size rs + 5
+served-short : (rs : List Row) (s : System) → Bounded s → length (join (printed s (asked rs))) ≤ size rs + maxLonger
 unfolding asked run join
 served-short [] s h = omega arith
 served-short (cut l ∷ rs) s h = omega arith
 served-short (row l ∷ rs) s h = go (requestLine l) refl (λ s h. served-short rs s h)
   where
-    go : (o : Option Request) → requestLine l ≡ o → ((s : System) → Bounded s → length (join (printed s (asked rs))) ≤ size rs + 5)
-        → length (join (printed s (elim o [ none ↦ ([], true) | some q ↦ (q ∷ asked rs .0, asked rs .1) ]))) ≤ length (l ++ 10 ∷ unsplit rs) + 5
+    go : (o : Option Request) → requestLine l ≡ o → ((s : System) → Bounded s → length (join (printed s (asked rs))) ≤ size rs + maxLonger)
+        → length (join (printed s (elim o [ none ↦ ([], true) | some q ↦ (q ∷ asked rs .0, asked rs .1) ]))) ≤ length (l ++ 10 ∷ unsplit rs) + maxLonger
     go none e ih = omega arith
     go (some q) e ih =
         let a = serve s q in let x = outcomeText (outcome a) in let r = join (printed (after s a) (asked rs)) in
-        let i : length r ≤ size rs + 5 = ih (after s a) (bounded-kept s h q) in
+        let i : length r ≤ size rs + maxLonger = ih (after s a) (bounded-kept s h q) in
         let u : length x ≤ length l = line-short l q e s h in
         omega (arith, i, u, length-append x (10 ∷ r), length-append l (10 ∷ unsplit rs))
 
-sheet-short : (p s : List ℕ) (a : SheetResult) → read p ≡ a → length (join (printedLines a (split s))) ≤ length s + 5
+sheet-short : (p s : List ℕ) (a : SheetResult) → read p ≡ a → length (join (printedLines a (split s))) ≤ length s + maxLonger
 unfolding join numberText servedLines follow
 sheet-short p s (malformed n at) e = let k = refusal-number p n at e in let d = digits-few 20 0 n (omega (arith, k .1)) in
     omega (arith, d, length-append (bytes "no=") (decimal n), length-append (numberText (bytes "no=") n) (10 ∷ []))
@@ -212,22 +212,22 @@ sheet-short p s (loaded t) e = omega (arith, served-short (split s) (start t) (f
 abbrev outLines : List ℕ → Bool → List (List ℕ)
 outLines s b = cond b (bytes "no=2" ∷ []) (printedLines (read (sheetPart s)) (split (requestPart s)))
 
-read-short : (s : List ℕ) → length (join (outLines s false)) ≤ length s + 5
+read-short : (s : List ℕ) → length (join (outLines s false)) ≤ length s + maxLonger
 read-short s = omega (arith, sheet-short (sheetPart s) (requestPart s) (read (sheetPart s)) refl, length-drop (sheetEnd s) s)
 
-pub output-short : (s : List ℕ) → length (scriptOutput s) ≤ length s + 5
+pub output-short : (s : List ℕ) → length (scriptOutput s) ≤ length s + maxLonger
 unfolding scriptOutput join
 output-short s = go (ltb maxInput (length s))
   where
-    go : (b : Bool) → length (join (outLines s b)) ≤ length s + 5
+    go : (b : Bool) → length (join (outLines s b)) ≤ length s + maxLonger
     go true = omega arith
     go false = read-short s
 
 -- so that room for the longest input and five bytes more is enough for every input
-pub output-fits : (s : List ℕ) → length (scriptOutput s) ≤ maxInput + 5
+pub output-fits : (s : List ℕ) → length (scriptOutput s) ≤ maxInput + maxLonger
 unfolding scriptOutput join
 output-fits s = go (ltb maxInput (length s)) refl
   where
-    go : (b : Bool) → ltb maxInput (length s) ≡ b → length (join (outLines s b)) ≤ maxInput + 5
+    go : (b : Bool) → ltb maxInput (length s) ≡ b → length (join (outLines s b)) ≤ maxInput + maxLonger
     go true e = omega arith
     go false e = let l : length s ≤ maxInput = ltb-false maxInput (length s) e in omega (arith, read-short s)

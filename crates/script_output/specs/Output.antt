@@ -9,13 +9,14 @@ use Rattle.spec_model.specs.Table.{Table}
 use Rattle.spec_model.specs.Requests.{Request, loaded as start, run}
 use Rattle.spec_sheet.specs.Lines.{Row, row, cut, bytes, split, join, starts, same}
 use Rattle.spec_sheet.specs.Text.{numberText, endText}
+pub use Rattle.spec_sheet.specs.Text.{maxInput}
 use Rattle.spec_sheet.specs.Sheet.{SheetResult, malformed, loaded, read}
 use Rattle.script_read_request.specs.Asked.{requestLine}
 use Rattle.script_write_outcome.specs.Outcomes.{outcomeText}
 
--- an input of at most so many bytes (P1)
-abbrev pub maxInput : ℕ
-maxInput = 32768
+-- What is printed is at most so many bytes longer than the input: of `no=1`, `no=2` and a refused sheet's line there is at most one (P18).
+abbrev pub maxLonger : ℕ
+maxLonger = 5
 
 -- ---- The sheet and what is behind it (P2)
 -- Where the sheet ends, of which the rows from `at` on are left: behind the first line that is `end=sheet`; where there is none, at the end.

@@ -32,17 +32,21 @@ ghost use Rattle.state_record.specs.View.{systemIn};
 ghost use Rattle.state_record.specs.Sound.{Sound};
 ghost use Rattle.request_common.specs.Served.{Step, done};
 ghost use Rattle.request_by_code.specs.Coded.{serveAsked};
+ghost use Rattle.script_read_request.specs.Asked.{maxOperands};
 ghost use Rattle.script_read_request.specs.Read.{askedAs};
 ghost use Rattle.text_write.specs.Fill.{Filled, Lined};
 ghost use Rattle.text_write.specs.Written.{writtenOf};
-ghost use Rattle.script_output.specs.Output.{sheetEnd, scriptOutput};
+ghost use Rattle.script_output.specs.Output.{maxInput, sheetEnd, scriptOutput};
 ghost use Rattle.script_output.specs.Parts.{linesFrom};
 
 // The longest input that is read (P1).
 pub const INPUT_BYTES: usize = 32768;
 
-// Room for what is printed: no output is longer than its input and five bytes (proofs/Short.antt).
-pub const PRINTED_BYTES: usize = INPUT_BYTES + 5;
+// No output is longer than its input by more (P18; proofs/Short.antt).
+const LONGER: usize = 5;
+
+// Room for what is printed.
+pub const PRINTED_BYTES: usize = INPUT_BYTES + LONGER;
 
 // Where the sheet ends (P2). A line that no LF ends is the last one: the cursor stays in front of it.
 fn sheet_end(s: &[u8]) -> usize
@@ -68,7 +72,7 @@ fn sheet_end(s: &[u8]) -> usize
 
 // What a line asks, served (P4); a malformed line is refused with 1 (P11).
 fn serve_asked(types: &mut [u8; TYPE_BYTES], s: State, q: Asked) -> Served
-    requires { ⌜ Sound (whole (now types) s) × (q .count ≤ 7) × (length (q .items) ≡ 7) ⌝ }
+    requires { ⌜ Sound (whole (now types) s) × (q .count ≤ maxOperands) × (length (q .items) ≡ maxOperands) ⌝ }
     ensures { λ r. ⌜ Step (whole (now (types .entry)) s) (serveAsked (systemIn (whole (now (types .entry)) s)) (askedAs q)) (done (now (types .exit)) r) ⌝ }
 {
     if !q.right {
@@ -91,7 +95,7 @@ fn behind(right: bool, next: usize, end: usize) -> usize
 
 // A line for each request, on the state that those before it left.
 fn serve_lines(buf: &mut [u8], types: &mut [u8; TYPE_BYTES], s: State, rest: &[u8]) -> usize
-    requires { ⌜ Sound (whole (now types) s) × (length (now rest) ≤ 32768) ⌝ }
+    requires { ⌜ Sound (whole (now types) s) × (length (now rest) ≤ maxInput) ⌝ }
     ensures is { λ r. ⌜ Lined (now (buf .entry)) (now (buf .exit)) (linesFrom (systemIn (whole (now (types .entry)) s)) (split (now (rest .entry)))) r ⌝ }
     ensures few { λ r. ⌜ r ≤ 2392064 ⌝ }
 {
@@ -139,7 +143,7 @@ fn put_script(buf: &mut [u8], s: &[u8]) -> usize
 pub fn script(s: &[u8], buf: &mut [u8]) -> Wrote
     ensures { λ r. ⌜ writtenOf r (now (buf .exit)) ≡ writeText (scriptOutput (now (s .entry))) (now (buf .entry)) ⌝ }
 {
-    if least(s.len(), INPUT_BYTES) + 5 <= buf.len() {
+    if least(s.len(), INPUT_BYTES) + LONGER <= buf.len() {
         return Wrote::Length(put_script(buf, s));
     }
     let need = put_script(&mut buf[..0], s);

@@ -24,7 +24,7 @@ use Rattle.text_read.specs.View.{scanBy, ScanWithin}
 use Rattle.text_read.specs.declared.Number.{Number}
 use Rattle.text_read.specs.declared.Number.the-variants.{Wrong as Wrongⁿ, Right as Rightⁿ}
 use Rattle.text_read.proofs.Laws.{from-here, at-end}
-use Rattle.script_read_request.specs.Asked.{half, positive, negative, integer, operand, operands, leftover, requestBy, word, requestLine}
+use Rattle.script_read_request.specs.Asked.{half, positive, negative, integer, operand, operands, maxOperands, leftover, requestBy, word, requestLine}
 use Rattle.script_read_request.specs.Read.{integerBy, IntegerWithin, countFits, Reads}
 use Rattle.script_read_request.specs.declared.Integer.{Integer}
 use Rattle.script_read_request.specs.declared.Integer.the-variants.{Wrong, Right}
@@ -117,25 +117,25 @@ Rest = List ℤ × List ℕ
 abbrev onward : ℕ → List ℤ → List ℕ → Scan ℤ → Rest
 onward n acc l s = elim s [ fail ↦ (acc, l) | took v r ↦ operands n (acc ++ v ∷ []) r ]
 
-module _ (l : List ℕ) (items : List ℤ) (count i : ℕ) (R : Rest) (inv : operands (7 - count) (take count items) (drop i l) ≡ R) where
-  pub operands-many : 7 ≤ count → (take count items, drop i l) ≡ R
+module _ (l : List ℕ) (items : List ℤ) (count i : ℕ) (R : Rest) (inv : operands (maxOperands - count) (take count items) (drop i l) ≡ R) where
+  pub operands-many : maxOperands ≤ count → (take count items, drop i l) ≡ R
   unfolding operands
-  operands-many h = let e : 7 - count ≡ 0 = omega arith in ap (λ z. operands z (take count items) (drop i l)) (sym e) ∙ inv
+  operands-many h = let e : maxOperands - count ≡ 0 = omega arith in ap (λ z. operands z (take count items) (drop i l)) (sym e) ∙ inv
 
-  module _ (h : count < 7) (t : Integer) (is : integerBy l t ≡ operand (drop i l)) where
-    operands-step : onward (7 - (count + 1)) (take count items) (drop i l) (integerBy l t) ≡ R
+  module _ (h : count < maxOperands) (t : Integer) (is : integerBy l t ≡ operand (drop i l)) where
+    operands-step : onward (maxOperands - (count + 1)) (take count items) (drop i l) (integerBy l t) ≡ R
     unfolding operands
     operands-step =
-        let e : 7 - count ≡ suc (7 - (count + 1)) = omega arith in
-        ap (onward (7 - (count + 1)) (take count items) (drop i l)) is ∙ ap (λ z. operands z (take count items) (drop i l)) (sym e) ∙ inv
+        let e : maxOperands - count ≡ suc (maxOperands - (count + 1)) = omega arith in
+        ap (onward (maxOperands - (count + 1)) (take count items) (drop i l)) is ∙ ap (λ z. operands z (take count items) (drop i l)) (sym e) ∙ inv
 
     pub operands-end : t ≡ Wrong → (take count items, drop i l) ≡ R
-    operands-end e = ap (λ z. onward (7 - (count + 1)) (take count items) (drop i l) (integerBy l z)) (sym e) ∙ operands-step
+    operands-end e = ap (λ z. onward (maxOperands - (count + 1)) (take count items) (drop i l) (integerBy l z)) (sym e) ∙ operands-step
 
-    pub operands-more : count < length items → (v : ℤ) (next : ℕ) → t ≡ Right v next → operands (7 - (count + 1)) (take (count + 1) (set items count v)) (drop next l) ≡ R
+    pub operands-more : count < length items → (v : ℤ) (next : ℕ) → t ≡ Right v next → operands (maxOperands - (count + 1)) (take (count + 1) (set items count v)) (drop next l) ≡ R
     operands-more k v next e =
-        ap (λ z. operands (7 - (count + 1)) z (drop next l)) (ap (λ z. take z (set items count v)) (add-one count) ∙ take-suc-set items count v k)
-        ∙ ap (λ z. onward (7 - (count + 1)) (take count items) (drop i l) (integerBy l z)) (sym e) ∙ operands-step
+        ap (λ z. operands (maxOperands - (count + 1)) z (drop next l)) (ap (λ z. take z (set items count v)) (add-one count) ∙ take-suc-set items count v k)
+        ∙ ap (λ z. onward (maxOperands - (count + 1)) (take count items) (drop i l) (integerBy l z)) (sym e) ∙ operands-step
 
 pub integer-within : (size : ℕ) (t : Integer) (v : ℤ) (next : ℕ) → t ≡ Right v next → IntegerWithin size t → next ≤ size
 integer-within size t v next e h = subst (IntegerWithin size) e h
@@ -201,7 +201,8 @@ kept none = refl
 kept (some q) = refl
 
 -- What stands behind the word at `at`: the operands are the first `count` items, and the bytes behind them begin at `next`.
-module _ (l : List ℕ) (at k : ℕ) (items : List ℤ) (count next : ℕ) (is : (take count items, drop next l) ≡ operands 7 [] (drop at l)) (few : count ≤ 7) (size : length items ≡ 7) where
+module _ (l : List ℕ) (at k : ℕ) (items : List ℤ) (count next : ℕ) (is : (take count items, drop next l) ≡ operands maxOperands [] (drop at l)) (few : count ≤ maxOperands)
+    (size : length items ≡ maxOperands) where
   abbrev ws : List ℤ
   ws = take count items
 

@@ -18,7 +18,7 @@ use Rattle.spec_sheet.specs.Numbers.{Scan, fail, took, number, decimalIn, decim
 use Rattle.spec_sheet.proofs.Steps.{cond-cases, fail-took, took-value, took-rest, bindScan-took}
 use Rattle.spec_sheet.proofs.Numbers.{number-sound}
 use Rattle.spec_sheet.proofs.Lines.{starts-sound}
-use Rattle.script_read_request.specs.Asked.{half, positive, negative, integer, operand, operands, leftover, requestBy, word, requestLine}
+use Rattle.script_read_request.specs.Asked.{half, positive, negative, integer, operand, operands, maxOperands, leftover, requestBy, word, requestLine}
 
 -- the bytes of a signed decimal
 abbrev pub long : ℤ → ℕ
@@ -136,7 +136,7 @@ code-long (suc (suc (suc zero))) ws = go (eqb (length ws) 2) refl (eqb (length w
 code-long (suc (suc (suc (suc k)))) ws = omega arith
 
 by-long : (k : ℕ) (l : List ℕ) → atLeast (requestBy k l) ≤ length (word k) + length l
-by-long k l = go (operands 7 [] l) (operands-long 7 [] l)
+by-long k l = go (operands maxOperands [] l) (operands-long maxOperands [] l)
   where
     go : (x : List ℤ × List ℕ) → Told [] l x → atLeast (cond (same (leftover k (x .0)) (x .1)) (byCode k (x .0)) none) ≤ length (word k) + length l
     go (ws, r) (vs, e, h) = step (same (leftover k ws) r) refl

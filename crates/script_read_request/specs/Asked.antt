@@ -2,7 +2,7 @@
 use mathlib.Core.Bool.{_&&_, cond}
 use mathlib.Core.List.{List, [], _∷_, _++_}
 use mathlib.Core.Option.{Option, none}
-use Prim.Native.Nat.{ℕ, zero, suc, _-_}
+use Prim.Native.Nat.{ℕ, zero, suc, _+_, _-_}
 use Prim.Native.Char.{code}
 use lib.Dec.{eqb, ltb, leb}
 use lib.IntN.{ℤ, pos, negsuc}
@@ -44,9 +44,13 @@ unfolding operand
 operands zero acc l = (acc, l)
 operands (suc n) acc l = elim (operand l) [ fail ↦ (acc, l) | took v r ↦ operands n (acc ++ v ∷ []) r ]
 
--- a call's subject, cell and method, and up to four arguments (P7): a fifth one is left over, and so makes the line malformed (P11)
+-- The arguments that a line of a call may list (P7). It is the limit of the line, not that of signatures: it was four when these had two.
+abbrev pub maxListed : ℕ
+maxListed = 4
+
+-- a call's subject, cell and method, and its arguments: one more is left over, and so makes the line malformed (P11)
 abbrev pub maxOperands : ℕ
-maxOperands = 7
+maxOperands = 3 + maxListed
 
 -- ---- The line
 -- What has to be left behind the operands: nothing; but ` -` behind the two of an answer, which says that nothing is given (P8).

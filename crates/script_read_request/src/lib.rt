@@ -19,8 +19,11 @@ pub enum Integer {
     Right(i64, usize),
 }
 
-// The most operands of a line: a call's subject, cell and method, and four arguments (P7).
-pub const OPERANDS: usize = 7;
+// The arguments that a line of a call may list (P7): the limit of the line, not that of signatures.
+const LISTED: usize = 4;
+
+// The most operands of a line: a call's subject, cell and method, and its arguments.
+pub const OPERANDS: usize = 3 + LISTED;
 
 // What a line asks: whether it asks something, the code of the request and its operands.
 pub struct Asked {

@@ -27,6 +27,9 @@ use table_record::TypeRec;
 use text_cursor::Cursor;
 use text_read::Got;
 
+// The newest form of a sheet that there is (S22).
+const NEWEST_FORM: usize = 1;
+
 // Several lines read: the number of a refusal and the cursor at its line, or the cursor behind the lines.
 pub enum Done {
     Refused(usize, Cursor),
@@ -292,7 +295,7 @@ fn first_lines(s: &[u8]) -> First
     ensures within { λ r. ⌜ FirstWithin r ⌝ }
 {
     let c = Cursor::start();
-    let g = text_read::next_number(s, c, b"guide=", 1, 1);
+    let g = text_read::next_number(s, c, b"guide=", 1, NEWEST_FORM);
     let a = match g {
         Got::Refused(k) => {
             return First::Refused(k, c);

@@ -51,9 +51,9 @@ module _ (f : ℕ → Bool) (args : List ℕ) (count i : ℕ) (four : length arg
   args-end e h = let u : length (take count args) ≡ count = used (omega arith) in all-done f (take count args) i 0 inv (omega arith)
 
   long : i < argumentSlots → i < count → i < length (take count args)
-  long h k = ⊎-go (ltb count 4) refl
+  long h k = ⊎-go (ltb count argumentSlots) refl
     where
-      ⊎-go : (t : Bool) → ltb count 4 ≡ t → i < length (take count args)
+      ⊎-go : (t : Bool) → ltb count argumentSlots ≡ t → i < length (take count args)
       ⊎-go true e = let l : count < argumentSlots = ltb-true count argumentSlots e in let u : length (take count args) ≡ count = used (omega arith) in omega arith
       ⊎-go false e = let l : argumentSlots ≤ count = ltb-false count argumentSlots e in let u : length (take count args) ≡ argumentSlots = ap length (take-all count args (omega arith))
           ∙ four in omega arith
@@ -64,10 +64,10 @@ module _ (f : ℕ → Bool) (args : List ℕ) (count i : ℕ) (four : length arg
   pub args-next : i < argumentSlots → i < count → f (getD args i 0) ≡ true → all f (take count args) ≡ all f (drop (i + 1) (take count args))
   args-next h k e = all-next f (take count args) i 0 inv (long h k) (ap f (getD-take count args i 0 k) ∙ e)
 
-  pub args-done : 4 ≤ i → true ≡ all f (take count args)
-  args-done h = all-done f (take count args) i 0 inv (short (ltb count 4) refl)
+  pub args-done : argumentSlots ≤ i → true ≡ all f (take count args)
+  args-done h = all-done f (take count args) i 0 inv (short (ltb count argumentSlots) refl)
     where
-      short : (t : Bool) → ltb count 4 ≡ t → length (take count args) ≤ i
+      short : (t : Bool) → ltb count argumentSlots ≡ t → length (take count args) ≤ i
       short true e = let l : count < argumentSlots = ltb-true count argumentSlots e in let u : length (take count args) ≡ count = used (omega arith) in omega arith
       short false e = let l : argumentSlots ≤ count = ltb-false count argumentSlots e in let u : length (take count args) ≡ argumentSlots = ap length (take-all count args (omega arith))
           ∙ four in omega arith

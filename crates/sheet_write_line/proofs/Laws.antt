@@ -50,8 +50,8 @@ pub slots : (args : List ℕ) (count n : ℕ) → length args ≡ argumentSlots 
 slots args count n h e =
     ⊎-elim
     (λ (l : count < argumentSlots). let q : n ≡ count = omega arith in ap (λ z. take z args) q)
-    (λ (l : 4 ≤ count). take-all n args (omega arith) ∙ sym (take-all count args (omega arith)))
-    (lt-or-ge count 4)
+    (λ (l : argumentSlots ≤ count). take-all n args (omega arith) ∙ sym (take-all count args (omega arith)))
+    (lt-or-ge count argumentSlots)
 
 pub answer-none : (a : ℕ) → a ≡ 0 → 45 ∷ [] ≡ answerText (answerOf a)
 answer-none a e = ap (λ z. answerText (answerOf z)) (sym e)

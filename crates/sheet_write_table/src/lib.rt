@@ -24,6 +24,9 @@ ghost use Rattle.spec_sheet.specs.Text.{numberText, repText, ownText, typeLines
 ghost use Rattle.text_write.specs.Fill.{Filled, Lined};
 ghost use Rattle.sheet_write_table.specs.Parts.{typeIn, methodLines, typeLinesTo, underLines, countLines, frontLines, backLines};
 
+// The newest form of a sheet that there is, the one that is written (S22).
+const NEWEST_FORM: usize = 1;
+
 // The lines of the methods of type i.
 fn write_methods(buf: &mut [u8], b: &[u8; TYPE_BYTES], i: usize, methods: usize) -> usize
     requires { ⌜ (i < maxTypes) × (methods ≤ maxMethods) ⌝ }
@@ -128,7 +131,7 @@ fn write_counts(buf: &mut [u8], c: Counts) -> usize
     ensures is { λ r. ⌜ Lined (now (buf .entry)) (now (buf .exit)) (countLines c) r ⌝ }
     ensures few { λ r. ⌜ r ≤ 148 ⌝ }
 {
-    let a = write_number(buf, b"guide=", 1);
+    let a = write_number(buf, b"guide=", NEWEST_FORM);
     let j = least(a, buf.len());
     let a = a + write_number(&mut buf[j..], b"subjects=", c.subjects);
     let k = least(a, buf.len());

@@ -17,6 +17,10 @@ use Rattle.spec_sheet.specs.Numbers.{decimal, decimalIn, commas}
 abbrev pub newestForm : ℕ
 newestForm = 1
 
+-- an input of a program, a sheet with or without requests behind it, of at most so many bytes (P1)
+abbrev pub maxInput : ℕ
+maxInput = 32768
+
 -- a key and a decimal
 unfoldable pub numberText : List ℕ → ℕ → List ℕ
 unfolding decimalIn

@@ -15,6 +15,7 @@ use denote.Laws.{Is, Tells, Makes, Lawful, Copy}
 use denote.Array.{Array, array-lawful}
 use denote.Slice.{Room}
 use denote.Struct.Laws as laws
+use Rattle.spec_model.specs.Requests.{maxCells}
 use Rattle.state_record.specs.declared.Cell.{Cell}
 use Rattle.state_record.proofs.Loan.{val}
 use Rattle.state_record.proofs.Cell as cell
@@ -35,10 +36,10 @@ tells = laws.tells cell.the-type cell-laws.the-laws
 
 -- the machine value of the whole array
 abbrev pub lows : List Cell → Val
-lows xs = val R 256 tt vals tells xs
+lows xs = val R maxCells tt vals tells xs
 
 -- a record has three bytes, so that 256 of them have room, and the address of one that is there is a word
-pub room : (xs : List Cell) → length xs ≡ 256 → Room R (length xs)
+pub room : (xs : List Cell) → length xs ≡ maxCells → Room R (length xs)
 room xs e = subst (Room R) (sym e) (lit< tt, lit< tt)
 
 pub offset-fits : {k n : ℕ} → n * 3 < 2 ^ 63 → k < n → k * 3 < 2 ^ 64
@@ -53,8 +54,8 @@ module _ {M : Type 1} (𝓤 : URA M) (H : Heap 𝓤) (A : Atoms 𝓤) where
     abbrev pub lawful : Lawful 𝓤 H A R
     lawful = laws.lawful cell.the-type cell-laws.the-laws 𝓤 H A W
 
-    abbrev pub array : Lawful 𝓤 H A (Array R 256)
-    array = array-lawful 𝓤 H A W R lawful 256
+    abbrev pub array : Lawful 𝓤 H A (Array R maxCells)
+    array = array-lawful 𝓤 H A W R lawful maxCells
 
     abbrev pub copied : Copy 𝓤 H A R
     copied = laws.copy cell.the-type cell-laws.the-copy 𝓤 H A W

@@ -17,7 +17,7 @@ use Rattle.table_record.specs.declared.Head.{Head}
 use Rattle.table_record.specs.Store.{headOf, rawMethodAt, rawMethodsAt, rawTypeAt, rawLinksAt, typesIn, linksIn, rawMethod, rawOf, methodBytes, methodsBytes, headBytes, spareBytes}
 use Rattle.table_record.specs.Store.{rawIn, recordBytes, Shaped, Put}
 use Rattle.table_record.proofs.Lists.{lt-or-ge, same-or, length-from, from-first, from-same, is-from, sets-append, getD-sets-below, getD-sets-above, getD-sets-in}
-use Rattle.table_record.specs.Layout.{typeSize, headSize, methodSize, linkSize, typesSize}
+use Rattle.table_record.specs.Layout.{typeSize, headNumbers, spareSize, headSize, methodSize, linkSize, typesSize}
 
 -- Where a type, its methods and the links of a category stand.
 pub types-length : (b : List ℕ) → length (typesIn b) ≡ maxTypes
@@ -167,14 +167,15 @@ method-own : (m : RawMethod) → length (m .args) ≡ argumentSlots → rawMetho
 method-own m e = ap (λ (l : List ℕ). let r : RawMethod = record { state = m .state; count = m .count; args = l; answer = m .answer } in r) (four (m .args) e)
 
 -- head, spare bytes and methods stored one behind the other are the record stored
-pub record-parts : (b : List ℕ) (at : ℕ) (x : RawType) → sets (sets (sets b at (headBytes (headOf x))) (at + 6) spareBytes) (at + 16) (methodsBytes (x .methods)) ≡ sets b at (recordBytes x)
+pub record-parts : (b : List ℕ) (at : ℕ) (x : RawType) → sets (sets (sets b at (headBytes (headOf x))) (at + headNumbers) spareBytes) (at + headSize) (methodsBytes (x .methods))
+    ≡ sets b at (recordBytes x)
 unfolding recordBytes
 record-parts b at x =
     let h : List ℕ = headBytes (headOf x) in
     let m : List ℕ = methodsBytes (x .methods) in
-    let e : at + 6 + 10 ≡ at + 16 = omega arith in
-    ap (λ (k : ℕ). sets (sets (sets b at h) (at + 6) spareBytes) k m) (sym e)
-    ∙ sym (sets-append (sets b at h) (at + 6) spareBytes m) ∙ sym (sets-append b at h (spareBytes ++ m))
+    let e : at + headNumbers + spareSize ≡ at + headSize = omega arith in
+    ap (λ (k : ℕ). sets (sets (sets b at h) (at + headNumbers) spareBytes) k m) (sym e)
+    ∙ sym (sets-append (sets b at h) (at + headNumbers) spareBytes m) ∙ sym (sets-append b at h (spareBytes ++ m))
 
 module _ (x : RawType) (s : Shaped x) where
   pub record-length : length (recordBytes x) ≡ typeSize

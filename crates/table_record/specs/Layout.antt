@@ -9,12 +9,19 @@ use Rattle.spec_model.specs.Check.{RawMethod, RawType, RawLinks, RawTable, tabl
 use Rattle.table_record.specs.declared.Counts.{Counts}
 use Rattle.table_record.specs.declared.Head.{Head}
 
+-- the numbers of a type's head, and the spare bytes behind them (B6)
+abbrev pub headNumbers : ℕ
+headNumbers = 6
+
+abbrev pub spareSize : ℕ
+spareSize = 10
+
 -- the bytes of one record: of a type, its head with the spare bytes, one of its methods, and a category's broader links (B6 to B11)
 abbrev pub typeSize : ℕ
 typeSize = 128
 
 abbrev pub headSize : ℕ
-headSize = 16
+headSize = headNumbers + spareSize
 
 abbrev pub methodSize : ℕ
 methodSize = 7
@@ -77,7 +84,7 @@ abbrev pub headBytes : Head → List ℕ
 headBytes h = h .rep ∷ h .cat ∷ h .own ∷ h .kind ∷ h .left ∷ h .right ∷ []
 
 abbrev pub spareBytes : List ℕ
-spareBytes = replicate 10 0
+spareBytes = replicate spareSize 0
 
 abbrev pub methodsBytes : List RawMethod → List ℕ
 methodsBytes [] = []

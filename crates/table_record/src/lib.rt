@@ -121,9 +121,13 @@ pub struct Head {
     pub right: u8,
 }
 
-// The bytes of a head with the spare ones, the codes of the three representations, and of own=yes.
+// The numbers of a head, the spare bytes behind them, all of its bytes, the codes of the three representations, and of own=yes.
 impl Head {
-    pub const BYTES: usize = 16;
+    pub const NUMBERS: usize = 6;
+
+    pub const SPARE: usize = 10;
+
+    pub const BYTES: usize = Head::NUMBERS + Head::SPARE;
 
     pub const REF: u8 = 0;
 

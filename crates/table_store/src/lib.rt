@@ -5,7 +5,7 @@ ghost use Prim.Native.Nat.{suc, _+_, _*_, _≤_, _<_};
 ghost use lib.ListN.{length};
 ghost use lib.Seq.{sets};
 ghost use Rattle.table_record.specs.Store.{rawMethod, rawOf, rawLinks, methodBytes, headBytes, spareBytes, linksBytes, Put};
-ghost use Rattle.table_record.specs.Layout.{methodSize, linkSize, typesSize, linksSize};
+ghost use Rattle.table_record.specs.Layout.{headNumbers, spareSize, methodSize, linkSize, typesSize, linksSize};
 ghost use Rattle.spec_model.specs.Table.{maxCategories, maxTypes};
 ghost use Rattle.spec_model.specs.Records.{argumentSlots};
 use table_record::Counts;
@@ -42,7 +42,7 @@ fn put_method(b: &mut [u8; TYPE_BYTES], at: usize, m: Method)
 }
 
 fn put_head(b: &mut [u8; TYPE_BYTES], at: usize, h: Head)
-    requires { ⌜ at + 6 ≤ typesSize ⌝ }
+    requires { ⌜ at + headNumbers ≤ typesSize ⌝ }
     ensures { λ _. ⌜ now (b .exit) ≡ sets (now (b .entry)) at (headBytes h) ⌝ }
 {
     b[at] = h.rep;
@@ -55,11 +55,11 @@ fn put_head(b: &mut [u8; TYPE_BYTES], at: usize, h: Head)
 
 // The spare bytes of a record are 0.
 fn put_spare(b: &mut [u8; TYPE_BYTES], at: usize)
-    requires { ⌜ at + 10 ≤ typesSize ⌝ }
+    requires { ⌜ at + spareSize ≤ typesSize ⌝ }
     ensures { λ _. ⌜ now (b .exit) ≡ sets (now (b .entry)) at spareBytes ⌝ }
 {
     let mut j: usize = 0;
-    while j < 10 {
+    while j < Head::SPARE {
         b[at + j] = 0;
         j += 1;
     }
@@ -72,7 +72,7 @@ pub fn put_type(b: &mut [u8; TYPE_BYTES], i: usize, t: TypeRec)
 {
     let at = i * TypeRec::BYTES;
     put_head(b, at, t.head);
-    put_spare(b, at + 6);
+    put_spare(b, at + Head::NUMBERS);
     let mut j: usize = 0;
     while j < Counts::METHODS {
         let m = t.methods[j];

@@ -10,7 +10,7 @@ use lib.ListN.{length, getD, set, take, drop, drop-of-length-le, length-append}
 use lib.Seq.{take-suc-set, getD-set-other}
 use borrow.Author.Tests.{le-leb, lt-leb, eq-eqb, ne-eqb}
 use Rattle.spec_model.specs.Basics.{Res, refuse, ok, try, need}
-use Rattle.spec_model.specs.Table.{between, maxSheetTypes}
+use Rattle.spec_model.specs.Table.{between}
 use Rattle.spec_model.specs.Refusals.{form, outOfRange}
 use Rattle.spec_sheet.specs.Lines.{Row, row, cut, split, refused, got, line, lineAt, firstLine, starts, same, keyed}
 use Rattle.spec_sheet.specs.Numbers.{Scan, fail, took, bindScan, whole, isDigit, top, limit, digits, number, comma, numbers}
@@ -78,7 +78,7 @@ word-short word l h = go (starts word l) refl
     go false e = refl
 
 -- Digits.
-low-digit : (b : ℕ) → b < maxSheetTypes → isDigit b ≡ false
+low-digit : (b : ℕ) → b < 48 → isDigit b ≡ false
 low-digit b h = ap (λ z. z && leb b 57) (lt-leb 48 b h)
 
 high-digit : (b : ℕ) → 48 ≤ b → 57 < b → isDigit b ≡ false
@@ -95,7 +95,7 @@ module _ (l : List ℕ) (i n b : ℕ) (h : i < length l) (e : b ≡ getD l i 0) 
   digits-stop : isDigit b ≡ false → took n (drop i l) ≡ digits n (drop i l)
   digits-stop d = sym (digits-here ∙ ap (λ z. cond z (digits (limit (n * 10 + (b - 48))) (drop (i + 1) l)) (took n (drop i l))) d)
 
-  pub digits-low : b < maxSheetTypes → took n (drop i l) ≡ digits n (drop i l)
+  pub digits-low : b < 48 → took n (drop i l) ≡ digits n (drop i l)
   digits-low k = digits-stop (low-digit b k)
 
   pub digits-high : 48 ≤ b → 57 < b → took n (drop i l) ≡ digits n (drop i l)
@@ -126,7 +126,7 @@ module _ (l : List ℕ) (at b : ℕ) (h : at < length l) (e : b ≡ getD l at 0)
   other : (b ≡ 48 → ⊥) → number (drop at l) ≡ cond (isDigit b) (digits (b - 48) (drop (at + 1) l)) fail
   other q = number-here ∙ ap (λ z. cond z (took 0 (drop (at + 1) l)) (cond (isDigit b) (digits (b - 48) (drop (at + 1) l)) fail)) (ne-eqb b 48 q)
 
-  pub number-low : (b ≡ 48 → ⊥) → b < maxSheetTypes → fail ≡ number (drop at l)
+  pub number-low : (b ≡ 48 → ⊥) → b < 48 → fail ≡ number (drop at l)
   number-low q k = sym (other q ∙ ap (λ z. cond z (digits (b - 48) (drop (at + 1) l)) fail) (low-digit b k))
 
   pub number-high : (b ≡ 48 → ⊥) → 48 ≤ b → 57 < b → fail ≡ number (drop at l)

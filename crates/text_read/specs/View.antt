@@ -17,7 +17,7 @@ use Rattle.text_read.specs.declared.Value.the-variants.{Refused as Refus
 use Rattle.text_read.specs.declared.Got.{Got}
 use Rattle.text_read.specs.declared.Got.the-variants.{Refused as Refusedᵍ, At}
 
--- the longest list of numbers in a line
+-- the numbers that `Numbers` has fields for, a line's categories and arguments alike: no line may list more of either
 abbrev pub maxNumbers : ℕ
 maxNumbers = 4
 

@@ -27,7 +27,7 @@ use Rattle.request_common.specs.Outcome.{outcomeOf}
 use Rattle.request_serve.specs.Serves.{Serves}
 use Rattle.request_run.specs.Requested.{requests, runHanded}
 use Rattle.request_run.specs.Ran.{Over as Ran}
-use Rattle.request_run.specs.Ran.{room, Runs}
+use Rattle.request_run.specs.Ran.{outcomeSize, room, Runs}
 use Rattle.state_offers.specs.declared.Offered.{Offered}
 use Rattle.state_offers.specs.declared.Offered.the-variants.{Yes, No}
 use Rattle.state_offers.specs.Chained.{offersHanded, offeredAs}
@@ -40,8 +40,8 @@ isZero (negsuc n) = false
 
 abbrev pub toldBy : Book → List (Option Request) → List ℤ → Book
 toldBy b [] answers = b
-toldBy b (none ∷ qs) answers = toldBy b qs (drop 4 answers)
-toldBy b (some q ∷ qs) answers = toldBy (feed b q (isZero (getD answers 0 (pos 1)))) qs (drop 4 answers)
+toldBy b (none ∷ qs) answers = toldBy b qs (drop outcomeSize answers)
+toldBy b (some q ∷ qs) answers = toldBy (feed b q (isZero (getD answers 0 (pos 1)))) qs (drop outcomeSize answers)
 
 -- ---- f is what the reader made of the bytes.
 pub record OfStates (bytes : List ℕ) (f : Sheet) : Type 0 where

@@ -22,7 +22,7 @@ use Rattle.spec_sheet.specs.Text.{numberText, Written, writeText}
 use Rattle.spec_sheet.specs.Sheet.{malformed, loaded, read}
 use Rattle.script_read_request.specs.Asked.{requestLine}
 use Rattle.script_write_outcome.specs.Outcomes.{outcomeText}
-use Rattle.script_output.specs.Output.{maxInput, sheetPart, requestPart, asked, scriptOutput}
+use Rattle.script_output.specs.Output.{maxInput, maxLonger, sheetPart, requestPart, asked, scriptOutput}
 use Rattle.text_write.specs.declared.Wrote.{Wrote}
 use Rattle.text_write.specs.Written.{writtenOf}
 use Rattle.export_table.specs.Codes.{WrittenIs}
@@ -82,8 +82,8 @@ pub record Served (input : List ℕ) (t : Table) : Type 0 where
 pub record Script (input old : List ℕ) (w : Written) : Type 0 where
   pub buffer : Fits (scriptOutput input) old w ⊎ TooShort (scriptOutput input) old w
   -- five bytes more than the input has are enough, and 32,773 for every input
-  pub room : length input + 5 ≤ length old → Fits (scriptOutput input) old w
-  pub always : maxInput + 5 ≤ length old → Fits (scriptOutput input) old w
+  pub room : length input + maxLonger ≤ length old → Fits (scriptOutput input) old w
+  pub always : maxInput + maxLonger ≤ length old → Fits (scriptOutput input) old w
   -- input past the limit (P1), a refused sheet (P3), and a sheet that is read
   pub long : maxInput < length input → scriptOutput input ≡ join (bytes "no=2" ∷ [])
   pub refused : length input ≤ maxInput → (n at : ℕ) → read (sheetPart input) ≡ malformed n at → scriptOutput input ≡ join (numberText (bytes "no=") n ∷ [])

@@ -6,7 +6,7 @@ use mathlib.Core.Path.{_≡_, refl, _∙_}
 use mathlib.Core.List.{[]}
 use Prim.Native.Nat.{_-_, _≤_, _<_}
 use lib.ListN.{length, take, drop, length-set}
-use Rattle.script_read_request.specs.Asked.{operands}
+use Rattle.script_read_request.specs.Asked.{operands, maxOperands}
 use native.Mathlib.Omega.{arith}
 use borrow.Author.Needs.{needs}
 use Rattle.script_read_request.proofs.request_at.Statement.{statement}
@@ -14,10 +14,10 @@ use Rattle.script_read_request.proofs.request_at.Tie as tie
 
 abbrev Inv-loop : tie.InvT-loop
 Inv-loop l at code i₀ items₀ count₀ i items count =
-    (i ≤ length l) × (count ≤ 7) × (length items ≡ 7) × (operands (7 - count) (take count items) (drop i l) ≡ operands 7 [] (drop at l))
+    (i ≤ length l) × (count ≤ maxOperands) × (length items ≡ maxOperands) × (operands (maxOperands - count) (take count items) (drop i l) ≡ operands maxOperands [] (drop at l))
 
 abbrev μ-loop : tie.MeasureT-loop
-μ-loop l at code i₀ items₀ count₀ i items count = 7 - count
+μ-loop l at code i₀ items₀ count₀ i items count = maxOperands - count
 
 loop-holds : tie.Need-loop-holds Inv-loop μ-loop
 loop-holds c = (c .before .pre, omega arith, refl, refl)

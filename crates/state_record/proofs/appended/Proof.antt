@@ -8,6 +8,7 @@ use Rattle.state_record.proofs.Logic.{pass0, free1, free0, lft-new, lft
 use Rattle.state_record.proofs.Logic.{uint-makes, nothing-lawful, usize, unit, RefT, plain, arrayOf, sliceTy, sliceVal, MutSlice, owned, peeks, heard, nothing, Contract, Triple, calls-at}
 use Rattle.state_record.proofs.Logic.{ensured, lasts, Vals, onEntry, Meets, tripleOf, entered, cited, says, needs, Stays, stay-dropped, walkOf, goes-dropped, Walks, ends-at, walked}
 use Rattle.state_record.proofs.Logic.{walk-meets, yes}
+use Rattle.spec_model.specs.Requests.{maxCells}
 use Rattle.state_record.specs.declared.Cell.{Cell}
 use Rattle.state_record.proofs.Loan.{arrayTy, lends-mut, back-mut}
 use Rattle.state_record.proofs.CellRow.{R, low, vals, tells, lows, room, makes, lawful, array}
@@ -21,7 +22,7 @@ use Rattle.state_record.proofs.appended.Statement as stated
 use Rattle.state_record.proofs.appended.Code as code
 
 abbrev stayed : Stays (fn.ended .signature .params) (fn.ended .kept)
-stayed = (stay-dropped (arrayOf (plain (λ _. R)) 256) yes, (stay-dropped (plain (λ _. usize)) yes, (stay-dropped (plain (λ _. R)) yes, tt)))
+stayed = (stay-dropped (arrayOf (plain (λ _. R)) maxCells) yes, (stay-dropped (plain (λ _. usize)) yes, (stay-dropped (plain (λ _. R)) yes, tt)))
 
 module _ {M : Type 1} (𝓤 : URA M) (H : Heap 𝓤) (A : Atoms 𝓤) (mem : Memory → SProp 𝓤) (run : Routine → Fun 𝓤) where
   -- the contract that is cited
@@ -29,8 +30,8 @@ module _ {M : Type 1} (𝓤 : URA M) (H : Heap 𝓤) (A : Atoms 𝓤) (mem : Mem
   Append = tripleOf 𝓤 H A callee.signature (callee.spec 𝓤 H A mem run)
 
 module _ {M : Type 1} (𝓤 : URA M) (H : Heap 𝓤) (A : Atoms 𝓤) (W : Given 𝓤 H A) (mem : Memory → SProp 𝓤) (run : Routine → Fun 𝓤)
-    (xs : List Cell) (k : ℕ) (c : Cell) (is : Is (Array R 256) xs (lows xs ∷ [])) (fits : k < 2 ^ 64) (is-c : Is R c (low c ∷ [])) (within : k < 256) where
-  long : length xs ≡ 256
+    (xs : List Cell) (k : ℕ) (c : Cell) (is : Is (Array R maxCells) xs (lows xs ∷ [])) (fits : k < 2 ^ 64) (is-c : Is R c (low c ∷ [])) (within : k < maxCells) where
+  long : length xs ≡ maxCells
   long = is .1 .0 .1
 
   abbrev args : List Cell × (ℕ × (Cell × Unit {0}))
@@ -42,9 +43,9 @@ module _ {M : Type 1} (𝓤 : URA M) (H : Heap 𝓤) (A : Atoms 𝓤) (W : Given
   abbrev Post : Val → SProp 𝓤
   Post = walkOf 𝓤 H A fn.ended stayed (fn.clauses 𝓤 H A mem run) .post ((tt, tt, tt, args, at), tt)
 
-  exits : (ys : List Cell) (u : Val) → ys ≡ set xs k c → ent 𝓤 (sem 𝓤 H A (Array R 256 .own ys (u ∷ []))) (Post u)
+  exits : (ys : List Cell) (u : Val) → ys ≡ set xs k c → ent 𝓤 (sem 𝓤 H A (Array R maxCells .own ys (u ∷ []))) (Post u)
   exits ys u e =
-      qed W (‵ (Array R 256 .own ys (u ∷ [])) ∷ []) ∵
+      qed W (‵ (Array R maxCells .own ys (u ∷ [])) ∷ []) ∵
       suffices ! _ (ends-at 𝓤 H A fn.ended stayed (fn.clauses 𝓤 H A mem run) W ((tt, tt, tt, args, at), tt) u ys (tt, (tt, (tt, tt))) (tt, (tt, (tt, tt)))) $
       says ! e $ nothing ! $ nothing ! $ fjoin ! $ nothing ! $ fjoin ! $ nothing ! $ fjoin ! $ nothing ! $ done !
 
@@ -95,7 +96,7 @@ module _ {M : Type 1} (𝓤 : URA M) (H : Heap 𝓤) (A : Atoms 𝓤) (W : Given
         -- _4 is lent for a lifetime that is made here
         lft-new ! tt (λ α. move ! (7 ∷ []) $
         use1 W (later (some (λ (γ : GName). ‵ (slice-own l₄ α γ) ⊛ ‵ (flent (α ∷ []) (Held R (length xs) l₄ 0 γ)))))
-        (lends-mut R 256 tt vals tells 𝓤 H A W (makes 𝓤 H A) xs l₄ 0 (named 0) (α ∷ []) is (room xs long)) $ await ! tt $ pick ! (λ γ. split ! $
+        (lends-mut R maxCells tt vals tells 𝓤 H A W (makes 𝓤 H A) xs l₄ 0 (named 0) (α ∷ []) is (room xs long)) $ await ! tt $ pick ! (λ γ. split ! $
         -- [the slice; the lender's part; the token; _7; …]
         nothing ! $ move ! (3 ∷ 0 ∷ []) $ join ! $ use2 W (raw (Append 𝓤 H A mem run .pre (to l₄ α γ))) (asked l₄ α γ) $
         calls-at ! fm (Append 𝓤 H A mem run) known (to l₄ α γ)
@@ -109,9 +110,9 @@ module _ {M : Type 1} (𝓤 : URA M) (H : Heap 𝓤) (A : Atoms 𝓤) (W : Given
         peeks ! unit (Is unit) (shows 𝓤 H A unit) r (u ∷ []) (λ got. land ! (from ! (stop !)) (init ! 9 refl (nothing-lawful 𝓤 H A W .typed r _ got .0)) $
         -- the lifetime ends, and _4 is back
         move ! (1 ∷ []) $ split ! $ lft-end ! tt $ move ! (0 ∷ 5 ∷ 3 ∷ []) $
-        use3 W (later (‵ (fat fullShare (arrayTy R 256 tt vals tells) l₄ 0 (lows (ys .0))) ⊛ ‵ (Array R 256 .own (ys .0) (lows (ys .0) ∷ []))))
-        (back-mut R 256 tt vals tells 𝓤 H A W (makes 𝓤 H A) (ys .0) l₄ 0 (α ∷ []) γ (length xs) (len ∙ long)) $ await ! tt $ split ! $ move ! (1 ∷ []) $
-        peeks ! (Array R 256) (Is (Array R 256)) (shows 𝓤 H A (Array R 256)) (ys .0) (lows (ys .0) ∷ []) (λ is′.
+        use3 W (later (‵ (fat fullShare (arrayTy R maxCells tt vals tells) l₄ 0 (lows (ys .0))) ⊛ ‵ (Array R maxCells .own (ys .0) (lows (ys .0) ∷ []))))
+        (back-mut R maxCells tt vals tells 𝓤 H A W (makes 𝓤 H A) (ys .0) l₄ 0 (α ∷ []) γ (length xs) (len ∙ long)) $ await ! tt $ split ! $ move ! (1 ∷ []) $
+        peeks ! (Array R maxCells) (Is (Array R maxCells)) (shows 𝓤 H A (Array R maxCells)) (ys .0) (lows (ys .0) ∷ []) (λ is′.
         -- [what the array owns; _4; true; …; …; _7; …; _6; …; _5; …; what frees _4; _3; …; _2; …; _1; …; room for _0; …]
         assigns ! (of-opd ! (load ! (from ! (stop !)) (look ! 1 refl))) (from ! (stop !)) (init ! 18 refl (array 𝓤 H A W .typed (ys .0) _ is′ .0)) $
         returns ! (look ! 18 refl) $ forget ! 1 refl $ forget ! 5 refl $ forget ! 7 refl $ forget ! 9 refl $
@@ -125,14 +126,14 @@ module _ {M : Type 1} (𝓤 : URA M) (H : Heap 𝓤) (A : Atoms 𝓤) (W : Given
       → Walks 𝓤 H A fn.ended stayed (WpFn 𝓤 H C Λ code.function) (fn.clauses 𝓤 H A mem run)
   walks C Λ fm known =
       walked 𝓤 H A fn.ended stayed (fn.clauses 𝓤 H A mem run) (WpFn 𝓤 H C Λ code.function) (λ κs. (array-vals vals, (uint-vals w64, (vals, tt))))
-      (λ κs. (array-tells R vals tells 256, (uint-tells w64, (tells, tt))))
-      (λ κs qs bounds a g are. needs 𝓤 (a .1 .0 < 256) _
+      (λ κs. (array-tells R vals tells maxCells, (uint-tells w64, (tells, tt))))
+      (λ κs qs bounds a g are. needs 𝓤 (a .1 .0 < maxCells) _
       (λ within. walk 𝓤 H A W mem run (a .0) (a .1 .0) (a .1 .1 .0) (are .0) (are .1 .0 .1) (are .1 .1 .0) within C Λ fm known))
 
   meets : (𝓣 : Tables 𝓤 H) → Triple 𝓤 (𝓣 .C #append) (Append 𝓤 H A mem run) → Meets 𝓤 H A fn.signature (WpFn 𝓤 H (𝓣 .C) (𝓣 .Λ) code.function) (fn.spec 𝓤 H A mem run)
   meets 𝓣 known =
       walk-meets 𝓤 H A fn.ended stayed W (
-        goes-dropped 𝓤 H A W 0 (arrayOf (plain (λ _. R)) 256) yes (λ κs x f. refl),
+        goes-dropped 𝓤 H A W 0 (arrayOf (plain (λ _. R)) maxCells) yes (λ κs x f. refl),
         (goes-dropped 𝓤 H A W 0 (plain (λ _. usize)) yes (λ κs x f. refl), (goes-dropped 𝓤 H A W 0 (plain (λ _. R)) yes (λ κs x f. refl), tt)),
       )
       (fn.clauses 𝓤 H A mem run) (WpFn 𝓤 H (𝓣 .C) (𝓣 .Λ) code.function) (WpFn-mono 𝓤 H (W .laws) 𝓣 code.function) (walks (𝓣 .C) (𝓣 .Λ) (fmOf 𝓤 H (W .laws) 𝓣) known)

@@ -7,6 +7,7 @@ use Rattle.state_record.proofs.Logic.{look, init, forget, stop, from, l
 use Rattle.state_record.proofs.Logic.{free0, arr-parts, lft-new, lft-end, FmC, fmOf, WpFn-mono, Array, array-vals, array-tells, Is, shows, pointee, shares, uint-vals, uint-tells, uint-makes}
 use Rattle.state_record.proofs.Logic.{usize, RefT, plain, arrayOf, sliceTy, sliceVal, ShrSlice, owned, peeks, heard, nothing, Contract, Triple, calls-at, ensured, lasts, Vals, onEntry}
 use Rattle.state_record.proofs.Logic.{Meets, tripleOf, entered, cited, says, needs, Stays, stay-dropped, walkOf, goes-dropped, Walks, ends-at, walked, walk-meets, yes}
+use Rattle.spec_model.specs.Requests.{maxCells}
 use Rattle.state_record.specs.declared.Cell.{Cell}
 use Rattle.state_record.specs.View.{blankCell}
 use Rattle.state_record.proofs.Loan.{arrayTy, lends, back}
@@ -21,7 +22,7 @@ use Rattle.state_record.proofs.looked_up.Statement as stated
 use Rattle.state_record.proofs.looked_up.Code as code
 
 abbrev stayed : Stays (fn.ended .signature .params) (fn.ended .kept)
-stayed = (stay-dropped (arrayOf (plain (λ _. R)) 256) yes, (stay-dropped (plain (λ _. usize)) yes, tt))
+stayed = (stay-dropped (arrayOf (plain (λ _. R)) maxCells) yes, (stay-dropped (plain (λ _. usize)) yes, tt))
 
 module _ {M : Type 1} (𝓤 : URA M) (H : Heap 𝓤) (A : Atoms 𝓤) (mem : Memory → SProp 𝓤) (run : Routine → Fun 𝓤) where
   -- the contract that is cited
@@ -29,11 +30,11 @@ module _ {M : Type 1} (𝓤 : URA M) (H : Heap 𝓤) (A : Atoms 𝓤) (mem : Mem
   Lookup = tripleOf 𝓤 H A callee.signature (callee.spec 𝓤 H A mem run)
 
 module _ {M : Type 1} (𝓤 : URA M) (H : Heap 𝓤) (A : Atoms 𝓤) (W : Given 𝓤 H A) (mem : Memory → SProp 𝓤) (run : Routine → Fun 𝓤)
-    (xs : List Cell) (k : ℕ) (is : Is (Array R 256) xs (lows xs ∷ [])) (fits : k < 2 ^ 64) (within : k < 256) where
+    (xs : List Cell) (k : ℕ) (is : Is (Array R maxCells) xs (lows xs ∷ [])) (fits : k < 2 ^ 64) (within : k < maxCells) where
   abbrev c : Cell
   c = getD xs k blankCell
 
-  long : length xs ≡ 256
+  long : length xs ≡ maxCells
   long = is .1 .0 .1
 
   abbrev at : Vals fn.signature tt
@@ -90,7 +91,7 @@ module _ {M : Type 1} (𝓤 : URA M) (H : Heap 𝓤) (A : Atoms 𝓤) (W : Given
         -- _3 is lent for a lifetime that is made here
         lft-new ! tt (λ α. move ! (5 ∷ []) $
         use1 W (later (some (λ (γ : GName). ‵ (slice-own l₃ α γ) ⊛ ‵ (flent (α ∷ []) (arr-parts (shares R) (length xs) .part fullShare xs l₃ 0)))))
-        (lends R 256 tt vals tells 𝓤 H A W (makes 𝓤 H A) xs l₃ 0 (named 0) (α ∷ []) is (room xs long)) $ await ! tt $ pick ! (λ γ. split ! $
+        (lends R maxCells tt vals tells 𝓤 H A W (makes 𝓤 H A) xs l₃ 0 (named 0) (α ∷ []) is (room xs long)) $ await ! tt $ pick ! (λ γ. split ! $
         -- [the slice; the lender's part; the token; _5; …]
         nothing ! $ move ! (3 ∷ 0 ∷ []) $ join ! $ use2 W (raw (Lookup 𝓤 H A mem run .pre (to l₃ α γ))) (asked l₃ α γ) $
         calls-at ! fm (Lookup 𝓤 H A mem run) known (to l₃ α γ)
@@ -101,8 +102,8 @@ module _ {M : Type 1} (𝓤 : URA M) (H : Heap 𝓤) (A : Atoms 𝓤) (W : Given
         -- [the result; the token; the lender's part; _5; …; _4; …; what frees _3; _2; …; _1; …; room for _0; …]
         peeks ! R (Is R) (shows 𝓤 H A R) r (u ∷ []) (λ got. land ! (from ! (stop !)) (init ! 12 refl (lawful 𝓤 H A W .typed r _ got .0)) $
         -- the lifetime ends, and _3 is back
-        move ! (1 ∷ []) $ split ! $ lft-end ! tt $ move ! (0 ∷ 3 ∷ []) $ use2 W (later (‵ (fat fullShare (arrayTy R 256 tt vals tells) l₃ 0 (lows xs))))
-        (back R 256 tt vals tells 𝓤 H A W (makes 𝓤 H A) xs l₃ 0 (α ∷ []) long) $ await ! tt $
+        move ! (1 ∷ []) $ split ! $ lft-end ! tt $ move ! (0 ∷ 3 ∷ []) $ use2 W (later (‵ (fat fullShare (arrayTy R maxCells tt vals tells) l₃ 0 (lows xs))))
+        (back R maxCells tt vals tells 𝓤 H A W (makes 𝓤 H A) xs l₃ 0 (α ∷ []) long) $ await ! tt $
         -- [_3; true; the result; _5; …; _4; …; what frees _3; _2; …; _1; …; _0; …]
         returns ! (look ! 12 refl) $ forget ! 0 refl $ forget ! 3 refl $ forget ! 5 refl $ forget ! 8 refl $ forget ! 10 refl $ forget ! 12 refl $
         move ! (12 ∷ 13 ∷ []) $ free1 ! $ move ! (10 ∷ 11 ∷ []) $ free1 ! $ move ! (8 ∷ 9 ∷ []) $ free1 ! $
@@ -114,13 +115,13 @@ module _ {M : Type 1} (𝓤 : URA M) (H : Heap 𝓤) (A : Atoms 𝓤) (W : Given
       → Walks 𝓤 H A fn.ended stayed (WpFn 𝓤 H C Λ code.function) (fn.clauses 𝓤 H A mem run)
   walks C Λ fm known =
       walked 𝓤 H A fn.ended stayed (fn.clauses 𝓤 H A mem run) (WpFn 𝓤 H C Λ code.function) (λ κs. (array-vals vals, (uint-vals w64, tt)))
-      (λ κs. (array-tells R vals tells 256, (uint-tells w64, tt)))
-      (λ κs qs bounds a g are. needs 𝓤 (a .1 .0 < 256) _ (λ within. walk 𝓤 H A W mem run (a .0) (a .1 .0) (are .0) (are .1 .0 .1) within C Λ fm known))
+      (λ κs. (array-tells R vals tells maxCells, (uint-tells w64, tt)))
+      (λ κs qs bounds a g are. needs 𝓤 (a .1 .0 < maxCells) _ (λ within. walk 𝓤 H A W mem run (a .0) (a .1 .0) (are .0) (are .1 .0 .1) within C Λ fm known))
 
   meets : (𝓣 : Tables 𝓤 H) → Triple 𝓤 (𝓣 .C #lookup) (Lookup 𝓤 H A mem run) → Meets 𝓤 H A fn.signature (WpFn 𝓤 H (𝓣 .C) (𝓣 .Λ) code.function) (fn.spec 𝓤 H A mem run)
   meets 𝓣 known =
       walk-meets 𝓤 H A fn.ended stayed W
-      (goes-dropped 𝓤 H A W 0 (arrayOf (plain (λ _. R)) 256) yes (λ κs x f. refl), (goes-dropped 𝓤 H A W 0 (plain (λ _. usize)) yes (λ κs x f. refl), tt))
+      (goes-dropped 𝓤 H A W 0 (arrayOf (plain (λ _. R)) maxCells) yes (λ κs x f. refl), (goes-dropped 𝓤 H A W 0 (plain (λ _. usize)) yes (λ κs x f. refl), tt))
       (fn.clauses 𝓤 H A mem run) (WpFn 𝓤 H (𝓣 .C) (𝓣 .Λ) code.function) (WpFn-mono 𝓤 H (W .laws) 𝓣 code.function) (walks (𝓣 .C) (𝓣 .Λ) (fmOf 𝓤 H (W .laws) 𝓣) known)
 
 pub looked-up-spec : {M : Type 1} → stated.statement M

@@ -18,7 +18,7 @@ Inv-loop b i h methods₀ j₀ methods j = (j ≤ maxMethods) × (length methods
     × ((k : ℕ) → k < j → rawMethod (getD methods k absent) ≡ getD (getD (typesIn b) i noRawType .methods) k noRawMethod)
 
 abbrev μ-loop : tie.MeasureT-loop
-μ-loop b i h methods₀ j₀ methods j = 16 - j
+μ-loop b i h methods₀ j₀ methods j = maxMethods - j
 
 get-head-requires : tie.Need-get-head-requires Inv-loop μ-loop
 get-head-requires c κs = search needs

@@ -5,15 +5,16 @@ use Prim.Native.Nat.{ℕ, _+_, _≤_, _-_}
 use native.Mathlib.Omega.{arith}
 use lib.ListN.{replicate, set}
 use lib.Seq.{sets}
+use Rattle.table_record.specs.Layout.{spareSize}
 use Rattle.table_record.proofs.Lists.{run-next}
 use Rattle.table_store.proofs.put_spare.Statement.{statement}
 use Rattle.table_store.proofs.put_spare.Tie as tie
 
 abbrev Inv-loop : tie.InvT-loop
-Inv-loop b₀ at j₀ b j = (j ≤ 10) × (b ≡ sets b₀ at (replicate j 0))
+Inv-loop b₀ at j₀ b j = (j ≤ spareSize) × (b ≡ sets b₀ at (replicate j 0))
 
 abbrev μ-loop : tie.MeasureT-loop
-μ-loop b₀ at j₀ b j = 10 - j
+μ-loop b₀ at j₀ b j = spareSize - j
 
 loop-holds : tie.Need-loop-holds Inv-loop μ-loop
 loop-holds c = (omega arith, refl)
@@ -38,7 +39,7 @@ loop-again c = let l = c .before .loop in
 returns : tie.Need-returns Inv-loop μ-loop
 returns c = let l = c .before .loop in
     let a = c .before .before .args in
-    let e : l .j ≡ 10 = omega arith in
+    let e : l .j ≡ spareSize = omega arith in
     l .inv .1 ∙ ap (λ (n : ℕ). sets (a .b .now) (a .at) (replicate n 0)) e
 
 pub put-spare-spec : {M : Type 1} → statement M

@@ -13,17 +13,17 @@ use Rattle.spec_model.specs.Table.{maxMethods}
 use Rattle.spec_model.specs.Records.{argumentSlots}
 use Rattle.table_record.specs.Store.{rawMethod, rawOf, spareBytes, methodBytes, methodsBytes}
 use Rattle.table_record.proofs.Laws.{absent, run-more, record-parts}
-use Rattle.table_record.specs.Layout.{typeSize, headSize, methodSize}
+use Rattle.table_record.specs.Layout.{typeSize, headNumbers, headSize, methodSize}
 use Rattle.table_store.proofs.put_type.Statement.{statement}
 use Rattle.table_store.proofs.put_type.Tie as tie
 
 abbrev Inv-loop : tie.InvT-loop
 Inv-loop b₀ i t at j₀ b j = (j ≤ maxMethods) × (at ≡ i * typeSize) × (length (t .methods) ≡ maxMethods)
-    × (b ≡ sets b₀ (at + 16) (methodsBytes (take j (map rawMethod (t .methods)))))
-    × ((k : ℕ) → k < j → length (getD (t .methods) k absent .args) ≡ 4)
+    × (b ≡ sets b₀ (at + headSize) (methodsBytes (take j (map rawMethod (t .methods)))))
+    × ((k : ℕ) → k < j → length (getD (t .methods) k absent .args) ≡ argumentSlots)
 
 abbrev μ-loop : tie.MeasureT-loop
-μ-loop b₀ i t at j₀ b j = 16 - j
+μ-loop b₀ i t at j₀ b j = maxMethods - j
 
 mul-at : tie.Need-mul-at Inv-loop μ-loop
 mul-at c = search needs
@@ -72,7 +72,7 @@ loop-again c = let l = c .before .before .before .before .loop in
       omega arith,
       refl,
       l .inv .2,
-      run-more (c .before .before .before .before .before .put-spare .last .0) (at + 16) (map rawMethod ms) (l .j) (l .b) (c .put-method .last .0) h (l .inv .3)
+      run-more (c .before .before .before .before .before .put-spare .last .0) (at + headSize) (map rawMethod ms) (l .j) (l .b) (c .put-method .last .0) h (l .inv .3)
           (c .put-method .ensures .0 ∙ ap (λ (m : RawMethod). sets (l .b) (at + headSize + l .j * methodSize) (methodBytes m)) (sym (List·getD-map rawMethod ms (l .j) absent))),
       below-more (λ k. length (getD ms k absent .args) ≡ argumentSlots) (l .j) (l .inv .4) (c .put-method .ensures .1),
     )
@@ -88,7 +88,7 @@ returns c = let l = c .before .loop in
       bytes = l .inv .3
           ∙ ap (λ (ms : List RawMethod). sets (s .put-spare .last .0) (a .i * typeSize + headSize) (methodsBytes ms)) whole
           ∙ ap (λ (x : List ℕ). sets x (a .i * typeSize + headSize) (methodsBytes (map rawMethod (t .methods))))
-          (s .put-spare .ensures ∙ ap (λ (x : List ℕ). sets x (a .i * typeSize + 6) spareBytes) (s .before .before .put-head .ensures))
+          (s .put-spare .ensures ∙ ap (λ (x : List ℕ). sets x (a .i * typeSize + headNumbers) spareBytes) (s .before .before .put-head .ensures))
           ∙ record-parts (a .b .now) (a .i * typeSize) (rawOf t);
       shaped = record { methods = n; slots = λ k h. ap (λ (m : RawMethod). length (m .args)) (List·getD-map rawMethod (t .methods) k absent) ∙ l .inv .4 k (omega arith) };
     }
