@@ -1,6 +1,7 @@
 //! The audit as a referee reads it: who can call, who can come to, who was told of nothing more; the calls; and a status that answers.
 
 use crate::files::{accepted, read, run, with_file, NAMES, SCRIPT, SHEET};
+use crate::json::Value;
 use desk::scripts::requests::split;
 use pilgonca::Visit;
 use reference::generators::{generate, Profile};
@@ -227,7 +228,21 @@ fn no_answer_is_not_no() {
         assert_eq!(ask(path).0, 0)
     });
     let early = [split(&optional).0, b"do=\ndo=new 0 1 4\n"].concat();
-    with_file("early", &early, |path| assert_eq!(ask(path).0, 3));
+    with_file("early", &early, |path| {
+        for (calls, question) in [
+            (&[][..], "Could subject 2 have called method 1?"),
+            (&["--calls"], "Did subject 2 call method 1?"),
+        ] {
+            let words = [&["audit", path], &mark[..], calls].concat();
+            let (status, out, _) = run(&words);
+            let answer = format!("{question} not up to line 45, where the script is cut short\n");
+            assert!(status == 3 && out.ends_with(&answer), "{status}: {out}");
+            let (status, out, _) = run(&[&words[..], &["--json"]].concat());
+            let document = Value::read(&out);
+            let answer = document.get("result").get("question").get("answer");
+            assert_eq!((status, answer), (3, &Value::Null), "{out}");
+        }
+    });
 }
 
 #[test]
@@ -245,6 +260,9 @@ fn a_script_that_is_cut_short_says_so_in_the_report() {
         }
         let (_, out, _) = run(&["audit", path, "--calls"]);
         assert!(out.contains(&line), "{out}");
+        let (_, out, _) = run(&["audit", path]);
+        assert!(out.contains("so this covers the visit up to line 51.\n"));
+        assert!(!out.contains("the whole visit"), "{out}");
     });
     for command in ["run", "audit"] {
         assert!(!accepted(&[command, OPTIONAL]).contains("cut short"));
