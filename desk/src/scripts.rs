@@ -112,10 +112,16 @@ impl Desk {
         let ended = self.ended(path, &run, audited.text);
         match (question.is_asked(), audited.answer, ended) {
             (true, Answer::No, Ok(printed)) => Err(Stop::no(printed)),
-            (true, Answer::Untold, Ok(printed)) => Err(Stop {
-                printed,
-                ..Stop::from(format!("{}: the state does not tell", input::name(path)))
-            }),
+            (true, answer @ (Answer::Untold | Answer::Unsettled), Ok(printed)) => {
+                let why = match answer {
+                    Answer::Untold => "the state does not tell",
+                    _ => "that is not settled",
+                };
+                Err(Stop {
+                    printed,
+                    ..Stop::from(format!("{}: {why}", input::name(path)))
+                })
+            }
             // what was found before the line at fault is there
             (true, Answer::Yes, Err(stop)) => Err(Stop {
                 end: End::Yes,

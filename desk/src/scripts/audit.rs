@@ -31,6 +31,8 @@ const TERMS: &str = "
   can call          the type of the cell lets its holder call the method, given arguments that fit
   can come to call  its holder can hand the reference to itself as the types named, and then call it
   offers            the method is there, and no type that the reference can be handed on as lets it be called
+  no room           no way to call it was found, and the state has no room to try further ones
+  not settled       no way to call it was found in so many steps, and there are further ones
 ";
 
 const WAYS: &str = "how they came, since the object was made or its owner last took it back";
@@ -67,10 +69,13 @@ impl Question {
         let answer = match answer {
             Answer::Yes => "yes".to_string(),
             Answer::No => "no".to_string(),
-            Answer::NotUpTo(line) => format!("not up to line {line}, where the script is cut short"),
+            Answer::NotUpTo(line) => {
+                format!("not up to line {line}, where the script is cut short")
+            }
             Answer::Untold => {
                 "the state does not tell: it has no room now, and had before".to_string()
             }
+            Answer::Unsettled => "that is not settled".to_string(),
         };
         match self.calls {
             true => format!("Did {subject} call {method}? {answer}\n"),
@@ -87,6 +92,8 @@ pub enum Answer {
     NotUpTo(usize),
     /// A saved state is full: there was room once for ways that can no more be tried.
     Untold,
+    /// There are more ways than were tried.
+    Unsettled,
 }
 
 impl Answer {
@@ -184,7 +191,10 @@ impl Auditor<'_> {
         let visit = &self.run.visit;
         let objects: String = visit.places().map(|place| self.object(&place)).collect();
         let covers = match &self.run.malformed {
-            Some(line) => format!("so this covers the visit up to line {}.\n", line.line_number),
+            Some(line) => format!(
+                "so this covers the visit up to line {}.\n",
+                line.line_number
+            ),
             None if self.run.saved => COVERS_SAVED.to_string(),
             None => COVERS_ALL.to_string(),
         };
@@ -216,7 +226,9 @@ impl Auditor<'_> {
             })
         };
         let full = |power: &Power| matches!(power, Power::NoRoom(_));
+        let unsettled = |power: &Power| matches!(power, Power::Unsettled(_));
         match any(Power::is_yes) {
+            false if any(unsettled) => Answer::Unsettled,
             false if self.run.saved && any(full) => Answer::Untold,
             yes => Answer::of(yes, self.run),
         }

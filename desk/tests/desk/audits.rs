@@ -191,6 +191,24 @@ fn what_there_was_room_for_counts() {
     });
 }
 
+/// An owner's cells hide mark, and there is no room to take the object back: that is not what `offers` means.
+#[test]
+fn no_room_is_not_told_as_offered() {
+    let requests = [&b"do=new 0 1 2\n"[..], &b"do=move 0 0 0 2\n".repeat(255)].concat();
+    let script = [split(&read(SCRIPT)).0, &requests].concat();
+    with_file("full.script", &script, |script| {
+        with_file("full.state", b"", |state| {
+            accepted(&["run", script, "--save", state]);
+            let out = accepted(&["audit", state, "--names", NAMES]);
+            let found =
+                "no room: no way to call it was found, and no cell is free for further ones";
+            assert_eq!(out.matches(found).count(), 2 * 256, "{out}");
+            assert!(!out.contains("offers:"), "{out}");
+            assert!(out.contains("\n  no room           no way to call it was found"));
+        });
+    });
+}
+
 /// What the documents said of optional, and what holds.
 #[test]
 fn the_documents_say_what_holds_of_optional() {

@@ -153,7 +153,7 @@ fn chips(powers: &[Option<Power>]) -> Vec<(&'static str, usize)> {
     let class = |power: &Power| match power {
         Power::Now => "call",
         Power::Alone(_) | Power::Once(..) => "come",
-        Power::Unsettled => "open",
+        Power::Unsettled(_) => "open",
         Power::NoRoom(_) | Power::Never => "only",
     };
     let methods = powers.iter().enumerate();
