@@ -287,10 +287,28 @@ fn a_script_that_is_cut_short_says_so_in_the_report() {
     }
 }
 
+/// The numbers of types that a text names: in words, or in JSON.
+fn numbered(text: &str) -> Vec<i64> {
+    let marks = ["type ", "\"type\":{\"number\":", "\"class\":{\"number\":"];
+    let found = marks.iter().flat_map(|mark| text.split(mark).skip(1));
+    let found = found.filter_map(|rest| {
+        let digits = rest.split(|letter: char| !letter.is_ascii_digit()).next()?;
+        digits.parse().ok()
+    });
+    found.collect()
+}
+
 /// No derived type is told by its number alone.
 #[test]
 fn derived_types_are_told_in_words() {
-    let mut told = 0;
+    let commands: [&[&str]; 5] = [
+        &["audit"],
+        &["audit", "--json"],
+        &["run"],
+        &["run", "--json"],
+        &["run", "--svg=-"],
+    ];
+    let mut told = [0; 5];
     for seed in 0..40 {
         let input = generate(seed, Profile::Medium);
         let Ok(visit) = Visit::load(split(&input).0) else {
@@ -298,28 +316,22 @@ fn derived_types_are_told_in_words() {
         };
         let last = visit.sheet().sheet_types() as i64;
         with_file("derived", &input, |path| {
-            for command in ["audit", "run"] {
-                let (_, out, _) = run(&[command, path]);
-                told += out.matches("[permits ").count();
-                let numbers = out.split("type ").skip(1).filter_map(|rest| {
-                    let digits = rest.split(|letter: char| !letter.is_ascii_digit()).next()?;
-                    digits.parse::<i64>().ok()
-                });
+            for (command, told) in commands.iter().zip(&mut told) {
+                let (_, out, _) = run(&[command, &[path][..]].concat());
+                *told += out.matches("[permits ").count();
+                *told += out.matches("type that permits ").count();
                 // what a request names is told as it was written
-                let named: Vec<i64> = numbers.filter(|number| *number >= last).collect();
                 let requests = String::from_utf8_lossy(&input);
-                for number in named {
-                    assert!(
-                        requests.contains(&format!(" {number}")),
-                        "seed {seed}: type {number}"
-                    );
-                    assert_eq!(command, "run", "seed {seed}: type {number}");
+                for number in numbered(&out).into_iter().filter(|number| *number >= last) {
+                    let written = requests.contains(&format!(" {number}"));
+                    let is_run = matches!(command, ["run"] | ["run", "--json"]);
+                    assert!(written && is_run, "seed {seed}, {command:?}: type {number}");
                 }
             }
         });
     }
-    println!("{told} derived types told");
-    assert!(told > 20, "{told}");
+    println!("{told:?} derived types told");
+    assert!(told.iter().all(|count| *count > 20), "{told:?}");
 }
 
 #[test]
