@@ -107,8 +107,14 @@ fn what_is_not_settled_is_told() {
 
 #[test]
 fn powers_that_are_not_settled_are_told() {
-    with_file("steps.sheet", many_ways().as_bytes(), |path| {
+    // no object is of the category of type 14, and there are ways to it by the types
+    let other = "type=14\nrep=ref\ncat=1\nown=no\n".to_string() + &"m=denied\n".repeat(12);
+    let sheet = many_ways().replace("cats=0\ntypes=14", "cats=1\nunder=0\ntypes=15");
+    let sheet = sheet.replace("end=sheet", &(other + "end=sheet"));
+    with_file("steps.sheet", sheet.as_bytes(), |path| {
         let out = accepted(&["powers", path]);
+        let had = "\ntype 14\n  whether a reference of this type can be had is not settled\n";
+        assert!(out.ends_with(had), "{out}");
         let (_, type_3) = out.split_once("\ntype 3\n").expect("type 3");
         let (type_3, _) = type_3.split_once("\n\n").expect("an end");
         assert!(
