@@ -130,8 +130,10 @@ static inline const char *pilgonca_refusal_text(size_t number)
  * What is behind a count may hold anything.
  */
 
-/* A table and a state in one piece. The functions take the arrays one by one, so they may stand apart as well; the two macros pass those of a struct, in
- * order. */
+/*
+ * A table and a state in one piece. The functions take the arrays one by one, so they may stand apart as well; the two macros pass those of a struct, in
+ * order.
+ */
 struct pilgonca_table {
     uint8_t types[PILGONCA_TYPE_BYTES];
     uint8_t links[PILGONCA_LINK_BYTES];
@@ -284,8 +286,10 @@ size_t pilgonca_offers(
     size_t chain_len,
     size_t *offered);
 
-/* A run (U): requests as words (code 0 new, 1 move, 2 call, 3 answer; how many operands; those), and four numbers for each that is served. The state is
- * checked once. 2. */
+/*
+ * A run (U): requests as words (code 0 new, 1 move, 2 call, 3 answer; how many operands; those), and four numbers for each that is served. The state is
+ * checked once. 2.
+ */
 size_t pilgonca_run(
     uint8_t types[PILGONCA_TYPE_BYTES],
     const uint8_t links[PILGONCA_LINK_BYTES],
