@@ -19,7 +19,7 @@
  *   - a slice passes as pointer and length (text, text_len), the length in elements;
  *   - arrays of one call do not overlap, but for two of which both are only read.
  *
- * Stack. Measured, not proved (docs/MEASURED.md): the deepest request takes 160 KB, a run 164; load 20, offers 8. Give the thread 256 KB.
+ * Stack. Measured, not proved (docs/MEASURED.md): the deepest request takes 160 KB, a run 168; load 20, offers 8. Give the thread 256 KB.
  */
 #ifndef PILGONCA_H
 #define PILGONCA_H
@@ -119,9 +119,9 @@ static inline const char *pilgonca_refusal_text(size_t number)
 
 /*
  * Layout (B1 to B29). A number in a record is one byte.
- *   type i    128 bytes from 128*i: representation (0 ref, 1 w32, 2 w64), category, own (0, 1), of a derived type kind (0 Sub, 1 Sup, 2 Closed), left, right; ten spare
- *             bytes; then from byte 16 on seven bytes for each method: state (0 denied, 1 optional, 2 avail, 3 unavail), how many arguments (0 to 4), four
- *             slots for their types, used from the first on, and 0 for no answer or the answer's type plus 1
+ *   type i    128 bytes from 128*i: representation (0 ref, 1 w32, 2 w64), category, own (0, 1), of a derived type kind (0 Sub, 1 Sup, 2 Closed), left,
+ *             right; ten spare bytes; then from byte 16 on seven bytes for each method: state (0 denied, 1 optional, 2 avail, 3 unavail), how many
+ *             arguments (0 to 4), four slots for their types, used from the first on, and 0 for no answer or the answer's type plus 1
  *   link k    3 bytes from 3*k, category k: how many broader ones (1 or 2), first, second
  *   cell k    3 bytes from 3*k: holder, type, place
  *   place p   3 bytes from 3*p: 0, class and owner of an object; or 1, place behind and closed type of an adapter
@@ -130,7 +130,10 @@ static inline const char *pilgonca_refusal_text(size_t number)
  * What is behind a count may hold anything.
  */
 
-/* A table and a state in one piece. The functions take the arrays one by one, so they may stand apart as well; the two macros pass those of a struct, in order. */
+/*
+ * A table and a state in one piece. The functions take the arrays one by one, so they may stand apart as well; the two macros pass those of a struct, in
+ * order.
+ */
 struct pilgonca_table {
     uint8_t types[PILGONCA_TYPE_BYTES];
     uint8_t links[PILGONCA_LINK_BYTES];
@@ -151,8 +154,8 @@ struct pilgonca_state {
 
 /* ---- a table ----
  *
- * Compare, write and pairs only read, so they also take the arrays of a state. The reader stores a table of its own: lent the arrays of a state it would put other types under
- * its cells and places, and nothing that is proved of a state would be true of what stands there. A state is begun by pilgonca_load.
+ * Compare, write and pairs only read, so they also take the arrays of a state. The reader stores a table of its own: lent the arrays of a state it would
+ * put other types under its cells and places, and nothing that is proved of a state would be true of what stands there. A state is begun by pilgonca_load.
  */
 
 /* Compare (R14): 2 or 7; else 16 plus the sum of 1 for subtype, 2 strict, 4 loose and 8 free. */
@@ -190,8 +193,9 @@ size_t pilgonca_pairs(
 
 /* ---- a state ----
  *
- * A request that is accepted stores the new state in the arrays lent, and three values: how many there are of it (0, 1 or 2), the first and the second, 0 where there is none.
- * What is proved of references (L19 to L27) is proved of a state that pilgonca_load began, and that only the functions below have changed since, refused calls included.
+ * A request that is accepted stores the new state in the arrays lent, and three values: how many there are of it (0, 1 or 2), the first and the second, 0
+ * where there is none. What is proved of references (L19 to L27) is proved of a state that pilgonca_load began, and that only the functions below have
+ * changed since, refused calls included.
  */
 
 /* The state of a sheet (Q10): as pilgonca_read, with no cells, places or calls. */
@@ -282,7 +286,10 @@ size_t pilgonca_offers(
     size_t chain_len,
     size_t *offered);
 
-/* A run (U): requests as words (code 0 new, 1 move, 2 call, 3 answer; how many operands; those), and four numbers for each that is served. The state is checked once. 2. */
+/*
+ * A run (U): requests as words (code 0 new, 1 move, 2 call, 3 answer; how many operands; those), and four numbers for each that is served. The state is
+ * checked once. 2.
+ */
 size_t pilgonca_run(
     uint8_t types[PILGONCA_TYPE_BYTES],
     const uint8_t links[PILGONCA_LINK_BYTES],

@@ -8,6 +8,7 @@ pub mod process;
 pub mod requests;
 pub mod run_lists;
 pub mod runs;
+pub mod said;
 pub mod scripts;
 pub mod served;
 pub mod states;

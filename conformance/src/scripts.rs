@@ -13,7 +13,7 @@ use std::process::Output;
 use std::sync::OnceLock;
 
 /// The most stack that the program may be given, in KB.
-pub const MOST: usize = 1024;
+const MOST: usize = 1024;
 
 /// How many bytes longer than its input an output can be: `no=1` and LF for no input at all.
 pub const LONGER: usize = 5;

@@ -3,7 +3,8 @@
 
 use conformance::inputs::with_48_types;
 use conformance::process::{built, feed, limited_to, plain, printed};
-use conformance::scripts::{damaged, deepest, in_stack, need, proved, stack, Met, MOST};
+use conformance::said;
+use conformance::scripts::{damaged, deepest, in_stack, need, proved, stack, Met};
 use conformance::worst_scripts::layered;
 use reference::coverage::OF_REQUESTS;
 use reference::generators::{generate, Profile};
@@ -295,7 +296,7 @@ fn twice_the_stack_that_is_needed() {
     for (name, input) in deepest() {
         let need = need(&input);
         println!("{name}: {need} KB");
-        assert!(2 * need <= MOST, "{name}: {need} KB");
+        assert!(need <= said::SCRIPT + said::ALLOWED, "{name}: {need} KB");
         let output = printed(in_stack(2 * need, &input));
         assert!(output == script::run(&input), "{name}");
     }

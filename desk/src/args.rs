@@ -32,8 +32,9 @@ desk: sheets and scripts at the desk; every answer is the proved core's
 
   --names FILE                names to print: lines such as `type 2 reader`,
                               `subject 0 desk`, `method 1 mark`,
-                              `category 1 visits`. X.names beside X.sheet or
-                              X.script is found; --no-names leaves it out
+                              `category 1 visits`. X.names beside X.sheet,
+                              X.script or X.state is found; --no-names leaves
+                              it out
   --json                      one JSON document, as desk/schema/desk.json says:
                               of check, pairs, compare, run, audit, powers, diff
   --svg FILE                  draws pairs, or the references at the end of run

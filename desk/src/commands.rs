@@ -179,7 +179,7 @@ fn names(args: &Args) -> Result<Names, Stop> {
     Ok(Names::read(&file, &input::read(&path)?)?)
 }
 
-/// X.names beside X.sheet or X.script.
+/// X.names beside X.sheet, X.script or X.state.
 fn beside(command: &Command) -> Option<PathBuf> {
     let files = command.files().into_iter();
     let files = files.filter(|file| *file != Path::new("-"));
@@ -296,15 +296,8 @@ impl Desk {
             return saved_state(path, "sheet");
         }
         let file = input::name(path);
-        let mut problem = told(&file, bytes, refused, &self.names, self.paints.error);
-        let mended = mended(bytes);
-        if !mended.changes.is_empty() && is_right(&mended.text) {
-            let (called, file) = (called(), path.display());
-            problem.note = Some(format!(
-                "{called} fix {file} prints what was meant; --out FILE writes it there."
-            ));
-        }
-        Stop::refused(problem)
+        let problem = told(&file, bytes, refused, &self.names, self.paints.error);
+        Stop::refused(hinted(problem, path, bytes))
     }
 
     /// A type by its number or its name.
@@ -320,10 +313,22 @@ impl Desk {
         }
         let number = self.names.number(kind, word);
         let number = number.ok_or_else(|| {
-            format!("no {kind} is named {word:?} (names come from a file: --names FILE, or X.names beside X.sheet)")
+            format!("no {kind} is named {word:?} (names come from a file: --names FILE, or X.names beside X.sheet, X.script or X.state)")
         })?;
         Ok(number as i64)
     }
+}
+
+/// With the word that desk fix mends what is wrong, where it does.
+pub fn hinted(mut problem: Problem, path: &Path, bytes: &[u8]) -> Problem {
+    let mended = mended(bytes);
+    if !mended.changes.is_empty() && is_right(&mended.text) {
+        let (called, file) = (called(), path.display());
+        problem.note = Some(format!(
+            "{called} fix {file} prints what was meant; --out FILE writes it there."
+        ));
+    }
+    problem
 }
 
 /// A saved state, where something else is due.

@@ -71,9 +71,11 @@ impl Side {
         power.cloned().unwrap_or(Power::Never)
     }
 
-    fn can_be_had(&self, type_: Type) -> bool {
+    /// Nothing where that is not settled.
+    fn can_be_had(&self, type_: Type) -> Option<bool> {
         let powers = self.powers.iter().find(|one| one.type_ == type_);
-        powers.is_some_and(|one| !one.classes.is_empty())
+        let had = powers.is_some_and(|one| !one.classes.is_empty());
+        (had || !powers.is_some_and(|one| one.open)).then_some(had)
     }
 
     /// Whether a reference of a type can become another, by the types (X1).
@@ -313,11 +315,11 @@ impl Differ<'_> {
     fn gained(&self, type_: Type) -> Vec<(Change, String)> {
         let mut changes = Vec::new();
         match (self.old.can_be_had(type_), self.new.can_be_had(type_)) {
-            (false, true) => changes.push((
+            (Some(false), Some(true)) => changes.push((
                 Change::Gives,
                 "a reference of this type can be had now".to_string(),
             )),
-            (true, false) => {
+            (Some(true), Some(false)) => {
                 let words = "no reference of this type can be had any more".to_string();
                 changes.push((Change::Takes, words));
             }
@@ -390,7 +392,7 @@ impl Differ<'_> {
 fn level(power: &Power) -> usize {
     match power {
         Power::Never => 0,
-        Power::NoRoom(_) | Power::Unsettled => 1,
+        Power::NoRoom(_) | Power::Unsettled(_) => 1,
         Power::Alone(_) | Power::Once(..) => 2,
         Power::Now => 3,
     }

@@ -77,15 +77,21 @@ fn one_of(reader: &mut Reader, words: &[&str]) -> Result<Vec<Number>, Flaw> {
     let rest = reader.rest();
     let length = reader.count(|byte| byte.is_ascii_alphanumeric());
     let Some(word) = words.iter().find(|word| rest[..length] == *word.as_bytes()) else {
-        let wrong = match length {
-            0 => format!("no word stands here, where {} is due", words.join(" or ")),
-            _ => format!("this word is not {}", words.join(" or ")),
-        };
-        return Err(reader.flaw(length.max(1), wrong));
+        return Err(no_word(reader, length));
     };
     reader.take(word);
     reader.end(word)?;
     Ok(Vec::new())
+}
+
+/// The next bytes are none of the words that are due.
+fn no_word(reader: &Reader, length: usize) -> Flaw {
+    let word = String::from_utf8_lossy(&reader.rest()[..length]);
+    let wrong = match length {
+        0 => "no word stands here, behind the =".to_string(),
+        _ => format!("{word} is no word of this line"),
+    };
+    reader.flaw(length.max(1), wrong)
 }
 
 /// One number, or two with a comma between (S24).
@@ -122,14 +128,7 @@ fn method(reader: &mut Reader) -> Result<Vec<Number>, Flaw> {
             reader.skip(length);
             signature(reader)
         }
-        b"" => Err(reader.flaw(
-            1,
-            "no word stands here, where denied, unavail, avail or optional is due",
-        )),
-        _ => Err(reader.flaw(
-            length,
-            "this word is not denied, unavail, avail or optional",
-        )),
+        _ => Err(no_word(reader, length)),
     }
 }
 

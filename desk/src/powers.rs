@@ -6,7 +6,7 @@ use crate::explain::refused;
 use crate::input;
 use crate::names::{Kind, Names};
 use crate::paint::{Paint, Tone};
-use crate::reach::{of_sheet, Power, TypePowers, MOST_STEPS};
+use crate::reach::{of_sheet, Power, TypePowers};
 use crate::words::{listed, under};
 use pilgonca::{Refusal, Sheet, Type, Visit};
 use std::path::Path;
@@ -18,6 +18,7 @@ has own: an owner can do more, where it can take its object back as a type with 
   can call          the type lets its holder call the method
   can come to call  its holder can hand the reference to itself as the types named, and then call it, if no
                     type hid the method before
+  not settled       no way was found in so many steps, or there is no room for further ones
   never             whatever such a reference leads to, and whatever type it is handed on as
 ";
 
@@ -64,7 +65,11 @@ fn told(sheet: &Sheet, powers: &TypePowers, names: &Names, paint: Paint) -> Stri
     let title = names.words(Kind::Type, powers.type_.0) + own;
     let head = format!("\n{}\n", paint.of(Tone::Strong, &title));
     if powers.classes.is_empty() {
-        return format!("{head}  no reference of this type can be had\n");
+        let had = match powers.open {
+            true => "whether a reference of this type can be had is not settled",
+            false => "no reference of this type can be had",
+        };
+        return format!("{head}  {had}\n");
     }
     let of = |test: fn(&Power) -> bool| {
         let methods = powers.methods.iter().enumerate();
@@ -80,8 +85,12 @@ fn told(sheet: &Sheet, powers: &TypePowers, names: &Names, paint: Paint) -> Stri
         "  can come to call     ",
         of(|power| matches!(power, Power::Alone(_))),
     );
-    let open =
-        |power: &Power| matches!(power, Power::Unsettled | Power::NoRoom(_) | Power::Once(..));
+    let open = |power: &Power| {
+        matches!(
+            power,
+            Power::Unsettled(_) | Power::NoRoom(_) | Power::Once(..)
+        )
+    };
     if powers.methods.iter().any(open) {
         text += &row("  not settled          ", of(open));
     }
@@ -108,7 +117,7 @@ pub fn can(method: usize, power: &Power, names: &Names) -> String {
             format!("{method} (as {})", path(types, names))
         }
         Power::NoRoom(refusal) => format!("{method} ({refusal})"),
-        Power::Unsettled => format!("{method} (not in {MOST_STEPS} steps)"),
+        Power::Unsettled(steps) => format!("{method} (not in {steps} steps)"),
     }
 }
 

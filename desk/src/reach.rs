@@ -4,7 +4,7 @@
 
 mod graph;
 
-pub use graph::{of_sheet, TypePowers};
+pub use graph::{of_sheet, within, TypePowers};
 
 use crate::described::signature;
 use crate::names::{Kind as NameKind, Names};
@@ -14,7 +14,7 @@ use pilgonca::{
 };
 use std::collections::{HashMap, HashSet, VecDeque};
 
-/// So many steps are tried for one reference. Sheets that people write need some dozens.
+/// So many steps are tried for one reference, and of a sheet for one class. Sheets that people write need some dozens.
 pub const MOST_STEPS: usize = 10_000;
 
 /// What a holder can do with a method.
@@ -28,21 +28,16 @@ pub enum Power {
     Once(Vec<Type>, Refusal),
     /// No way was found, and the core refused some for lack of room: types, places or cells.
     NoRoom(Refusal),
-    /// No way was found in so many steps.
-    Unsettled,
+    /// No way was found in so many steps, and there are more to try.
+    Unsettled(usize),
     /// There is no way.
     Never,
 }
 
 impl Power {
-    /// Whether the holder could call the method, or come to: what is not settled counts.
+    /// Whether it is sure that the holder could call the method, or come to.
     pub fn is_yes(&self) -> bool {
-        !self.is_no()
-    }
-
-    /// Whether it is sure that the holder never could.
-    pub fn is_no(&self) -> bool {
-        matches!(self, Power::Never | Power::NoRoom(_))
+        matches!(self, Power::Now | Power::Alone(_) | Power::Once(..))
     }
 
     /// With the types that its holder hands the reference to itself as.
@@ -60,10 +55,12 @@ impl Power {
                 format!("could come to call alone, to itself as {path}, while there was room; now {refusal}")
             }
             Power::NoRoom(refusal) => {
-                format!("offers: no way to call it was found, and {refusal} for further ones")
+                format!("no room: no way to call it was found, and {refusal} for further ones")
             }
-            Power::Unsettled => {
-                format!("offers: whether its holder can come to call it is not settled in {MOST_STEPS} steps")
+            Power::Unsettled(steps) => {
+                format!(
+                    "not settled: no way to call it was found in {steps} steps, and there are more"
+                )
             }
             Power::Never => "offers: no type of the sheet lets it be called".to_string(),
         }
@@ -75,18 +72,25 @@ pub struct Reach {
     types: Vec<TypeInfo>,
     pairs: Pairs,
     methods: usize,
+    most_steps: usize,
     /// By method, then by type: whether a type that lets the method be called may be reached from it, for one who does not own the object, and for its owner.
     hopes: [Vec<Vec<bool>>; 2],
 }
 
 impl Reach {
     pub fn of(sheet: &Sheet) -> Reach {
+        Reach::within(sheet, MOST_STEPS)
+    }
+
+    /// With another limit of steps.
+    pub fn within(sheet: &Sheet, most_steps: usize) -> Reach {
         let types = sheet.types().take(sheet.sheet_types()).collect();
         let (pairs, methods) = (sheet.pairs(), sheet.methods());
         let mut reach = Reach {
             types,
             pairs,
             methods,
+            most_steps,
             hopes: [Vec::new(), Vec::new()],
         };
         reach.hopes = [false, true].map(|owner| {
@@ -197,6 +201,8 @@ struct Search<'a> {
     seen: HashSet<(Type, usize)>,
     no_room: Option<Refusal>,
     steps: usize,
+    /// Whether it ended at the limit.
+    cut: bool,
 }
 
 impl<'a> Search<'a> {
@@ -224,6 +230,7 @@ impl<'a> Search<'a> {
             seen: HashSet::new(),
             no_room: None,
             steps: 0,
+            cut: false,
         })
     }
 
@@ -233,7 +240,8 @@ impl<'a> Search<'a> {
                 continue;
             }
             for to in self.reach.next(node.type_, self.owner) {
-                if self.steps == MOST_STEPS {
+                if self.steps == self.reach.most_steps {
+                    self.cut = true;
                     return;
                 }
                 self.steps += 1;
@@ -297,9 +305,9 @@ impl<'a> Search<'a> {
         if !self.reach.hopes(self.owner, method, self.start) {
             return self.offered[method].then_some(Power::Never);
         }
-        match (self.steps == MOST_STEPS, self.no_room) {
+        match (self.cut, self.no_room) {
             _ if !self.owner && !self.offered[method] => None,
-            (true, _) => Some(Power::Unsettled),
+            (true, _) => Some(Power::Unsettled(self.steps)),
             (false, Some(refusal)) => Some(Power::NoRoom(refusal)),
             (false, None) => self.offered[method].then_some(Power::Never),
         }

@@ -15,13 +15,14 @@ pub mod trial;
 pub mod why;
 
 use crate::args::Asked;
-use crate::commands::{saved_state, short, Desk, End, Stop};
+use crate::commands::{hinted, saved_state, short, Desk, End, Stop};
 use crate::diagnosis::Diagnosis;
 use crate::explain::refused;
 use crate::input::{self, is_saved};
 use crate::names::Kind;
 use crate::paint::Tone;
 use crate::problem::Problem;
+use crate::spoilt::spoilt;
 use audit::{audit, Answer, Question};
 use follow::{follow, malformed, output, Malformed, Run};
 use pilgonca::{raw, Sheet, Visit};
@@ -82,7 +83,7 @@ impl Desk {
             paint: self.paints.out,
         };
         let printed = drawn.unwrap_or_else(|| self.shown(|| teller.document(), || teller.told()));
-        let ended = self.ended(path, &run, printed);
+        let ended = self.ended((path, &bytes), &run, printed);
         match (save, ended) {
             (Some(file), Ok(printed)) => {
                 input::write(file, run.visit.save())?;
@@ -98,7 +99,14 @@ impl Desk {
         let Some(file) = svg else {
             return Ok(None);
         };
-        let title = format!("References at the end of {}", short(path));
+        let script = short(path);
+        let title = match &run.malformed {
+            None => format!("References at the end of {script}"),
+            Some(line) => {
+                let line = line.line_number;
+                format!("References up to line {line} of {script}, where the script is cut short")
+            }
+        };
         let picture = run_picture::picture(&title, run, &self.names).map_err(refused)?;
         Ok(input::put(file, picture)?)
     }
@@ -109,13 +117,19 @@ impl Desk {
         let question = self.question(asked, &run)?;
         let audited = audit(&run, question, &self.names, self.paints.out, self.json);
         let audited = audited.map_err(refused)?;
-        let ended = self.ended(path, &run, audited.text);
+        let ended = self.ended((path, &bytes), &run, audited.text);
         match (question.is_asked(), audited.answer, ended) {
             (true, Answer::No, Ok(printed)) => Err(Stop::no(printed)),
-            (true, Answer::Untold, Ok(printed)) => Err(Stop {
-                printed,
-                ..Stop::from(format!("{}: the state does not tell", input::name(path)))
-            }),
+            (true, answer @ (Answer::Untold | Answer::Unsettled), Ok(printed)) => {
+                let why = match answer {
+                    Answer::Untold => "the state does not tell",
+                    _ => "that is not settled",
+                };
+                Err(Stop {
+                    printed,
+                    ..Stop::from(format!("{}: {why}", input::name(path)))
+                })
+            }
             // what was found before the line at fault is there
             (true, Answer::Yes, Err(stop)) => Err(Stop {
                 end: End::Yes,
@@ -167,7 +181,7 @@ impl Desk {
             return Ok(());
         }
         short_enough(path, bytes)?;
-        malformed(bytes).map_or(Ok(()), |line| Err(self.no_request(path, &line)))
+        malformed(bytes).map_or(Ok(()), |line| Err(self.no_request((path, bytes), &line)))
     }
 
     /// A script that was run here and by the core's own run, with one outcome.
@@ -186,27 +200,30 @@ impl Desk {
     }
 
     /// What was printed, and the line that ended the run if one did.
-    fn ended(&self, path: &Path, run: &Run, printed: String) -> Result<String, Stop> {
+    fn ended(&self, script: (&Path, &[u8]), run: &Run, printed: String) -> Result<String, Stop> {
         match &run.malformed {
             None => Ok(printed),
             Some(line) => Err(Stop {
                 printed,
-                ..self.no_request(path, line)
+                ..self.no_request(script, line)
             }),
         }
     }
 
-    /// A line is no request.
-    fn no_request(&self, path: &Path, line: &Malformed) -> Stop {
+    /// A line of a script is no request.
+    fn no_request(&self, (path, bytes): (&Path, &[u8]), line: &Malformed) -> Stop {
         let paint = self.paints.error;
+        // it stands behind a sheet
+        let spoilt = spoilt(bytes, bytes.len(), line.line);
         let found = Diagnosis {
             line_number: line.line_number,
             line: line.line,
-            flaw: line.flaw.clone(),
+            flaw: spoilt.unwrap_or_else(|| line.flaw.clone()),
             right: right(line.line),
         };
         let how = paint.of(Tone::Bad, "refused with 1");
         let words = format!("a line is {how}, and the run ends there");
-        Stop::refused(Problem::at(words, found.at(&input::name(path), 1, paint)))
+        let problem = Problem::at(words, found.at(&input::name(path), 1, paint));
+        Stop::refused(hinted(problem, path, bytes))
     }
 }

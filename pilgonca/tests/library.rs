@@ -27,11 +27,12 @@ fn the_guide_has_the_sizes() {
     assert!(guide.contains("| 18,720:") && guide.contains("| 16,520 |"));
 }
 
-/// Whoever opens README sees what the core needs: platform, state, stack, code (tests/install.rs measures it), and no heap.
+/// Whoever opens README sees what the core needs: platform, state, stack, code (tests/install.rs measures it), and no heap; and what there is for others.
 #[test]
 fn the_first_screen_says_what_it_needs() {
     let screen: Vec<&str> = include_str!("../../README.md").lines().take(24).collect();
-    let screen = screen.join("\n");
+    assert!(screen.iter().all(|line| line.chars().count() <= 80));
+    let screen = screen.join(" ");
     let state = format!("{} KB", size_of::<raw::State>().div_ceil(1000));
     for words in [
         "x86-64 Linux",
@@ -40,6 +41,9 @@ fn the_first_screen_says_what_it_needs() {
         "160 KB of stack",
         "45 KB of code",
         "120 KB",
+        "no other processor yet",
+        "an emulator (qemu-x86_64, not tried)",
+        "`reference/`: the same rules in plain Rust",
         "docs/HOSTILE.md",
     ] {
         assert!(screen.contains(words), "{words}");

@@ -13,7 +13,7 @@ pub fn power(power: &Power, names: &Names) -> Vec<(&'static str, Json)> {
         Power::Alone(types) => ("alone", types, None),
         Power::Once(types, refusal) => ("once", types, Some(*refusal)),
         Power::NoRoom(refusal) => ("no room", &[], Some(*refusal)),
-        Power::Unsettled => ("not settled", &[], None),
+        Power::Unsettled(_) => ("not settled", &[], None),
         Power::Never => ("never", &[], None),
     };
     vec![

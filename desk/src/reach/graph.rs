@@ -9,8 +9,10 @@ use std::collections::{HashMap, VecDeque};
 #[derive(Clone, PartialEq, Eq, Debug)]
 pub struct TypePowers {
     pub type_: Type,
-    /// The classes of what such a reference can lead to. None: it cannot be had.
+    /// The classes of what such a reference can lead to.
     pub classes: Vec<Type>,
+    /// Whether there may be more: the steps or the room came to an end.
+    pub open: bool,
     /// By method, for some reference of this type at least.
     pub methods: Vec<Power>,
 }
@@ -21,8 +23,13 @@ const OTHER: Subject = Subject(1);
 
 /// What the ref types of a sheet give, in their order; the visit is one that begins with it.
 pub fn of_sheet(visit: &Visit) -> Result<Vec<TypePowers>, Refusal> {
+    within(visit, MOST_STEPS)
+}
+
+/// With another limit of steps.
+pub fn within(visit: &Visit, most_steps: usize) -> Result<Vec<TypePowers>, Refusal> {
     let sheet = visit.sheet();
-    let reach = Reach::of(&sheet);
+    let reach = Reach::within(&sheet, most_steps);
     let classes = reach.types.iter().filter(|info| info.is_class());
     let graphs: Vec<Graph> = classes
         .map(|class| Graph::of(&reach, visit, class.number))
@@ -36,13 +43,16 @@ pub fn of_sheet(visit: &Visit) -> Result<Vec<TypePowers>, Refusal> {
 }
 
 fn of_type(reach: &Reach, graphs: &[Graph], info: &TypeInfo, owner: bool) -> TypePowers {
-    let having = || graphs.iter().filter(|graph| graph.has(info.number));
+    let (having, lacking): (Vec<&Graph>, Vec<&Graph>) =
+        graphs.iter().partition(|graph| graph.has(info.number));
     TypePowers {
         type_: info.number,
-        classes: having().map(|graph| graph.class).collect(),
+        classes: having.iter().map(|graph| graph.class).collect(),
+        open: lacking.iter().any(|graph| graph.is_open()),
         methods: (0..reach.methods)
             .map(|method| {
-                let powers = having().map(|graph| graph.power(reach, info, method, owner));
+                let powers = graphs.iter();
+                let powers = powers.map(|graph| graph.power(reach, info, method, owner));
                 powers.min_by_key(rank).unwrap_or(Power::Never)
             })
             .collect(),
@@ -55,7 +65,7 @@ fn rank(power: &Power) -> (usize, usize) {
         Power::Now => (0, 0),
         Power::Alone(path) => (1, path.len()),
         Power::Once(path, _) => (2, path.len()),
-        Power::Unsettled => (3, 0),
+        Power::Unsettled(_) => (3, 0),
         Power::NoRoom(_) => (4, 0),
         Power::Never => (5, 0),
     }
@@ -79,6 +89,8 @@ struct Graph {
     left: VecDeque<(usize, Visit, Cell)>,
     no_room: Option<Refusal>,
     steps: usize,
+    /// Whether it ended at the limit.
+    cut: bool,
 }
 
 impl Graph {
@@ -91,6 +103,7 @@ impl Graph {
             left: VecDeque::new(),
             no_room: None,
             steps: 0,
+            cut: false,
         };
         for to in reach.next(class, true) {
             let mut made = visit.clone();
@@ -133,7 +146,8 @@ impl Graph {
         let info = visit.cell_info(cell).ok_or(Refusal::NotHeld)?;
         let lone = visit.sheet().subjects() == 1;
         for to in reach.next(info.type_, true) {
-            if self.steps == MOST_STEPS {
+            if self.steps == reach.most_steps {
+                self.cut = true;
                 return Ok(());
             }
             self.steps += 1;
@@ -150,11 +164,15 @@ impl Graph {
         Ok(())
     }
 
+    fn is_open(&self) -> bool {
+        self.cut || self.no_room.is_some()
+    }
+
     fn has(&self, type_: Type) -> bool {
         self.nodes.iter().any(|node| node.type_ == type_)
     }
 
-    /// What the holder of some reference of a type can do with a method, at most.
+    /// What the holder of some reference of a type can do with a method, at most; never, where there is none.
     fn power(&self, reach: &Reach, info: &TypeInfo, method: usize, owner: bool) -> Power {
         let starts = (0..self.nodes.len()).filter(|node| self.nodes[*node].type_ == info.number);
         if let Some(path) = self.shortest(reach, starts.collect(), method, owner) {
@@ -164,9 +182,9 @@ impl Graph {
             };
         }
         let hopes = reach.hopes(owner, method, info.number);
-        match (self.steps == MOST_STEPS, self.no_room) {
+        match (self.cut, self.no_room) {
             _ if !hopes || !owner && !permits(info, method) => Power::Never,
-            (true, _) => Power::Unsettled,
+            (true, _) => Power::Unsettled(self.steps),
             (false, Some(refusal)) => Power::NoRoom(refusal),
             (false, None) => Power::Never,
         }

@@ -25,12 +25,14 @@ Who could call what. Nothing is ever taken away: who held a reference at any tim
 ";
 
 const COVERS_ALL: &str = "so this covers the whole visit.\n";
-const COVERS_BEFORE: &str = "so this covers the visit until the state was saved.\n";
+const COVERS_SAVED: &str = "so this covers the visit until the state was saved.\n";
 
 const TERMS: &str = "
   can call          the type of the cell lets its holder call the method, given arguments that fit
   can come to call  its holder can hand the reference to itself as the types named, and then call it
   offers            the method is there, and no type that the reference can be handed on as lets it be called
+  no room           no way to call it was found, and the state has no room to try further ones
+  not settled       no way to call it was found in so many steps, and there are further ones
 ";
 
 const WAYS: &str = "how they came, since the object was made or its owner last took it back";
@@ -65,9 +67,15 @@ impl Question {
             names.words(Kind::Method, number as i64)
         });
         let answer = match answer {
-            Answer::Yes => "yes",
-            Answer::No => "no",
-            Answer::Untold => "the state does not tell: it has no room now, and had before",
+            Answer::Yes => "yes".to_string(),
+            Answer::No => "no".to_string(),
+            Answer::NotUpTo(line) => {
+                format!("not up to line {line}, where the script is cut short")
+            }
+            Answer::Untold => {
+                "the state does not tell: it has no room now, and had before".to_string()
+            }
+            Answer::Unsettled => "that is not settled".to_string(),
         };
         match self.calls {
             true => format!("Did {subject} call {method}? {answer}\n"),
@@ -80,15 +88,20 @@ impl Question {
 pub enum Answer {
     Yes,
     No,
+    /// The script is cut short at this line, and what stands behind it was not taken.
+    NotUpTo(usize),
     /// A saved state is full: there was room once for ways that can no more be tried.
     Untold,
+    /// There are more ways than were tried.
+    Unsettled,
 }
 
 impl Answer {
-    fn of(yes: bool) -> Answer {
-        match yes {
-            true => Answer::Yes,
-            false => Answer::No,
+    fn of(yes: bool, run: &Run) -> Answer {
+        match (yes, &run.malformed) {
+            (true, _) => Answer::Yes,
+            (false, None) => Answer::No,
+            (false, Some(line)) => Answer::NotUpTo(line.line_number),
         }
     }
 }
@@ -129,7 +142,7 @@ pub fn audit(
     };
     let answer = match &auditor {
         Some(auditor) => auditor.answer(),
-        None => Answer::of(calls.count() > 0),
+        None => Answer::of(calls.count() > 0, run),
     };
     let text = match json {
         true => document::document(auditor.as_ref(), &calls, answer).to_string(),
@@ -177,9 +190,13 @@ impl Auditor<'_> {
     fn told(&self) -> String {
         let visit = &self.run.visit;
         let objects: String = visit.places().map(|place| self.object(&place)).collect();
-        let covers = match self.run.saved {
-            true => COVERS_BEFORE,
-            false => COVERS_ALL,
+        let covers = match &self.run.malformed {
+            Some(line) => format!(
+                "so this covers the visit up to line {}.\n",
+                line.line_number
+            ),
+            None if self.run.saved => COVERS_SAVED.to_string(),
+            None => COVERS_ALL.to_string(),
         };
         let head = format!("{HEAD}{covers}{TERMS}");
         match objects.is_empty() {
@@ -209,9 +226,11 @@ impl Auditor<'_> {
             })
         };
         let full = |power: &Power| matches!(power, Power::NoRoom(_));
+        let unsettled = |power: &Power| matches!(power, Power::Unsettled(_));
         match any(Power::is_yes) {
+            false if any(unsettled) => Answer::Unsettled,
             false if self.run.saved && any(full) => Answer::Untold,
-            yes => Answer::of(yes),
+            yes => Answer::of(yes, self.run),
         }
     }
 

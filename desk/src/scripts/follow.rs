@@ -148,8 +148,14 @@ impl<'a> Run<'a> {
             return Ok(());
         };
         for (now, then) in powers.iter_mut().zip(reach.powers(then, cell)?) {
-            if let (Some(Power::NoRoom(refusal)), Some(Power::Alone(path))) = (&now, then) {
-                *now = Some(Power::Once(path, *refusal));
+            match (&now, then) {
+                (Some(Power::NoRoom(refusal)), Some(Power::Alone(path))) => {
+                    *now = Some(Power::Once(path, *refusal));
+                }
+                (Some(Power::NoRoom(_)), Some(unsettled @ Power::Unsettled(_))) => {
+                    *now = Some(unsettled);
+                }
+                _ => {}
             }
         }
         Ok(())

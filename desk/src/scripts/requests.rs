@@ -120,7 +120,7 @@ fn answer(reader: &mut Reader) -> Result<Request, Flaw> {
     let nothing = reader.rest() == b" -" && reader.take(" -");
     let value = match nothing {
         true => None,
-        false => Some(operand(reader, "value, or - for none")?),
+        false => Some(operand(reader, "value")?),
     };
     Ok(Request::Answer {
         subject,

@@ -207,8 +207,8 @@ const MEANINGS: [(&str, &str); 8] = [
     ("cell owned", "the same, held as a type with own: only the owner of the object can hold it so"),
     ("call", "avail: the holder can call the method; in an adapter, it is let through"),
     ("come", "the holder can come to call it, by handing the reference to itself as another type: optional, or for the owner to take back"),
-    ("open", "optional: whether the holder can come to call it is not settled"),
-    ("only", "optional: it is offered, and no way to call it was found"),
+    ("open", "whether the holder can come to call it is not settled"),
+    ("only", "no way to call it was found: no type lets it be called, or there is no room for further ways"),
     ("adapter", "an adapter, which the core put in front of something: nothing passes but the methods in it"),
     ("object", "an object, with the class it was made of and its owner"),
 ];

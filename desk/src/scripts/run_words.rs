@@ -182,7 +182,7 @@ impl Writer<'_> {
             let look = match power {
                 Power::Now => Look::Call,
                 Power::Alone(_) | Power::Once(..) => Look::Come,
-                Power::Unsettled => Look::Open,
+                Power::Unsettled(_) => Look::Open,
                 Power::NoRoom(_) | Power::Never => Look::Only,
             };
             Some((look, power.words(self.names), method))

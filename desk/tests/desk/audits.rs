@@ -1,6 +1,7 @@
 //! The audit as a referee reads it: who can call, who can come to, who was told of nothing more; the calls; and a status that answers.
 
 use crate::files::{accepted, read, run, with_file, NAMES, SCRIPT, SHEET};
+use crate::json::Value;
 use desk::scripts::requests::split;
 use pilgonca::Visit;
 use reference::generators::{generate, Profile};
@@ -190,6 +191,24 @@ fn what_there_was_room_for_counts() {
     });
 }
 
+/// An owner's cells hide mark, and there is no room to take the object back: that is not what `offers` means.
+#[test]
+fn no_room_is_not_told_as_offered() {
+    let requests = [&b"do=new 0 1 2\n"[..], &b"do=move 0 0 0 2\n".repeat(255)].concat();
+    let script = [split(&read(SCRIPT)).0, &requests].concat();
+    with_file("full.script", &script, |script| {
+        with_file("full.state", b"", |state| {
+            accepted(&["run", script, "--save", state]);
+            let out = accepted(&["audit", state, "--names", NAMES]);
+            let found =
+                "no room: no way to call it was found, and no cell is free for further ones";
+            assert_eq!(out.matches(found).count(), 2 * 256, "{out}");
+            assert!(!out.contains("offers:"), "{out}");
+            assert!(out.contains("\n  no room           no way to call it was found"));
+        });
+    });
+}
+
 /// What the documents said of optional, and what holds.
 #[test]
 fn the_documents_say_what_holds_of_optional() {
@@ -227,7 +246,21 @@ fn no_answer_is_not_no() {
         assert_eq!(ask(path).0, 0)
     });
     let early = [split(&optional).0, b"do=\ndo=new 0 1 4\n"].concat();
-    with_file("early", &early, |path| assert_eq!(ask(path).0, 3));
+    with_file("early", &early, |path| {
+        for (calls, question) in [
+            (&[][..], "Could subject 2 have called method 1?"),
+            (&["--calls"], "Did subject 2 call method 1?"),
+        ] {
+            let words = [&["audit", path], &mark[..], calls].concat();
+            let (status, out, _) = run(&words);
+            let answer = format!("{question} not up to line 45, where the script is cut short\n");
+            assert!(status == 3 && out.ends_with(&answer), "{status}: {out}");
+            let (status, out, _) = run(&[&words[..], &["--json"]].concat());
+            let document = Value::read(&out);
+            let answer = document.get("result").get("question").get("answer");
+            assert_eq!((status, answer), (3, &Value::Null), "{out}");
+        }
+    });
 }
 
 #[test]
@@ -245,16 +278,37 @@ fn a_script_that_is_cut_short_says_so_in_the_report() {
         }
         let (_, out, _) = run(&["audit", path, "--calls"]);
         assert!(out.contains(&line), "{out}");
+        let (_, out, _) = run(&["audit", path]);
+        assert!(out.contains("so this covers the visit up to line 51.\n"));
+        assert!(!out.contains("the whole visit"), "{out}");
     });
     for command in ["run", "audit"] {
         assert!(!accepted(&[command, OPTIONAL]).contains("cut short"));
     }
 }
 
+/// The numbers of types that a text names: in words, or in JSON.
+fn numbered(text: &str) -> Vec<i64> {
+    let marks = ["type ", "\"type\":{\"number\":", "\"class\":{\"number\":"];
+    let found = marks.iter().flat_map(|mark| text.split(mark).skip(1));
+    let found = found.filter_map(|rest| {
+        let digits = rest.split(|letter: char| !letter.is_ascii_digit()).next()?;
+        digits.parse().ok()
+    });
+    found.collect()
+}
+
 /// No derived type is told by its number alone.
 #[test]
 fn derived_types_are_told_in_words() {
-    let mut told = 0;
+    let commands: [&[&str]; 5] = [
+        &["audit"],
+        &["audit", "--json"],
+        &["run"],
+        &["run", "--json"],
+        &["run", "--svg=-"],
+    ];
+    let mut told = [0; 5];
     for seed in 0..40 {
         let input = generate(seed, Profile::Medium);
         let Ok(visit) = Visit::load(split(&input).0) else {
@@ -262,28 +316,22 @@ fn derived_types_are_told_in_words() {
         };
         let last = visit.sheet().sheet_types() as i64;
         with_file("derived", &input, |path| {
-            for command in ["audit", "run"] {
-                let (_, out, _) = run(&[command, path]);
-                told += out.matches("[permits ").count();
-                let numbers = out.split("type ").skip(1).filter_map(|rest| {
-                    let digits = rest.split(|letter: char| !letter.is_ascii_digit()).next()?;
-                    digits.parse::<i64>().ok()
-                });
+            for (command, told) in commands.iter().zip(&mut told) {
+                let (_, out, _) = run(&[command, &[path][..]].concat());
+                *told += out.matches("[permits ").count();
+                *told += out.matches("type that permits ").count();
                 // what a request names is told as it was written
-                let named: Vec<i64> = numbers.filter(|number| *number >= last).collect();
                 let requests = String::from_utf8_lossy(&input);
-                for number in named {
-                    assert!(
-                        requests.contains(&format!(" {number}")),
-                        "seed {seed}: type {number}"
-                    );
-                    assert_eq!(command, "run", "seed {seed}: type {number}");
+                for number in numbered(&out).into_iter().filter(|number| *number >= last) {
+                    let written = requests.contains(&format!(" {number}"));
+                    let is_run = matches!(command, ["run"] | ["run", "--json"]);
+                    assert!(written && is_run, "seed {seed}, {command:?}: type {number}");
                 }
             }
         });
     }
-    println!("{told} derived types told");
-    assert!(told > 20, "{told}");
+    println!("{told:?} derived types told");
+    assert!(told.iter().all(|count| *count > 20), "{told:?}");
 }
 
 #[test]

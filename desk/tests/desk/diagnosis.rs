@@ -51,8 +51,9 @@ fn fits(text: &[u8], counts: &mut Counts) {
 }
 
 /// What is wrong is told, and not what would be right everywhere: that stands behind `right:`.
-fn is_no_rule(wrong: &str) {
+pub fn is_no_rule(wrong: &str) {
     for rule in [
+        " or ",
         " at most",
         " may ",
         " has no ",
@@ -105,7 +106,7 @@ fn generated_sheets_have_words() {
 
 /// Line 7 of a sheet with three categories is `under=1,2`, line 15 `own=no`, line 16 an m= line; what each is changed to, the part of it that is
 /// marked, and words that are said.
-const WORDS: [(usize, &str, &str, &str); 25] = [
+const WORDS: [(usize, &str, &str, &str); 26] = [
     (1, "guide=2", "2", "there is no form 2 of a sheet"),
     (
         2,
@@ -139,7 +140,7 @@ const WORDS: [(usize, &str, &str, &str); 25] = [
     (7, "under=9,3", "9", "9 names no category of this sheet"),
     (9, "type=3", "3", "type 3 begins here, and type 0 is next"),
     (15, "own=yes\r", "\r", "the line ends with CR LF"),
-    (15, "own=maybe", "maybe", "this word is not yes or no"),
+    (15, "own=maybe", "maybe", "maybe is no word of this line"),
     (
         15,
         "end=sheet",
@@ -167,8 +168,9 @@ const WORDS: [(usize, &str, &str, &str); 25] = [
         16,
         "m=allowed",
         "allowed",
-        "this word is not denied, unavail, avail or optional",
+        "allowed is no word of this line",
     ),
+    (16, "m=", "", "no word stands here, behind the ="),
     (16, "m=avail(0)99", "99", "99 names no type of this sheet"),
     (
         18,

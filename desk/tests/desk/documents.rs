@@ -35,7 +35,7 @@ fn document(schema: &Schema, words: &[&str]) -> Value {
 #[test]
 fn every_document_fits_the_schema() {
     let schema = schema();
-    let all: [&[&str]; 24] = [
+    let all: [&[&str]; 25] = [
         &["check", SHEET],
         &["check", "examples/categories.sheet"],
         &["check", "examples/types-48.sheet"],
@@ -56,6 +56,7 @@ fn every_document_fits_the_schema() {
         &["audit", OPTIONAL, "--subject", "2", "--method", "1"],
         &["audit", OPTIONAL, "--calls"],
         &["audit", "examples/refused-01.script"],
+        &["audit", "examples/refused-01.script", "--calls"],
         &["powers", SHEET],
         &["powers", "examples/types-48.sheet"],
         &["diff", SHEET, SHEET],

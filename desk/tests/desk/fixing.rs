@@ -2,6 +2,7 @@
 
 use crate::damage::damaged;
 use crate::files::{accepted, place, read, run, with_file, NAMES, SCRIPT, SHEET};
+use desk::scripts::requests::split;
 use pilgonca::Sheet;
 use reference::generators::{generate, Profile};
 use std::fs;
@@ -186,6 +187,41 @@ fn scripts_are_mended_too() {
             );
         });
     }
+}
+
+/// What mail did to the requests alone is named too.
+#[test]
+fn what_spoilt_a_request_is_named() {
+    let script = read(SCRIPT);
+    let (sheet, requests) = split(&script);
+    let spoilt: [Spoiling; 2] = [
+        (
+            quoted,
+            "> do=new 0 1 4",
+            "the mark of quoted mail, >, stands in front",
+        ),
+        (
+            quoted_printable,
+            "do=3Dnew 0 1 4",
+            "=3D stands in the place of =",
+        ),
+    ];
+    for (spoil, shown, named) in spoilt {
+        with_file("mailed", &[sheet, &spoil(requests)].concat(), |path| {
+            for command in ["run", "audit"] {
+                let (status, _, error) = run(&[command, path]);
+                assert_eq!(status, 1);
+                assert!(error.contains(&format!("line 45 | {shown}\n")), "{error}");
+                assert!(error.contains(&format!("wrong: {named}")), "{error}");
+                let hint = format!("desk fix {path} prints what was meant;");
+                assert!(error.replace("\n  ", " ").contains(&hint), "{error}");
+            }
+            let (status, out, _) = run(&["fix", path]);
+            assert_eq!((status, out.as_bytes()), (0, &script[..]));
+        });
+    }
+    let (_, _, error) = run(&["run", "examples/refused-01.script"]);
+    assert!(!error.contains("desk fix"), "{error}");
 }
 
 /// Whatever was damaged: what is written is accepted, and what is accepted is written as it is.

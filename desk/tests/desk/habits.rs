@@ -20,7 +20,7 @@ fn help_fits_a_terminal_and_says_what_there_is() {
     }
     for part in [
         "--names",
-        "--no-names",
+        "X.names beside X.sheet,\n                              X.script or X.state is found; --no-names",
         "--json",
         "--svg",
         "--plain",
@@ -136,6 +136,12 @@ fn names_beside_a_sheet_are_found() {
     assert_eq!(status, 1);
     assert!(out.contains("(reader)"), "{out}");
     let folder = folder("beside");
+    fs::copy(root().join(STATE), folder.join("x.state")).expect("a copy");
+    fs::copy(root().join(NAMES), folder.join("x.names")).expect("a copy");
+    let state = folder.join("x.state");
+    let named = accepted(&["audit", state.to_str().expect("UTF-8")]);
+    assert_eq!(named, accepted(&["audit", STATE, "--names", NAMES]));
+    assert!(named.contains("(printer)"), "{named}");
     fs::copy(root().join(SHEET), folder.join("x.sheet")).expect("a copy");
     fs::write(folder.join("x.names"), "method 9 burn\n").expect("a file");
     let sheet = folder.join("x.sheet");

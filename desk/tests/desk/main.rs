@@ -20,5 +20,6 @@ mod reasons;
 mod saved;
 mod scripts;
 mod sheets_alone;
+mod steps;
 mod versions;
 mod why;

@@ -1,7 +1,7 @@
 //! The pictures of the guide are what desk draws now, every picture is well formed, with all of it inside, and large ones stay in bounds.
 
 use crate::drawing::{apart, attribute, body, boxes, content, drawn, drawn_run, size, sound, ways};
-use crate::files::{accepted, read, with_file, NAMES, SCRIPT, SHEET};
+use crate::files::{accepted, read, run, with_file, NAMES, SCRIPT, SHEET};
 use desk::reach::Power;
 use desk::scripts::follow::{follow, Run};
 use reference::generators::{generate, Profile};
@@ -153,7 +153,7 @@ fn chips(powers: &[Option<Power>]) -> Vec<(&'static str, usize)> {
     let class = |power: &Power| match power {
         Power::Now => "call",
         Power::Alone(_) | Power::Once(..) => "come",
-        Power::Unsettled => "open",
+        Power::Unsettled(_) => "open",
         Power::NoRoom(_) | Power::Never => "only",
     };
     let methods = powers.iter().enumerate();
@@ -476,6 +476,16 @@ fn squares_have_tooltips() {
     }
     let (width, height) = size(&large);
     assert!(width <= 1200 && height <= 1300, "{width} x {height}");
+}
+
+/// A picture may go on without what went to standard error.
+#[test]
+fn a_picture_says_where_its_script_is_cut_short() {
+    let (status, picture, _) = run(&["run", "examples/refused-01.script", "--svg", "-"]);
+    let title = ">References up to line 42 of refused-01.script, where the script is cut short<";
+    assert_eq!((status, picture.matches(title).count()), (1, 2));
+    sound(&picture);
+    assert!(drawn(&["run", SCRIPT]).contains(">References at the end of case-p.script<"));
 }
 
 /// Names may hold what means something in a picture.

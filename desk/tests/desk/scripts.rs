@@ -1,6 +1,7 @@
 //! What desk makes of a script is what the core makes of it, and the types that a cell came through explain what it offers.
 
 use crate::damage::{bytes_damaged, damaged};
+use crate::diagnosis::is_no_rule;
 use crate::files::read;
 use desk::relation::Strongest;
 use desk::scripts::follow::{follow, output, Got, Run, Step};
@@ -35,6 +36,7 @@ pub fn same(input: &[u8]) -> Option<Run<'_>> {
                     "{}",
                     shown()
                 );
+                is_no_rule(&malformed.flaw.wrong);
             }
             Some(run)
         }

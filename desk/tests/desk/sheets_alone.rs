@@ -1,4 +1,5 @@
-//! The program without the feature `visits`, as ./run builds it where not every static library is there yet.
+//! The program without the feature `visits`: sheets alone, over the libraries of sheets alone. ./run builds no such program, but all of desk over stand-ins of
+//! the libraries that are not there yet (decision 85).
 
 use crate::files::{program, root, run, told, NAMES, SCRIPT, SHEET};
 use std::path::PathBuf;

@@ -433,3 +433,75 @@ fn the_argument_at_fault_is_named() {
         },
     );
 }
+
+/// A method that takes a number and answers with one, of 32 bits (type 0) or of 64 (type 1): in the class, in the type that its owner lends it as, and in the
+/// one that the other hands it to itself as. The number does not fit 32 bits.
+fn wide(class: usize, lent: usize) -> String {
+    let of_types = [class, lent, 1].into_iter().zip(2..);
+    let of_types = of_types
+        .map(|(one, type_)| format!("type={type_}\nrep=ref\ncat=0\nown=no\nm=avail({one}){one}\n"));
+    let head = "guide=1\nsubjects=2\nmethods=1\ncats=0\ntypes=5\ntype=0\nrep=w32\ncat=0\ntype=1\nrep=w64\ncat=0\n";
+    let requests = "do=new 0 2 2\ndo=move 0 0 1 3\ndo=move 1 1 1 4\ndo=call 1 2 0 2147483648\ndo=call 1 2 0 5\ndo=answer 0 0 2147483648\n";
+    format!(
+        "{head}{}end=sheet\n{requests}",
+        of_types.collect::<String>()
+    )
+}
+
+/// An object of a category, which is to become one of category 2. That is a finer sort of category 1.
+fn sorted(category: usize) -> String {
+    let type_ = |number: usize, category: usize| {
+        format!("type={number}\nrep=ref\ncat={category}\nown=no\nm=avail()-\n")
+    };
+    let head = "guide=1\nsubjects=1\nmethods=1\ncats=2\nunder=0\nunder=1\ntypes=2\n";
+    let requests = "do=new 0 0 0\ndo=move 0 0 0 1\n";
+    format!(
+        "{head}{}{}end=sheet\n{requests}",
+        type_(0, category),
+        type_(1, 2)
+    )
+}
+
+/// The layer at which a value fails, the answer, and a category.
+#[test]
+fn the_layer_and_the_category_at_fault_are_named() {
+    let wide_at =
+        |what: &str| format!("refused with 16: {what}: 2147483648 does not fit 32 bits\n");
+    let sorted_by = |what: &str| {
+        format!("refused with 10: what the reference leads to does not do for type 1: type 1 is of category 2{what}\n")
+    };
+    for (script, parts) in [
+        (
+            wide(1, 0),
+            [
+                "argument 1, at the adapter at place 1",
+                "the answer, at the adapter at place 1",
+            ]
+            .map(wide_at),
+        ),
+        (
+            wide(0, 1),
+            [
+                "argument 1, at the class, type 2",
+                "the answer, at the class, type 2",
+            ]
+            .map(wide_at),
+        ),
+        (
+            sorted(1),
+            [", which is not category 1 of the object at place 0 (type 0), nor broader"; 2]
+                .map(sorted_by),
+        ),
+        (
+            sorted(0),
+            [" and the object at place 0 (type 0) of none"; 2].map(sorted_by),
+        ),
+    ] {
+        with_file("layer", script.as_bytes(), |path| {
+            let out = accepted(&["run", path]);
+            for part in parts {
+                assert!(out.contains(&part), "{part}: {out}");
+            }
+        });
+    }
+}

@@ -26,7 +26,7 @@ fn asked(question: Question, answer: Answer) -> Json {
     let answer = match answer {
         Answer::Yes => Json::Bool(true),
         Answer::No => Json::Bool(false),
-        Answer::Untold => Json::Null,
+        Answer::NotUpTo(_) | Answer::Untold | Answer::Unsettled => Json::Null,
     };
     Json::Object(vec![
         ("subject", question.subject.into()),
