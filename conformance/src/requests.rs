@@ -2,6 +2,7 @@
 //! and against the reference's book (demand 3).
 
 use crate::served::counts;
+use pilgonca::raw::MAX_TEXT;
 use reference::book::Book;
 use reference::chains::All;
 use reference::coverage::Seen;
@@ -9,10 +10,11 @@ use reference::entry;
 use reference::generators::{generate, Profile};
 use reference::hostile::{self, Hostile};
 use reference::random::Random;
-use reference::raw::{RawState, CALL_BYTES, CELL_BYTES, PLACE_BYTES, TYPE_BYTES};
+use reference::raw::{RawState, RawTable, CALL_BYTES, CELL_BYTES, PLACE_BYTES, TYPE_BYTES};
 use reference::refusal::Refusal;
 use reference::requests::{Got, Request};
 use reference::script;
+use reference::sheet;
 use reference::shrink::shrink_hostile;
 use reference::state::State;
 use reference::table::Table;
@@ -55,7 +57,7 @@ fn fault(
 }
 
 /// Requests one after the other, each on what the one before left: the first fault.
-fn difference(core: &impl Core, hostile: &Hostile, seen: &mut Seen) -> Option<String> {
+pub fn difference(core: &impl Core, hostile: &Hostile, seen: &mut Seen) -> Option<String> {
     let (mut theirs, mut ours) = (hostile.state.clone(), hostile.state.clone());
     for request in &hostile.requests {
         let before = theirs.clone();
@@ -112,6 +114,14 @@ pub fn on_offers(core: &impl Core, seed: u64, offered: &mut [u32; 3]) -> Option<
         }
     }
     None
+}
+
+/// The state of a table once its sheet was written and loaded.
+pub fn loaded_anew(table: &RawTable) -> RawState {
+    let mut text = vec![0; MAX_TEXT];
+    let length = entry::write(table, &mut text).expect("a sheet");
+    let table = sheet::read(&text[..length]).expect("what was written");
+    RawState::of(&State::of_sheet(table))
 }
 
 /// The state of a generated sheet, and the requests of its script; every other seed's state has noise in the bytes that mean nothing.
