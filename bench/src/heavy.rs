@@ -129,7 +129,21 @@ mod tests {
     use super::*;
     use crate::search::reached;
     use conformance::heavy::TURNS;
+    use conformance::requests::{counted, loaded_anew};
+    use conformance::states::worst_state;
     use reference::relations::Relation;
+
+    /// The rows "48 types, every pair reached" through 0 adapters are of a loaded sheet too: three requests lead to these cells.
+    #[test]
+    fn every_pair_is_reached_on_a_loaded_sheet() {
+        let given = worst_state(MAX_SHEET_TYPES, 0);
+        let sheet = loaded_anew(&worst(MAX_SHEET_TYPES, MAX_CATEGORIES));
+        let mut state = left(sheet, &[new(0, 1), moved(0, 2), moved(0, 3)]);
+        // the call that is there to be answered
+        (state.calls, state.call_bytes) = (given.calls, given.call_bytes);
+        assert_eq!((state.cells, state.places), (3, 1));
+        assert!(counted(&state) == counted(&given));
+    }
 
     /// The scenes are what their names say: each request is accepted, one adapter more would not do, and at each every pair of the
     /// types alike is reached: where a reference turns, its object of class 0 does for a new type; before, at the first layer, cells

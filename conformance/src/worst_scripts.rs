@@ -1,7 +1,9 @@
 //! Scripts that take the most stack and the most time that is known.
 
 use crate::chains::nesting;
-use crate::heavy::{climb, side, wrapping};
+use crate::heavy::{
+    climb, side, turning_arguments, turning_call, turning_climb, wrapping, MOST_TURNS,
+};
 use crate::inputs::{avail, largest};
 use crate::states::{answer, call, crossed_chain, moved, new, CLASS, NESTED, TOP};
 use reference::entry;
@@ -83,6 +85,16 @@ pub fn layered(calls: usize) -> Vec<u8> {
     requests.push(answer(0));
     requests.push(moved(last, side(LAYERS + 1)));
     script(&wrapping(), &requests)
+}
+
+/// Calls with four references that turn at every adapter. One object more, so that cells become full at the last reference of a call:
+/// then it is refused with 13, and has taken as long as one that is accepted.
+pub fn turned(calls: usize) -> Vec<u8> {
+    let mut requests = turning_climb(MOST_TURNS);
+    requests.push(new(0, 2));
+    let request = turning_call(MOST_TURNS, MAX_ARGUMENTS);
+    requests.extend((0..calls).map(|_| request.clone()));
+    script(&turning_arguments(), &requests)
 }
 
 /// The largest sheet, with a request on it.
