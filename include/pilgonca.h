@@ -37,7 +37,10 @@ extern "C" {
 /* Counts and lengths pass as size_t, and the library is made for one of 64 bits. Where it has fewer this does not compile, in C99 and C++ alike. */
 typedef char pilgonca_needs_a_size_t_of_64_bits[sizeof(size_t) == 8 ? 1 : -1];
 
-/* Limits (T1 to T5, Q7 to Q9); ARGUMENTS is the most arguments of a signature (T13). Categories are numbered from 1, since 0 is for none; everything else from 0. */
+/*
+ * Limits (T1 to T5, Q7 to Q9); PILGONCA_ARGUMENTS is the most arguments of a signature (T13). Categories are numbered from 1, since 0 is for none;
+ * everything else from 0.
+ */
 #define PILGONCA_SUBJECTS 16
 #define PILGONCA_METHODS 16
 #define PILGONCA_ARGUMENTS 4

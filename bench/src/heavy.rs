@@ -1,28 +1,32 @@
 //! The dearest requests known: on loaded sheets in which every pair of types is reached, at one layer of a call or at each, and on a
 //! state handed in with 128 types.
 
-use crate::scenes::{after, Scene, LAYERS};
+use crate::scenes::{Scene, LAYERS};
 use conformance::heavy::{
     climb, last_answer, put_numbers, side, turning_answer, turning_arguments, turning_call,
     turning_climb, wrapping, ALIKE, MOST_TURNS,
 };
 use conformance::inputs::worst;
+use conformance::requests::{loaded_anew, Core};
+use conformance::served::Proved;
 use conformance::states::{add_cell, add_place, answer, call, moved, new, of_table};
 use conformance::worst_scripts::script;
 use reference::raw::{RawState, RawTable};
 use reference::requests::Request;
 use reference::table::{MAX_ARGUMENTS, MAX_CATEGORIES, MAX_METHODS, MAX_SHEET_TYPES};
 
-/// What is left by accepted requests.
-fn left(state: RawState, requests: &[Request]) -> RawState {
-    requests.iter().fold(state, |state, request| {
-        after(&state, request).expect("an accepted request").0
-    })
+/// What the proved core leaves of a state by requests that it accepts.
+fn left(mut state: RawState, requests: &[Request]) -> RawState {
+    for request in requests {
+        let got = Proved.request(&mut state, request);
+        got.expect("an accepted request");
+    }
+    state
 }
 
 /// On a loaded sheet, through so many adapters: a move with an adapter, a call with four references, and its answer.
 fn loaded(layers: usize) -> [Scene; 3] {
-    let state = left(of_table(wrapping()), &climb(layers));
+    let state = left(loaded_anew(&wrapping()), &climb(layers));
     assert_eq!(state.places as usize, 3 + layers);
     let last = 2 + layers as i64;
     let request = call(last, 1, vec![0, 1, 0, 1]);
@@ -43,7 +47,7 @@ fn loaded(layers: usize) -> [Scene; 3] {
 /// On a loaded sheet, the dearest call known and the dearest answer: at every adapter a reference turns to a type of which it is no
 /// subtype, as often as there are types for (conformance::heavy).
 fn turning() -> [Scene; 2] {
-    let climbed = |table| left(of_table(table), &turning_climb(MOST_TURNS));
+    let climbed = |table| left(loaded_anew(&table), &turning_climb(MOST_TURNS));
     let state = climbed(turning_arguments());
     assert_eq!(state.places as usize, 3 + MOST_TURNS);
     let asked = turning_call(MOST_TURNS, 0);
@@ -85,7 +89,7 @@ fn no_subtypes(count: usize) -> RawTable {
 
 /// A move for which no room is left, found out while types are derived, on a loaded sheet.
 fn without_room() -> Scene {
-    let state = left(of_table(no_subtypes(MAX_SHEET_TYPES)), &[new(2, 2)]);
+    let state = left(loaded_anew(&no_subtypes(MAX_SHEET_TYPES)), &[new(2, 2)]);
     Scene {
         name: "move refused with 11, loaded, 46 of 48 types reach one another".to_string(),
         state,
@@ -127,9 +131,10 @@ pub fn scenes() -> (Vec<Scene>, Scene) {
 #[cfg(test)]
 mod tests {
     use super::*;
+    use crate::scenes::after;
     use crate::search::reached;
     use conformance::heavy::TURNS;
-    use conformance::requests::{counted, loaded_anew};
+    use conformance::requests::counted;
     use conformance::states::worst_state;
     use reference::relations::Relation;
 

@@ -1,7 +1,8 @@
 //! Requests on whole states: what serves them is held against the reference, on states handed in and on those of loaded sheets,
 //! and against the reference's book (demand 3).
 
-use crate::served::counts;
+use crate::served::{counts, load, set_counts};
+use crate::states::of_table;
 use pilgonca::raw::MAX_TEXT;
 use reference::book::Book;
 use reference::chains::All;
@@ -14,7 +15,6 @@ use reference::raw::{RawState, RawTable, CALL_BYTES, CELL_BYTES, PLACE_BYTES, TY
 use reference::refusal::Refusal;
 use reference::requests::{Got, Request};
 use reference::script;
-use reference::sheet;
 use reference::shrink::shrink_hostile;
 use reference::state::State;
 use reference::table::Table;
@@ -116,12 +116,16 @@ pub fn on_offers(core: &impl Core, seed: u64, offered: &mut [u32; 3]) -> Option<
     None
 }
 
-/// The state of a table once its sheet was written and loaded.
+/// The state of a sheet that has this table, as the proved core loads it.
 pub fn loaded_anew(table: &RawTable) -> RawState {
     let mut text = vec![0; MAX_TEXT];
     let length = entry::write(table, &mut text).expect("a sheet");
-    let table = sheet::read(&text[..length]).expect("what was written");
-    RawState::of(&State::of_sheet(table))
+    let mut state = of_table(RawTable::default());
+    let (mut counts, mut at) = (counts(&state), 0);
+    let code = load(&text[..length], &mut state, &mut counts, &mut at);
+    assert_eq!(code, 0, "a sheet that is loaded");
+    set_counts(&mut state, counts);
+    state
 }
 
 /// The state of a generated sheet, and the requests of its script; every other seed's state has noise in the bytes that mean nothing.

@@ -1,5 +1,5 @@
-//! The headers and the examples in C compile without a warning with the system's C compiler; visit.c and route.c print what examples/visit.out and route.out have,
-//! and saved.c reads and writes the saved states that this package does.
+//! The headers and the examples in C compile without a warning with the system's C compiler; visit.c and route.c print what examples/visit.out and
+//! examples/route.out have, and saved.c reads and writes the saved states that this package does.
 
 use pilgonca::saved::checksum;
 use pilgonca::{Refusal, Subject, Type, Visit, EXAMPLE};
