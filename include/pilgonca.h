@@ -37,9 +37,13 @@ extern "C" {
 /* Counts and lengths pass as size_t, and the library is made for one of 64 bits. Where it has fewer this does not compile, in C99 and C++ alike. */
 typedef char pilgonca_needs_a_size_t_of_64_bits[sizeof(size_t) == 8 ? 1 : -1];
 
-/* Limits (T1 to T5, Q7 to Q9). Categories are numbered from 1, since 0 is for none; everything else from 0. */
+/*
+ * Limits (T1 to T5, Q7 to Q9); PILGONCA_ARGUMENTS is the most arguments of a signature (T13). Categories are numbered from 1, since 0 is for none;
+ * everything else from 0.
+ */
 #define PILGONCA_SUBJECTS 16
 #define PILGONCA_METHODS 16
+#define PILGONCA_ARGUMENTS 4
 #define PILGONCA_CATEGORIES 31
 #define PILGONCA_SHEET_TYPES 48
 #define PILGONCA_TYPES 128
@@ -238,7 +242,8 @@ size_t pilgonca_move(
     int64_t values[PILGONCA_VALUES]);
 
 /*
- * Call (C): an argument is a number, or the number of a cell where the signature has a reference. Values: call, how many adapters it goes through.
+ * Call (C): an argument is a number, or the number of a cell where the signature has a reference. Arguments may be of any length, and one that is not the
+ * signature's is 15 (C4): no call with more than PILGONCA_ARGUMENTS is accepted. Values: call, how many adapters it goes through.
  * References among the arguments become the next cells of the owner of what is called, in their order (C10, C12, C17): the first has the number that
  * counts[5] was before. No value names them, so the firmware tells the owner.
  */

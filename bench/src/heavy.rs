@@ -1,33 +1,36 @@
-//! The dearest requests known: on loaded sheets in which every pair of types is reached, and on a state handed in with 128 types.
+//! The dearest requests known: on loaded sheets in which every pair of types is reached, at one layer of a call or at each, and on a
+//! state handed in with 128 types.
 
-use crate::scenes::{after, Scene, LAYERS};
-use conformance::heavy::{climb, last_answer, put_numbers, side, wrapping};
+use crate::scenes::{Scene, LAYERS};
+use conformance::heavy::{
+    climb, last_answer, put_numbers, side, turning_answer, turning_arguments, turning_call,
+    turning_climb, wrapping, ALIKE, MOST_TURNS,
+};
 use conformance::inputs::worst;
-use conformance::states::{add_cell, add_place, call, moved, new, of_table};
+use conformance::requests::{loaded_anew, Core};
+use conformance::served::Proved;
+use conformance::states::{add_cell, add_place, answer, call, moved, new, of_table};
 use conformance::worst_scripts::script;
 use reference::raw::{RawState, RawTable};
 use reference::requests::Request;
-use reference::table::{MAX_CATEGORIES, MAX_METHODS, MAX_SHEET_TYPES};
+use reference::table::{MAX_ARGUMENTS, MAX_CATEGORIES, MAX_METHODS, MAX_SHEET_TYPES};
 
-/// What is left by accepted requests.
-fn left(state: RawState, requests: &[Request]) -> RawState {
-    requests.iter().fold(state, |state, request| {
-        after(&state, request).expect("an accepted request").0
-    })
+/// What the proved core leaves of a state by requests that it accepts.
+fn left(mut state: RawState, requests: &[Request]) -> RawState {
+    for request in requests {
+        let got = Proved.request(&mut state, request);
+        got.expect("an accepted request");
+    }
+    state
 }
 
 /// On a loaded sheet, through so many adapters: a move with an adapter, a call with four references, and its answer.
 fn loaded(layers: usize) -> [Scene; 3] {
-    let state = left(of_table(wrapping()), &climb(layers));
+    let state = left(loaded_anew(&wrapping()), &climb(layers));
     assert_eq!(state.places as usize, 3 + layers);
     let last = 2 + layers as i64;
     let request = call(last, 1, vec![0, 1, 0, 1]);
     let called = left(state.clone(), std::slice::from_ref(&request));
-    let answer = Request::Answer {
-        subject: 0,
-        call: 0,
-        value: Some(0),
-    };
     let scene = |what: &str, state: &RawState, request: Request| Scene {
         name: format!("{what}, {layers} adapters, loaded, 44 of 48 types reach one another"),
         state: state.clone(),
@@ -37,7 +40,29 @@ fn loaded(layers: usize) -> [Scene; 3] {
     [
         scene("move with an adapter", &state, onward),
         scene("call with 4 references", &state, request),
-        scene("answer with a reference", &called, answer),
+        scene("answer with a reference", &called, answer(0)),
+    ]
+}
+
+/// On a loaded sheet, the dearest call known and the dearest answer: at every adapter a reference turns to a type of which it is no
+/// subtype, as often as there are types for (conformance::heavy).
+fn turning() -> [Scene; 2] {
+    let climbed = |table| left(loaded_anew(&table), &turning_climb(MOST_TURNS));
+    let state = climbed(turning_arguments());
+    assert_eq!(state.places as usize, 3 + MOST_TURNS);
+    let asked = turning_call(MOST_TURNS, 0);
+    let called = left(climbed(turning_answer()), &[asked]);
+    let scene = |what: &str, state, request| Scene {
+        name: format!(
+            "{what}, {MOST_TURNS} adapters, loaded, {ALIKE} of 48 types reach one another at each"
+        ),
+        state,
+        request,
+    };
+    let request = turning_call(MOST_TURNS, MAX_ARGUMENTS);
+    [
+        scene("call with 4 references", state, request),
+        scene("answer with a reference", called, answer(0)),
     ]
 }
 
@@ -64,7 +89,7 @@ fn no_subtypes(count: usize) -> RawTable {
 
 /// A move for which no room is left, found out while types are derived, on a loaded sheet.
 fn without_room() -> Scene {
-    let state = left(of_table(no_subtypes(MAX_SHEET_TYPES)), &[new(2, 2)]);
+    let state = left(loaded_anew(&no_subtypes(MAX_SHEET_TYPES)), &[new(2, 2)]);
     Scene {
         name: "move refused with 11, loaded, 46 of 48 types reach one another".to_string(),
         state,
@@ -98,6 +123,49 @@ fn handed_in() -> Scene {
 /// The scenes of loaded sheets, and the one handed in.
 pub fn scenes() -> (Vec<Scene>, Scene) {
     let mut of_sheets: Vec<Scene> = LAYERS.into_iter().flat_map(loaded).collect();
+    of_sheets.extend(turning());
     of_sheets.push(without_room());
     (of_sheets, handed_in())
+}
+
+#[cfg(test)]
+mod tests {
+    use super::*;
+    use crate::scenes::after;
+    use crate::search::reached;
+    use conformance::heavy::TURNS;
+    use conformance::requests::counted;
+    use conformance::states::worst_state;
+    use reference::relations::Relation;
+
+    /// The rows "48 types, every pair reached" through 0 adapters are of a loaded sheet too: three requests lead to these cells.
+    #[test]
+    fn every_pair_is_reached_on_a_loaded_sheet() {
+        let given = worst_state(MAX_SHEET_TYPES, 0);
+        let sheet = loaded_anew(&worst(MAX_SHEET_TYPES, MAX_CATEGORIES));
+        let mut state = left(sheet, &[new(0, 1), moved(0, 2), moved(0, 3)]);
+        // the call that is there to be answered
+        (state.calls, state.call_bytes) = (given.calls, given.call_bytes);
+        assert_eq!((state.cells, state.places), (3, 1));
+        assert!(counted(&state) == counted(&given));
+    }
+
+    /// The scenes are what their names say: each request is accepted, one adapter more would not do, and at each every pair of the
+    /// types alike is reached: where a reference turns, its object of class 0 does for a new type; before, at the first layer, cells
+    /// 0 and 1 are of a subtype.
+    #[test]
+    fn references_turn_at_every_adapter() {
+        for scene in turning() {
+            let (after, _) = after(&scene.state, &scene.request).expect("accepted");
+            let (state, table) = (&scene.state, &after.table);
+            let [before, types] = [state.table.types, table.types].map(|count| count as usize);
+            assert_eq!((types - before, types), (MOST_TURNS, 127), "{}", scene.name);
+            let whole = |relation, t, s| reached(table, relation, t, s) >= Some(ALIKE * ALIKE);
+            let turns = |one| whole(Relation::SubtypeOwnAside, one, 0);
+            assert!((before..types).all(turns), "{}", scene.name);
+            let cells = [0, 1].map(|cell| usize::from(state.cell(cell)[1]));
+            let first = |one: usize| whole(Relation::Subtype, TURNS, one);
+            assert!(cells.into_iter().all(first), "{}", scene.name);
+        }
+    }
 }

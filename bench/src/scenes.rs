@@ -128,6 +128,12 @@ fn answering(state: &RawState, named: Option<usize>) -> Option<Request> {
     requests.find(|request| after(state, request).is_some())
 }
 
+/// So many arguments, in words.
+fn counted(arguments: usize) -> String {
+    let ending = if arguments == 1 { "" } else { "s" };
+    format!("{arguments} argument{ending}")
+}
+
 /// New, moves, calls and answers on a state whose cells are subject 0's. `closed` has the type of an adapter in front of an object
 /// of a class, by its number.
 pub fn scenes(
@@ -155,7 +161,7 @@ pub fn scenes(
         let state = behind(state, &request, layers, &closed);
         let (called, got) = after(&state, &request).expect("an accepted call");
         assert!(matches!(got, Got::Call { adapters, .. } if adapters >= layers));
-        let what = format!("call with {arguments} arguments through {layers} adapters");
+        let what = format!("call with {} through {layers} adapters", counted(arguments));
         scenes.push(scene(&what, &state, request.clone()));
         let what = format!("answer through {layers} adapters");
         scenes.push(scene(&what, &called, answer.clone()));

@@ -6,7 +6,7 @@ use crate::measure::{head, measured, row, row_without_goal};
 use crate::{requests, sheets};
 use conformance::inputs::{table, with_48_types};
 use conformance::states::of_table;
-use conformance::worst_scripts::layered;
+use conformance::worst_scripts::{layered, turned};
 use pilgonca::script as printed;
 use reference::damage::lines;
 use reference::generators::{self, Plan, BIG, MEDIUM};
@@ -95,6 +95,11 @@ pub fn all() {
     measure(
         "calls through 40 adapters, 44 of 48 types reach one another",
         &layered(MAX_INPUT),
+    );
+    // most requests of a full input could be such calls
+    measure(
+        "calls through 25 adapters, 44 of 48 types reach one another at each",
+        &turned(60),
     );
     measure(
         "moves refused with 11, 46 of 48 types reach one another",

@@ -107,7 +107,7 @@ fn generated() -> RawState {
 }
 
 /// All scenes. (No adapters like those of the 48 types are made on a loaded sheet: there all are passed as they are. Through 40 such,
-/// a call is dearer than any known on a loaded one.)
+/// a call is dearer than any known on a loaded one. Without adapters the 48 types are those of a loaded sheet: tests of heavy.rs.)
 pub fn all() {
     head("requests");
     let example = sheet::read(include_bytes!("../../examples/case-p.sheet")).expect("a sheet");

@@ -3,6 +3,7 @@
 //! 119 nested types are the most. Of n types there are 2n(n - 1) pairs for Sub and Sup, and the outermost may be Closed; 8 types
 //! give at most 113 new ones, and with 9 or more the 128 leave room for 119 or fewer.
 
+use crate::inputs::avail;
 use reference::entry;
 use reference::random::Random;
 use reference::raw::{self, RawTable};
@@ -42,8 +43,9 @@ pub fn chain(walk: usize, seed: u64) -> RawTable {
         };
         table.method_mut(number, 0).copy_from_slice(&first);
         for method in 1..METHODS {
-            let mut any = || random.below(TOP) as u8;
-            let bytes = [2, 4, any(), any(), any(), any(), any() + 1];
+            let mut any = || random.below(TOP);
+            let arguments = std::array::from_fn(|_| any());
+            let bytes = avail(arguments, Some(any()));
             table.method_mut(number, method).copy_from_slice(&bytes);
         }
     }

@@ -6,8 +6,8 @@ use reference::random::Random;
 use reference::raw::{RawTable, BROADER_BYTES, METHOD_BYTES};
 use reference::sheet;
 use reference::table::{
-    Broader, MethodState, Representation, Signature, Table, Type, MAX_CATEGORIES, MAX_METHODS,
-    MAX_SHEET_TYPES, MAX_SUBJECTS,
+    Broader, MethodState, Representation, Signature, Table, Type, MAX_ARGUMENTS, MAX_CATEGORIES,
+    MAX_METHODS, MAX_SHEET_TYPES, MAX_SUBJECTS,
 };
 
 /// A plan, its name, and how many seeds of it to take.
@@ -50,7 +50,7 @@ pub fn with_48_types() -> Table {
 /// A sheet with as many of everything as there can be, and long lines.
 pub fn largest() -> Table {
     let signature = Signature {
-        arguments: vec![44, 45, 46, 47],
+        arguments: (MAX_SHEET_TYPES - MAX_ARGUMENTS..MAX_SHEET_TYPES).collect(),
         answer: Some(43),
     };
     Table {
@@ -121,7 +121,15 @@ fn worst_method(count: usize, number: usize, method: usize) -> [u8; METHOD_BYTES
     } else {
         count
     };
-    let named = |factor: usize| ((number * factor + 1 + 3 * method) % within) as u8;
-    let [second, third, fourth] = [method + 1, 5, 7].map(named);
-    [2, 4, named(1), second, third, fourth, named(3) + 1]
+    let named = |factor: usize| (number * factor + 1 + 3 * method) % within;
+    avail([1, method + 1, 5, 7].map(named), Some(named(3)))
+}
+
+/// The bytes of a method that is avail and has as many arguments as there can be (B8 to B10).
+pub fn avail(arguments: [usize; MAX_ARGUMENTS], answer: Option<usize>) -> [u8; METHOD_BYTES] {
+    let mut bytes = [0; METHOD_BYTES];
+    bytes[..2].copy_from_slice(&[2, MAX_ARGUMENTS as u8]);
+    bytes[2..2 + MAX_ARGUMENTS].copy_from_slice(&arguments.map(|one| one as u8));
+    bytes[METHOD_BYTES - 1] = answer.map_or(0, |answer| answer as u8 + 1);
+    bytes
 }

@@ -1,7 +1,9 @@
 //! Requests on whole states: what serves them is held against the reference, on states handed in and on those of loaded sheets,
 //! and against the reference's book (demand 3).
 
-use crate::served::counts;
+use crate::served::{counts, load, set_counts};
+use crate::states::of_table;
+use pilgonca::raw::MAX_TEXT;
 use reference::book::Book;
 use reference::chains::All;
 use reference::coverage::Seen;
@@ -9,7 +11,7 @@ use reference::entry;
 use reference::generators::{generate, Profile};
 use reference::hostile::{self, Hostile};
 use reference::random::Random;
-use reference::raw::{RawState, CALL_BYTES, CELL_BYTES, PLACE_BYTES, TYPE_BYTES};
+use reference::raw::{RawState, RawTable, CALL_BYTES, CELL_BYTES, PLACE_BYTES, TYPE_BYTES};
 use reference::refusal::Refusal;
 use reference::requests::{Got, Request};
 use reference::script;
@@ -55,7 +57,7 @@ fn fault(
 }
 
 /// Requests one after the other, each on what the one before left: the first fault.
-fn difference(core: &impl Core, hostile: &Hostile, seen: &mut Seen) -> Option<String> {
+pub fn difference(core: &impl Core, hostile: &Hostile, seen: &mut Seen) -> Option<String> {
     let (mut theirs, mut ours) = (hostile.state.clone(), hostile.state.clone());
     for request in &hostile.requests {
         let before = theirs.clone();
@@ -112,6 +114,18 @@ pub fn on_offers(core: &impl Core, seed: u64, offered: &mut [u32; 3]) -> Option<
         }
     }
     None
+}
+
+/// The state of a sheet that has this table, as the proved core loads it.
+pub fn loaded_anew(table: &RawTable) -> RawState {
+    let mut text = vec![0; MAX_TEXT];
+    let length = entry::write(table, &mut text).expect("a sheet");
+    let mut state = of_table(RawTable::default());
+    let (mut counts, mut at) = (counts(&state), 0);
+    let code = load(&text[..length], &mut state, &mut counts, &mut at);
+    assert_eq!(code, 0, "a sheet that is loaded");
+    set_counts(&mut state, counts);
+    state
 }
 
 /// The state of a generated sheet, and the requests of its script; every other seed's state has noise in the bytes that mean nothing.

@@ -22,7 +22,7 @@ pub const LONGER: usize = 5;
 pub fn deepest() -> [(&'static str, Vec<u8>); 3] {
     [
         ("118 new types nested", nested()),
-        ("two references through 40 adapters", layered(3)),
+        ("four references through 40 adapters", layered(3)),
         ("the largest sheet", largest_sheet()),
     ]
 }

@@ -1,14 +1,14 @@
 //! States made by hand, for what takes the most time and stack.
 
 use crate::chains::{chain, nesting};
-use crate::inputs::worst;
+use crate::inputs::{avail, worst};
 use reference::entry;
 use reference::raw::{
     RawState, RawTable, CALLS_LENGTH, CALL_BYTES, CELLS_LENGTH, CELL_BYTES, PLACES_LENGTH,
     PLACE_BYTES,
 };
 use reference::requests::Request;
-use reference::table::{MAX_CATEGORIES, MAX_METHODS, MAX_SHEET_TYPES};
+use reference::table::{MAX_ARGUMENTS, MAX_CATEGORIES, MAX_METHODS, MAX_SHEET_TYPES};
 
 /// A state of a table without cells, places and calls.
 pub fn of_table(table: RawTable) -> RawState {
@@ -92,10 +92,8 @@ pub fn crossed_chain(seed: u64) -> RawTable {
     for method in 0..MAX_METHODS {
         table.method_mut(CLASS, method)[0] = 3;
     }
-    let named = TOP as u8;
-    table
-        .method_mut(CLASS, 1)
-        .copy_from_slice(&[2, 4, named, named, named, named, named + 1]);
+    let takes = avail([TOP; MAX_ARGUMENTS], Some(TOP));
+    table.method_mut(CLASS, 1).copy_from_slice(&takes);
     table
 }
 
@@ -124,7 +122,7 @@ pub fn deep_requests() -> [Request; 4] {
     [
         new(END as i64, to),
         moved(0, to),
-        call(1, 1, vec![0; 4]),
+        call(1, 1, vec![0; MAX_ARGUMENTS]),
         answer(0),
     ]
 }

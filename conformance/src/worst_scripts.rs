@@ -1,15 +1,17 @@
 //! Scripts that take the most stack and the most time that is known.
 
 use crate::chains::nesting;
-use crate::heavy::{climb, side, wrapping};
-use crate::inputs::largest;
+use crate::heavy::{
+    climb, side, turning_arguments, turning_call, turning_climb, wrapping, MOST_TURNS,
+};
+use crate::inputs::{avail, largest};
 use crate::states::{answer, call, crossed_chain, moved, new, CLASS, NESTED, TOP};
 use reference::entry;
 use reference::raw::RawTable;
 use reference::requests::Request;
 use reference::script::{line, MAX_INPUT};
 use reference::sheet;
-use reference::table::MAX_METHODS;
+use reference::table::{MAX_ARGUMENTS, MAX_METHODS};
 
 /// A sheet and requests, as many of them as fit into an input.
 pub fn script<'a>(table: &RawTable, requests: impl IntoIterator<Item = &'a Request>) -> Vec<u8> {
@@ -41,10 +43,9 @@ fn loaded_chain(seed: u64) -> RawTable {
     let first = table.entry(0).to_vec();
     table.entry_mut(CLASS).copy_from_slice(&first);
     table.method_mut(CLASS, 0)[0] = 2;
-    let named = TOP as u8;
     for (method, bytes) in [
-        (ANSWERS, [2, 0, 0, 0, 0, 0, named + 1]),
-        (TAKES, [2, 4, named, named, named, named, named + 1]),
+        (ANSWERS, [2, 0, 0, 0, 0, 0, TOP as u8 + 1]),
+        (TAKES, avail([TOP; MAX_ARGUMENTS], Some(TOP))),
     ] {
         table.method_mut(CLASS, method).copy_from_slice(&bytes);
     }
@@ -69,7 +70,7 @@ pub fn nested() -> Vec<u8> {
         call(1, ANSWERS as i64, vec![]),
         new(class, top),
         moved(0, top),
-        call(1, TAKES as i64, vec![0; 4]),
+        call(1, TAKES as i64, vec![0; MAX_ARGUMENTS]),
         answer(0),
     ];
     script(&table, &requests)
@@ -84,6 +85,16 @@ pub fn layered(calls: usize) -> Vec<u8> {
     requests.push(answer(0));
     requests.push(moved(last, side(LAYERS + 1)));
     script(&wrapping(), &requests)
+}
+
+/// Calls with four references that turn at every adapter. One object more, so that cells become full at the last reference of a call:
+/// then it is refused with 13, and has taken as long as one that is accepted.
+pub fn turned(calls: usize) -> Vec<u8> {
+    let mut requests = turning_climb(MOST_TURNS);
+    requests.push(new(0, 2));
+    let request = turning_call(MOST_TURNS, MAX_ARGUMENTS);
+    requests.extend((0..calls).map(|_| request.clone()));
+    script(&turning_arguments(), &requests)
 }
 
 /// The largest sheet, with a request on it.

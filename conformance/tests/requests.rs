@@ -1,15 +1,21 @@
 //! The proved core's requests and offers against the reference, whole states compared: on states handed in, right and wrong, and
 //! on those of loaded sheets. Demand 3 is watched on what runs. tests/stand_ins.rs shows that the drivers can fail.
 
-use conformance::requests::{on_handed_in, on_loaded, on_offers, watch};
+use conformance::heavy::{
+    turning_arguments, turning_call, turning_climb, turning_last, MOST_TURNS,
+};
+use conformance::requests::{difference, loaded_anew, on_handed_in, on_loaded, on_offers, watch};
 use conformance::served::{counts, offers, request, Proved, StateCounts};
+use reference::check;
 use reference::coverage::{serve, Seen, OF_ARGUMENTS, OF_REQUESTS};
 use reference::entry;
 use reference::generators::Profile;
-use reference::hostile;
+use reference::hostile::{self, Hostile};
 use reference::refusal::Refusal;
 use reference::requests::Request;
-use reference::situations::Situation::{FourReferencesThroughSeveral, TypesFullAtLastArgument};
+use reference::situations::Situation::{
+    AdapterBehindAdapter, FourReferencesThroughSeveral, TypesFullAtLastArgument,
+};
 use reference::state::State;
 use reference::table::MAX_ARGUMENTS;
 use std::ops::Range;
@@ -125,6 +131,34 @@ fn long_scripts_meet_every_position() {
     for number in OF_ARGUMENTS {
         let at = |position| seen.positions.contains_key(&(number, position));
         assert!((0..MAX_ARGUMENTS).all(at), "{number}\n{}", seen.text());
+    }
+}
+
+/// Made by hand (conformance::heavy): four references that turn at every adapter, at as many as can be, and at one adapter more, where the
+/// table becomes full inside the fourth, the only one that turns. The proved core does what the reference does.
+#[test]
+fn references_that_turn_at_every_adapter() {
+    for (table, layers, situation) in [
+        (
+            turning_arguments(),
+            MOST_TURNS,
+            FourReferencesThroughSeveral,
+        ),
+        (turning_last(), MOST_TURNS, FourReferencesThroughSeveral),
+        (turning_last(), MOST_TURNS + 1, TypesFullAtLastArgument),
+    ] {
+        let state = loaded_anew(&table);
+        let called = [turning_call(layers, MAX_ARGUMENTS)];
+        let requests = [turning_climb(layers).as_slice(), &called].concat();
+        let list = Hostile { state, requests };
+        let mut seen = Seen::default();
+        assert_eq!(difference(&Proved, &list, &mut seen), None, "{situation:?}");
+        let refused = seen.refused.values().sum::<u64>();
+        assert_eq!(refused, u64::from(situation == TypesFullAtLastArgument));
+        let state = check::state(&list.state).expect("a state that is right");
+        let met = serve(state, &list.requests);
+        assert_eq!(met.met(situation), 1, "{layers}\n{}", met.text());
+        assert_eq!(met.met(AdapterBehindAdapter), layers as u64 - 1);
     }
 }
 

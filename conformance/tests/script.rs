@@ -1,15 +1,18 @@
 //! The proved program `script` (target/bin/script, built by `rt ci` or `rt check script`) against the reference, whole outputs, all
 //! in twice the stack that it needs.
 
+use conformance::heavy::MOST_TURNS;
 use conformance::inputs::with_48_types;
 use conformance::process::{built, feed, limited_to, plain, printed};
 use conformance::said;
 use conformance::scripts::{damaged, deepest, in_stack, need, proved, stack, Met};
-use conformance::worst_scripts::layered;
+use conformance::worst_scripts::{layered, turned};
 use reference::coverage::OF_REQUESTS;
 use reference::generators::{generate, Profile};
 use reference::script::{self, MAX_INPUT};
 use reference::sheet;
+use reference::state::MAX_CELLS;
+use reference::table::MAX_ARGUMENTS;
 use std::time::Duration;
 
 const CASE_P: &str = include_str!("../../examples/case-p.sheet");
@@ -267,7 +270,7 @@ fn a_file() {
     );
 }
 
-/// An input full of the dearest calls known; they are accepted until the cells are full.
+/// An input full of calls through many adapters; they are accepted until the cells are full.
 #[test]
 fn calls_through_40_adapters() {
     let input = layered(MAX_INPUT);
@@ -278,6 +281,22 @@ fn calls_through_40_adapters() {
     let accepted = calls.filter(|line| line.ends_with(" 40")).count();
     assert_eq!(accepted, (256 - 43) / 4);
     assert_eq!(last(&output), "no=13");
+}
+
+/// The dearest calls known, accepted until cells are full at the last reference of one.
+#[test]
+fn references_that_turn_at_every_adapter() {
+    let accepted = (MAX_CELLS - MOST_TURNS - 4) / MAX_ARGUMENTS;
+    let input = turned(accepted + 1);
+    let output = Met::default().same(&proved, &input, "turning").output;
+    let output = String::from_utf8(output).expect("ASCII");
+    // four new objects and the moves leave no multiple of four
+    assert_eq!((MAX_CELLS - MOST_TURNS - 4) % MAX_ARGUMENTS, 3);
+    let calls: Vec<&str> = output.lines().skip(MOST_TURNS + 4).collect();
+    let (last, first) = calls.split_last().expect("calls");
+    assert_eq!((first.len(), *last), (accepted, "no=13"));
+    let through = format!(" {MOST_TURNS}");
+    assert!(first.iter().all(|line| line.ends_with(&through)));
 }
 
 /// A sheet of 48 types without requests prints nothing (P15).

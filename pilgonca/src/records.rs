@@ -39,7 +39,7 @@ pub struct Key {
 /// The types of a method's arguments, and of its answer if it has one.
 #[derive(Clone, PartialEq, Eq, Debug)]
 pub struct Signature {
-    /// The types of the arguments, at most two.
+    /// The types of the arguments, at most four ([`MAX_ARGUMENTS`](crate::raw::MAX_ARGUMENTS)).
     pub arguments: Vec<Type>,
     /// The type of the answer.
     pub answer: Option<Type>,

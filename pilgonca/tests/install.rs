@@ -133,7 +133,7 @@ fn a_prefix_has_these_files() {
     );
 }
 
-/// Every C program of examples/ compiles; one with its output beside it, as visit.out, prints that for the sheet of Case P.
+/// Every C program of examples/ compiles; one with its output beside it, as visit.out, prints that for the sheet of its name, or else for that of Case P.
 #[test]
 fn the_examples_compile_by_its_flags() {
     let files = std::fs::read_dir(root().join("examples")).expect("examples");
@@ -145,12 +145,15 @@ fn the_examples_compile_by_its_flags() {
     for source in sources {
         let (program, out) = (compiled(&source, &[]), source.with_extension("out"));
         if out.exists() {
-            let run = printed(Command::new(program).arg(root().join("examples/case-p.sheet")));
+            let own = source.with_extension("sheet");
+            let case_p = root().join("examples/case-p.sheet");
+            let sheet = if own.exists() { own } else { case_p };
+            let run = printed(Command::new(program).arg(sheet));
             assert_eq!(run, read(&out), "{}", source.display());
             ran += 1;
         }
     }
-    assert!(ran > 0);
+    assert_eq!(ran, 2);
 }
 
 /// pkg-config, where there is one, gives the flags that the tests here use.

@@ -1,8 +1,8 @@
 //! What the doc tests have no room for: the guide's sheet, the longest text, full states, references as answers, bytes that were kept.
 
 use pilgonca::{
-    raw, Answered, Call, Cell, Method, MethodInfo, Place, PlaceKind, Refusal, Sheet, Subject, Type,
-    Visit, EXAMPLE,
+    raw, Answered, Call, Cell, Held, Method, MethodInfo, Place, PlaceKind, Refusal, Sheet, Subject,
+    Type, Visit, EXAMPLE,
 };
 use std::error::Error;
 use std::fmt::Write;
@@ -93,7 +93,9 @@ fn the_longest_text_is_written() {
     assert_eq!(sheet.types().count(), 48);
     let last = sheet.types().last().expect("a type");
     assert!((last.number, last.category, last.own) == (Type(47), 31, true));
-    assert!(matches!(&last.methods[15], MethodInfo::Optional(s) if s.arguments.len() == 4));
+    assert!(
+        matches!(&last.methods[15], MethodInfo::Optional(s) if s.arguments.len() == raw::MAX_ARGUMENTS)
+    );
 }
 
 /// Requests until they are refused; the last refusal.
@@ -159,30 +161,50 @@ fn taker(arguments: &str) -> String {
     )
 }
 
+/// Lists of so many arguments, each a reference (1) or a number (0), in every way.
+fn lists(length: usize) -> impl Iterator<Item = Vec<bool>> {
+    (0..1 << length).map(move |bits: usize| (0..length).map(|at| bits >> at & 1 == 1).collect())
+}
+
 /// References among the arguments become the next cells, the owner's, in the order of the arguments (C10, C12, C17), and the call says which.
 #[test]
 fn a_call_says_what_its_arguments_became() {
-    let caller = Subject(1);
-    for arguments in ["1,1", "1,0", "0,1", "0,0"] {
-        let mut visit = Visit::load(taker(arguments).as_bytes()).expect("a sheet");
-        let taker = visit.new_object(DESK, Type(2), Type(2)).expect("made");
-        let lent = visit.move_reference(DESK, taker.cell, caller, Type(2));
-        let mut given = || visit.new_object(caller, Type(1), Type(1)).expect("made");
-        let given = [given(), given()];
-        // cells 2 and 3, which are numbers too
-        let values = [given[1].cell.0, given[0].cell.0];
-        let called = visit.call(caller, lent.expect("lent").cell, Method(0), &values);
-        let became = called.expect("called").arguments;
-        let places: Vec<Place> = became.iter().map(|held| held.place).collect();
-        let of_references = arguments.split(',').zip([given[1].place, given[0].place]);
-        let references = of_references.filter(|(t, _)| *t == "1");
-        let due: Vec<Place> = references.map(|(_, place)| place).collect();
-        assert_eq!(places, due, "{arguments}");
-        for (held, number) in became.iter().zip(4..) {
-            assert_eq!(held.cell, Cell(number));
-            assert_eq!(visit.cell_info(held.cell).expect("a cell").holder, DESK);
-        }
+    let mut met = [0; raw::MAX_ARGUMENTS + 1];
+    for references in (0..=raw::MAX_ARGUMENTS).flat_map(lists) {
+        became(&references);
+        met[references.len()] += 1;
     }
+    assert_eq!(met, [1, 2, 4, 8, 16]);
+}
+
+/// A call with these arguments: references where it says so.
+fn became(references: &[bool]) {
+    let caller = Subject(1);
+    let types = references.iter().map(|one| if *one { "1" } else { "0" });
+    let types = types.collect::<Vec<_>>().join(",");
+    let mut visit = Visit::load(taker(&types).as_bytes()).expect("a sheet");
+    let taker = visit.new_object(DESK, Type(2), Type(2)).expect("made");
+    let lent = visit.move_reference(DESK, taker.cell, caller, Type(2));
+    let made = references.iter().map(|_| {
+        let given = visit.new_object(caller, Type(1), Type(1));
+        given.expect("made")
+    });
+    // the last one made is the first argument; cells are numbers too
+    let mut given: Vec<Held> = made.collect();
+    given.reverse();
+    let values: Vec<i64> = given.iter().map(|held| held.cell.0).collect();
+    let next = visit.cells().count() as i64;
+    let called = visit.call(caller, lent.expect("lent").cell, Method(0), &values);
+    let became = called.expect("called").arguments;
+    let places: Vec<Place> = became.iter().map(|held| held.place).collect();
+    let due = given.iter().zip(references).filter(|(_, one)| **one);
+    let due: Vec<Place> = due.map(|(held, _)| held.place).collect();
+    assert_eq!(places, due, "{types}");
+    for (held, number) in became.iter().zip(next..) {
+        assert_eq!(held.cell, Cell(number), "{types}");
+        assert_eq!(visit.cell_info(held.cell).expect("a cell").holder, DESK);
+    }
+    assert_eq!(visit.cells().count() as i64, next + due.len() as i64);
 }
 
 /// A request that is refused leaves every byte; one on a state that is unsound is refused.

@@ -1,5 +1,5 @@
-//! The headers and the examples in C compile without a warning with the system's C compiler; visit.c prints what examples/visit.out has, and saved.c reads and
-//! writes the saved states that this package does.
+//! The headers and the examples in C compile without a warning with the system's C compiler; visit.c and route.c print what examples/visit.out and
+//! examples/route.out have, and saved.c reads and writes the saved states that this package does.
 
 use pilgonca::saved::checksum;
 use pilgonca::{Refusal, Subject, Type, Visit, EXAMPLE};
@@ -94,17 +94,15 @@ fn c_has_the_words_of_the_refusals() {
     assert_eq!(said.lines().collect::<Vec<_>>(), expected);
 }
 
-#[test]
-fn the_c_example_prints_its_week() {
-    let program = compiled(&example("visit.c"));
+/// An example in C prints on its sheet what stands beside it, and refuses a sheet that the core refuses.
+fn prints(name: &str, sheet: &str) {
+    let program = compiled(&example(&format!("{name}.c")));
     let run = |sheet: &str| {
-        let output = Command::new(&program)
-            .arg(root().join("examples").join(sheet))
-            .output();
+        let output = Command::new(&program).arg(example(sheet)).output();
         output.expect("the program runs")
     };
-    let output = run("case-p.sheet");
-    let expected = std::fs::read_to_string(root().join("examples/visit.out")).expect("visit.out");
+    let output = run(sheet);
+    let expected = fs::read_to_string(example(&format!("{name}.out"))).expect("what it prints");
     // what is refused is refused by the adapter, and not since the type lets nobody call
     assert!(expected.contains("refused with 10") && !expected.contains("refused with 14"));
     assert_eq!(String::from_utf8_lossy(&output.stdout), expected);
@@ -114,6 +112,28 @@ fn the_c_example_prints_its_week() {
     let said = String::from_utf8_lossy(&output.stderr).into_owned();
     assert!(said.contains("refused with 1 at byte"), "{said}");
     assert!(!output.status.success() && output.stdout.is_empty());
+}
+
+#[test]
+fn the_c_example_prints_its_week() {
+    prints("visit", "case-p.sheet");
+}
+
+/// Four arguments in one call from C, accepted and refused; what it prints has the answers of examples/route.script.
+#[test]
+fn the_c_example_of_four_arguments_prints_its_route() {
+    prints("route", "route.sheet");
+    let said = fs::read_to_string(example("route.out")).expect("what it prints");
+    for words in [
+        "call 0, adapters 0",
+        "call 1, adapters 1",
+        "refused with 8",
+        "refused with 14",
+        "refused with 15",
+        "refused with 16",
+    ] {
+        assert!(said.contains(words), "{words}");
+    }
 }
 
 /// A file of this test alone.

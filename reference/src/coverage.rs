@@ -33,6 +33,9 @@ pub struct Seen {
     pub situations: BTreeMap<Situation, u64>,
     /// Calls refused by an argument, by number and its position.
     pub positions: BTreeMap<(Refusal, usize), u64>,
+    /// Accepted calls by how many arguments they have, and by how many of those are references.
+    pub arguments: BTreeMap<usize, u64>,
+    pub references: BTreeMap<usize, u64>,
 }
 
 impl Seen {
@@ -45,6 +48,14 @@ impl Seen {
         match result {
             Ok(_) => *self.accepted.entry(name).or_default() += 1,
             Err(number) => *self.refused.entry((name, *number)).or_default() += 1,
+        }
+    }
+
+    /// An accepted call: each of its references became a cell (C17), so that the new cells count them.
+    fn called(&mut self, request: &Request, new_cells: usize) {
+        if let Request::Call { arguments, .. } = request {
+            *self.arguments.entry(arguments.len()).or_default() += 1;
+            *self.references.entry(new_cells).or_default() += 1;
         }
     }
 
@@ -80,6 +91,12 @@ impl Seen {
         for (key, count) in &other.positions {
             *self.positions.entry(*key).or_default() += count;
         }
+        for (key, count) in &other.arguments {
+            *self.arguments.entry(*key).or_default() += count;
+        }
+        for (key, count) in &other.references {
+            *self.references.entry(*key).or_default() += count;
+        }
     }
 
     /// The counters as text.
@@ -90,6 +107,16 @@ impl Seen {
             text.push_str(&format!("  {name}: accepted {accepted}; refused"));
             for ((_, number), count) in self.refused.iter().filter(|((one, _), _)| *one == name) {
                 text.push_str(&format!(" {number}:{count}"));
+            }
+            text.push('\n');
+        }
+        for (what, counts) in [
+            ("arguments", &self.arguments),
+            ("references", &self.references),
+        ] {
+            text.push_str(&format!("  calls accepted by {what}:"));
+            for (many, count) in counts {
+                text.push_str(&format!(" {many}:{count}"));
             }
             text.push('\n');
         }
@@ -114,9 +141,9 @@ pub fn serve(state: State, requests: &[Request]) -> Seen {
         let before = model.state.counts();
         let result = model.request(request);
         seen.request(request, &result);
-        if let Err(number) = result {
-            let position = situations::refused_at(&model, request);
-            seen.refused_at(number, position);
+        match result {
+            Ok(_) => seen.called(request, model.state.cells.len() - before.cells),
+            Err(number) => seen.refused_at(number, situations::refused_at(&model, request)),
         }
         for situation in situations::met(&model, before, request, result) {
             seen.situation(situation);

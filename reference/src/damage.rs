@@ -1,7 +1,7 @@
 //! Damage to texts: bytes, lines and numbers that are bad, or right elsewhere.
 
 use crate::random::Random;
-use crate::script::MAX_INPUT;
+use crate::script::{MAX_CALL_ARGUMENTS, MAX_INPUT};
 use crate::table::MAX_ARGUMENTS;
 
 /// Bytes of the alphabet of sheets and requests, and a few others.
@@ -224,9 +224,9 @@ fn longer_signature(random: &mut Random, text: &mut Vec<u8>) {
     );
 }
 
-/// The same for a `do=call` line.
+/// The same for a `do=call` line (P7).
 fn longer_call(random: &mut Random, text: &mut Vec<u8>) {
-    let count = random.within((MAX_ARGUMENTS - 1, MAX_ARGUMENTS + 1));
+    let count = random.within((MAX_CALL_ARGUMENTS - 1, MAX_CALL_ARGUMENTS + 1));
     let line = format!("do=call 0 0 0{}\n", " 0".repeat(count));
     other_line(random, text, b"do=call", line.as_bytes());
 }

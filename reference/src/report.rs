@@ -11,7 +11,7 @@ use crate::random::Random;
 use crate::raw::RawTable;
 use crate::refusal::{Refusal, FORM, LATER_LAYER, OUT_OF_RANGE, SHORT_BUFFER, UNKNOWN_TYPE};
 use crate::requests::Request;
-use crate::script;
+use crate::script::{self, MAX_CALL_ARGUMENTS};
 use crate::sheet;
 use crate::situations::{OF_HANDED_IN, OF_SHEETS};
 use crate::state::State;
@@ -209,6 +209,7 @@ impl Report {
             met.push((count > 0, format!("{situation:?}")));
         }
         met.extend(of_positions(&self.scripts, &OF_ARGUMENTS));
+        met.extend(of_long_calls(&self.scripts));
         met.push((
             self.five_in_line > 0,
             "five arguments in an m= line".to_string(),
@@ -245,7 +246,10 @@ impl Report {
             "five arguments in a type record".to_string(),
         );
         let positions = of_positions(&self.requests, &[LATER_LAYER]);
-        all.chain(tables).chain(positions).chain([five]).collect()
+        let long = of_long_calls(&self.requests)
+            .map(|(met, what)| (met, format!("{what}, on handed-in states")));
+        let rest = tables.into_iter().chain(positions).chain(long);
+        all.chain(rest).chain([five]).collect()
     }
 
     /// The report as text.
@@ -305,13 +309,35 @@ fn of_positions(seen: &Seen, numbers: &[Refusal]) -> Vec<(bool, String)> {
     numbers.iter().copied().flat_map(of_number).collect()
 }
 
-/// Whether a `do=call` line has one argument too many and is right but for that (P11).
+/// Of so many accepted calls at least one has three arguments, one four, one three references, and one four (T13).
+const OFTEN: u64 = 20;
+
+/// Whether calls with three and four arguments, and with as many references, were accepted often.
+fn of_long_calls(seen: &Seen) -> impl Iterator<Item = (bool, String)> + '_ {
+    let calls = seen.accepted.get("call").copied().unwrap_or(0);
+    let kinds = [
+        ("arguments", &seen.arguments),
+        ("references", &seen.references),
+    ];
+    kinds.into_iter().flat_map(move |(what, counts)| {
+        (MAX_ARGUMENTS - 1..=MAX_ARGUMENTS).map(move |many| {
+            let count = counts.get(&many).copied().unwrap_or(0);
+            let often = count > 0 && count * OFTEN >= calls;
+            (
+                often,
+                format!("{many} {what} in one of {OFTEN} accepted calls"),
+            )
+        })
+    })
+}
+
+/// Whether a `do=call` line has one argument too many and is right but for that (P7, P11).
 fn is_longer_call(line: &[u8]) -> bool {
     let shorter = line.strip_suffix(b"\n").and_then(|line| {
         let last = line.iter().rposition(|byte| *byte == b' ')?;
         script::parse(&line[..last])
     });
-    matches!(shorter, Some(Request::Call { arguments, .. }) if arguments.len() == MAX_ARGUMENTS)
+    matches!(shorter, Some(Request::Call { arguments, .. }) if arguments.len() == MAX_CALL_ARGUMENTS)
 }
 
 /// Whether a line has a list of numbers with one more than a signature may have (S11).

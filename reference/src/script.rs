@@ -11,6 +11,9 @@ use crate::table::Table;
 /// The longest input, in bytes (P1).
 pub const MAX_INPUT: usize = 32_768;
 
+/// The most arguments of a `do=call` line (P7): of the line's form, whatever a signature may have.
+pub const MAX_CALL_ARGUMENTS: usize = 4;
+
 /// An input as it is read: a table, requests, and whether a malformed line
 /// ended them.
 pub struct Script {
@@ -146,7 +149,9 @@ pub fn parse(line: &[u8]) -> Option<Request> {
             receiver: operand(receiver)?,
             type_: operand(type_)?,
         },
-        ("call", [subject, cell, method, arguments @ ..]) if arguments.len() <= 4 => {
+        ("call", [subject, cell, method, arguments @ ..])
+            if arguments.len() <= MAX_CALL_ARGUMENTS =>
+        {
             let arguments = arguments.iter().map(|word| operand(word));
             Request::Call {
                 subject: operand(subject)?,

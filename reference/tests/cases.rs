@@ -1,9 +1,11 @@
 //! Case P, the proved cases and the run cases of 01.
 
 use reference::book::Book;
+use reference::coverage;
 use reference::requests::Request;
 use reference::script;
 use reference::sheet;
+use reference::state::State;
 
 const SHEET_P: &str = "guide=1\nsubjects=3\nmethods=3\ncats=0\ntypes=6\n\
 type=0\nrep=w32\ncat=0\n\
@@ -364,4 +366,20 @@ fn request_lines_round_trip() {
         let request: Request = script::parse(line.as_bytes()).unwrap();
         assert_eq!(script::line(&request), format!("{line}\n"));
     }
+}
+
+/// Accepted calls are counted by their arguments, and by the references among them.
+#[test]
+fn calls_are_counted_by_arguments_and_references() {
+    let script = script::read(include_bytes!("../../examples/route.script")).unwrap();
+    let seen = coverage::serve(State::of_sheet(script.table), &script.requests);
+    assert_eq!(seen.accepted["call"], 3);
+    assert_eq!(seen.arguments, [(0, 1), (1, 1), (4, 1)].into());
+    assert_eq!(seen.references, [(0, 2), (3, 1)].into());
+    let mut twice = seen.clone();
+    twice.add(&seen);
+    assert_eq!((twice.arguments[&4], twice.references[&3]), (2, 2));
+    assert!(twice
+        .text()
+        .contains("calls accepted by references: 0:4 3:2\n"));
 }

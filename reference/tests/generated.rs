@@ -12,7 +12,8 @@ use reference::relations::{Relation, Relations, ALL, RELATIONS};
 use reference::report::{self, line_kind};
 use reference::script;
 use reference::sheet;
-use reference::table::{Kind, MethodState, Table, Type};
+use reference::table::{Kind, MethodState, Table, Type, MAX_ARGUMENTS};
+use std::collections::BTreeMap;
 
 /// Demand 3, and book and state agreeing in every type and adapter.
 fn demand_3(profile: Profile, seeds: std::ops::Range<u64>) {
@@ -78,6 +79,23 @@ fn coverage_is_whole() {
         assert!(report.scripts.number(number) >= least, "{number}");
     }
     assert!(report.requests.number(19) >= 20);
+    for (seen, least) in [(&report.scripts, 1000), (&report.requests, 30)] {
+        let calls = seen.accepted["call"];
+        for counts in [&seen.arguments, &seen.references] {
+            assert_eq!(counts.values().sum::<u64>(), calls);
+            assert!(counts.keys().all(|many| *many <= MAX_ARGUMENTS));
+            for many in MAX_ARGUMENTS - 1..=MAX_ARGUMENTS {
+                assert!(counts[&many] >= least, "{many}\n{}", report.text());
+            }
+        }
+        let of = |counts: &BTreeMap<usize, u64>| {
+            counts
+                .iter()
+                .map(|(many, count)| *many as u64 * count)
+                .sum::<u64>()
+        };
+        assert!(of(&seen.references) < of(&seen.arguments));
+    }
 }
 
 #[test]

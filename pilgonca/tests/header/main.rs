@@ -210,6 +210,7 @@ fn every_number_is_the_sources() {
     let sources = [
         ("table_record", "SUBJECTS", raw::MAX_SUBJECTS),
         ("table_record", "METHODS", raw::MAX_METHODS),
+        ("table_record", "ARGUMENTS", raw::MAX_ARGUMENTS),
         ("table_record", "CATEGORIES", raw::MAX_CATEGORIES),
         ("table_record", "SHEET_TYPES", raw::MAX_SHEET_TYPES),
         ("table_record", "TYPES", raw::MAX_TYPES),
