@@ -33,7 +33,7 @@ use Rattle.request_by_code.specs.Coded.{serveAsked}
 use Rattle.request_by_code.proofs.Laws.{outcome-is, after-is}
 use Rattle.request_run.specs.Requested.{request, requests, runAsked, runHanded}
 use Rattle.request_serve.proofs.Stored.{counted-stored, counts-stored, bytes-stored}
-use Rattle.request_run.specs.Ran.{Over as Ran, wordsOf, outcomeWords, room, AllRefused, RanAs, Runs}
+use Rattle.request_run.specs.Ran.{outcomeSize, Over as Ran, wordsOf, outcomeWords, room, AllRefused, RanAs, Runs}
 use Rattle.request_run.specs.Loop.{askedAt, nextAt}
 use Rattle.request_run.proofs.Words.{request-at, words-next}
 use Rattle.request_run.proofs.Whole.{serveEach, each-is-run}
@@ -61,7 +61,7 @@ rest s ws f at = serveEach (systemIn s) (requests f (drop at ws))
 pub record Going (s₀ : State) (ws old : List ℤ) (s : State) (cur : List ℤ) (i at : ℕ) (any : Bool) : Type 0 where
   pub system : rest s ws (room old - i) at .1 ≡ rest s₀ ws (room old) 0 .1
   pub count : i + length (rest s ws (room old - i) at .0) ≡ length (rest s₀ ws (room old) 0 .0)
-  pub words : sets cur (i * 4) (outcomeWords (rest s ws (room old - i) at .0)) ≡ sets old 0 (outcomeWords (rest s₀ ws (room old) 0 .0))
+  pub words : sets cur (i * outcomeSize) (outcomeWords (rest s ws (room old - i) at .0)) ≡ sets old 0 (outcomeWords (rest s₀ ws (room old) 0 .0))
   pub untouched : AllRefused (rest s₀ ws (room old) 0 .0) → (any ≡ false) × AllRefused (rest s ws (room old - i) at .0)
   pub quiet : any ≡ false → s ≡ withTypes s₀ (s .types)
   pub stored : Stored s₀ s
@@ -130,7 +130,7 @@ module _ (s₀ : State) (ws old : List ℤ) where
         (each-is-run (systemIn s₀) (requests (room old) ws)) (record {
           refusal = refl;
           served = sym z ∙ ap (λ (p : List Outcomeᵐ × System). i + length (p .0)) (sym e) ∙ g .count;
-          answers = k ∙ ap (λ (p : List Outcomeᵐ × System). sets cur (i * 4) (outcomeWords (p .0))) (sym e) ∙ g .words;
+          answers = k ∙ ap (λ (p : List Outcomeᵐ × System). sets cur (i * outcomeSize) (outcomeWords (p .0))) (sym e) ∙ g .words;
           records = counted-stored s₀ st w ∙ ap (λ (m : System). counted (storedFrom (rawState s₀) m)) is;
           untouched = λ a. back-same h₀ t back (g .untouched a .0);
           links = w .links;
@@ -169,20 +169,20 @@ module _ (s₀ : State) (ws old : List ℤ) where
           (outcome-is s _ r step)
           ∙ ap (λ (t : System). (outcomeOf (r .outcome) ∷ serveEach t qs .0, serveEach t qs .1)) (after-is s _ r step)
 
-      pub going-on : (out : List ℤ) → out ≡ sets cur (i * 4) (wordsOf (outcomeOf (r .outcome))) → (at′ : ℕ) → at′ ≡ nextAt ws at → at′ ≤ length ws
+      pub going-on : (out : List ℤ) → out ≡ sets cur (i * outcomeSize) (wordsOf (outcomeOf (r .outcome))) → (at′ : ℕ) → at′ ≡ nextAt ws at → at′ ≤ length ws
           → (any′ : Bool) → any′ ≡ (any || isAccepted (r .outcome)) → Going s₀ ws old (r .state) out (i + 1) at′ any′
       unfolding outcomeWords
       going-on out k at′ d w any′ ea = subst (λ (n : ℕ). n ≤ length ws → Going s₀ ws old (r .state) out (i + 1) n any′) (sym d) (λ (w′ : nextAt ws at ≤ length ws). record {
         system = ap (λ (p : List Outcomeᵐ × System). p .1) (sym one) ∙ g .system;
         count = let z : i + 1 + length (on .0) ≡ i + suc (length (on .0)) = omega arith in z ∙ ap (λ (p : List Outcomeᵐ × System). i + length (p .0)) (sym one) ∙ g .count;
-        words = written (outcomeOf (r .outcome)) k ∙ ap (λ (p : List Outcomeᵐ × System). sets cur (i * 4) (outcomeWords (p .0))) (sym one) ∙ g .words;
+        words = written (outcomeOf (r .outcome)) k ∙ ap (λ (p : List Outcomeᵐ × System). sets cur (i * outcomeSize) (outcomeWords (p .0))) (sym one) ∙ g .words;
         untouched = λ a. let b = g .untouched a in
             let c = still (r .outcome) refl (subst (λ (p : List Outcomeᵐ × System). AllRefused (p .0)) one (b .1)) in
             (ea ∙ ap (λ (x : Bool). x || isAccepted (r .outcome)) (b .0) ∙ c .0, c .1);
         quiet = λ z. let n = neither any (isAccepted (r .outcome)) (sym ea ∙ z) in still-there (r .outcome) refl (n .1) ∙ ap (λ (x : State). withTypes x (r .state .types)) (g .quiet (n .0));
         stored = stored-on s₀ s (r .state) (g .stored) (step .stored);
         sound = step .sound;
-        long = ap length k ∙ length-sets cur (i * 4) (wordsOf (outcomeOf (r .outcome))) ∙ g .long;
+        long = ap length k ∙ length-sets cur (i * outcomeSize) (wordsOf (outcomeOf (r .outcome))) ∙ g .long;
         few = omega arith;
         within = w′;
       }) w
@@ -199,11 +199,11 @@ module _ (s₀ : State) (ws old : List ℤ) where
           still-there (Number v) z h = never (sym h ∙ ap isAccepted z)
           still-there Nothing z h = never (sym h ∙ ap isAccepted z)
 
-          written : (o : Outcomeᵐ) → out ≡ sets cur (i * 4) (wordsOf o) → sets out ((i + 1) * 4) (outcomeWords (on .0)) ≡ sets cur (i * 4) (outcomeWords (o ∷ on .0))
+          written : (o : Outcomeᵐ) → out ≡ sets cur (i * outcomeSize) (wordsOf o) → sets out ((i + 1) * outcomeSize) (outcomeWords (on .0)) ≡ sets cur (i * outcomeSize) (outcomeWords (o ∷ on .0))
           written o z =
-              let e : (i + 1) * 4 ≡ i * 4 + 4 = omega arith in
-              ap (λ (l : List ℤ). sets l ((i + 1) * 4) (outcomeWords (on .0))) z ∙ ap (λ (n : ℕ). sets (sets cur (i * 4) (wordsOf o)) n (outcomeWords (on .0))) e
-              ∙ words-next o cur (i * 4) (outcomeWords (on .0))
+              let e : (i + 1) * outcomeSize ≡ i * outcomeSize + outcomeSize = omega arith in
+              ap (λ (l : List ℤ). sets l ((i + 1) * outcomeSize) (outcomeWords (on .0))) z ∙ ap (λ (n : ℕ). sets (sets cur (i * outcomeSize) (wordsOf o)) n (outcomeWords (on .0))) e
+              ∙ words-next o cur (i * outcomeSize) (outcomeWords (on .0))
 
 -- ---- A state handed in.
 module _ (s : State) (ws old new : List ℤ) (r : Ran) where

@@ -17,7 +17,7 @@ use Rattle.request_run.specs.Requested.{request, requests}
 use Rattle.request_common.specs.declared.Outcome.{Outcome}
 use Rattle.request_common.specs.declared.Outcome.the-variants.{Refused, Pair, Number, Nothing}
 use Rattle.request_common.specs.Served.{outcomeOf}
-use Rattle.request_run.specs.Ran.{wordsOf}
+use Rattle.request_run.specs.Ran.{outcomeSize, wordsOf}
 use Rattle.request_run.specs.Loop.{SmallOutcome, leftAt, countAt, askedAt, nextAt}
 
 -- ---- The request in front of a list.
@@ -109,7 +109,7 @@ four l i a b c d =
     rw (e₁, e₂, e₃)
 
 -- a store leaves the length
-module _ (l : List ℤ) (i : ℕ) (h : i + 4 ≤ length l) (a : ℤ) where
+module _ (l : List ℤ) (i : ℕ) (h : i + outcomeSize ≤ length l) (a : ℤ) where
   pub room-second : i + 1 < length (set l i a)
   room-second = subst (λ (n : ℕ). i + 1 < n) (sym (length-set l i a)) (omega arith)
 
@@ -140,13 +140,13 @@ pub words-nothing : (a : Outcome) → a ≡ Nothing → pos 0 ∷ pos 0 ∷ pos 
 words-nothing a h = rw h
 
 -- the words of an answer, and then those of the answers behind it
-pub words-next : (o : Outcomeᵐ) (l : List ℤ) (i : ℕ) (vs : List ℤ) → sets (sets l i (wordsOf o)) (i + 4) vs ≡ sets l i (wordsOf o ++ vs)
+pub words-next : (o : Outcomeᵐ) (l : List ℤ) (i : ℕ) (vs : List ℤ) → sets (sets l i (wordsOf o)) (i + outcomeSize) vs ≡ sets l i (wordsOf o ++ vs)
 words-next o l i vs = go o
   where
-    by : (a b c d : ℤ) → sets (sets l i (a ∷ b ∷ c ∷ d ∷ [])) (i + 4) vs ≡ sets l i (a ∷ b ∷ c ∷ d ∷ vs)
-    by a b c d = let e : i + 4 ≡ suc (suc (suc (suc i))) = omega arith in ap (λ (k : ℕ). sets (sets l i (a ∷ b ∷ c ∷ d ∷ [])) k vs) e
+    by : (a b c d : ℤ) → sets (sets l i (a ∷ b ∷ c ∷ d ∷ [])) (i + outcomeSize) vs ≡ sets l i (a ∷ b ∷ c ∷ d ∷ vs)
+    by a b c d = let e : i + outcomeSize ≡ suc (suc (suc (suc i))) = omega arith in ap (λ (k : ℕ). sets (sets l i (a ∷ b ∷ c ∷ d ∷ [])) k vs) e
 
-    go : (o : Outcomeᵐ) → sets (sets l i (wordsOf o)) (i + 4) vs ≡ sets l i (wordsOf o ++ vs)
+    go : (o : Outcomeᵐ) → sets (sets l i (wordsOf o)) (i + outcomeSize) vs ≡ sets l i (wordsOf o ++ vs)
     go (refused e) = by (pos e) (pos 0) (pos 0) (pos 0)
     go (got (pair a b)) = by (pos 0) (pos 2) (pos a) (pos b)
     go (got (number v)) = by (pos 0) (pos 1) v (pos 0)

@@ -16,7 +16,7 @@ use Rattle.spec_model.specs.Claim.{feed}
 use Rattle.spec_model.proofs.Tests.{eqb-so}
 use Rattle.law_handed.proofs.Small.{Small, Named, small-serve}
 use Rattle.request_run.specs.Requested.{request, requests, asked, placed, runAsked}
-use Rattle.request_run.specs.Ran.{wordsOf, outcomeWords, room}
+use Rattle.request_run.specs.Ran.{outcomeSize, wordsOf, outcomeWords, room}
 use Rattle.theorem.specs.Shown.{taken, told}
 use Rattle.theorem.specs.OfStates.{isZero, toldBy}
 
@@ -30,7 +30,7 @@ not-zero n h = go (eqb n 0) refl
 
 -- ---- the words of one answer
 module _ (ws rest : List ℤ) where
-  behind : (o : Outcome) → drop 4 ((wordsOf o ++ ws) ++ rest) ≡ ws ++ rest
+  behind : (o : Outcome) → drop outcomeSize ((wordsOf o ++ ws) ++ rest) ≡ ws ++ rest
   behind (refused e) = refl
   behind (got (pair a b)) = refl
   behind (got (number v)) = refl
@@ -54,7 +54,7 @@ told-words (some q ∷ qs) s b rest =
     let a = serve s q in
     let os = placed qs (run (after s a) (asked qs) .0) in
     let ws = outcomeWords os in
-    ap (λ c. toldBy (feed b q c) qs (drop 4 ((wordsOf (outcome a) ++ ws) ++ rest))) (first-word ws rest s a (small-serve s q))
+    ap (λ c. toldBy (feed b q c) qs (drop outcomeSize ((wordsOf (outcome a) ++ ws) ++ rest))) (first-word ws rest s a (small-serve s q))
     ∙ ap (λ z. toldBy (feed b q (taken (outcome a))) qs z) (behind ws rest (outcome a)) ∙ told-words qs (after s a) (feed b q (taken (outcome a))) rest
 
 -- ---- all of them: there is room
@@ -64,13 +64,13 @@ outcomes-length [] s = refl
 outcomes-length (none ∷ qs) s = ap suc (outcomes-length qs s)
 outcomes-length (some q ∷ qs) s = ap suc (outcomes-length qs (after s (serve s q)))
 
-words-length : (o : Outcome) → length (wordsOf o) ≡ 4
+words-length : (o : Outcome) → length (wordsOf o) ≡ outcomeSize
 words-length (refused e) = refl
 words-length (got (pair a b)) = refl
 words-length (got (number v)) = refl
 words-length (got nothing) = refl
 
-answers-length : (os : List Outcome) → length (outcomeWords os) ≡ length os * 4
+answers-length : (os : List Outcome) → length (outcomeWords os) ≡ length os * outcomeSize
 unfolding outcomeWords
 answers-length [] = refl
 answers-length (o ∷ os) = omega (arith, length-append (wordsOf o) (outcomeWords os), words-length o, answers-length os)
