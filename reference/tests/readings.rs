@@ -425,7 +425,7 @@ fn arguments_are_looked_up_first() {
 #[test]
 fn own_in_a_signature_at_each_position() {
     for position in 0..MAX_ARGUMENTS {
-        let mut list = vec!["1"; MAX_ARGUMENTS];
+        let mut list = ["1"; MAX_ARGUMENTS];
         list[position] = "0";
         let state = format!("avail({})-", list.join(","));
         let text = sheet_of(1, &[&["yes", "denied"], &["no", &state]]);
@@ -505,7 +505,7 @@ fn every_argument_is_compared() {
     // 0 has more than 1, so 0 is a subtype of 1 and not the reverse
     for position in 0..MAX_ARGUMENTS {
         let list = |special: &str| {
-            let mut list = vec!["0"; MAX_ARGUMENTS];
+            let mut list = ["0"; MAX_ARGUMENTS];
             list[position] = special;
             format!("avail({})-", list.join(","))
         };
