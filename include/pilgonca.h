@@ -197,9 +197,9 @@ size_t pilgonca_pairs(
 
 /* ---- a state ----
  *
- * A request that is accepted stores the new state in the arrays lent, and three values: how many there are of it (0, 1 or 2), the first and the second, 0
- * where there is none. What is proved of references (L19 to L27) is proved of a state that pilgonca_load began, and that only the functions below have
- * changed since, refused calls included.
+ * A request that is accepted stores the new state in the arrays lent, and three values: values[0] is how many results there are (0, 1 or 2), values[1]
+ * the first and values[2] the second, 0 where there is none. What is proved of references (L19 to L27) is proved of a state that pilgonca_load began,
+ * and that only the functions below have changed since, refused calls included.
  */
 
 /* The state of a sheet (Q10): as pilgonca_read, with no cells, places or calls. */
@@ -214,7 +214,7 @@ size_t pilgonca_load(
     size_t counts[PILGONCA_STATE_COUNTS],
     size_t *at);
 
-/* New (N): the subject makes an object of the class and holds it as the type. Values: cell, place. */
+/* New (N): the subject makes an object of the class and holds it as the type. Results: cell (values[1]), place. */
 size_t pilgonca_new(
     uint8_t types[PILGONCA_TYPE_BYTES],
     const uint8_t links[PILGONCA_LINK_BYTES],
@@ -227,7 +227,7 @@ size_t pilgonca_new(
     int64_t to,
     int64_t values[PILGONCA_VALUES]);
 
-/* Move (M): the subject hands what its cell leads to on to the receiver, as the type. Values: cell, place. */
+/* Move (M): the subject hands what its cell leads to on to the receiver, as the type. Results: cell (values[1]), place. */
 size_t pilgonca_move(
     uint8_t types[PILGONCA_TYPE_BYTES],
     const uint8_t links[PILGONCA_LINK_BYTES],
@@ -243,7 +243,7 @@ size_t pilgonca_move(
 
 /*
  * Call (C): an argument is a number, or the number of a cell where the signature has a reference. Arguments may be of any length, and one that is not the
- * signature's is 15 (C4): no call with more than PILGONCA_ARGUMENTS is accepted. Values: call, how many adapters it goes through.
+ * signature's is 15 (C4): no call with more than PILGONCA_ARGUMENTS is accepted. Results: call (values[1]), how many adapters it goes through.
  * References among the arguments become the next cells of the owner of what is called, in their order (C10, C12, C17): the first has the number that
  * counts[5] was before. No value names them, so the firmware tells the owner.
  */
@@ -261,7 +261,7 @@ size_t pilgonca_call(
     size_t arguments_len,
     int64_t values[PILGONCA_VALUES]);
 
-/* Answer (A): given is 0 for no value, which is then not looked at. Values: cell and place of a reference, the number, or none. */
+/* Answer (A): given is 0 for no value, which is then not looked at. Results: cell (values[1]) and place of a reference, the number, or none. */
 size_t pilgonca_answer(
     uint8_t types[PILGONCA_TYPE_BYTES],
     const uint8_t links[PILGONCA_LINK_BYTES],

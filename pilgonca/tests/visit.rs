@@ -103,8 +103,6 @@ fn prints(name: &str, sheet: &str) {
     };
     let output = run(sheet);
     let expected = fs::read_to_string(example(&format!("{name}.out"))).expect("what it prints");
-    // what is refused is refused by the adapter, and not since the type lets nobody call
-    assert!(expected.contains("refused with 10") && !expected.contains("refused with 14"));
     assert_eq!(String::from_utf8_lossy(&output.stdout), expected);
     assert!(output.status.success() && output.stderr.is_empty());
 
@@ -117,6 +115,9 @@ fn prints(name: &str, sheet: &str) {
 #[test]
 fn the_c_example_prints_its_week() {
     prints("visit", "case-p.sheet");
+    let said = fs::read_to_string(example("visit.out")).expect("what it prints");
+    // what is refused is refused by the adapter, and not since the type lets nobody call
+    assert!(said.contains("refused with 10") && !said.contains("refused with 14"));
 }
 
 /// Four arguments in one call from C, accepted and refused; what it prints has the answers of examples/route.script.
