@@ -88,9 +88,9 @@ fn turning(carries: impl Fn(usize) -> [u8; METHOD_BYTES]) -> RawTable {
         }
     }
     let one = table.entry(MADE_OF).to_vec();
-    for turn in 0..2 {
+    for (turn, missing) in MISSING.into_iter().enumerate() {
         table.entry_mut(TURNS + turn).copy_from_slice(&one);
-        table.method_mut(TURNS + turn, MISSING[turn])[0] = 0;
+        table.method_mut(TURNS + turn, missing)[0] = 0;
         let class = SIDES + turn;
         table.entry_mut(class)[1] = MAX_CATEGORIES as u8;
         for method in 0..MAX_METHODS {
