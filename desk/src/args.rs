@@ -9,7 +9,7 @@ desk: sheets and scripts at the desk; every answer is the proved core's
 
   desk check SHEET            whether the sheet is accepted, and what it has;
                               else the line at fault, and what would be right
-  desk fix SHEET              the sheet that was meant, where mail or an editor
+  desk fix SHEET or SCRIPT    the text that was meant, where mail or an editor
                               spoilt it; --out FILE writes it there
   desk pairs SHEET            which type can become which; --plain prints it
                               as the program pairs does
@@ -46,9 +46,9 @@ NO_COLOR is set, or TERM is dumb, nothing is coloured.
 Exit status: 0 yes or accepted, 1 no or refused, 2 words that desk does not
 understand, 3 what cannot be read or written. A run whose requests are refused
 ends with 0: these are its answers. Some commands answer by the status: compare
-(0 FROM can become TO), diff (0 the sheets say the same), audit with --subject,
---method or --calls. There refused input is 3 too, so that no answer is taken
-for no.
+(0 FROM can become TO, also where that has a condition), diff (0 the sheets say
+the same), audit with --subject, --method or --calls. There
+refused input is 3 too, so that no answer is taken for no.
 ";
 
 /// The help; where the program is called otherwise, it says so.
@@ -337,7 +337,7 @@ fn command(name: &str, words: &Words, rest: &[OsString]) -> Result<Command, Stri
         "help" => Command::Help,
         "check" => Command::Check(file("sheet")?),
         "fix" => Command::Fix {
-            sheet: file("sheet")?,
+            sheet: file("sheet or script")?,
             out: words.file("--out"),
         },
         "pairs" => Command::Pairs {
@@ -352,7 +352,7 @@ fn command(name: &str, words: &Words, rest: &[OsString]) -> Result<Command, Stri
             save: words.file("--save"),
         },
         "audit" => Command::Audit {
-            script: file("script")?,
+            script: file("script or saved state")?,
             asked: Asked {
                 subject: words.text("--subject"),
                 method: words.text("--method"),

@@ -313,7 +313,11 @@ impl Desk {
         }
         let number = self.names.number(kind, word);
         let number = number.ok_or_else(|| {
-            format!("no {kind} is named {word:?} (names come from a file: --names FILE, or X.names beside X.sheet, X.script or X.state)")
+            let names = match self.names.all(kind) {
+                names if names.is_empty() => " (names come from a file: --names FILE, or X.names beside X.sheet, X.script or X.state)".to_string(),
+                names => format!(" (the names: {names})"),
+            };
+            format!("no {kind} is named {word:?}{names}")
         })?;
         Ok(number as i64)
     }

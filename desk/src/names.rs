@@ -1,5 +1,6 @@
 //! Names of subjects, methods, types and categories, from a file with one on each line: `method 1 mark`.
 
+use crate::words::listed;
 use pilgonca::Sheet;
 use std::fmt;
 
@@ -138,6 +139,12 @@ impl Names {
         let mut entries = self.entries.iter();
         let entry = entries.find(|entry| entry.kind == kind && entry.name == name)?;
         Some(entry.number)
+    }
+
+    /// All names of a kind in a row; nothing where there are none.
+    pub fn all(&self, kind: Kind) -> String {
+        let entries = self.entries.iter().filter(|entry| entry.kind == kind);
+        listed(entries.map(|entry| entry.name.clone()))
     }
 
     /// The number, with the name if there is one: `3 reader`. Any number, as operands are.

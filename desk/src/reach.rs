@@ -62,7 +62,10 @@ impl Power {
                     "not settled: no way to call it was found in {steps} steps, and there are more"
                 )
             }
-            Power::Never => "offers: no type of the sheet lets it be called".to_string(),
+            Power::Never => {
+                "offers: no type that the reference can be handed on as lets it be called"
+                    .to_string()
+            }
         }
     }
 }

@@ -121,10 +121,7 @@ impl Desk {
         match (question.is_asked(), audited.answer, ended) {
             (true, Answer::No, Ok(printed)) => Err(Stop::no(printed)),
             (true, answer @ (Answer::Untold | Answer::Unsettled), Ok(printed)) => {
-                let why = match answer {
-                    Answer::Untold => "the state does not tell",
-                    _ => "that is not settled",
-                };
+                let why = question.open(&self.names, answer);
                 Err(Stop {
                     printed,
                     ..Stop::from(format!("{}: {why}", input::name(path)))

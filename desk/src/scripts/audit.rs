@@ -20,6 +20,10 @@ granted, cannot be seen from its bytes.
 
 ";
 
+/// In front of all that is told of a sheet alone.
+const NO_REQUESTS: &str =
+    "There are no requests: this is a sheet alone, and nobody was given a reference.\n";
+
 const HEAD: &str = "\
 Who could call what. Nothing is ever taken away: who held a reference at any time holds it at the end,
 ";
@@ -58,14 +62,37 @@ impl Question {
         of_subject && self.method.is_none_or(|one| one == method)
     }
 
+    /// Who is asked about, and which method; nothing for any.
+    pub fn of(&self, names: &Names) -> [Option<String>; 2] {
+        let words = |kind, number: Option<usize>| Some(names.words(kind, number? as i64));
+        [
+            words(Kind::Subject, self.subject),
+            words(Kind::Method, self.method),
+        ]
+    }
+
+    /// In a sentence: `anybody`, `method 1 (mark)`.
+    fn words(&self, names: &Names) -> [String; 2] {
+        let [subject, method] = self.of(names);
+        [
+            subject.unwrap_or_else(|| "anybody".to_string()),
+            method.unwrap_or_else(|| "anything".to_string()),
+        ]
+    }
+
+    /// In a message, where there is no answer; whether a call was made always has one.
+    pub fn open(&self, names: &Names, answer: Answer) -> String {
+        let [subject, method] = self.words(names);
+        let whether = format!("whether {subject} could have called {method}");
+        match answer {
+            Answer::Untold => format!("the state does not tell {whether}"),
+            _ => format!("{whether} is not settled"),
+        }
+    }
+
     /// As a question, with its answer.
     fn answered(&self, names: &Names, answer: Answer) -> String {
-        let subject = self.subject.map_or("anybody".to_string(), |number| {
-            names.words(Kind::Subject, number as i64)
-        });
-        let method = self.method.map_or("anything".to_string(), |number| {
-            names.words(Kind::Method, number as i64)
-        });
+        let [subject, method] = self.words(names);
         let answer = match answer {
             Answer::Yes => "yes".to_string(),
             Answer::No => "no".to_string(),
@@ -156,6 +183,7 @@ fn report(auditor: Option<&Auditor>, calls: &Calls, answer: Answer) -> String {
     let (run, question) = (calls.run, calls.question);
     let before = match run.saved {
         true => SAVED.to_string(),
+        false if run.steps.is_empty() && run.malformed.is_none() => format!("{NO_REQUESTS}\n"),
         false => cut_short(run).map_or(String::new(), |cut| cut + "\n"),
     };
     let objects = auditor.map_or(String::new(), |auditor| auditor.told() + "\n");

@@ -35,10 +35,19 @@ impl Calls<'_> {
 
     pub fn told(&self) -> String {
         let calls: String = self.asked().map(|call| self.call(&call)).collect();
+        let title = self.title();
         match calls.is_empty() {
-            true => format!("Calls: {}\n", self.paint.of(Tone::Quiet, "none")),
-            false => format!("{}\n{calls}", self.paint.of(Tone::Strong, "Calls")),
+            true => format!("{title}: {}\n", self.paint.of(Tone::Quiet, "none")),
+            false => format!("{}\n{calls}", self.paint.of(Tone::Strong, &title)),
         }
+    }
+
+    /// With what of them is asked about.
+    fn title(&self) -> String {
+        let [subject, method] = self.question.of(self.names);
+        let by = subject.map_or(String::new(), |subject| format!(" by {subject}"));
+        let of = method.map_or(String::new(), |method| format!(" of {method}"));
+        format!("Calls{by}{of}")
     }
 
     fn call(&self, call: &CallInfo) -> String {

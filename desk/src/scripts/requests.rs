@@ -67,6 +67,9 @@ pub fn split(input: &[u8]) -> (&[u8], &[u8]) {
 /// A line without its LF as a request, or what keeps it from being one.
 pub fn read(line: &[u8]) -> Result<Request, Flaw> {
     let mut reader = Reader::new(line);
+    if line.is_empty() {
+        return Err(reader.flaw(0, "the line is empty, where a request is due"));
+    }
     if !reader.take("do=") {
         return Err(reader.flaw(line.len(), "this is no request: it does not begin with do="));
     }

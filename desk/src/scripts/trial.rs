@@ -262,7 +262,11 @@ impl<'a> Trial<'a> {
             let owner = self.owner(place);
             if owner != receiver {
                 let to = Described::of(&self.sheet, to);
-                return Err(Why::Cross(Box::new(Cross::Owner { owner, to })));
+                return Err(Why::Cross(Box::new(Cross::Owner {
+                    owner,
+                    receiver,
+                    to,
+                })));
             }
             place = self.base(place);
         } else if answers.subtype {

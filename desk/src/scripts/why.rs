@@ -118,7 +118,11 @@ pub enum Cross {
         reason: Reason,
     },
     /// X2.
-    Owner { owner: Subject, to: Described },
+    Owner {
+        owner: Subject,
+        receiver: Subject,
+        to: Described,
+    },
     /// X7.
     Lacks {
         leads_to: LeadsTo,
@@ -363,9 +367,14 @@ impl Cross {
                 let reason = reason.words(names, [&to, &from]);
                 format!("a reference of {from} cannot become {to}: {reason}")
             }
-            Cross::Owner { owner, to } => {
-                let (to, owner) = (to.words(names), subject(owner, names));
-                format!("{to} has own, and {owner} owns the object")
+            Cross::Owner {
+                owner,
+                receiver,
+                to,
+            } => {
+                let [owner, receiver] = [owner, receiver].map(|one| subject(one, names));
+                let to = to.words(names);
+                format!("{to} has own, and the receiver, {receiver}, does not own the object: {owner} does")
             }
             Cross::Lacks {
                 leads_to,

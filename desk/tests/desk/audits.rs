@@ -47,7 +47,7 @@ fn three_things_are_told_apart() {
     with_file("only", only.as_bytes(), |path| {
         let out = accepted(&["audit", path]);
         assert_eq!(
-            out.matches("offers: no type of the sheet lets it be called")
+            out.matches("offers: no type that the reference can be handed on as lets it be called")
                 .count(),
             2,
             "{out}"
@@ -85,7 +85,19 @@ fn calls_are_listed() {
     ] {
         assert!(out.contains(part), "{part}: {out}");
     }
-    assert!(accepted(&["audit", SCRIPT]).contains("Calls: none"));
+    assert!(accepted(&["audit", SCRIPT]).contains("\nCalls: none\n"));
+    let none: [(&[&str], &str); 3] = [
+        (&["--method", "erase"], "Calls of method 2 (erase): none\n"),
+        (&["--subject", "1"], "Calls by subject 1 (tour): none\n"),
+        (
+            &["--subject", "0", "--method", "1", "--calls"],
+            "Calls by subject 0 (desk) of method 1 (mark): none\n",
+        ),
+    ];
+    for (words, title) in none {
+        let (_, out, _) = ask(words);
+        assert!(out.contains(title), "{words:?}: {out}");
+    }
     let through = accepted(&["audit", "examples/two-adapters.script"]);
     assert!(
         through.contains("types behind it: type 5 > [permits method 0 and method 1; from "),
@@ -152,6 +164,9 @@ fn the_status_answers() {
         !narrow.contains("cell 1") && !narrow.contains("call 0"),
         "{narrow}"
     );
+    let (_, _, error) = ask(&["--subject", "Printer"]);
+    let named = "no subject is named \"Printer\" (the names: desk, tour and printer)";
+    assert!(error.contains(named), "{error}");
     for words in [
         &["--subject", "3"][..],
         &["--method", "-1"],
@@ -161,6 +176,26 @@ fn the_status_answers() {
         assert_eq!((status, out.as_str()), (2, ""), "{words:?}");
         assert!(error.starts_with("desk: "), "{error}");
     }
+}
+
+/// A sheet is a script without requests: no, and it is said why.
+#[test]
+fn a_sheet_alone_is_told() {
+    let none = "There are no requests: this is a sheet alone, and nobody was given a reference.\n";
+    for (words, status) in [
+        (&["--subject", "2", "--method", "1"][..], 1),
+        (&["--calls"], 1),
+        (&[], 0),
+    ] {
+        let (found, out, error) = run(&[&["audit", SHEET], words].concat());
+        assert_eq!((found, error.as_str()), (status, ""), "{words:?}");
+        assert!(out.starts_with(none), "{words:?}: {out}");
+    }
+    let cut = [&read(SHEET)[..], b"do=\n"].concat();
+    with_file("sheet-cut", &cut, |path| {
+        assert!(!run(&["audit", path]).1.contains(none));
+    });
+    assert!(!accepted(&["audit", SCRIPT]).contains(none));
 }
 
 /// What there was room for once is told as that, and is a yes: the question is about the whole visit.
@@ -222,11 +257,20 @@ fn the_documents_say_what_holds_of_optional() {
             "optional` is for handing on",
             "`optional` at least, all the way",
             "it cannot be called |",
+            "no type of the sheet lets it be called",
         ] {
             assert!(!text.contains(wrong), "{wrong}");
         }
     }
     assert!(guide.contains("Whoever holds a reference that offers a method may come to call it."));
+    let flat = guide.replace('\n', " ");
+    for right in [
+        "no type that the reference can be handed on as lets it be called, the audit says `offers`",
+        "(a yes with a condition, such as `for the owner of its object alone, if ..`, is 0 too)",
+        "`never` for `offers` in an audit",
+    ] {
+        assert!(flat.contains(right), "{right}");
+    }
     assert!(background.contains("may come to call it"));
     let eight = accepted(&["explain", "8"]);
     assert!(eight.contains("come to call it"), "{eight}");

@@ -194,7 +194,7 @@ fn scripts_are_mended_too() {
 fn what_spoilt_a_request_is_named() {
     let script = read(SCRIPT);
     let (sheet, requests) = split(&script);
-    let spoilt: [Spoiling; 2] = [
+    let spoilt: [Spoiling; 3] = [
         (
             quoted,
             "> do=new 0 1 4",
@@ -205,13 +205,20 @@ fn what_spoilt_a_request_is_named() {
             "do=3Dnew 0 1 4",
             "=3D stands in the place of =",
         ),
+        (
+            |text| [b"\n", text].concat(),
+            "",
+            "the line is empty, where a request is due",
+        ),
     ];
     for (spoil, shown, named) in spoilt {
         with_file("mailed", &[sheet, &spoil(requests)].concat(), |path| {
             for command in ["run", "audit"] {
                 let (status, _, error) = run(&[command, path]);
                 assert_eq!(status, 1);
-                assert!(error.contains(&format!("line 45 | {shown}\n")), "{error}");
+                let line = format!("line 45 | {shown}");
+                let line = format!("{}\n", line.trim_end());
+                assert!(error.contains(&line), "{error}");
                 assert!(error.contains(&format!("wrong: {named}")), "{error}");
                 let hint = format!("desk fix {path} prints what was meant;");
                 assert!(error.replace("\n  ", " ").contains(&hint), "{error}");

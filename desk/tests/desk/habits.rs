@@ -54,9 +54,15 @@ fn messages_name_the_program_as_it_was_called() {
     let zero = "examples/refused-leading-zero.sheet";
     with_file("called", crlf.replace('\n', "\r\n").as_bytes(), |path| {
         let fix = format!("./run desk fix {path} prints what was meant");
-        let messages: [(&[&str], &str); 13] = [
+        let messages: [(&[&str], &str); 16] = [
             (&["chek"], "; ./run desk --help says what there is"),
             (&["check"], "./run desk check takes one sheet"),
+            (&["fix"], "./run desk fix takes one sheet or script"),
+            (&["run"], "./run desk run takes one script;"),
+            (
+                &["audit"],
+                "./run desk audit takes one script or saved state",
+            ),
             (&["compare", SHEET], "./run desk compare takes a sheet"),
             (&["diff", SHEET], "./run desk diff takes two sheets"),
             (&["run", SCRIPT, "--plain"], "is for ./run desk pairs"),
@@ -81,6 +87,11 @@ fn messages_name_the_program_as_it_was_called() {
         }
     });
     let help = said(&["help"], "Here desk stands for ./run desk.");
+    assert!(help.contains("desk fix SHEET or SCRIPT "), "{help}");
+    assert!(
+        help.contains("(0 FROM can become TO, also where that has a condition)"),
+        "{help}"
+    );
     assert!(help.starts_with(&flat(run(&["help"]))), "{help}");
 }
 

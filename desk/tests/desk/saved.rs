@@ -209,7 +209,8 @@ fn a_full_state_does_not_tell() {
         let (status, out, error) = ask("2", "1");
         assert_eq!(status, 3, "{out}");
         assert!(out.contains("method 1? the state does not tell"), "{out}");
-        assert!(error.contains("the state does not tell"), "{error}");
+        let open = ": the state does not tell whether subject 2 could have called method 1\n";
+        assert!(error.ends_with(open), "{error}");
         assert!(
             out.contains("no cell is free for further ones; whether"),
             "{out}"

@@ -93,8 +93,10 @@ fn what_is_not_settled_is_told() {
                 out.ends_with("Could subject 1 have called method 0? that is not settled\n"),
                 "{out}"
             );
-            assert!(error.ends_with(": that is not settled\n"), "{error}");
+            let open = ": whether subject 1 could have called method 0 is not settled";
+            assert!(error.ends_with(&format!("{open}\n")), "{error}");
             let (_, out, _) = run(&[&asked[..], &["--json"]].concat());
+            assert!(out.contains(open), "{out}");
             let question = Value::read(&out).get("result").get("question").clone();
             assert_eq!(question.get("answer"), &Value::Null);
         });

@@ -379,7 +379,7 @@ const SAID: [(&str, &str); 14] = [
     ("06", "cell 0 is held by subject 0"),
     ("07", "type 2 is no class: it says denied of method 1"),
     ("08", "a reference of type 2 cannot become type 5: of method 1 type 5 says avail and type 2 says denied"),
-    ("09", "type 4 has own, and subject 0 owns the object"),
+    ("09", "type 4 has own, and the receiver, subject 1, does not own the object: subject 0 does"),
     ("10", "of method 1 type 5 says avail and the adapter at place 1 (it lets through method 0) says unavail"),
     ("11", "types"),
     ("12", "it needs another of the 128 places, and all are used up"),
