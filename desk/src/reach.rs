@@ -225,7 +225,8 @@ impl<'a> Search<'a> {
             reach,
             keys: Keys::of(visit),
             holder: cell.holder,
-            owner: owner(visit, cell) == Some(cell.holder),
+            // where no type has own nothing leads past adapters (X3), and the owner can do no more than others
+            owner: owner(visit, cell) == Some(cell.holder) && reach.types.iter().any(|one| one.own),
             start: cell.type_,
             found: found.collect(),
             offered,

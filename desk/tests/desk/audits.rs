@@ -2,6 +2,7 @@
 
 use crate::files::{accepted, read, run, with_file, NAMES, SCRIPT, SHEET};
 use crate::json::Value;
+use crate::pictures::sixteen;
 use desk::scripts::requests::split;
 use pilgonca::Visit;
 use reference::generators::{generate, Profile};
@@ -71,6 +72,26 @@ fn an_owner_comes_to_what_its_cell_hides() {
             "{out}"
         );
         assert!(!out.contains("subject 1 (tour)     cell 1"), "{out}");
+    });
+}
+
+/// Where no type has own, what an adapter took away does not come back for the owner either, and that is settled at once.
+#[test]
+fn an_owner_without_own_types_comes_to_no_more() {
+    let mut script = sixteen() + "do=new 0 1 1\n";
+    for hidden in 0..8 {
+        let (cell, [denies, shows]) = (2 * hidden, [2 + 2 * hidden, 3 + 2 * hidden]);
+        script += &format!(
+            "do=move 0 {cell} 0 {denies}\ndo=move 0 {} 0 {shows}\n",
+            cell + 1
+        );
+    }
+    with_file("no-own", script.as_bytes(), |path| {
+        let out = accepted(&["audit", path, "--method", "0"]);
+        let told = out.lines().filter(|line| line.contains("subject 0  cell "));
+        let told: Vec<&str> = told.collect();
+        assert_eq!(told.len(), 1, "{out}");
+        assert!(told[0].ends_with("cell 0    can call"), "{out}");
     });
 }
 

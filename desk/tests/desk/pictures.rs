@@ -19,7 +19,7 @@ fn cells_256() -> Vec<u8> {
 
 /// A sheet of 16 methods: type 1 is a class with all of them. Those above k are avail in type 2 + 2k and in the next; the others are denied in the first of
 /// these and optional in the next.
-fn sixteen() -> String {
+pub fn sixteen() -> String {
     let type_ = |number: usize, method: &dyn Fn(usize) -> &'static str| {
         let methods: String = (0..16).map(|one| format!("m={}\n", method(one))).collect();
         format!("type={number}\nrep=ref\ncat=0\nown=no\n{methods}")
