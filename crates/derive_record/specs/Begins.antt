@@ -11,8 +11,8 @@ use Rattle.spec_model.specs.Check.{noRawType}
 use Rattle.table_record.specs.declared.Counts.{Counts}
 use Rattle.table_record.specs.declared.TypeRec.{TypeRec}
 use Rattle.table_record.specs.Store.{rawOf, typesIn, typesTo, refIn, Put}
-use Rattle.derive_slots.specs.declared.Work.{Work}
-use Rattle.derive_slots.specs.Slots.{leftIn, rightIn, pendingRecord, Finished}
+use Rattle.derive_type.specs.declared.Work.{Work}
+use Rattle.derive_type.specs.NewType.{leftIn, rightIn, pendingRecord, Finished}
 use Rattle.derive_record.specs.declared.Derived.the-variants.{Full, At}
 use Rattle.derive_record.specs.declared.Begun.{Begun}
 use Rattle.derive_record.specs.declared.Begun.the-variants.{Settled, New}

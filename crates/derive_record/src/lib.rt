@@ -1,7 +1,7 @@
 // What the three derivations (D) share, over the lent bytes of a type table: the known type that answers at once, and the record of a new one, begun and
 // finished. A new type takes the next number and stands there with every method denied until its signatures are derived; then it is stored once, whole. Both
 // sides are read before anything is derived, and nothing below the count is ever written (B22). What the results mean is in specs/Begins.antt, the order in
-// which signatures are derived in crate `derive_slots`.
+// which signatures are derived in crate `derive_slots`, the record itself in `derive_type`.
 ghost use mathlib.Core.Path.{_≡_};
 ghost use mathlib.Core.Bool.{true};
 ghost use Prim.Native.Nat.{_≤_, _<_};
@@ -14,7 +14,7 @@ ghost use Rattle.table_record.specs.Limits.{Limits};
 ghost use Rattle.table_record.specs.Layout.{typesSize};
 ghost use Rattle.derive_record.specs.Begins.{Begins, Opened, Stored, foundOf, tabled};
 use derive_slots::SLOT_BYTES;
-use derive_slots::Work;
+use derive_type::Work;
 use table_record::Counts;
 use table_record::Key;
 use table_record::TYPE_BYTES;
@@ -120,7 +120,7 @@ pub fn start(b: &mut [u8; TYPE_BYTES], n: usize, kind: u8, t: usize, s: usize) -
         righthead,
         right,
     };
-    let z = derive_slots::pending(w);
+    let z = derive_type::pending(w);
     table_store::put_type(b, n, z);
     w
 }
@@ -130,6 +130,6 @@ pub fn finish(b: &mut [u8; TYPE_BYTES], n: usize, w: Work, methods: usize, bytes
     requires { ⌜ (n < maxTypes) × (length (now b) ≡ typesSize) × (w .key .kind < 3) × (w .key .left < 256) × (w .key .right < 256) × (methods ≤ maxMethods) ⌝ }
     ensures { λ _. ⌜ Stored w methods n bytes (now (b .entry)) (now (b .exit)) ⌝ }
 {
-    let z = derive_slots::finished(w, methods, bytes);
+    let z = derive_type::finished(w, methods, bytes);
     table_store::put_type(b, n, z);
 }

@@ -15,8 +15,8 @@ use Rattle.spec_model.proofs.Tests.{so-ltb}
 use Rattle.table_record.specs.declared.Counts.{Counts}
 use Rattle.table_record.specs.Store.{rawMethod, emptyMethod, rawTable, typesIn, linksIn, withCount}
 use Rattle.table_record.proofs.Lists.{same-or}
-use Rattle.derive_slots.specs.declared.Work.{Work}
-use Rattle.derive_slots.specs.Slots.{newRecord}
+use Rattle.derive_type.specs.declared.Work.{Work}
+use Rattle.derive_type.specs.NewType.{newRecord}
 use Rattle.derive_record.specs.declared.Derived.{Derived}
 use Rattle.derive_record.specs.declared.Derived.the-variants.{Full, At}
 use Rattle.derive_sub_sup.specs.Link.{Coded, CodedTo, CodesStay}

@@ -34,13 +34,13 @@ use Rattle.derive_record.specs.declared.Derived.{Derived}
 use Rattle.derive_record.specs.declared.Derived.the-variants.{Full, At}
 use Rattle.derive_record.specs.declared.Begun.{Begun}
 use Rattle.derive_record.specs.declared.Begun.the-variants.{Settled, New}
-use Rattle.derive_slots.specs.declared.Work.{Work}
+use Rattle.derive_type.specs.declared.Work.{Work}
 use Rattle.derive_slots.specs.declared.Slot.{Slot}
-use Rattle.derive_slots.specs.Slots.{slotAt, shared, fillAt, leftIn, rightIn, methodIn, methodAt, kindIn, mainOf, newRecord, pendingRecord, Finished}
+use Rattle.derive_slots.specs.Slots.{slotAt, methodAt, methodSlots, slotsSize}
+use Rattle.derive_type.specs.NewType.{shared, fillAt, leftIn, rightIn, methodIn, kindIn, mainOf, newRecord, pendingRecord, Finished}
 use Rattle.derive_record.specs.Begins.{Begins, Opened, Stored, tabled}
 use Rattle.derive_sub_sup.specs.Link.{Ready, Writes, recordAt, Kept, ExactAt, Exact, ExactTo, Sized, Leaves, Coded, Derives, Gives, derivedIn, derivationIn}
-use Rattle.derive_slots.proofs.Runs.{Row, methods-run}
-use Rattle.derive_slots.specs.Slots.{methodSlots, slotsSize}
+use Rattle.derive_type.proofs.Runs.{Row, methods-run}
 use Rattle.derive_record.proofs.Begins.{ref-rep}
 use Rattle.derive_sub_sup.proofs.Bytes.{record-same, exact-same, put-below, put-above, put-exact, kept-take, exact-take}
 use Rattle.derive_sub_sup.proofs.Codes.{denied-coded, methods-coded, new-coded, codes-stay}

@@ -13,18 +13,19 @@ use Rattle.spec_model.specs.Restriction.{argKind, answerKind, Derivation, deriv
 use Rattle.table_record.specs.declared.Counts.{Counts}
 use Rattle.table_record.specs.Store.{withCount}
 use Rattle.table_record.specs.Limits.{Limits}
-use Rattle.derive_slots.specs.declared.Work.{Work}
+use Rattle.derive_type.specs.declared.Work.{Work}
 use Rattle.derive_record.specs.declared.Derived.{Derived}
 use Rattle.derive_record.specs.declared.Derived.the-variants.{Full, At}
 use Rattle.derive_slots.specs.declared.Slot.{Slot}
 use Rattle.derive_slots.specs.declared.Slot.the-variants.{Empty, Argument, Answer}
-use Rattle.derive_slots.specs.Slots.{slotAt, Low, leftIn, rightIn, methodIn, kindIn, methodSlots, slotsSize}
+use Rattle.derive_slots.specs.Slots.{slotAt, Low, methodSlots, slotsSize}
+use Rattle.derive_type.specs.NewType.{leftIn, rightIn, methodIn, kindIn}
 use Rattle.derive_record.specs.Begins.{Below, tabled}
 use Rattle.derive_sub_sup.specs.Link.{Ready, Kept, Sized, Exact, ExactTo, Coded, CodedTo, Gives, derivedIn}
 use Rattle.derive_sub_sup.proofs.Bytes.{exact-same}
 use Rattle.table_record.proofs.Lists.{lt-or-ge}
 use Rattle.table_record.specs.Layout.{typesSize}
-use Rattle.derive_slots.proofs.Runs.{Row, step, runs}
+use Rattle.derive_type.proofs.Runs.{Row, step, runs}
 
 -- the bytes of the slots before the first turn
 abbrev pub zeros : List ℕ

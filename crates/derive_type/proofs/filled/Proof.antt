@@ -6,11 +6,11 @@ use borrow.Author.Tests.{not-true, not-false}
 use Rattle.spec_model.specs.Check.{kindOf}
 use Rattle.spec_model.specs.Records.{argumentSlots}
 use Rattle.table_record.specs.Store.{rawMethod}
-use Rattle.derive_slots.specs.Slots.{signedMethod}
-use Rattle.derive_slots.proofs.Laws.{Made, bare-made, signed-made}
+use Rattle.derive_type.specs.NewType.{signedMethod}
+use Rattle.derive_type.proofs.Laws.{Made, bare-made, signed-made}
 use borrow.Author.Needs.{needs}
-use Rattle.derive_slots.proofs.filled.Statement.{statement}
-use Rattle.derive_slots.proofs.filled.Tie as tie
+use Rattle.derive_type.proofs.filled.Statement.{statement}
+use Rattle.derive_type.proofs.filled.Tie as tie
 
 state-of-requires : tie.Need-state-of-requires
 state-of-requires c κs = search needs

@@ -4,10 +4,10 @@ use mathlib.Core.List.{List, map}
 use Rattle.table_record.specs.declared.Method.{Method}
 use Rattle.table_record.specs.declared.TypeRec.{TypeRec}
 use Rattle.table_record.specs.Store.{rawMethod}
-use Rattle.derive_slots.specs.Slots.{newRecord}
+use Rattle.derive_type.specs.NewType.{newRecord}
 use borrow.Author.Needs.{needs}
-use Rattle.derive_slots.proofs.pending.Statement.{statement}
-use Rattle.derive_slots.proofs.pending.Tie as tie
+use Rattle.derive_type.proofs.pending.Statement.{statement}
+use Rattle.derive_type.proofs.pending.Tie as tie
 
 empty-requires : tie.Need-empty-requires
 empty-requires c κs = search needs

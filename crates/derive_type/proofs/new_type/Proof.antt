@@ -1,9 +1,9 @@
 -- The head as it is put together.
 use mathlib.Core.Path.{refl}
-use Rattle.derive_slots.proofs.Laws.{head-made}
+use Rattle.derive_type.proofs.Laws.{head-made}
 use borrow.Author.Needs.{needs}
-use Rattle.derive_slots.proofs.new_type.Statement.{statement}
-use Rattle.derive_slots.proofs.new_type.Tie as tie
+use Rattle.derive_type.proofs.new_type.Statement.{statement}
+use Rattle.derive_type.proofs.new_type.Tie as tie
 
 category-requires : tie.Need-category-requires
 category-requires c κs = search needs

@@ -2,8 +2,8 @@
 use mathlib.Core.Path.{sym, ap}
 use mathlib.Core.Bool.{Bool, cond}
 use borrow.Author.Tests.{lt-ltb, le-ltb}
-use Rattle.derive_slots.proofs.argument_byte.Statement.{statement}
-use Rattle.derive_slots.proofs.argument_byte.Tie as tie
+use Rattle.derive_type.proofs.argument_byte.Statement.{statement}
+use Rattle.derive_type.proofs.argument_byte.Tie as tie
 
 returns : tie.Need-returns
 returns c = let a = c .before .args in ap (λ (b : Bool). cond b (a .x) 0) (sym (lt-ltb (a .i) (a .count) (c .if1 .taken)))

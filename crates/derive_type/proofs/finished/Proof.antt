@@ -1,9 +1,9 @@
 -- The invariant is `Filling`: the methods so far are those that their slots make. Rests on `filling-starts`, `filling-next` and `filling-ends`.
 use Prim.Native.Nat.{_-_}
-use Rattle.derive_slots.proofs.Laws.{Filling, raw-methods, filling-starts, filling-next, filling-ends}
+use Rattle.derive_type.proofs.Laws.{Filling, raw-methods, filling-starts, filling-next, filling-ends}
 use borrow.Author.Needs.{needs}
-use Rattle.derive_slots.proofs.finished.Statement.{statement}
-use Rattle.derive_slots.proofs.finished.Tie as tie
+use Rattle.derive_type.proofs.finished.Statement.{statement}
+use Rattle.derive_type.proofs.finished.Tie as tie
 
 abbrev Inv-loop : tie.InvT-loop
 Inv-loop methods w slots all₀ j₀ all j = Filling w slots methods all j

@@ -15,9 +15,10 @@ use Rattle.spec_model.specs.Table.{State, Kind, Method, Table, permit, signed}
 use Rattle.spec_model.specs.Restriction.{restricted, argKind, answerKind, Derivation, deriveArgs, deriveAnswer, deriveMethod, deriveMethods}
 use Rattle.spec_model.specs.Check.{answerOf}
 use Rattle.spec_model.specs.Records.{argumentSlots}
 use Rattle.derive_slots.specs.declared.Slot.{Slot}
 use Rattle.derive_slots.specs.declared.Slot.the-variants.{Empty, Argument, Answer}
-use Rattle.derive_slots.specs.Slots.{argumentSlot, answerSlot, slotOf, slotAt, shared, fill, fillAt, methodSlots}
+use Rattle.derive_slots.specs.Slots.{argumentSlot, answerSlot, slotOf, slotAt, methodSlots}
+use Rattle.derive_type.specs.NewType.{shared, fill, fillAt}
 
 -- the table as it has become, and the bytes of the slots
 abbrev pub Row : Type 0

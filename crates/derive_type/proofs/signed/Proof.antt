@@ -1,8 +1,8 @@
 -- A permitted method holds one byte for each of its slots, the ones behind its arguments 0.
-use Rattle.derive_slots.proofs.Laws.{signed-bytes}
+use Rattle.derive_type.proofs.Laws.{signed-bytes}
 use borrow.Author.Needs.{needs}
-use Rattle.derive_slots.proofs.signed.Statement.{statement}
-use Rattle.derive_slots.proofs.signed.Tie as tie
+use Rattle.derive_type.proofs.signed.Statement.{statement}
+use Rattle.derive_type.proofs.signed.Tie as tie
 
 array-read-argument-byte : tie.Need-array-read-argument-byte
 array-read-argument-byte c = search needs

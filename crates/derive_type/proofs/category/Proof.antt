@@ -1,7 +1,7 @@
 -- By the kind: rests on `main-right` and `main-left`.
-use Rattle.derive_slots.proofs.Laws.{main-left, main-right}
-use Rattle.derive_slots.proofs.category.Statement.{statement}
-use Rattle.derive_slots.proofs.category.Tie as tie
+use Rattle.derive_type.proofs.Laws.{main-left, main-right}
+use Rattle.derive_type.proofs.category.Statement.{statement}
+use Rattle.derive_type.proofs.category.Tie as tie
 
 returns : tie.Need-returns
 returns c = main-right (c .before .before .args .w) (c .if1 .taken)
