@@ -5,36 +5,42 @@ use conformance::worst_scripts::layered;
 use pilgonca::raw::script;
 use pilgonca::script as printed;
 use reference::generators::{generate, Profile, PROFILES};
+use reference::refusal::Refusal;
 use reference::script::{self as ours, MAX_INPUT};
 
-/// Scripts of the profiles and damaged ones, from seed 0 on.
-fn compare(profiles: [(Profile, u64); 6], damages: u64) -> Met {
+/// Scripts of the profiles and damaged ones, from seed 0 on, and the numbers that none of them meets.
+fn compare(profiles: &[(Profile, u64)], damages: u64, unmet: &[Refusal]) -> Met {
     let mut met = Met::default();
     for (profile, seeds) in profiles {
-        for seed in 0..seeds {
+        for seed in 0..*seeds {
             let from = format!("{} {seed}", profile.name());
-            met.same(&printed, &generate(seed, profile), &from);
+            met.same(&printed, &generate(seed, *profile), &from);
         }
     }
     for seed in 0..damages {
         met.same(&printed, &damaged(seed), &format!("damaged here {seed}"));
     }
     println!("{}", met.text());
-    assert_eq!(met.missing(), [4, 19]);
+    assert_eq!(met.missing(), unmet);
     met
 }
 
 #[test]
 fn the_reference_prints_the_same() {
     let profiles = [
-        (Profile::Small, 3000),
-        (Profile::Medium, 1000),
+        (Profile::Small, 1500),
+        (Profile::Medium, 500),
         (Profile::Big, 100),
         (Profile::Full, 80),
         (Profile::Long, 80),
-        (Profile::Damaged, 3000),
     ];
-    compare(profiles, 4000);
+    compare(&profiles, 0, &[1, 2, 3, 4, 19]);
+}
+
+#[test]
+fn the_reference_prints_the_same_for_damaged_scripts() {
+    let met = compare(&[(Profile::Damaged, 1500)], 2000, &[4, 18, 19]);
+    assert!(met.malformed > 500 && met.too_long > 5);
 }
 
 #[test]
@@ -48,7 +54,7 @@ fn the_reference_prints_the_same_for_millions_of_requests() {
         (Profile::Long, 6000),
         (Profile::Damaged, 200_000),
     ];
-    let met = compare(profiles, 300_000);
+    let met = compare(&profiles, 300_000, &[4, 19]);
     assert!(met.requests > 5_000_000);
 }
 

@@ -1,5 +1,5 @@
 -- Worked cases beside Case P (K13), computed from the definitions: references in arguments and answers through adapters, with the cells and places they become. The refusals that
--- Case P does not meet stand in crate law_model (CasesRefused): no wrong version needs them.
+-- Case P does not meet stand in crate law_model (CasesRefused), four references in one call in law_rules (CasesFour): no wrong version needs them.
 use mathlib.Core.Path.{_≡_, refl}
 use mathlib.Core.List.{List, [], _∷_}
 use mathlib.Core.Option.{none, some}
@@ -37,15 +37,6 @@ passing = sheetOf 2 2 (
     ∷ type (bare unavail ∷ bare avail ∷ [])
     ∷ [])
 
--- the same with two arguments, exchanged between the class and the cell's type
-abbrev passingTwo : Table
-passingTwo = sheetOf 2 2 (
-    type (signed avail (1 ∷ 2 ∷ []) none ∷ bare avail ∷ [])
-    ∷ type (bare denied ∷ bare avail ∷ [])
-    ∷ type (bare unavail ∷ bare avail ∷ [])
-    ∷ type (signed avail (2 ∷ 1 ∷ []) none ∷ bare unavail ∷ [])
-    ∷ [])
-
 -- ---- answers: as `twice`, every type answering method 0 with a reference
 abbrev answeringTwice : Table
 answeringTwice = sheetOf 2 3 (
@@ -67,14 +58,6 @@ references =
       cells = cell 0 2 1 ∷ cell 1 2 1 ∷ cell 1 0 2 ∷ cell 0 1 3 ∷ [];
       places = object 0 0 ∷ adapter 0 6 ∷ object 0 1 ∷ adapter 2 9 ∷ [];
     }
-    -- Two arguments (C10, C17): a cell for each, in order, of the class's first and second argument type.
-    ∷ record {
-      state = loaded passingTwo;
-      requests = new′ 0 0 3 ∷ move′ 0 0 1 3 ∷ new′ 1 0 0 ∷ new′ 1 0 0 ∷ call′ 1 1 0 (pos 2 ∷ pos 3 ∷ []) ∷ [];
-      gives = got (pair 0 1) ∷ got (pair 1 1) ∷ got (pair 2 2) ∷ got (pair 3 3) ∷ got (pair 0 1) ∷ [];
-      cells = cell 0 3 1 ∷ cell 1 3 1 ∷ cell 1 0 2 ∷ cell 1 0 3 ∷ cell 0 1 4 ∷ cell 0 2 5 ∷ [];
-      places = object 0 0 ∷ adapter 0 7 ∷ object 0 1 ∷ object 0 1 ∷ adapter 2 11 ∷ adapter 3 13 ∷ [];
-    }
     -- An answer through two adapters (A7, A8, A10): the caller holds the new cell, by the type that is due.
     ∷ record {
       state = loaded answeringTwice;
@@ -87,4 +70,4 @@ references =
 
 pub references-worked : AllWork references
 unfolding run
-references-worked = (refl, (refl, (refl, tt)))
+references-worked = (refl, (refl, tt))
