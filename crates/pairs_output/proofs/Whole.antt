@@ -15,7 +15,7 @@ use Rattle.table_record.specs.Store.{tableIn}
 use Rattle.table_record.proofs.Lists.{from-same}
 use Rattle.table_record.specs.Limits.{Checked}
 use Rattle.table_check.proofs.Accepted.{accepted-checked}
-use Rattle.relation_search.specs.Comparing.{comparisonAt}
+use Rattle.relation_compare.specs.Comparing.{comparisonAt}
 use Rattle.relation_compare.specs.Pairs.{pairCode, pairTable}
 use Rattle.relation_compare.proofs.Laws.{pair-at}
 use Rattle.spec_sheet.specs.Lines.{bytes, join}

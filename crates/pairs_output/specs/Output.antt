@@ -7,7 +7,7 @@ use lib.ListN.{length}
 use Rattle.spec_model.specs.Basics.{from}
 use Rattle.spec_model.specs.Table.{Table}
 use Rattle.spec_model.specs.Relations.{Comparison, bit, related}
-use Rattle.relation_search.specs.Comparing.{comparisonAt}
+use Rattle.relation_compare.specs.Comparing.{comparisonAt}
 use Rattle.spec_sheet.specs.Lines.{bytes, join}
 use Rattle.spec_sheet.specs.Numbers.{decimalIn}
 use Rattle.spec_sheet.specs.Text.{numberText}

@@ -15,8 +15,8 @@ use Rattle.spec_model.specs.Check.{tableOf, tableAccepted, compareHanded}
 use Rattle.table_record.specs.declared.Counts.{Counts}
 use Rattle.table_record.specs.Store.{rawTable, tableIn}
 use Rattle.table_record.proofs.Lists.{is-from, from-first}
-use Rattle.relation_search.specs.declared.Comparison.{Comparison}
-use Rattle.relation_search.specs.Comparing.{comparisonOf, comparisonAt}
+use Rattle.relation_compare.specs.declared.Comparison.{Comparison}
+use Rattle.relation_compare.specs.Comparing.{comparisonOf, comparisonAt}
 use Rattle.base_numbers.specs.Index.{indexOf}
 use Rattle.base_numbers.proofs.Laws.{index-unknown, index-known}
 use Rattle.relation_compare.specs.declared.Compared.{Compared}

@@ -5,7 +5,7 @@ use Prim.Native.Nat.{ℕ}
 use Rattle.spec_model.specs.Basics.{Res, refuse, ok}
 use Rattle.spec_model.specs.Relations as Model
 use Rattle.spec_model.specs.Refusals.{outOfRange, unknownType}
-use Rattle.relation_search.specs.Comparing.{comparisonOf}
+use Rattle.relation_compare.specs.Comparing.{comparisonOf}
 use Rattle.relation_compare.specs.declared.Compared.{Compared}
 use Rattle.relation_compare.specs.declared.Compared.the-variants.{Unfit, Unknown, Comparison}
 use Rattle.relation_compare.specs.declared.Pairs.{Pairs}

@@ -1,2 +1,3 @@
+pub mod Comparing
 pub mod Compared
 pub mod Pairs

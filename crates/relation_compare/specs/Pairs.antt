@@ -9,7 +9,7 @@ use Rattle.spec_model.specs.Table.{Table, maxSheetTypes}
 use Rattle.spec_model.specs.Relations.{Comparison, bit}
 use Rattle.spec_model.specs.Check.{RawTable, tableOf, tableAccepted}
 use Rattle.spec_model.specs.Refusals.{outOfRange}
-use Rattle.relation_search.specs.Comparing.{comparisonAt}
+use Rattle.relation_compare.specs.Comparing.{comparisonAt}
 
 -- its bytes
 abbrev pub pairsSize : ℕ

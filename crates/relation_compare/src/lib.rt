@@ -1,21 +1,53 @@
-// Compare at two numbers that are handed in, and the pair table of a sheet: the same comparison for every pair of its types.
+// The comparison of a pair of types, each relation by a search of its own; Compare at two numbers that are handed in, and the pair table of a sheet: the same
+// comparison for every pair of its types.
 ghost use mathlib.Core.Path.{_≡_};
 ghost use Prim.Native.Nat.{_+_, _*_, _≤_};
 ghost use Rattle.spec_model.specs.Relations.{compare};
 ghost use Rattle.spec_model.specs.Check.{compareHanded};
 ghost use Rattle.table_record.specs.Store.{rawTable, tableIn};
 ghost use Rattle.table_record.specs.Limits.{Checked};
-ghost use Rattle.relation_search.specs.Comparing.{comparisonOf};
+ghost use Rattle.relation_compare.specs.Comparing.{comparisonOf, comparisonAt};
 ghost use Rattle.relation_compare.specs.Compared.{comparedOf, pairsGiven};
 ghost use Rattle.relation_compare.specs.Pairs.{pairCode, pairEntry, pairTable, noPairs, pairsHanded};
 use base_numbers::bit_of;
-use relation_search::Comparison;
+use relation_rule::Relation;
+use relation_search::related_at;
 use table_record::Counts;
 use table_record::LINK_BYTES;
 use table_record::TYPE_BYTES;
 
 // The bytes of a pair table (B24).
 pub const PAIR_BYTES: usize = Counts::SHEET_TYPES * Counts::SHEET_TYPES;
+
+// The comparison of a pair of types (R14).
+pub struct Comparison {
+    pub subtype: bool,
+    pub strict: bool,
+    pub loose: bool,
+    pub free: bool,
+}
+
+fn comparison_at(
+    b: &[u8; TYPE_BYTES],
+    l: &[u8; LINK_BYTES],
+    c: Counts,
+    t: usize,
+    s: usize,
+) -> Comparison
+    requires { ⌜ Checked (now l) c ⌝ }
+    ensures { λ r. ⌜ comparisonOf r ≡ comparisonAt (tableIn (now (b .entry)) (now (l .entry)) c) t s ⌝ }
+{
+    let subtype = related_at(b, l, c, Relation::Subtype, t, s);
+    let strict = related_at(b, l, c, Relation::Strict, t, s);
+    let loose = related_at(b, l, c, Relation::Loose, t, s);
+    let free = related_at(b, l, c, Relation::Free, t, s);
+    Comparison {
+        subtype,
+        strict,
+        loose,
+        free,
+    }
+}
 
 // What Compare comes to (R14): 2 for a table that is not fit, 7 for a number that names no type, or the comparison.
 pub enum Compared {
@@ -43,7 +75,7 @@ fn compare_checked(
     if c.types <= y {
         return Compared::Unknown;
     }
-    let a = relation_search::comparison_at(b, l, c, x, y);
+    let a = comparison_at(b, l, c, x, y);
     Compared::Comparison(a)
 }
 
@@ -85,7 +117,7 @@ fn pair_entry(b: &[u8; TYPE_BYTES], l: &[u8; LINK_BYTES], c: Counts, t: usize, s
     if c.sheet <= s {
         return 0;
     }
-    let a = relation_search::comparison_at(b, l, c, t, s);
+    let a = comparison_at(b, l, c, t, s);
     pair_code(a)
 }
 

@@ -1,5 +1,5 @@
 // What a relation asks of a pair of types (T, S) without their signatures (R8 to R12): the states of a method, representation, category, own.
-// The pairs that signatures lead to are found in crate `relation_search`.
+// The pairs that signatures lead to are found in crate `relation_found`.
 ghost use mathlib.Core.Path.{_≡_};
 ghost use mathlib.Core.Bool.{false, _&&_};
 ghost use mathlib.Core.List.{List, []};

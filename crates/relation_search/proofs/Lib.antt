@@ -1,6 +1,3 @@
-pub mod Pairs
-pub mod Buffer
-pub mod Signatures
+pub mod Methods
 pub mod Types
-pub mod Steps
 pub mod Loop

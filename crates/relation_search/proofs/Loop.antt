@@ -3,10 +3,10 @@
 use mathlib.Core.Path.{_≡_, refl, ap, sym, subst, _∙_}
 use mathlib.Core.Logic.{⊎-elim}
 use mathlib.Core.Bool.{Bool, true, false, _&&_, So}
-use mathlib.Core.List.{List}
+use mathlib.Core.List.{List, _∷_, map}
 use Prim.Native.Nat.{ℕ, zero, suc, _+_, _*_, _/_, _%_, _≤_, _<_}
 use native.Mathlib.Omega.{arith}
-use lib.Dec.{ltb}
+use lib.Dec.{leb, ltb}
 use lib.ListN.{length, getD, set, length-set, replicate, length-replicate}
 use lib.Seq.{getD-set-same, getD-set-other}
 use Rattle.spec_model.specs.Table.{Table, size, maxTypes}
@@ -15,9 +15,22 @@ use Rattle.spec_model.proofs.Tests.{so-ltb}
 use Rattle.spec_model.proofs.Rules.{never, both, rule-test, rule-says}
 use Rattle.spec_model.proofs.Largest.{largest, keeps-related}
 use Rattle.table_record.proofs.Lists.{same-or}
-use Rattle.relation_search.specs.Found.{found, Within, Pair, Listed, Grew, Broke, marksIn, queueIn, Added, Clear, maxPairs}
-use Rattle.relation_search.proofs.Pairs.{found-says, found-test, pair-as, yeses-set}
-use Rattle.relation_search.proofs.Buffer.{none-found, none-queued}
+use Rattle.relation_found.specs.Found.{found, Within, Pair, Listed, Grew, Broke, marksIn, queueIn, Added, maxPairs}
+use Rattle.relation_search.specs.Search.{Clear}
+use Rattle.relation_found.proofs.Pairs.{found-says, found-test, pair-as, yeses-set}
+
+-- ---- no pair is found
+map-replicate : {A B : Type 0} (f : A → B) (n : ℕ) (a : A) → map f (replicate n a) ≡ replicate n (f a)
+map-replicate f zero a = refl
+map-replicate {B = B} f (suc n) a = ap (λ (zs : List B). f a ∷ zs) (map-replicate f n a)
+
+none-found : (n : ℕ) → marksIn (replicate n 0) ≡ replicate n false
+unfolding marksIn
+none-found n = map-replicate (λ (v : ℕ). leb 32768 v) n 0
+
+none-queued : (n : ℕ) → queueIn (replicate n 0) ≡ replicate n 0
+unfolding queueIn
+none-queued n = map-replicate (λ (v : ℕ). v % 32768) n 0
 
 -- ---- the root
 yeses-none : (n : ℕ) → yeses (replicate n false) ≡ 0

@@ -18,11 +18,12 @@ use Rattle.table_record.specs.Store.{typesIn, headOf, tableIn, methodIn}
 use Rattle.table_record.proofs.Lists.{from-first}
 use Rattle.table_record.proofs.Tables.{type-is}
 use Rattle.table_record.proofs.Codes.{number-rep, ref-rep}
-use Rattle.relation_search.specs.declared.Step.{Step}
-use Rattle.relation_search.specs.Found.{found, Listed, Grew, Broke, Met, eachBelow}
+use Rattle.relation_found.specs.declared.Step.{Step}
+use Rattle.relation_found.specs.Found.{found, Listed, Grew, Broke, Met}
 use Rattle.relation_rule.specs.Parts.{outerHeads}
-use Rattle.relation_search.proofs.Pairs.{clash, stay, met-as}
-use Rattle.relation_search.proofs.Signatures.{each-says, each-test}
+use Rattle.relation_found.proofs.Pairs.{clash, stay, met-as}
+use Rattle.relation_search.specs.Search.{eachBelow}
+use Rattle.relation_search.proofs.Methods.{each-says, each-test}
 use Rattle.relation_rule.proofs.Outside.{heads-rule, outer-sort}
 
 -- every method of two lists that are as long

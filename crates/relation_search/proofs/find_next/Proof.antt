@@ -1,9 +1,9 @@
 -- What is in the queue is a pair of the table; there are at most 16384.
 use native.Mathlib.Omega.{arith}
 use borrow.Author.Needs.{needs}
-use Rattle.relation_search.specs.Found.{marksIn, queueIn}
-use Rattle.relation_search.proofs.Pairs.{counted, fits}
-use Rattle.relation_search.proofs.Buffer.{queue-at, buffer-length}
+use Rattle.relation_found.specs.Found.{marksIn, queueIn}
+use Rattle.relation_found.proofs.Pairs.{counted, fits}
+use Rattle.relation_found.proofs.Buffer.{queue-at, buffer-length}
 use Rattle.relation_search.proofs.find_next.Statement.{statement}
 use Rattle.relation_search.proofs.find_next.Tie as tie
 

@@ -2,7 +2,7 @@
 use native.Mathlib.Omega.{arith}
 use borrow.Author.Needs.{needs}
 use borrow.Author.Tests.{not-true, not-false}
-use Rattle.relation_search.specs.Found.{marksIn, queueIn}
+use Rattle.relation_found.specs.Found.{marksIn, queueIn}
 use Rattle.relation_search.proofs.Types.{types-broke, types-numbers, types-methods}
 use Rattle.relation_rule.specs.Asked.{relationOf}
 use Rattle.relation_search.proofs.find_types.Statement.{statement}

@@ -7,8 +7,8 @@ use borrow.Author.Needs.{needs}
 use Rattle.table_record.specs.Store.{tableIn}
 use Rattle.table_record.proofs.Tables.{size-is}
 use Rattle.relation_rule.specs.Asked.{relationOf}
-use Rattle.relation_search.specs.Found.{marksIn, queueIn, maxPairs}
-use Rattle.relation_search.proofs.Pairs.{fits}
+use Rattle.relation_found.specs.Found.{marksIn, queueIn, maxPairs}
+use Rattle.relation_found.proofs.Pairs.{fits}
 use Rattle.relation_search.proofs.Loop.{Going, start-at, again, broken, ended}
 use Rattle.relation_search.proofs.search_in.Statement.{statement}
 use Rattle.relation_search.proofs.search_in.Tie as tie

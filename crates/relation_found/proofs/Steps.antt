@@ -6,17 +6,16 @@ use Prim.Native.Nat.{ℕ, suc, _+_, _-_, _≤_, _<_}
 use native.Mathlib.Numerals.{add-one}
 use native.Mathlib.Omega.{arith}
 use lib.ListN.{length, getD, take}
-use Rattle.spec_model.specs.Table.{Method, permit}
+use Rattle.spec_model.specs.Table.{permit}
 use Rattle.spec_model.specs.Relations.{Relation, stateRule, argsRule, answerRule, methodRule}
 use Rattle.spec_model.specs.Check.{RawMethod, stateOf, answerOf, methodOf}
 use Rattle.spec_model.proofs.Rules.{first}
 use Rattle.spec_model.specs.Records.{argumentSlots}
-use Rattle.relation_search.specs.declared.Step.{Step}
-use Rattle.relation_search.specs.declared.Step.the-variants.{Tail}
-use Rattle.relation_search.specs.Found.{found, Listed, Grew, Broke, Met, eachBelow}
-use Rattle.relation_search.proofs.Pairs.{stay, broke-as, grew-as, met-as, grew-then, met-then}
-use Rattle.relation_search.proofs.Signatures.{args-differ, args-need, args-next, answer-none, answer-left, answer-right, answer-both, method-state, method-off, method-on, args-up, each-up}
-use Rattle.relation_search.proofs.Signatures.{each-says}
+use Rattle.relation_found.specs.declared.Step.{Step}
+use Rattle.relation_found.specs.declared.Step.the-variants.{Tail}
+use Rattle.relation_found.specs.Found.{found, Listed, Grew, Broke, Met}
+use Rattle.relation_found.proofs.Pairs.{stay, broke-as, grew-as, met-as, grew-then, met-then}
+use Rattle.relation_found.proofs.Signatures.{args-differ, args-need, args-next, answer-none, answer-left, answer-right, answer-both, method-state, method-off, method-on, args-up}
 
 -- the same test by another name
 met-same : (n : ℕ) (W U : (ℕ → ℕ → Bool) → Bool) → ((M : ℕ → ℕ → Bool) → U M ≡ W M)
@@ -112,25 +111,3 @@ module _ (n : ℕ) (k : Relation) (x y : RawMethod) (f : Bool) (fe : f ≡ state
       method-answer s l t s₁ l₁ t₁ m s₂ l₂ r a b p q m′ =
           met-same n (λ M. Q₁ M && Q₂ M) Q on-is s l t s₂ l₂ r
           (met-then n Q₁ Q₂ s l t s₁ l₁ t₁ s₂ l₂ r (args-up (take (x .count) (x .args)) (take (y .count) (y .args))) m (rw (p, q) at m′))
-
--- All methods of two types, X and Y.
-module _ (n : ℕ) (k : Relation) (X Y : ℕ → Method) where
-  abbrev All : ℕ → (ℕ → ℕ → Bool) → Bool
-  All m M = eachBelow m (λ j. methodRule k M (X j) (Y j))
-
-  pub methods-start : (s : List Bool) (l : List ℕ) (t : ℕ) → Listed n s l t → Grew n (All 0) s l t s l t
-  unfolding eachBelow
-  methods-start s l t h = stay n (All 0) s l t h refl
-
-  pub methods-broke : (j c : ℕ) → j < c → Broke n (λ M. methodRule k M (X j) (Y j)) → Broke n (All c)
-  methods-broke j c h b = broke-as n (λ M. methodRule k M (X j) (Y j)) (All c) (λ M w. each-says c (λ j. methodRule k M (X j) (Y j)) w j h) b
-
-  pub methods-more : (j : ℕ) (s : List Bool) (l : List ℕ) (t : ℕ) (s₁ : List Bool) (l₁ : List ℕ) (t₁ : ℕ) → Grew n (All j) s l t s₁ l₁ t₁
-      → (s₂ : List Bool) (l₂ : List ℕ) (t₂ : ℕ) → Grew n (λ M. methodRule k M (X j) (Y j)) s₁ l₁ t₁ s₂ l₂ t₂ → Grew n (All (j + 1)) s l t s₂ l₂ t₂
-  unfolding eachBelow
-  methods-more j s l t s₁ l₁ t₁ g s₂ l₂ t₂ m =
-      rw (add-one j) (grew-then n (All j) (λ M. methodRule k M (X j) (Y j)) s l t s₁ l₁ t₁ s₂ l₂ t₂ (each-up j k X Y) g m)
-
-  pub methods-end : (j c : ℕ) (s : List Bool) (l : List ℕ) (t : ℕ) (s₁ : List Bool) (l₁ : List ℕ) (t₁ : ℕ) → Grew n (All j) s l t s₁ l₁ t₁ → c ≤ j → j ≤ c
-      → Grew n (All c) s l t s₁ l₁ t₁
-  methods-end j c s l t s₁ l₁ t₁ g p q = let e : j ≡ c = omega arith in subst (λ (m : ℕ). Grew n (All m) s l t s₁ l₁ t₁) e g

@@ -1,9 +1,9 @@
 -- One law for each way in which it returns.
 use borrow.Author.Needs.{needs}
-use Rattle.relation_search.specs.Found.{marksIn, queueIn}
-use Rattle.relation_search.proofs.Steps.{answers-none, answers-left, answers-right, answers-both}
-use Rattle.relation_search.proofs.find_answer.Statement.{statement}
-use Rattle.relation_search.proofs.find_answer.Tie as tie
+use Rattle.relation_found.specs.Found.{marksIn, queueIn}
+use Rattle.relation_found.proofs.Steps.{answers-none, answers-left, answers-right, answers-both}
+use Rattle.relation_found.proofs.find_answer.Statement.{statement}
+use Rattle.relation_found.proofs.find_answer.Tie as tie
 
 wide-requires : tie.Need-wide-requires
 wide-requires c κs = search needs

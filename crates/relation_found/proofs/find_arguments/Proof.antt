@@ -10,10 +10,10 @@ use Rattle.spec_model.specs.Relations.{argsRule}
 use Rattle.spec_model.specs.Records.{argumentSlots}
 use Rattle.table_record.specs.Store.{rawIn}
 use Rattle.table_record.proofs.Laws.{slots-length}
-use Rattle.relation_search.specs.Found.{Grew, marksIn, queueIn}
-use Rattle.relation_search.proofs.Steps.{arguments-differ, arguments-start, arguments-broke, arguments-more, arguments-end}
-use Rattle.relation_search.proofs.find_arguments.Statement.{statement}
-use Rattle.relation_search.proofs.find_arguments.Tie as tie
+use Rattle.relation_found.specs.Found.{Grew, marksIn, queueIn}
+use Rattle.relation_found.proofs.Steps.{arguments-differ, arguments-start, arguments-broke, arguments-more, arguments-end}
+use Rattle.relation_found.proofs.find_arguments.Statement.{statement}
+use Rattle.relation_found.proofs.find_arguments.Tie as tie
 
 abbrev Inv-loop : tie.InvT-loop
 Inv-loop b found₀ tail n a d j count other used t₀ i₀ found t i =

@@ -11,12 +11,12 @@ use lib.Seq.{take-all, length-take-le, getD-take}
 use Rattle.spec_model.specs.Table.{Method, permit}
 use Rattle.spec_model.specs.Relations.{Relation, stateRule, argsRule, answerRule, methodRule}
 use Rattle.spec_model.specs.Check.{RawMethod, stateOf, answerOf, methodOf}
-use Rattle.spec_model.proofs.Rules.{never, both, first, second, args-mono, signature-mono, args-test, args-says, method-test, method-says}
+use Rattle.spec_model.proofs.Rules.{never, first, second, args-mono, signature-mono, args-test, args-says, method-test, method-says}
 use Rattle.spec_model.specs.Records.{argumentSlots}
-use Rattle.table_record.proofs.Lists.{lt-or-ge, same-or}
+use Rattle.table_record.proofs.Lists.{lt-or-ge}
 use Rattle.table_record.proofs.Codes.{answer-is}
-use Rattle.relation_search.specs.Found.{Within, eachBelow}
-use Rattle.relation_search.proofs.Pairs.{Mono, clash}
+use Rattle.relation_found.specs.Found.{Within}
+use Rattle.relation_found.proofs.Pairs.{Mono, clash}
 
 -- Arguments. A count above the four slots uses all of them.
 pub slots-are : (n r : ℕ) → r ≡ min n argumentSlots → (xs : List ℕ) → length xs ≡ argumentSlots → take n xs ≡ take r xs
@@ -96,18 +96,3 @@ unfolding Mono Within
 method-up k x y M N i w =
     let r = method-says M k x y w in
     method-test N k x y (record { state = r .state; signature = λ p q. signature-mono {R = λ x y. So (M x y)} {Q = λ x y. So (N x y)} i x y (r .signature p q) })
-
--- Every number below m.
-pub each-says : (m : ℕ) (f : ℕ → Bool) → So (eachBelow m f) → (j : ℕ) → j < m → So (f j)
-unfolding eachBelow
-each-says zero f w j l = let z : ⊥ = omega arith in absurd z
-each-says (suc m) f w j l = ⊎-elim (λ (d : j ≡ m). rw d (second (eachBelow m f) _ w)) (λ (d : j ≡ m → ⊥). each-says m f (first (eachBelow m f) _ w) j (omega arith)) (same-or j m)
-
-pub each-test : (m : ℕ) (f : ℕ → Bool) → ((j : ℕ) → j < m → So (f j)) → So (eachBelow m f)
-unfolding eachBelow
-each-test zero f h = refl
-each-test (suc m) f h = both (each-test m f (λ j l. h j (omega arith))) (h m (omega arith))
-
-pub each-up : (m : ℕ) (k : Relation) (x y : ℕ → Method) → Mono (λ M. eachBelow m (λ j. methodRule k M (x j) (y j)))
-unfolding Mono Within
-each-up m k x y M N i w = each-test m (λ j. methodRule k N (x j) (y j)) (λ j l. unfold Mono Within in (method-up k (x j) (y j)) M N i (each-says m (λ j. methodRule k M (x j) (y j)) w j l))

@@ -4,11 +4,11 @@ use Prim.Native.Nat.{_+_, _*_, _<_}
 use native.Mathlib.Omega.{arith}
 use borrow.Author.Needs.{needs}
 use lib.ListN.{length}
-use Rattle.relation_search.specs.Found.{marksIn, queueIn}
-use Rattle.relation_search.proofs.Pairs.{pair-left, pair-right, pair-known, room}
-use Rattle.relation_search.proofs.Buffer.{mark-at, buffer-length, pair-added}
-use Rattle.relation_search.proofs.join_pair.Statement.{statement}
-use Rattle.relation_search.proofs.join_pair.Tie as tie
+use Rattle.relation_found.specs.Found.{marksIn, queueIn}
+use Rattle.relation_found.proofs.Pairs.{pair-left, pair-right, pair-known, room}
+use Rattle.relation_found.proofs.Buffer.{mark-at, buffer-length, pair-added}
+use Rattle.relation_found.proofs.join_pair.Statement.{statement}
+use Rattle.relation_found.proofs.join_pair.Tie as tie
 use Rattle.spec_model.specs.Table.{maxTypes}
 
 returns : tie.Need-returns

@@ -2,9 +2,9 @@
 use mathlib.Core.Path.{refl}
 use native.Mathlib.Omega.{arith}
 use borrow.Author.Needs.{needs}
-use Rattle.relation_search.proofs.Buffer.{added}
-use Rattle.relation_search.proofs.add_pair.Statement.{statement}
-use Rattle.relation_search.proofs.add_pair.Tie as tie
+use Rattle.relation_found.proofs.Buffer.{added}
+use Rattle.relation_found.proofs.add_pair.Statement.{statement}
+use Rattle.relation_found.proofs.add_pair.Tie as tie
 
 mul-found : tie.Need-mul-found
 mul-found c = search needs

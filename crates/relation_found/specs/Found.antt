@@ -3,13 +3,13 @@
 use mathlib.Core.Path.{_≡_}
 use mathlib.Core.Bool.{Bool, true, false, _&&_, So}
 use mathlib.Core.List.{List, map}
-use Prim.Native.Nat.{ℕ, zero, suc, _+_, _*_, _/_, _%_, _≤_, _<_}
+use Prim.Native.Nat.{ℕ, _+_, _*_, _/_, _%_, _≤_, _<_}
 use lib.Dec.{leb, ltb}
-use lib.ListN.{length, getD, set, replicate}
+use lib.ListN.{length, getD, set}
 use Rattle.spec_model.specs.Relations.{yeses}
 use Rattle.spec_model.specs.Table.{maxTypes}
-use Rattle.relation_search.specs.declared.Step.{Step}
-use Rattle.relation_search.specs.declared.Step.the-variants.{Broken, Tail}
+use Rattle.relation_found.specs.declared.Step.{Step}
+use Rattle.relation_found.specs.declared.Step.the-variants.{Broken, Tail}
 
 -- how many pairs of types there can be
 abbrev pub maxPairs : ℕ
@@ -65,11 +65,6 @@ abbrev pub Met : ℕ → ((ℕ → ℕ → Bool) → Bool) → List Bool → Lis
 Met n W marks queue t marks′ queue′ Broken = Broke n W
 Met n W marks queue t marks′ queue′ (Tail r) = Grew n W marks queue t marks′ queue′ r
 
--- a test of every number below m
-unfoldable pub eachBelow : ℕ → (ℕ → Bool) → Bool
-eachBelow zero f = true
-eachBelow (suc m) f = eachBelow m f && f m
-
 -- The search has `marks` and the queue in one array of 16-bit entries, since a pair's number is below `maxPairs`: entry i has the i-th number of the queue in its low
 -- 15 bits, and its top bit says whether the pair of number i is found.
 unfoldable pub marksIn : List ℕ → List Bool
@@ -88,9 +83,3 @@ ListedIn n b t = Listed n (marksIn b) (queueIn b) t
 
 abbrev pub MetIn : ℕ → ((ℕ → ℕ → Bool) → Bool) → List ℕ → ℕ → List ℕ → Step → Type 0
 MetIn n W b t b′ r = Met n W (marksIn b) (queueIn b) t (marksIn b′) (queueIn b′) r
-
--- an array that says nothing yet, with an entry for each pair of n types
-pub record Clear (n : ℕ) (b : List ℕ) : Type 0 where
-  pub none : b ≡ replicate (length b) 0
-  pub long : n * maxTypes ≤ length b
-  pub few : length b ≤ maxPairs

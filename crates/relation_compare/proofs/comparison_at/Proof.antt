@@ -1,7 +1,7 @@
 -- The four answers at a pair are those of the model, each by a search of its own (`related_at`).
 use borrow.Author.Needs.{needs}
-use Rattle.relation_search.proofs.comparison_at.Statement.{statement}
-use Rattle.relation_search.proofs.comparison_at.Tie as tie
+use Rattle.relation_compare.proofs.comparison_at.Statement.{statement}
+use Rattle.relation_compare.proofs.comparison_at.Tie as tie
 
 related-at-requires : tie.Need-related-at-requires
 related-at-requires c κs = search needs

@@ -15,9 +15,9 @@ use Rattle.spec_model.proofs.Rules.{never, both, first, second}
 use Rattle.spec_model.specs.Relations.{bit, yeses}
 use Rattle.spec_model.specs.Table.{maxTypes}
 use Rattle.table_record.proofs.Lists.{same-or}
-use Rattle.relation_search.specs.declared.Step.{Step}
-use Rattle.relation_search.specs.declared.Step.the-variants.{Broken, Tail}
-use Rattle.relation_search.specs.Found.{found, Within, Queued, Pair, Listed, Grew, Broke, Met, maxPairs}
+use Rattle.relation_found.specs.declared.Step.{Step}
+use Rattle.relation_found.specs.declared.Step.the-variants.{Broken, Tail}
+use Rattle.relation_found.specs.Found.{found, Within, Queued, Pair, Listed, Grew, Broke, Met, maxPairs}
 
 pub clash : {A : Type 0} → {b : Bool} → b ≡ true → b ≡ false → A
 clash p q = never (sym q ∙ p)

@@ -5,11 +5,11 @@ use native.Mathlib.Omega.{arith}
 use borrow.Author.Needs.{needs}
 use lib.ListN.{length}
 use Rattle.spec_model.specs.Table.{maxTypes}
-use Rattle.relation_search.specs.Found.{marksIn, queueIn}
-use Rattle.relation_search.proofs.Pairs.{pair-left, pair-right, pair-seen, room}
-use Rattle.relation_search.proofs.Buffer.{mark-at, buffer-length, entry-in, pair-added}
-use Rattle.relation_search.proofs.find_pair.Statement.{statement}
-use Rattle.relation_search.proofs.find_pair.Tie as tie
+use Rattle.relation_found.specs.Found.{marksIn, queueIn}
+use Rattle.relation_found.proofs.Pairs.{pair-left, pair-right, pair-seen, room}
+use Rattle.relation_found.proofs.Buffer.{mark-at, buffer-length, entry-in, pair-added}
+use Rattle.relation_found.proofs.find_pair.Statement.{statement}
+use Rattle.relation_found.proofs.find_pair.Tie as tie
 
 join-pair-requires : tie.Need-join-pair-requires
 join-pair-requires c κs = search needs

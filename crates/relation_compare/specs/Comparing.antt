@@ -2,7 +2,7 @@
 use Prim.Native.Nat.{ℕ}
 use Rattle.spec_model.specs.Table.{Table}
 use Rattle.spec_model.specs.Relations as Model
-use Rattle.relation_search.specs.declared.Comparison.{Comparison}
+use Rattle.relation_compare.specs.declared.Comparison.{Comparison}
 
 abbrev pub comparisonAt : Table → ℕ → ℕ → Model.Comparison
 comparisonAt x t s = record {

@@ -8,22 +8,18 @@ use native.Mathlib.Omega.{arith}
 use borrow.Author.Tests.{le-leb, lt-leb}
 use lib.Bits.{bitOr}
 use lib.Dec.{leb}
-use lib.ListN.{length, getD, set, replicate, length-map, List·getD-map}
+use lib.ListN.{length, getD, set, length-map, List·getD-map}
 use lib.Seq.{map-set-same}
 use Rattle.table_record.proofs.Lists.{lt-or-ge}
-use Rattle.relation_search.specs.declared.Step.the-variants.{Tail}
-use Rattle.relation_search.specs.Found.{marksIn, queueIn, Added, ListedIn, MetIn}
-use Rattle.relation_search.proofs.Pairs.{in-rows, pair-new}
+use Rattle.relation_found.specs.declared.Step.the-variants.{Tail}
+use Rattle.relation_found.specs.Found.{marksIn, queueIn, Added, ListedIn, MetIn}
+use Rattle.relation_found.proofs.Pairs.{in-rows, pair-new}
 use Rattle.spec_model.specs.Table.{maxTypes}
 
 map-set : {A B : Type 0} (f : A → B) (l : List A) (i : ℕ) (y : A) → map f (set l i y) ≡ set (map f l) i (f y)
 map-set f [] i y = refl
 map-set f (x ∷ xs) zero y = refl
 map-set {B = B} f (x ∷ xs) (suc i) y = ap (λ (zs : List B). f x ∷ zs) (map-set f xs i y)
-
-map-replicate : {A B : Type 0} (f : A → B) (n : ℕ) (a : A) → map f (replicate n a) ≡ replicate n (f a)
-map-replicate f zero a = refl
-map-replicate {B = B} f (suc n) a = ap (λ (zs : List B). f a ∷ zs) (map-replicate f n a)
 
 -- ---- an entry, as it is read
 pub mark-at : (b : List ℕ) (i : ℕ) (r x : Bool) → r ≡ leb 32768 (getD b i 0) → r ≡ x → getD (marksIn b) i false ≡ x
@@ -41,15 +37,6 @@ buffer-length b = length-map b (λ (v : ℕ). leb 32768 v)
 -- ---- an entry below its rows
 pub entry-in : (n : ℕ) (b : List ℕ) (t x y : ℕ) → ListedIn n b t → bitOr x y < length b / maxTypes → (x < maxTypes) × (y < maxTypes) × (x * maxTypes + y < length b)
 entry-in n b t x y h k = let e = buffer-length b in in-rows x y (length b) (omega (arith, h .few)) k
-
--- ---- no pair is found
-pub none-found : (n : ℕ) → marksIn (replicate n 0) ≡ replicate n false
-unfolding marksIn
-none-found n = map-replicate (λ (v : ℕ). leb 32768 v) n 0
-
-pub none-queued : (n : ℕ) → queueIn (replicate n 0) ≡ replicate n 0
-unfolding queueIn
-none-queued n = map-replicate (λ (v : ℕ). v % 32768) n 0
 
 -- ---- pair p is added as number t: the top bit of entry p, then the rest of entry t
 top-kept : (v p : ℕ) → p < 32768 → leb 32768 (v / 32768 * 32768 + p) ≡ leb 32768 v

@@ -2,9 +2,9 @@
 use mathlib.Core.Path.{ap, _∙_}
 use Prim.Native.Nat.{ℕ, min}
 use borrow.Author.Needs.{needs}
-use Rattle.relation_search.proofs.Signatures.{slots-are}
-use Rattle.relation_search.proofs.slots_used.Statement.{statement}
-use Rattle.relation_search.proofs.slots_used.Tie as tie
+use Rattle.relation_found.proofs.Signatures.{slots-are}
+use Rattle.relation_found.proofs.slots_used.Statement.{statement}
+use Rattle.relation_found.proofs.slots_used.Tie as tie
 use Rattle.spec_model.specs.Records.{argumentSlots}
 
 wide-requires : tie.Need-wide-requires

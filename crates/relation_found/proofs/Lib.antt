@@ -1,0 +1,4 @@
+pub mod Pairs
+pub mod Buffer
+pub mod Signatures
+pub mod Steps
