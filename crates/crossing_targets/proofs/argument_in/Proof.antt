@@ -3,9 +3,9 @@ use mathlib.Core.Path.{_∙_}
 use native.Mathlib.Omega.{arith}
 use native.Mathlib.Nat.{min-eq-left}
 use borrow.Author.Needs.{needs}
-use Rattle.crossing_layers.proofs.Laws.{argument-uncounted, argument-out, argument-is}
-use Rattle.crossing_layers.proofs.argument_in.Statement.{statement}
-use Rattle.crossing_layers.proofs.argument_in.Tie as tie
+use Rattle.crossing_targets.proofs.Laws.{argument-uncounted, argument-out, argument-is}
+use Rattle.crossing_targets.proofs.argument_in.Statement.{statement}
+use Rattle.crossing_targets.proofs.argument_in.Tie as tie
 
 wide-requires : tie.Need-wide-requires
 wide-requires c κs = search needs

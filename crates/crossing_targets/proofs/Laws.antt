@@ -28,9 +28,9 @@ use Rattle.table_record.specs.declared.Method.{Method}
 use Rattle.table_record.specs.Store.{typesIn, tableIn, rawMethod, headOf}
 use Rattle.table_record.proofs.Tables.{type-is, type-out}
 use Rattle.table_record.proofs.Codes.{rep-code, answer-is}
-use Rattle.crossing_layers.specs.declared.Slot.{Slot}
-use Rattle.crossing_layers.specs.declared.Slot.the-variants.{Argument, Answer}
-use Rattle.crossing_layers.specs.Carried.{argumentOf, slotIn, slotAt, widthAt, passAs, passTo, passedOf, maxLayers}
+use Rattle.crossing_targets.specs.declared.Slot.{Slot}
+use Rattle.crossing_targets.specs.declared.Slot.the-variants.{Argument, Answer}
+use Rattle.crossing_targets.specs.Targets.{argumentOf, slotIn, slotAt, widthAt, passAs, passTo, passedOf, maxLayers}
 use Rattle.law_table.proofs.Methods.{ref-is, method-is, method-out}
 
 -- ---- Lists.

@@ -2,9 +2,9 @@
 use mir.Facts.{toZ-ofZ}
 use mathlib.Core.Path.{refl, sym, _∙_}
 use borrow.Author.Needs.{needs}
-use Rattle.crossing_layers.proofs.Laws.{fits-32, exceeds-32}
-use Rattle.crossing_layers.proofs.fits32.Statement.{statement}
-use Rattle.crossing_layers.proofs.fits32.Tie as tie
+use Rattle.crossing_targets.proofs.Laws.{fits-32, exceeds-32}
+use Rattle.crossing_targets.proofs.fits32.Statement.{statement}
+use Rattle.crossing_targets.proofs.fits32.Tie as tie
 
 in-width-requires : tie.Need-in-width-requires
 in-width-requires c κs = search needs

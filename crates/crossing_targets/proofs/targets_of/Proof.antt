@@ -8,10 +8,10 @@ use lib.ListN.{length, take, length-set}
 use Rattle.spec_model.specs.Check.{answerOf}
 use Rattle.spec_model.specs.Records.{answerCode}
 use Rattle.table_record.specs.Store.{tableIn}
-use Rattle.crossing_layers.specs.Carried.{slotAt, maxLayers}
-use Rattle.crossing_layers.proofs.Laws.{targets-next, targets-end}
-use Rattle.crossing_layers.proofs.targets_of.Statement.{statement}
-use Rattle.crossing_layers.proofs.targets_of.Tie as tie
+use Rattle.crossing_targets.specs.Targets.{slotAt, maxLayers}
+use Rattle.crossing_targets.proofs.Laws.{targets-next, targets-end}
+use Rattle.crossing_targets.proofs.targets_of.Statement.{statement}
+use Rattle.crossing_targets.proofs.targets_of.Tie as tie
 
 abbrev Inv-loop : tie.InvT-loop
 Inv-loop types c m s w n list₀ i₀ list i = (i ≤ w .count) × (length list ≡ maxLayers) × ((l : List ℕ) → map answerOf (take i list) ≡ map (slotAt (tableIn types l c) m s) (take i (w .list)))

@@ -3,9 +3,9 @@ use mir.Facts.{toZ-ofZ}
 use mathlib.Core.Path.{refl}
 use native.Mathlib.Omega.{arith}
 use borrow.Author.Needs.{needs}
-use Rattle.crossing_layers.proofs.Laws.{pass-none, pass-unknown, pass-ref, pass-32, pass-64}
-use Rattle.crossing_layers.proofs.pass_one.Statement.{statement}
-use Rattle.crossing_layers.proofs.pass_one.Tie as tie
+use Rattle.crossing_targets.proofs.Laws.{pass-none, pass-unknown, pass-ref, pass-32, pass-64}
+use Rattle.crossing_targets.proofs.pass_one.Statement.{statement}
+use Rattle.crossing_targets.proofs.pass_one.Tie as tie
 
 at-layer-requires : tie.Need-at-layer-requires
 at-layer-requires c κs = search needs

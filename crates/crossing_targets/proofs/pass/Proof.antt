@@ -9,10 +9,10 @@ use borrow.Author.Needs.{needs}
 use lib.ListN.{length}
 use mathlib.Core.Path.{_≡_, refl}
 use Rattle.table_record.specs.Store.{tableIn}
-use Rattle.crossing_layers.proofs.Laws.{PassRest, pass-starts, pass-stops, pass-next, pass-ends}
-use Rattle.crossing_layers.proofs.pass.Statement.{statement}
-use Rattle.crossing_layers.proofs.pass.Tie as tie
-use Rattle.crossing_layers.specs.Carried.{maxLayers}
+use Rattle.crossing_targets.proofs.Laws.{PassRest, pass-starts, pass-stops, pass-next, pass-ends}
+use Rattle.crossing_targets.proofs.pass.Statement.{statement}
+use Rattle.crossing_targets.proofs.pass.Tie as tie
+use Rattle.crossing_targets.specs.Targets.{maxLayers}
 
 abbrev Inv-loop : tie.InvT-loop
 Inv-loop types c v targets n i₀ i = (i ≤ targets .count) × ((l : List ℕ) → PassRest (tableIn types l c) (toZ w64 v) (targets .list) (targets .count) i)

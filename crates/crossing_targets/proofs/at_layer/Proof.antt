@@ -1,7 +1,7 @@
 -- The four ways in which it returns.
-use Rattle.crossing_layers.proofs.Laws.{at-first, at-later-unrelated, at-later-not-strict, at-later}
-use Rattle.crossing_layers.proofs.at_layer.Statement.{statement}
-use Rattle.crossing_layers.proofs.at_layer.Tie as tie
+use Rattle.crossing_targets.proofs.Laws.{at-first, at-later-unrelated, at-later-not-strict, at-later}
+use Rattle.crossing_targets.proofs.at_layer.Statement.{statement}
+use Rattle.crossing_targets.proofs.at_layer.Tie as tie
 
 returns : tie.Need-returns
 returns c = at-first (c .before .args .i) (c .before .args .e) (c .if1 .taken)

@@ -6,10 +6,10 @@ use native.Mathlib.Numerals.{add-one}
 use native.Mathlib.Omega.{arith}
 use borrow.Author.Needs.{needs}
 use lib.ListN.{length, take, length-set}
-use Rattle.crossing_layers.proofs.Laws.{call-layers-next, call-layers-end}
-use Rattle.crossing_layers.proofs.call_layers.Statement.{statement}
-use Rattle.crossing_layers.proofs.call_layers.Tie as tie
-use Rattle.crossing_layers.specs.Carried.{maxLayers}
+use Rattle.crossing_targets.proofs.Laws.{call-layers-next, call-layers-end}
+use Rattle.crossing_targets.proofs.call_layers.Statement.{statement}
+use Rattle.crossing_targets.proofs.call_layers.Tie as tie
+use Rattle.crossing_targets.specs.Targets.{maxLayers}
 use Rattle.spec_model.specs.Crossing.{maxPlaces}
 
 abbrev Inv-loop : tie.InvT-loop

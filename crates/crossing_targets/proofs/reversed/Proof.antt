@@ -5,10 +5,10 @@ use Prim.Native.Nat.{ℕ, _+_, _-_, _≤_}
 use native.Mathlib.Omega.{arith}
 use borrow.Author.Needs.{needs}
 use lib.ListN.{length, take, length-set}
-use Rattle.crossing_layers.proofs.Laws.{back-starts, back-next, back-ends}
-use Rattle.crossing_layers.proofs.reversed.Statement.{statement}
-use Rattle.crossing_layers.proofs.reversed.Tie as tie
-use Rattle.crossing_layers.specs.Carried.{maxLayers}
+use Rattle.crossing_targets.proofs.Laws.{back-starts, back-next, back-ends}
+use Rattle.crossing_targets.proofs.reversed.Statement.{statement}
+use Rattle.crossing_targets.proofs.reversed.Tie as tie
+use Rattle.crossing_targets.specs.Targets.{maxLayers}
 
 abbrev Inv-loop : tie.InvT-loop
 Inv-loop x n list₀ i₀ list i = (i ≤ x .count) × (length list ≡ maxLayers) × ((k : ℕ) → i + k ≡ x .count → take i list ++ reverse (take k (x .list)) ≡ reverse (take (x .count) (x .list)))

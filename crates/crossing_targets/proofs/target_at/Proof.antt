@@ -1,9 +1,9 @@
 -- No such type, no such method, a number type, and the slot of a stored method.
 use native.Mathlib.Omega.{arith}
 use borrow.Author.Needs.{needs}
-use Rattle.crossing_layers.proofs.Laws.{target-unknown, target-unmet, target-number, target-is}
-use Rattle.crossing_layers.proofs.target_at.Statement.{statement}
-use Rattle.crossing_layers.proofs.target_at.Tie as tie
+use Rattle.crossing_targets.proofs.Laws.{target-unknown, target-unmet, target-number, target-is}
+use Rattle.crossing_targets.proofs.target_at.Statement.{statement}
+use Rattle.crossing_targets.proofs.target_at.Tie as tie
 
 returns : tie.Need-returns
 returns c = let a = c .before .before .args in λ l. target-unknown (a .types .now) l (a .c) (a .m) (a .s) (a .t) (c .if1 .taken)

@@ -3,9 +3,9 @@ use mathlib.Core.Path.{sym, ap, _∙_}
 use mir.Facts.{toZ-ofZ}
 use lib.Signed.{ltZ}
 use lib.IntN.{ℤ}
-use Rattle.crossing_layers.proofs.Laws.{below-width, above-width, inside-width}
-use Rattle.crossing_layers.proofs.in_width.Statement.{statement}
-use Rattle.crossing_layers.proofs.in_width.Tie as tie
+use Rattle.crossing_targets.proofs.Laws.{below-width, above-width, inside-width}
+use Rattle.crossing_targets.proofs.in_width.Statement.{statement}
+use Rattle.crossing_targets.proofs.in_width.Tie as tie
 
 returns : tie.Need-returns
 returns c =

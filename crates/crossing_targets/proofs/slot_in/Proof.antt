@@ -2,9 +2,9 @@
 use mathlib.Core.Path.{sym, _∙_}
 use borrow.Author.Tests.{not-true, not-false}
 use borrow.Author.Needs.{needs}
-use Rattle.crossing_layers.proofs.Laws.{slot-off, slot-argument, slot-answer}
-use Rattle.crossing_layers.proofs.slot_in.Statement.{statement}
-use Rattle.crossing_layers.proofs.slot_in.Tie as tie
+use Rattle.crossing_targets.proofs.Laws.{slot-off, slot-argument, slot-answer}
+use Rattle.crossing_targets.proofs.slot_in.Statement.{statement}
+use Rattle.crossing_targets.proofs.slot_in.Tie as tie
 
 permits-requires : tie.Need-permits-requires
 permits-requires c κs = search needs
