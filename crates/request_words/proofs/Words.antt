@@ -13,12 +13,11 @@ use borrow.Author.Tests.{lt-ltb, le-ltb}
 use Rattle.spec_model.specs.Basics.{names, named}
 use Rattle.spec_model.specs.Requests.{Request, pair, number, nothing, Outcome as Outcomeᵐ, got, refused}
 use Rattle.base_numbers.specs.Index.{indexOf}
-use Rattle.request_run.specs.Requested.{request, requests}
 use Rattle.request_common.specs.declared.Outcome.{Outcome}
 use Rattle.request_common.specs.declared.Outcome.the-variants.{Refused, Pair, Number, Nothing}
-use Rattle.request_common.specs.Served.{outcomeOf}
-use Rattle.request_run.specs.Ran.{outcomeSize, wordsOf}
-use Rattle.request_run.specs.Loop.{SmallOutcome, leftAt, countAt, askedAt, nextAt}
+use Rattle.request_common.specs.Outcome.{outcomeOf}
+use Rattle.request_words.specs.Words.{request, requests, outcomeSize, wordsOf}
+use Rattle.request_words.specs.Found.{SmallOutcome, leftAt, countAt, askedAt, nextAt}
 
 -- ---- The request in front of a list.
 abbrev frontCount : List ℤ → ℕ

@@ -1,4 +1,4 @@
--- What the functions of a run find and need on their way.
+-- What the functions find and need on their way.
 use mathlib.Core.Bool.{cond}
 use mathlib.Core.List.{List}
 use mathlib.Core.Option.{Option, none}
@@ -10,9 +10,9 @@ use Rattle.spec_model.specs.Requests.{Request}
 use Rattle.base_numbers.specs.Index.{indexOf}
 use Rattle.request_common.specs.declared.Outcome.{Outcome}
 use Rattle.request_common.specs.declared.Outcome.the-variants.{Refused, Pair, Number, Nothing}
-use Rattle.request_run.specs.Requested.{request}
+use Rattle.request_words.specs.Words.{request}
 
--- The numbers of an outcome, small enough to be words as they are; those of a sound state are (proofs/Small.antt).
+-- The numbers of an outcome, small enough to be words as they are; those of a sound state are (crates/request_run/proofs/Small.antt).
 abbrev pub SmallOutcome : Outcome → Type 0
 SmallOutcome (Refused e) = e < 65536
 SmallOutcome (Pair a b) = (a < 65536) × (b < 65536)

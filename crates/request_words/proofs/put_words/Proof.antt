@@ -5,9 +5,9 @@ use mir.Facts.{toZ-ofZ}
 use mir.Syntax.{w64}
 use mir.Val.{toZ, ofZ}
 use borrow.Author.Needs.{needs}
-use Rattle.request_run.proofs.Words.{four, room-second, room-third, room-fourth}
-use Rattle.request_run.proofs.put_words.Statement.{statement}
-use Rattle.request_run.proofs.put_words.Tie as tie
+use Rattle.request_words.proofs.Words.{four, room-second, room-third, room-fourth}
+use Rattle.request_words.proofs.put_words.Statement.{statement}
+use Rattle.request_words.proofs.put_words.Tie as tie
 
 abbrev kept : ℤ → ℤ
 kept z = toZ w64 (ofZ w64 z)

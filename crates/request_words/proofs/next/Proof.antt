@@ -1,9 +1,9 @@
 -- Where the next request begins: behind as many operands as the words say, or at the end where fewer are left.
-use Rattle.request_run.proofs.Words.{next-none, next-is}
+use Rattle.request_words.proofs.Words.{next-none, next-is}
 use native.Mathlib.Omega.{arith}
 use borrow.Author.Needs.{needs}
-use Rattle.request_run.proofs.next.Statement.{statement}
-use Rattle.request_run.proofs.next.Tie as tie
+use Rattle.request_words.proofs.next.Statement.{statement}
+use Rattle.request_words.proofs.next.Tie as tie
 
 sub-left : tie.Need-sub-left
 sub-left c = search needs

@@ -7,8 +7,8 @@ use mir.Facts.{toZ-ofZ}
 use mir.Syntax.{w64}
 use mir.Val.{toZ, SFits}
 use borrow.Author.Needs.{needs}
-use Rattle.request_run.proofs.word.Statement.{statement}
-use Rattle.request_run.proofs.word.Tie as tie
+use Rattle.request_words.proofs.word.Statement.{statement}
+use Rattle.request_words.proofs.word.Tie as tie
 
 cast-result : tie.Need-cast-result
 cast-result c = search needs

@@ -2,10 +2,10 @@
 use mir.Facts.{toZ-ofZ}
 use mathlib.Core.Path.{ap, _∙_}
 use lib.Seq.{sets}
-use Rattle.request_run.proofs.Words.{small-refused, small-pair, words-refused, words-pair, words-number, words-nothing}
+use Rattle.request_words.proofs.Words.{small-refused, small-pair, words-refused, words-pair, words-number, words-nothing}
 use borrow.Author.Needs.{needs}
-use Rattle.request_run.proofs.put_outcome.Statement.{statement}
-use Rattle.request_run.proofs.put_outcome.Tie as tie
+use Rattle.request_words.proofs.put_outcome.Statement.{statement}
+use Rattle.request_words.proofs.put_outcome.Tie as tie
 
 enum-known-a : tie.Need-enum-known-a
 enum-known-a c = search needs

@@ -1,10 +1,14 @@
 -- No words behind the code; else the number that stands there.
-use Rattle.request_by_code.proofs.Words.{is-read}
-use Rattle.request_run.proofs.Words.{count-none}
+use mir.Facts.{toZ-ofZ}
+use mir.Syntax.{w64}
+use mir.Val.{SFits}
 use Prim.Native.Nat.{_+_}
+use lib.IntN.{pos}
+use lib.ListN.{getD}
 use borrow.Author.Needs.{needs}
-use Rattle.request_run.proofs.operands.Statement.{statement}
-use Rattle.request_run.proofs.operands.Tie as tie
+use Rattle.request_words.proofs.Words.{count-none}
+use Rattle.request_words.proofs.operands.Statement.{statement}
+use Rattle.request_words.proofs.operands.Tie as tie
 
 sub-left : tie.Need-sub-left
 sub-left c = search needs
@@ -28,7 +32,10 @@ index-of-requires : tie.Need-index-of-requires
 index-of-requires c κs = search needs
 
 returns-2 : tie.Need-returns-2
-returns-2 c = let a = c .before .before .before .args in rw (is-read (a .words .now) (a .at + 1) (c .before .n .given)) at (c .index-of .ensures)
+returns-2 c =
+    let a = c .before .before .before .args in
+    let f : SFits w64 (getD (a .words .now) (a .at + 1) (pos 0)) = record { sfits = c .before .n .given } in
+    rw (toZ-ofZ f) at (c .index-of .ensures)
 
 pub operands-spec : {M : Type 1} → statement M
 operands-spec =
