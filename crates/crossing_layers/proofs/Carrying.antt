@@ -23,8 +23,9 @@ use Rattle.state_record.specs.View.{placesIn}
 use Rattle.crossing_one.specs.declared.Crossed.{Crossed}
 use Rattle.crossing_one.specs.Crossed.{Ready, PlaceKnown, reference, referenceOf, crossedOf, stopped, Came, Leaves}
 use Rattle.crossing_one.proofs.Laws.{ready-on, refused-is, came-is, stops, leaves-on}
-use Rattle.crossing_layers.specs.Carried.{crossTo, maxLayers}
-use Rattle.crossing_layers.proofs.Laws.{rest-next, nothing-left}
+use Rattle.crossing_targets.specs.Targets.{maxLayers}
+use Rattle.crossing_targets.proofs.Laws.{rest-next, nothing-left}
+use Rattle.crossing_layers.specs.Carried.{crossTo}
 
 -- ---- One layer.
 none-or : (n : ℕ) → (n ≡ 0) ⊎ (n ≡ 0 → ⊥)

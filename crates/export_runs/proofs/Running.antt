@@ -19,7 +19,8 @@ use Rattle.state_bytes.specs.Records.{stateFrom}
 use Rattle.state_bytes.proofs.Laws.{codesIn, read-counted, codes-refused}
 use Rattle.request_results.specs.Stored.{Stored}
 use Rattle.request_results.proofs.Handing.{withBytes, stored-counted}
-use Rattle.request_run.specs.Requested.{requests, runAsked, runHanded}
+use Rattle.request_words.specs.Words.{requests}
+use Rattle.request_run.specs.Requested.{runAsked, runHanded}
 use Rattle.request_run.specs.Ran.{Over as Ran, Runs, RanAs}
 use Rattle.export_runs.specs.Results.{LentRun, lentRun, RanOut, RunsOut}
 use Rattle.table_record.specs.Layout.{typeSize}

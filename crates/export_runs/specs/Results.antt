@@ -14,7 +14,7 @@ use Rattle.spec_model.specs.Handed.{counted, storedFrom}
 use Rattle.table_record.specs.Layout.{withCount, typeSize}
 use Rattle.table_record.specs.Records.{bytesOf}
 use Rattle.state_bytes.specs.Flat.{Flat, countsIn, cellCount, placeCount, callCount, rawFlat, cellsSize, placesSize, callsSize}
-use Rattle.request_run.specs.Ran.{outcomeWords}
+use Rattle.request_words.specs.Words.{outcomeWords}
 use Rattle.spec_sheet.specs.Sheet.{SheetResult}
 use Rattle.sheet_read.specs.Result.{sheetFor, sheetOf}
 

@@ -35,7 +35,7 @@ use Rattle.state_record.specs.Whole.{Whole as State}
 use Rattle.state_record.specs.View.{cellOf, callOf, cellsIn, placesIn, callsIn, callAnswered, systemIn}
 use Rattle.state_record.specs.Sound.{CallIn, Sound}
 use Rattle.state_record.proofs.Laws.{calls-length, means-counted}
-use Rattle.crossing_layers.specs.Carried.{passedOf}
+use Rattle.crossing_targets.specs.Targets.{passedOf}
 use Rattle.request_common.specs.declared.Outcome.{Outcome}
 use Rattle.request_common.specs.declared.Outcome.the-variants.{Refused, Pair, Number, Nothing}
 use Rattle.request_common.specs.Served.{Done as Served, refusalOf as refusal}

@@ -9,7 +9,7 @@ ghost use Rattle.spec_model.specs.Requests.{Result, got, dueFor, answersMet, gi
 ghost use Rattle.state_record.specs.Whole.{whole};
 ghost use Rattle.state_record.specs.View.{systemIn};
 ghost use Rattle.state_record.specs.Sound.{Sound};
-ghost use Rattle.crossing_layers.specs.Carried.{targetsIn, maxLayers};
+ghost use Rattle.crossing_targets.specs.Targets.{targetsIn, maxLayers};
 ghost use Rattle.request_common.specs.Served.{outcomeOf, Step, done};
 ghost use Rattle.request_value.specs.Sent.{isAccepted};
 ghost use Rattle.request_answer.specs.Given.{givenAs, Keeps};
@@ -17,8 +17,8 @@ ghost use Rattle.request_answer.specs.Parts.{giveReference, giveValue, a
 use base_numbers::index_of;
 use base_numbers::refusal;
 use base_numbers::wide;
-use crossing_layers::Slot;
-use crossing_layers::Targets;
+use crossing_targets::Slot;
+use crossing_targets::Targets;
 use request_common::Outcome;
 use request_common::Served;
 use state_record::Call;
@@ -51,8 +51,8 @@ fn answers_met(types: &[u8; TYPE_BYTES], s: State, j: usize, x: Call, c: Cell) -
     let ps = s.places;
     let counts = s.counts;
     let layers = state_record::layers_of(ps, wide(c.place));
-    let ls = crossing_layers::call_layers(c.ty, layers);
-    crossing_layers::reversed(crossing_layers::targets_of(
+    let ls = crossing_targets::call_layers(c.ty, layers);
+    crossing_targets::reversed(crossing_targets::targets_of(
         types,
         counts,
         wide(x.method),
@@ -108,7 +108,7 @@ fn give_value(
         }
         return give_reference(types, s, j, caller, v, targets);
     }
-    let e = crossing_layers::pass(types, counts, v, targets);
+    let e = crossing_targets::pass(types, counts, v, targets);
     if e != 0 {
         return request_common::refused(s, e);
     }
@@ -133,7 +133,7 @@ fn give(
         × Keeps given (now (types .entry)) (now (types .exit)) ⌝ }
 {
     let counts = s.counts;
-    let due = crossing_layers::target_at(types, counts, wide(x.method), Slot::Answer, wide(c.ty));
+    let due = crossing_targets::target_at(types, counts, wide(x.method), Slot::Answer, wide(c.ty));
     match given {
         Given::Value(v) => {
             if due == 0 {

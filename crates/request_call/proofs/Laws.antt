@@ -23,7 +23,7 @@ use Rattle.table_record.proofs.Tables.{type-is, ref-table}
 use Rattle.table_record.proofs.Codes.{rep-code}
 use Rattle.state_record.specs.Whole.{Whole as State}
 use Rattle.state_record.specs.View.{systemIn}
-use Rattle.crossing_layers.specs.Carried.{argumentOf}
+use Rattle.crossing_targets.specs.Targets.{argumentOf}
 use Rattle.law_table.proofs.Methods.{ref-is, method-is}
 use Rattle.request_common.proofs.Laws.{table-is}
 use Rattle.request_value.specs.Sent.{argumentsOf}

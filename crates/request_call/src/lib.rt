@@ -68,7 +68,7 @@ fn arguments_held(types: &[u8; TYPE_BYTES], s: State, who: usize, x: Method, vs:
     let n = vs.len();
     let mut i: usize = 0;
     while i < n {
-        let a = crossing_layers::argument_in(x, i);
+        let a = crossing_targets::argument_in(x, i);
         if a == 0 {
             return false;
         }
@@ -77,7 +77,7 @@ fn arguments_held(types: &[u8; TYPE_BYTES], s: State, who: usize, x: Method, vs:
         }
         i += 1;
     }
-    crossing_layers::argument_in(x, n) == 0
+    crossing_targets::argument_in(x, n) == 0
 }
 
 // One more call (C18), and its answer (C19).
@@ -127,7 +127,7 @@ fn call_through(
         types,
         s,
         owner,
-        crossing_layers::call_layers(c.ty, layers),
+        crossing_targets::call_layers(c.ty, layers),
         m,
         x,
         vs,
@@ -185,7 +185,7 @@ fn plan_numbers(
     let counts = s.counts;
     let ps = s.places;
     let layers = state_record::layers_of(ps, wide(c.place));
-    let ls = crossing_layers::call_layers(c.ty, layers);
+    let ls = crossing_targets::call_layers(c.ty, layers);
     let adapters = layers.count - 1;
     let passed = request_value::pass_numbers(types, counts, ls, m, x, vs);
     match passed {

@@ -31,11 +31,12 @@ use Rattle.spec_model.specs.Coded.{byCode}
 use Rattle.spec_model.specs.Refusals.{outOfRange}
 use Rattle.request_by_code.specs.Coded.{serveAsked}
 use Rattle.request_by_code.proofs.Laws.{outcome-is, after-is}
-use Rattle.request_run.specs.Requested.{request, requests, runAsked, runHanded}
 use Rattle.request_serve.proofs.Stored.{counted-stored, counts-stored, bytes-stored}
-use Rattle.request_run.specs.Ran.{outcomeSize, Over as Ran, wordsOf, outcomeWords, room, AllRefused, RanAs, Runs}
-use Rattle.request_run.specs.Loop.{askedAt, nextAt}
-use Rattle.request_run.proofs.Words.{request-at, words-next}
+use Rattle.request_words.specs.Words.{request, requests, outcomeSize, wordsOf, outcomeWords}
+use Rattle.request_words.specs.Found.{askedAt, nextAt}
+use Rattle.request_words.proofs.Words.{request-at, words-next}
+use Rattle.request_run.specs.Requested.{runAsked, runHanded}
+use Rattle.request_run.specs.Ran.{Over as Ran, room, AllRefused, RanAs, Runs}
 use Rattle.request_run.proofs.Whole.{serveEach, each-is-run}
 
 -- by the code: 4 is that of no request

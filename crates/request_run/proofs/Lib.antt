@@ -1,4 +1,3 @@
-pub mod Words
 pub mod Small
 pub mod Laws
 pub mod Whole

@@ -18,7 +18,7 @@ use Rattle.request_common.specs.Served.{Done as Served}
 use Rattle.request_common.specs.Served.{outcomeOf, servedWith, Step}
 use Rattle.request_common.proofs.Laws.{cells-are}
 use Rattle.request_by_code.specs.Coded.{serveAsked}
-use Rattle.request_run.specs.Loop.{SmallOutcome}
+use Rattle.request_words.specs.Found.{SmallOutcome}
 
 small-asked : (s : System) (q : Option Request) → Small (λ (x : System × Result). Named s (x .0) (x .1)) (serveAsked s q)
 unfolding serveAsked

@@ -1,3 +1,2 @@
 pub mod Requested
 pub mod Ran
-pub mod Loop

@@ -1,35 +1,21 @@
--- What a run stores and leaves. All of this is believed; what only helps proofs is in Loop.
+-- What a run stores and leaves.
 use mathlib.Core.Path.{_≡_}
 use mathlib.Core.List.{List, [], _∷_, _++_, map, flatten}
 use Prim.Native.Nat.{ℕ, _*_, _/_}
-use lib.IntN.{ℤ, pos}
+use lib.IntN.{ℤ}
 use lib.ListN.{length, take, drop}
 use lib.Seq.{sets}
 use Rattle.spec_model.specs.Basics.{Res, refuse, ok}
 use Rattle.spec_model.specs.Table.{size}
-use Rattle.spec_model.specs.Requests.{System, pair, number, nothing, Outcome, got, refused}
+use Rattle.spec_model.specs.Requests.{System, Outcome, got, refused}
 use Rattle.spec_model.specs.Handed.{counted, storedFrom}
 use Rattle.table_record.specs.Layout.{withCount, typeSize}
 use Rattle.table_record.specs.Records.{bytesOf}
 use Rattle.state_record.specs.Whole.{Whole as State}
 use Rattle.state_record.specs.Whole.{whole}
 use Rattle.state_record.specs.Meaning.{rawState}
+use Rattle.request_words.specs.Words.{outcomeSize, outcomeWords}
 use Rattle.request_run.specs.declared.Ran.{Ran}
-
--- the words of one outcome
-abbrev pub outcomeSize : ℕ
-outcomeSize = 4
-
--- Four words for each request: the refusal or 0, how many values there are, and the values (U8).
-abbrev pub wordsOf : Outcome → List ℤ
-wordsOf (refused e) = pos e ∷ pos 0 ∷ pos 0 ∷ pos 0 ∷ []
-wordsOf (got (pair a b)) = pos 0 ∷ pos 2 ∷ pos a ∷ pos b ∷ []
-wordsOf (got (number v)) = pos 0 ∷ pos 1 ∷ v ∷ pos 0 ∷ []
-wordsOf (got nothing) = pos 0 ∷ pos 0 ∷ pos 0 ∷ pos 0 ∷ []
-
-unfoldable pub outcomeWords : List Outcome → List ℤ
-outcomeWords [] = []
-outcomeWords (o ∷ os) = wordsOf o ++ outcomeWords os
 
 -- how a run ended, with the whole state
 pub record Over : Type 0 where

@@ -1,25 +1,13 @@
--- A list of words as requests (U2 to U7), and what they come to.
-use mathlib.Core.Bool.{cond}
+-- What the requests in a list of words come to.
 use mathlib.Core.List.{List, [], _∷_}
 use mathlib.Core.Option.{Option, none, some}
-use Prim.Native.Nat.{ℕ, zero, suc}
+use Prim.Native.Nat.{ℕ}
 use lib.IntN.{ℤ}
-use lib.ListN.{length, take, drop}
-use Rattle.spec_model.specs.Basics.{Res, ok, need, names, named}
+use Rattle.spec_model.specs.Basics.{Res, ok, need}
 use Rattle.spec_model.specs.Requests.{System, Request, Outcome, refused, run}
 use Rattle.spec_model.specs.Check.{RawSystem, systemOf, systemAccepted}
-use Rattle.spec_model.specs.Coded.{byCode}
 use Rattle.spec_model.specs.Refusals.{outOfRange, form}
-
-abbrev pub request : ℤ → List ℤ → Option Request
-request code ws = cond (names code 4) (byCode (named code) ws) none
-
--- The first f requests of a list of words: each is a code, a number n, and n operands. Where there are not so many, what is left is one request that is none.
-unfoldable pub requests : ℕ → List ℤ → List (Option Request)
-requests zero ws = []
-requests (suc f) [] = []
-requests (suc f) (code ∷ []) = none ∷ []
-requests (suc f) (code ∷ n ∷ ws) = cond (names n (suc (length ws))) (request code (take (named n) ws) ∷ requests f (drop (named n) ws)) (none ∷ [])
+use Rattle.request_words.specs.Words.{requests}
 
 -- The model's run of those that are requests, so that what is proved of that run (demand 3) holds of this one; and 1 in the place of each that is none.
 abbrev pub asked : List (Option Request) → List Request

@@ -2,28 +2,28 @@
 // those that are requests; the state is checked once, and then each step leaves what the next one needs.
 ghost use mathlib.Core.Path.{_≡_};
 ghost use mathlib.Core.Bool.{cond, _||_};
-ghost use mathlib.Core.List.{[], _∷_};
-ghost use Prim.Native.Nat.{_+_, _≤_, _<_};
-ghost use lib.IntN.{pos};
+ghost use Prim.Native.Nat.{_<_};
 ghost use lib.ListN.{length};
-ghost use lib.Seq.{sets};
 ghost use Rattle.spec_model.specs.Basics.{ok};
 ghost use Rattle.state_record.specs.Whole.{whole};
 ghost use Rattle.state_record.specs.View.{rawState, systemIn};
 ghost use Rattle.state_record.specs.Sound.{Sound};
-ghost use Rattle.request_common.specs.Served.{outcomeOf, Step, done};
+ghost use Rattle.request_common.specs.Served.{Step, done};
 ghost use Rattle.request_by_code.specs.Coded.{serveAsked};
-ghost use Rattle.request_run.specs.Requested.{request, requests, runAsked, runHanded};
-ghost use Rattle.request_run.specs.Ran.{outcomeSize, wordsOf, room, over, Runs};
-ghost use Rattle.request_run.specs.Loop.{SmallOutcome, countAt, askedAt, nextAt};
+ghost use Rattle.request_words.specs.Words.{request, requests};
+ghost use Rattle.request_words.specs.Found.{askedAt};
+ghost use Rattle.request_run.specs.Requested.{runAsked, runHanded};
+ghost use Rattle.request_run.specs.Ran.{room, over, Runs};
 use base_numbers::index_of;
 use base_numbers::refusal;
 use request_by_code::CODES;
 use request_by_code::serve_coded;
-use request_common::Outcome;
 use request_common::Served;
 use request_common::refused;
 use request_serve::copied;
+use request_words::next;
+use request_words::operands;
+use request_words::put_outcome;
 use state_record::State;
 use table_record::TYPE_BYTES;
 
@@ -37,62 +37,6 @@ pub struct Ran {
 // The words of an outcome (U8).
 impl Ran {
     pub const WORDS: usize = 4;
-}
-
-fn word(n: usize) -> i64
-    requires { ⌜ n < 65536 ⌝ }
-    ensures { λ r. ⌜ r ≡ pos n ⌝ }
-{
-    n as i64
-}
-
-fn put_words(out: &mut [i64], at: usize, first: i64, second: i64, third: i64, fourth: i64)
-    requires { ⌜ at + outcomeSize ≤ length (now out) ⌝ }
-    ensures { λ _. ⌜ now (out .exit) ≡ sets (now (out .entry)) at (first ∷ second ∷ third ∷ fourth ∷ []) ⌝ }
-{
-    out[at] = first;
-    out[at + 1] = second;
-    out[at + 2] = third;
-    out[at + 3] = fourth;
-}
-
-// An outcome as four words (U8).
-fn put_outcome(out: &mut [i64], at: usize, a: Outcome)
-    requires { ⌜ (at + outcomeSize ≤ length (now out)) × SmallOutcome a ⌝ }
-    ensures { λ _. ⌜ now (out .exit) ≡ sets (now (out .entry)) at (wordsOf (outcomeOf a)) ⌝ }
-{
-    match a {
-        Outcome::Refused(e) => put_words(out, at, word(e), 0, 0, 0),
-        Outcome::Pair { first, second } => put_words(out, at, 0, 2, word(first), word(second)),
-        Outcome::Number(v) => put_words(out, at, 0, 1, v, 0),
-        Outcome::Nothing => put_words(out, at, 0, 0, 0, 0),
-    }
-}
-
-// How many operands the request at `at` has (U2); as many as there are words behind its code where that says it has more, or nothing says it (U7).
-fn operands(words: &[i64], at: usize) -> usize
-    requires { ⌜ at < length (now words) ⌝ }
-    ensures { λ r. ⌜ r ≡ countAt (now (words .entry)) at ⌝ }
-{
-    let left = words.len() - at - 1;
-    if left == 0 {
-        return 0;
-    }
-    let n = words[at + 1];
-    index_of(n, left)
-}
-
-// Where the request behind the one at `at` begins (U6, U7).
-fn next(words: &[i64], at: usize) -> usize
-    requires { ⌜ at < length (now words) ⌝ }
-    ensures { λ r. ⌜ (r ≡ nextAt (now (words .entry)) at) × (at < r) × (r ≤ length (now (words .entry))) ⌝ }
-{
-    let left = words.len() - at - 1;
-    let n = operands(words, at);
-    if left <= n {
-        return words.len();
-    }
-    at + 2 + n
 }
 
 // The request of a code as a word and its operands (U6).

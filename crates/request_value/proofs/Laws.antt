@@ -25,7 +25,7 @@ use Rattle.state_record.specs.declared.Cell.{Cell}
 use Rattle.state_record.specs.declared.Cells.{Cells}
 use Rattle.state_record.specs.View.{cellOf, cellsIn}
 use Rattle.state_record.proofs.Laws.{cells-length}
-use Rattle.crossing_layers.specs.Carried.{argumentOf}
+use Rattle.crossing_targets.specs.Targets.{argumentOf}
 use Rattle.request_value.specs.Sent.{argumentsOf}
 
 -- ---- The cell that a number names.

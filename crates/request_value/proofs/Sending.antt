@@ -30,7 +30,7 @@ use Rattle.state_record.proofs.Laws.{cells-length, places-length, system-is, me
 use Rattle.crossing_one.specs.declared.Crossed.{Crossed}
 use Rattle.crossing_one.specs.Crossed.{reference, Ready, PlaceKnown, crossedOf, Leaves}
 use Rattle.crossing_one.proofs.Laws.{refused-is, came-is}
-use Rattle.crossing_layers.specs.Carried.{passedOf}
+use Rattle.crossing_targets.specs.Targets.{passedOf}
 use Rattle.request_common.specs.declared.Outcome.{Outcome}
 use Rattle.request_common.specs.declared.Outcome.the-variants.{Refused, Pair, Number, Nothing}
 use Rattle.request_common.specs.Served.{Done as Served, refusalOf as refusal}

@@ -10,14 +10,14 @@ ghost use Rattle.table_record.specs.Limits.{Limits};
 ghost use Rattle.state_record.specs.Whole.{Whole, whole};
 ghost use Rattle.state_record.specs.View.{cellOf, cellsIn, systemIn};
 ghost use Rattle.state_record.specs.Sound.{Sound};
-ghost use Rattle.crossing_layers.specs.Carried.{callLayersIn, targetsIn, maxLayers};
+ghost use Rattle.crossing_targets.specs.Targets.{callLayersIn, targetsIn, maxLayers};
 ghost use Rattle.request_common.specs.Served.{Step, done};
 ghost use Rattle.request_value.specs.Sent.{isAccepted, argumentsOf, sendArgument, allSent, Went, Sent, Passes};
 use base_numbers::index_of;
 use base_numbers::wide;
-use crossing_layers::CallLayers;
-use crossing_layers::Slot;
-use crossing_layers::Targets;
+use crossing_targets::CallLayers;
+use crossing_targets::Slot;
+use crossing_targets::Targets;
 use request_common::Outcome;
 use request_common::Served;
 use state_record::Cell;
@@ -113,11 +113,11 @@ fn send_argument(
         × Went (whole (now (types .entry)) s) (whole (now (types .exit)) (q .state)) ⌝ }
 {
     let c = s.counts;
-    let targets = crossing_layers::targets_of(types, c, m, Slot::Argument(i), w);
+    let targets = crossing_targets::targets_of(types, c, m, Slot::Argument(i), w);
     if table_record::names_ref(types, c.types, a) {
         return send(types, s, r, v, targets);
     }
-    let e = crossing_layers::pass(types, c, v, targets);
+    let e = crossing_targets::pass(types, c, v, targets);
     if e != 0 {
         return request_common::refused(s, e);
     }
@@ -150,15 +150,15 @@ pub fn pass_numbers(
     let n = vs.len();
     let mut i: usize = 0;
     while i < n {
-        let a = crossing_layers::argument_in(x, i);
+        let a = crossing_targets::argument_in(x, i);
         if a == 0 {
             return Numbers::Passed;
         }
         if table_record::names_ref(types, c.types, a - 1) {
             return Numbers::Reference;
         }
-        let targets = crossing_layers::targets_of(types, c, m, Slot::Argument(i), w);
-        let e = crossing_layers::pass(types, c, vs[i], targets);
+        let targets = crossing_targets::targets_of(types, c, m, Slot::Argument(i), w);
+        let e = crossing_targets::pass(types, c, vs[i], targets);
         if e != 0 {
             return Numbers::Refused(e);
         }
@@ -186,7 +186,7 @@ pub fn send_arguments(
     let mut at = s;
     let mut i: usize = 0;
     while i < n {
-        let a = crossing_layers::argument_in(x, i);
+        let a = crossing_targets::argument_in(x, i);
         if a == 0 {
             return Served {
                 outcome: Outcome::Nothing,

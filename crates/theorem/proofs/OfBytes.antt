@@ -22,7 +22,8 @@ use Rattle.table_record.specs.Store.{rawTable}
 use Rattle.spec_sheet.specs.Sheet.{read}
 use Rattle.spec_sheet.specs.Text.{write}
 use Rattle.sheet_read.specs.declared.Sheet.{Sheet}
-use Rattle.request_run.specs.Requested.{requests, runAsked, runHanded}
+use Rattle.request_words.specs.Words.{requests}
+use Rattle.request_run.specs.Requested.{runAsked, runHanded}
 use Rattle.request_run.specs.Ran.{room}
 use Rattle.state_offers.specs.Chained.{offersNamed, offersHanded}
 use Rattle.state_bytes.specs.Flat.{Flat, countsIn, rawCells, rawPlaces, rawCalls, rawFlat}

@@ -18,7 +18,8 @@ use Rattle.state_record.specs.Whole.{Whole as State}
 use Rattle.state_record.specs.Whole.{whole}
 use Rattle.state_record.specs.View.{rawState, systemIn, stateLoaded}
 use Rattle.request_common.specs.Served.{outcomeOf}
-use Rattle.request_run.specs.Requested.{requests, runAsked, runHanded}
+use Rattle.request_words.specs.Words.{requests}
+use Rattle.request_run.specs.Requested.{runAsked, runHanded}
 use Rattle.request_run.specs.Ran.{Over as Ran}
 use Rattle.request_run.specs.Ran.{room, RanAs, Runs}
 use Rattle.state_offers.specs.declared.Offered.{Offered}

@@ -15,8 +15,9 @@ use Rattle.spec_model.specs.Book.{Book}
 use Rattle.spec_model.specs.Claim.{feed}
 use Rattle.spec_model.proofs.Tests.{eqb-so}
 use Rattle.law_handed.proofs.Small.{Small, Named, small-serve}
-use Rattle.request_run.specs.Requested.{request, requests, asked, placed, runAsked}
-use Rattle.request_run.specs.Ran.{outcomeSize, wordsOf, outcomeWords, room}
+use Rattle.request_words.specs.Words.{request, requests, outcomeSize, wordsOf, outcomeWords}
+use Rattle.request_run.specs.Requested.{asked, placed, runAsked}
+use Rattle.request_run.specs.Ran.{room}
 use Rattle.theorem.specs.Shown.{taken, told}
 use Rattle.theorem.specs.OfStates.{isZero, toldBy}
 

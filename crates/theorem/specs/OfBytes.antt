@@ -19,7 +19,8 @@ use Rattle.spec_sheet.specs.Sheet.{read}
 use Rattle.spec_sheet.specs.Text.{write, writeText}
 use Rattle.sheet_read.specs.declared.Sheet.{Sheet}
 use Rattle.sheet_read.specs.Result.{sheetFor, sheetOf}
-use Rattle.request_run.specs.Requested.{requests, runHanded}
+use Rattle.request_words.specs.Words.{requests}
+use Rattle.request_run.specs.Requested.{runHanded}
 use Rattle.request_run.specs.Ran.{room}
 use Rattle.state_offers.specs.Chained.{offersHanded}
 use Rattle.state_bytes.specs.Flat.{Flat, countsIn, rawFlat}

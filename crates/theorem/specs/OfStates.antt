@@ -25,9 +25,10 @@ use Rattle.state_record.specs.Meaning.{rawState, stateLoaded}
 use Rattle.request_common.specs.Outcome.{Done as Served}
 use Rattle.request_common.specs.Outcome.{outcomeOf}
 use Rattle.request_serve.specs.Serves.{Serves}
-use Rattle.request_run.specs.Requested.{requests, runHanded}
+use Rattle.request_words.specs.Words.{requests, outcomeSize}
+use Rattle.request_run.specs.Requested.{runHanded}
 use Rattle.request_run.specs.Ran.{Over as Ran}
-use Rattle.request_run.specs.Ran.{outcomeSize, room, Runs}
+use Rattle.request_run.specs.Ran.{room, Runs}
 use Rattle.state_offers.specs.declared.Offered.{Offered}
 use Rattle.state_offers.specs.declared.Offered.the-variants.{Yes, No}
 use Rattle.state_offers.specs.Chained.{offersHanded, offeredAs}

@@ -7,7 +7,7 @@ use mathlib.Core.Path.{_≡_, refl}
 use Rattle.crossing_layers.proofs.Carrying.{Goes, goes-starts, goes-ready, goes-ends, goes-stops, goes-next}
 use Rattle.crossing_layers.proofs.carry.Statement.{statement}
 use Rattle.crossing_layers.proofs.carry.Tie as tie
-use Rattle.crossing_layers.specs.Carried.{maxLayers}
+use Rattle.crossing_targets.specs.Targets.{maxLayers}
 
 abbrev Inv-loop : tie.InvT-loop
 Inv-loop types₀ links c s p r targets x₀ n i₀ types x i = Goes types₀ links c (x₀ .places) s p r (targets .list) (targets .count) types x i

@@ -5,7 +5,7 @@ use native.Mathlib.Omega.{arith}
 use borrow.Author.Needs.{needs}
 use Rattle.state_record.specs.Whole.{whole}
 use Rattle.state_record.specs.Sound.{layersIn}
-use Rattle.crossing_layers.specs.Carried.{callLayersIn, targetsIn}
+use Rattle.crossing_targets.specs.Targets.{callLayersIn, targetsIn}
 use Rattle.request_answer.proofs.Laws.{answers-are}
 use Rattle.request_answer.proofs.answers_met.Statement.{statement}
 use Rattle.request_answer.proofs.answers_met.Tie as tie

@@ -6,7 +6,7 @@ use borrow.Author.Tests.{not-true, not-false}
 use borrow.Author.Needs.{needs}
 use Rattle.state_record.specs.Whole.{whole}
 use Rattle.request_common.specs.Served.{done}
-use Rattle.crossing_layers.specs.Carried.{targetsIn}
+use Rattle.crossing_targets.specs.Targets.{targetsIn}
 use Rattle.request_answer.proofs.Laws.{reference-stops, reference-answers}
 use Rattle.request_answer.proofs.give_reference.Statement.{statement}
 use Rattle.request_answer.proofs.give_reference.Tie as tie

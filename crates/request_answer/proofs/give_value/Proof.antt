@@ -8,7 +8,7 @@ use borrow.Author.Needs.{needs}
 use Rattle.state_record.specs.Whole.{whole}
 use Rattle.request_common.specs.Served.{done}
 use Rattle.spec_model.specs.Requests.{number, got}
-use Rattle.crossing_layers.specs.Carried.{targetsIn}
+use Rattle.crossing_targets.specs.Targets.{targetsIn}
 use Rattle.request_answer.proofs.Laws.{value-wrong-values, value-reference, number-refused, number-answers}
 use Rattle.request_answer.proofs.give_value.Statement.{statement}
 use Rattle.request_answer.proofs.give_value.Tie as tie

@@ -8,7 +8,7 @@ use Rattle.base_numbers.specs.Index.{indexOf}
 use Rattle.spec_model.specs.Coded.{byCode}
 use Rattle.state_record.specs.View.{systemIn}
 use Rattle.request_by_code.specs.Coded.{serveAsked}
-use Rattle.request_run.specs.Requested.{request}
+use Rattle.request_words.specs.Words.{request}
 use Rattle.request_run.proofs.Laws.{code-is}
 use borrow.Author.Needs.{needs}
 use Rattle.state_record.specs.Whole.{whole}

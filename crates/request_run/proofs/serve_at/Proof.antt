@@ -5,8 +5,8 @@ use Rattle.state_record.specs.View.{systemIn}
 use Rattle.request_by_code.specs.Coded.{serveAsked}
 use Rattle.request_by_code.proofs.Words.{is-read}
 use Rattle.request_by_code.proofs.Laws.{refuses}
-use Rattle.request_run.specs.Loop.{askedAt}
-use Rattle.request_run.proofs.Words.{asked-none, asked-is}
+use Rattle.request_words.specs.Found.{askedAt}
+use Rattle.request_words.proofs.Words.{asked-none, asked-is}
 use native.Mathlib.Omega.{arith}
 use borrow.Author.Needs.{needs}
 use Rattle.state_record.specs.Whole.{whole}

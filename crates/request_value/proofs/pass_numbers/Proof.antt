@@ -9,7 +9,7 @@ use lib.IntN.{pos}
 use borrow.Author.Needs.{needs}
 use Rattle.state_record.specs.Whole.{Whole}
 use Rattle.state_record.specs.View.{systemIn}
-use Rattle.crossing_layers.specs.Carried.{callLayersIn, targetsIn}
+use Rattle.crossing_targets.specs.Targets.{callLayersIn, targetsIn}
 use Rattle.request_value.proofs.Sending.{NumbersRest, numbers-over, numbers-end, numbers-stop, numbers-next, number-of, passed-of}
 use Rattle.request_value.proofs.Laws.{none-left, some-left, value-next}
 use Rattle.request_value.specs.Sent.{argumentsOf}

@@ -6,7 +6,7 @@ use Rattle.state_record.specs.Whole.{whole}
 use Rattle.request_common.specs.Served.{done}
 use Rattle.request_common.proofs.Laws.{ty-byte, place-byte}
 use Rattle.spec_model.specs.Basics.{named}
-use Rattle.crossing_layers.specs.Carried.{targetsIn}
+use Rattle.crossing_targets.specs.Targets.{targetsIn}
 use Rattle.request_value.proofs.Sending.{any-cell, send-ready, send-refused, send-arrives, send-adds}
 use Rattle.request_value.proofs.send.Statement.{statement}
 use Rattle.request_value.proofs.send.Tie as tie

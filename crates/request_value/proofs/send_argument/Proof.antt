@@ -5,7 +5,7 @@ use native.Mathlib.Omega.{arith}
 use borrow.Author.Needs.{needs}
 use Rattle.state_record.specs.Whole.{whole}
 use Rattle.request_common.specs.Served.{done}
-use Rattle.crossing_layers.specs.Carried.{callLayersIn, targetsIn}
+use Rattle.crossing_targets.specs.Targets.{callLayersIn, targetsIn}
 use Rattle.request_value.proofs.Sending.{argument-sent, number-refused, number-passes}
 use Rattle.request_value.proofs.send_argument.Statement.{statement}
 use Rattle.request_value.proofs.send_argument.Tie as tie

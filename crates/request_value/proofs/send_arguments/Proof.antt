@@ -10,7 +10,7 @@ use borrow.Author.Tests.{not-true, not-false}
 use borrow.Author.Needs.{needs}
 use Rattle.state_record.specs.Whole.{whole}
 use Rattle.request_common.specs.Served.{done}
-use Rattle.crossing_layers.specs.Carried.{callLayersIn}
+use Rattle.crossing_targets.specs.Targets.{callLayersIn}
 use Rattle.request_value.proofs.Sending.{Sends, sends-starts, sends-over, sends-end, sends-stop, sends-next, sends-room}
 use Rattle.request_value.proofs.Laws.{none-left, some-left, value-next}
 use Rattle.request_value.specs.Sent.{argumentsOf}
