@@ -36,9 +36,10 @@ use Rattle.derive_sub_sup.proofs.Bytes.{exact-same}
 use Rattle.state_record.specs.declared.Places.{Places}
 use Rattle.state_record.specs.declared.Place.the-variants.{Adapter}
 use Rattle.state_record.specs.View.{placesIn, blankPlace}
-use Rattle.state_record.specs.Sound.{Descending, BaseAt}
+use Rattle.state_record.specs.Sound.{Descending}
 use Rattle.state_record.proofs.Laws.{places-length}
 use Rattle.state_record.proofs.Kept.{descending-more, typed-more}
+use Rattle.state_places.specs.Behind.{BaseAt}
 use Rattle.crossing_one.specs.declared.Crossing.{Crossing}
 use Rattle.crossing_one.specs.declared.Landing.the-variants as landing
 use Rattle.crossing_one.specs.declared.Crossed.{Crossed}

@@ -126,7 +126,7 @@ fn meet(
         ≡ adapt (tableIn (now (types .entry)) (now (links .entry)) c) (placesIn ps) to right p ⌝ }
     ensures leaves { λ q. ⌜ Leaves c ps to (now (types .entry)) (now (types .exit)) q ⌝ }
 {
-    let v = state_record::place_type(state_record::place_at(ps, p));
+    let v = state_places::place_type(state_record::place_at(ps, p));
     let passes = asked(types, links, c, Relation::Conforms, right, v);
     if passes {
         return land(ps, to, Landing::Stands(p), c.types);
@@ -164,12 +164,12 @@ fn unwrap(
     if !free {
         return refused(ps, refusal::UNRELATED);
     }
-    let owner = state_record::base_owner(ps, x.place);
+    let owner = state_places::base_owner(ps, x.place);
     let receiver = x.receiver;
     if owner != receiver {
         return refused(ps, refusal::NOT_OWNER);
     }
-    let base = state_record::base_of(ps, x.place);
+    let base = state_places::base_of(ps, x.place);
     meet(types, links, c, ps, x.to, x.to, base)
 }
 

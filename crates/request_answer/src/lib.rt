@@ -50,7 +50,7 @@ fn answers_met(types: &[u8; TYPE_BYTES], s: State, j: usize, x: Call, c: Cell) -
 {
     let ps = s.places;
     let counts = s.counts;
-    let layers = state_record::layers_of(ps, wide(c.place));
+    let layers = state_places::layers_of(ps, wide(c.place));
     let ls = crossing_targets::call_layers(c.ty, layers);
     crossing_targets::reversed(crossing_targets::targets_of(
         types,
@@ -160,7 +160,7 @@ fn answer_call(types: &mut [u8; TYPE_BYTES], s: State, who: usize, j: usize, giv
     let x = state_record::call_at(s.calls, j);
     let c = state_record::cell_at(s.cells, wide(x.cell));
     let ps = s.places;
-    let owner = state_record::base_owner(ps, wide(c.place));
+    let owner = state_places::base_owner(ps, wide(c.place));
     if owner != who {
         return request_common::refused(s, refusal::NOT_HELD);
     }

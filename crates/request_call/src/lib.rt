@@ -121,8 +121,8 @@ fn call_through(
     let c = state_record::cell_at(s.cells, k);
     let p = wide(c.place);
     let ps = s.places;
-    let owner = state_record::base_owner(ps, p);
-    let layers = state_record::layers_of(ps, p);
+    let owner = state_places::base_owner(ps, p);
+    let layers = state_places::layers_of(ps, p);
     let q = request_value::send_arguments(
         types,
         s,
@@ -137,7 +137,7 @@ fn call_through(
     if !request_value::accepted(outcome) {
         return Served { outcome, state: s };
     }
-    add_call(sent, who, k, m, state_record::adapters_of(ps, p))
+    add_call(sent, who, k, m, state_places::adapters_of(ps, p))
 }
 
 // What a call comes to before anything is sent: the number of its refusal, or 0 and the call that it is, with its signature. Where `sends` is false no argument
@@ -184,7 +184,7 @@ fn plan_numbers(
 {
     let counts = s.counts;
     let ps = s.places;
-    let layers = state_record::layers_of(ps, wide(c.place));
+    let layers = state_places::layers_of(ps, wide(c.place));
     let ls = crossing_targets::call_layers(c.ty, layers);
     let adapters = layers.count - 1;
     let passed = request_value::pass_numbers(types, counts, ls, m, x, vs);

@@ -120,11 +120,11 @@ pub fn place_fits(b: &[u8; TYPE_BYTES], c: Counts, p: usize, x: PlaceRec) -> boo
     requires { ⌜ Limits c ⌝ }
     ensures { λ r. ⌜ r ≡ placeAccepted (typesIn (now (b .entry))) c p (placeOf (x .place)) ⌝ }
 {
-    let t = state_record::place_type(x);
-    if state_record::is_object(x) {
-        return object_fits(b, c, t, state_record::place_owner(x));
+    let t = state_places::place_type(x);
+    if state_places::is_object(x) {
+        return object_fits(b, c, t, state_places::place_owner(x));
     }
-    adapter_fits(b, c, p, state_record::place_behind(x), t)
+    adapter_fits(b, c, p, state_places::place_behind(x), t)
 }
 
 fn places_fit(b: &[u8; TYPE_BYTES], c: Counts, ps: Places) -> bool

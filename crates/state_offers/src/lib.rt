@@ -92,7 +92,7 @@ fn cell_offers(
     let x = state_bytes::cell_from(cells, k);
     let p = state_bytes::place_from(places, wide(x.place));
     let ty = wide(x.ty);
-    let place_type = state_record::place_type(p);
+    let place_type = state_places::place_type(p);
     let c = state_bytes::counts_from(*counts);
     if !type_permits(types, c, ty, chain) {
         return false;

@@ -1,11 +1,11 @@
 -- The views of a state's parts: how long they are, what stands in them, what one record more does.
-use mathlib.Core.Path.{_≡_, ap, sym, subst, _∙_}
-use mathlib.Core.Bool.{true, false}
+use mathlib.Core.Path.{_≡_, ap, sym, _∙_}
+use mathlib.Core.Bool.{true}
 use mathlib.Core.List.{[], _∷_, _++_, map}
 use Prim.Native.Nat.{ℕ, _≤_, _<_}
 use lib.ListN.{length, getD, set, List·getD-map}
-use Rattle.spec_model.specs.Crossing.{Place as Placeᵐ, noPlace, placeAt, placeType, baseOf}
-use Rattle.spec_model.specs.Requests.{System, Call as Callᵐ, noCell, noCall, flagged, layersOf}
+use Rattle.spec_model.specs.Crossing.{Place as Placeᵐ, noPlace, placeAt}
+use Rattle.spec_model.specs.Requests.{System, Call as Callᵐ, noCell, noCall, flagged}
 use Rattle.spec_model.specs.Check.{noRawPlace, noRawCall, systemOf}
 use Rattle.spec_model.specs.Check.{placeOf as placeMeant, callOf as callMeant}
 use Rattle.spec_model.specs.Handed.{placeRecord, callRecord}
@@ -20,10 +20,8 @@ use Rattle.state_record.specs.declared.Places.{Places}
 use Rattle.state_record.specs.declared.Calls.{Calls}
 use Rattle.state_record.specs.Whole.{Whole as State}
 use Rattle.state_record.specs.View.{cellOf, placeOf, callOf, blankCell, blankPlace, blankCall, cellsIn, placesIn, callsIn, cellAdded, placeAdded, callAdded, callAnswered, answeredAs}
-use Rattle.state_record.specs.View.{systemIn, isObject, behindOf}
-use Rattle.state_record.specs.Sound.{Descending, BaseAt}
+use Rattle.state_record.specs.View.{systemIn}
 use Rattle.state_record.proofs.Lists.{seen-length, seen-at, seen-added, seen-set}
-use Rattle.state_record.proofs.Going as go
 
 abbrev recOf : PlaceRec → Placeᵐ
 recOf p = placeOf (p .place)
@@ -94,32 +92,3 @@ means-counted s = record {
   places = ap (λ (x : System). length (x .places)) (system-is s) ∙ places-length (s .places);
   calls = ap (λ (x : System). length (x .calls)) (system-is s) ∙ calls-length (s .calls);
 }
-
--- a base of the place reached is one of the place that it was reached from
-pub based : (ps : Places) (p q : ℕ) → baseOf (placesIn ps) p ≡ baseOf (placesIn ps) q → BaseAt ps q q → BaseAt ps p q
-based ps p q e b = record { is = b .is ∙ sym e; below = b .below; object = b .object }
-
--- Going behind in the counted places.
-module _ (ps : Places) (h : Descending ps) where
-  inside : (p : ℕ) → p < ps .count → p < length (placesIn ps)
-  inside p l = subst (λ (n : ℕ). p < n) (sym (places-length ps)) l
-
-  descends : (p : ℕ) → p < length (placesIn ps) → isObject (placeAt (placesIn ps) p) ≡ false → behindOf (placeAt (placesIn ps) p) < p
-  descends p l = h .behind p (subst (λ (n : ℕ). p < n) (places-length ps) l)
-
-  -- the place x at p, as it was read
-  module _ (p : ℕ) (l : p < ps .count) (x : Placeᵐ) (e : x ≡ placeAt (placesIn ps) p) where
-    pub goes-below : isObject x ≡ false → behindOf x < p
-    goes-below o = rw e (h .behind p l (rw (← e) o))
-
-    pub base-ends : isObject x ≡ true → BaseAt ps p p
-    base-ends o = record { is = sym (go.base-here (placesIn ps) descends p (inside p l) (rw (← e) o)); below = l; object = rw (← e) o }
-
-    pub base-goes : isObject x ≡ false → baseOf (placesIn ps) p ≡ baseOf (placesIn ps) (behindOf x)
-    base-goes o = rw e (go.base-behind (placesIn ps) descends p (inside p l) (rw (← e) o))
-
-    pub layers-end : isObject x ≡ true → layersOf (placesIn ps) p ≡ placeType x ∷ []
-    layers-end o = rw e (go.layers-here (placesIn ps) descends p (inside p l) (rw (← e) o))
-
-    pub layers-go : isObject x ≡ false → layersOf (placesIn ps) p ≡ placeType x ∷ layersOf (placesIn ps) (behindOf x)
-    layers-go o = rw e (go.layers-behind (placesIn ps) descends p (inside p l) (rw (← e) o))

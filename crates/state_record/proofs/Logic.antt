@@ -6,7 +6,7 @@
 -- all requests. Tests (is the number in use, is there room) stay in such code, since a branch would have each of its arms walked to the exit.
 --
 -- How, for another record or function:
--- 1. Straight-line code; `rt mir state` prints its operations and its locals.
+-- 1. Straight-line code; `rt mir state_record` prints its operations and its locals.
 -- 2. Copy the proof whose body has that shape. With n locals, local i stands at 2 * (n - 1 - i) once all are allocated; what is put in front shifts the rest: hence the comments in [ ].
 -- 3. A parameter that is plain data or a `&` owes nothing at the exit (`stay-dropped`); a `&mut` is kept (`stay-slice`). What plain data owns is made anew (`owned`), never carried.
 -- 4. A record behind a reference is read and stored whole (`look-raw`, `store-raw`), at `place-is SIZE`, SIZE its bytes.

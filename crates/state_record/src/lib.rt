@@ -1,16 +1,15 @@
 // What the four requests work on: cells, places and calls, beside the table (Q1 to Q10). A record has a byte for each number; a count may be any number where a
 // state is handed in. Contracts speak of the model's lists (specs/View.antt); functions take the part that they need, so that the table is not copied.
+// What a place says and what stands behind it is asked in crate `state_places`.
 ghost use mathlib.Core.Path.{_≡_};
 ghost use mathlib.Core.Bool.{true};
 ghost use mathlib.Core.List.{[], _∷_, _++_};
 ghost use Prim.Native.Nat.{_≤_, _<_};
 ghost use lib.ListN.{length, getD, set};
-ghost use Rattle.spec_model.specs.Crossing.{placeAt, placeType, ownerOf, baseOwner, maxPlaces};
-ghost use Rattle.spec_model.specs.Requests.{noCell, noCall, flagged, adapterCount, maxCells, maxCalls};
+ghost use Rattle.spec_model.specs.Crossing.{placeAt, maxPlaces};
+ghost use Rattle.spec_model.specs.Requests.{noCell, noCall, flagged, maxCells, maxCalls};
 ghost use Rattle.state_record.specs.View.{cellOf, placeOf, callOf, cellsIn, placesIn, callsIn, blankCell, blankPlace, blankCall};
 ghost use Rattle.state_record.specs.View.{noCells, noPlaces, noCalls, stateLoaded, stateCalls, cellAdded, placeAdded, callAdded, callAnswered};
-ghost use Rattle.state_record.specs.View.{isObject, behindOf};
-ghost use Rattle.state_record.specs.Sound.{Descending, BaseAt, LayersAt};
 use table_record::Counts;
 use table_record::LINK_BYTES;
 
@@ -60,12 +59,6 @@ pub struct State {
     pub cells: Cells,
     pub places: Places,
     pub calls: Calls,
-}
-
-// The types that a value passes at a place (C9): the closed types of the adapters, outermost first, and the class last.
-pub struct Layers {
-    pub list: [u8; State::PLACES],
-    pub count: usize,
 }
 
 // F6, the cells lent as a slice: lookup reads a record, append stores one. They decide nothing: whether a number is in use, who holds the cell and whether
@@ -265,127 +258,4 @@ pub fn call_at(js: Calls, j: usize) -> Call
     ensures { λ r. ⌜ (r ≡ getD (js .list) j blankCall) × (j < js .count → callOf r ≡ getD (callsIn js) j noCall) ⌝ }
 {
     js.list[j]
-}
-
-fn type_in(p: Place) -> u8
-    ensures { λ r. ⌜ r ≡ placeType (placeOf p) ⌝ }
-{
-    match p {
-        Place::Object { class, owner: _ } => class,
-        Place::Adapter { behind: _, closed } => closed,
-    }
-}
-
-fn owner_in(p: Place) -> u8
-    ensures { λ r. ⌜ r ≡ ownerOf (placeOf p) ⌝ }
-{
-    match p {
-        Place::Object { class: _, owner } => owner,
-        Place::Adapter {
-            behind: _,
-            closed: _,
-        } => 0,
-    }
-}
-
-fn behind_in(p: Place) -> u8
-    ensures { λ r. ⌜ r ≡ behindOf (placeOf p) ⌝ }
-{
-    match p {
-        Place::Object { class: _, owner: _ } => 0,
-        Place::Adapter { behind, closed: _ } => behind,
-    }
-}
-
-fn object_in(p: Place) -> bool
-    ensures { λ r. ⌜ r ≡ isObject (placeOf p) ⌝ }
-{
-    match p {
-        Place::Object { class: _, owner: _ } => true,
-        Place::Adapter {
-            behind: _,
-            closed: _,
-        } => false,
-    }
-}
-
-// The type of a place (Q3).
-pub fn place_type(p: PlaceRec) -> usize
-    ensures { λ r. ⌜ (r ≡ placeType (placeOf (p .place))) × (r < 256) ⌝ }
-{
-    let x = p.place;
-    base_numbers::wide(type_in(x))
-}
-
-// The owner of an object; 0 for an adapter.
-pub fn place_owner(p: PlaceRec) -> usize
-    ensures { λ r. ⌜ (r ≡ ownerOf (placeOf (p .place))) × (r < 256) ⌝ }
-{
-    let x = p.place;
-    base_numbers::wide(owner_in(x))
-}
-
-// The place behind an adapter; 0 for an object.
-pub fn place_behind(p: PlaceRec) -> usize
-    ensures { λ r. ⌜ (r ≡ behindOf (placeOf (p .place))) × (r < 256) ⌝ }
-{
-    let x = p.place;
-    base_numbers::wide(behind_in(x))
-}
-
-pub fn is_object(p: PlaceRec) -> bool
-    ensures { λ r. ⌜ r ≡ isObject (placeOf (p .place)) ⌝ }
-{
-    let x = p.place;
-    object_in(x)
-}
-
-// The base of place p (Q2): what is behind lies below, so it is reached.
-pub fn base_of(ps: Places, p: usize) -> usize
-    requires { ⌜ Descending ps × (p < ps .count) ⌝ }
-    ensures { λ r. ⌜ BaseAt ps p r ⌝ }
-{
-    let mut base = p;
-    while !is_object(ps.list[base]) {
-        base = place_behind(ps.list[base]);
-    }
-    base
-}
-
-pub fn base_owner(ps: Places, p: usize) -> usize
-    requires { ⌜ Descending ps × (p < ps .count) ⌝ }
-    ensures { λ r. ⌜ (r ≡ baseOwner (placesIn ps) p) × (r < 256) ⌝ }
-{
-    let base = base_of(ps, p);
-    place_owner(place_at(ps, base))
-}
-
-// The layers of place p (C9).
-pub fn layers_of(ps: Places, p: usize) -> Layers
-    requires { ⌜ Descending ps × (p < ps .count) ⌝ }
-    ensures { λ r. ⌜ LayersAt ps p r ⌝ }
-{
-    let mut list = [0u8; State::PLACES];
-    let mut count: usize = 0;
-    let mut at = p;
-    while !is_object(ps.list[at]) {
-        let x = ps.list[at];
-        list[count] = base_numbers::narrow(place_type(x));
-        count += 1;
-        at = place_behind(x);
-    }
-    list[count] = base_numbers::narrow(place_type(ps.list[at]));
-    Layers {
-        list,
-        count: count + 1,
-    }
-}
-
-// How many adapters stand between place p and its base (C19).
-pub fn adapters_of(ps: Places, p: usize) -> usize
-    requires { ⌜ Descending ps × (p < ps .count) ⌝ }
-    ensures { λ r. ⌜ r ≡ adapterCount (placesIn ps) p ⌝ }
-{
-    let l = layers_of(ps, p);
-    l.count - 1
 }

@@ -4,7 +4,7 @@ use Prim.Native.Nat.{ℕ, _<_}
 use native.Mathlib.Omega.{arith}
 use borrow.Author.Needs.{needs}
 use Rattle.state_record.specs.Whole.{whole}
-use Rattle.state_record.specs.Sound.{layersIn}
+use Rattle.state_places.specs.Behind.{layersIn}
 use Rattle.crossing_targets.specs.Targets.{callLayersIn, targetsIn}
 use Rattle.request_answer.proofs.Laws.{answers-are}
 use Rattle.request_answer.proofs.answers_met.Statement.{statement}

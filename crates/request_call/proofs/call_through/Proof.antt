@@ -5,7 +5,7 @@ use borrow.Author.Tests.{not-true, not-false}
 use borrow.Author.Needs.{needs}
 use Rattle.state_record.specs.Whole.{whole}
 use Rattle.request_common.specs.Served.{done}
-use Rattle.state_record.specs.Sound.{layersIn}
+use Rattle.state_places.specs.Behind.{layersIn}
 use Rattle.crossing_targets.specs.Targets.{callLayersIn}
 use Rattle.request_call.proofs.Calling.{call-byte, place-here, place-low, call-layers-met, type-low, through-stops, through-room, through-adds}
 use Rattle.request_value.specs.Sent.{argumentsOf}

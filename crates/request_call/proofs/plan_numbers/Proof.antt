@@ -5,7 +5,7 @@ use native.Mathlib.Omega.{arith}
 use borrow.Author.Needs.{needs}
 use Rattle.spec_model.proofs.Rules.{never}
 use Rattle.state_record.specs.Whole.{whole}
-use Rattle.state_record.specs.Sound.{layersIn}
+use Rattle.state_places.specs.Behind.{layersIn}
 use Rattle.crossing_targets.specs.Targets.{callLayersIn}
 use Rattle.request_value.specs.Sent.{argumentsOf}
 use Rattle.request_call.proofs.Calling.{ownerAt, place-here, place-low, call-layers-met, planned-goes, numbers-refuse, numbers-add}

@@ -6,11 +6,11 @@ use lib.ListN.{getD, set}
 use borrow.Author.Needs.{needs}
 use borrow.Author.Tests.{not-true, not-false}
 use Rattle.spec_model.specs.Crossing.{Place as Placeᵐ, placeAt, maxPlaces}
 use Rattle.state_record.specs.View.{placesIn, placeOf, blankPlace}
 use Rattle.state_record.proofs.Laws.{place-is}
-use Rattle.state_record.proofs.Walk.{Walk, walk-starts, walk-goes, walk-ends}
-use Rattle.state_record.proofs.layers_of.Statement.{statement}
-use Rattle.state_record.proofs.layers_of.Tie as tie
+use Rattle.state_places.proofs.Walk.{Walk, walk-starts, walk-goes, walk-ends}
+use Rattle.state_places.proofs.layers_of.Statement.{statement}
+use Rattle.state_places.proofs.layers_of.Tie as tie
 
 abbrev Inv-loop : tie.InvT-loop
 Inv-loop p ps list₀ count₀ at₀ list count at = Walk ps p list count at

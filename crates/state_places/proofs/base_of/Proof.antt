@@ -7,10 +7,11 @@ use lib.ListN.{getD}
 use borrow.Author.Needs.{needs}
 use borrow.Author.Tests.{not-true, not-false}
 use Rattle.spec_model.specs.Crossing.{Place as Placeᵐ, placeAt, baseOf, maxPlaces}
 use Rattle.state_record.specs.View.{placesIn, placeOf, blankPlace, isObject, behindOf}
-use Rattle.state_record.proofs.Laws.{place-is, goes-below, base-ends, base-goes, based}
-use Rattle.state_record.proofs.base_of.Statement.{statement}
-use Rattle.state_record.proofs.base_of.Tie as tie
+use Rattle.state_record.proofs.Laws.{place-is}
+use Rattle.state_places.proofs.Laws.{goes-below, base-ends, base-goes, based}
+use Rattle.state_places.proofs.base_of.Statement.{statement}
+use Rattle.state_places.proofs.base_of.Tie as tie
 
 abbrev Inv-loop : tie.InvT-loop
 Inv-loop p ps base₀ base = (base < ps .count) × (baseOf (placesIn ps) p ≡ baseOf (placesIn ps) base)

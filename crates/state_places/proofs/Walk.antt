@@ -9,10 +9,11 @@ use lib.ListN.{length, set, take, length-set}
 use lib.Seq.{take-suc-set, append-snoc, length-take-le}
 use Rattle.spec_model.specs.Crossing.{Place as Placeᵐ, placeAt, placeType, maxPlaces}
 use Rattle.spec_model.specs.Requests.{layersOf}
 use Rattle.state_record.specs.declared.Places.{Places}
 use Rattle.state_record.specs.View.{placesIn, isObject, behindOf}
-use Rattle.state_record.specs.Sound.{Descending, LayersAt}
-use Rattle.state_record.proofs.Laws.{goes-below, layers-end, layers-go}
+use Rattle.state_record.specs.Sound.{Descending}
+use Rattle.state_places.specs.Behind.{LayersAt}
+use Rattle.state_places.proofs.Laws.{goes-below, layers-end, layers-go}
 
 pub record Walk (ps : Places) (p : ℕ) (list : List ℕ) (count q : ℕ) : Type 0 where
   pub inside : q < ps .count

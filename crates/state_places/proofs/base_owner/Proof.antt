@@ -4,9 +4,9 @@ use Prim.Native.Nat.{ℕ}
 use native.Mathlib.Omega.{arith}
 use borrow.Author.Needs.{needs}
 use Rattle.spec_model.specs.Crossing.{placeAt, ownerOf}
 use Rattle.state_record.specs.View.{placesIn}
-use Rattle.state_record.proofs.base_owner.Statement.{statement}
-use Rattle.state_record.proofs.base_owner.Tie as tie
+use Rattle.state_places.proofs.base_owner.Statement.{statement}
+use Rattle.state_places.proofs.base_owner.Tie as tie
 
 base-of-requires : tie.Need-base-of-requires
 base-of-requires c κs = c .pre
