@@ -7,9 +7,9 @@ use Rattle.spec_model.specs.Check.{repOf}
 use Rattle.spec_model.specs.Table.{Ty}
 use Rattle.spec_sheet.specs.Lines.{split, got}
 use Rattle.spec_sheet.specs.Sheet.{members}
-use Rattle.sheet_read.proofs.Readings.{refused-is, got-no, got-ok, got-refusal, got-at-most, type-of, afterNumber, afterRep, step-no, step-ok, members-ref, members-number}
-use Rattle.sheet_read.proofs.one_type.Statement.{statement}
-use Rattle.sheet_read.proofs.one_type.Tie as tie
+use Rattle.sheet_read_type.proofs.Readings.{refused-is, got-no, got-ok, got-refusal, got-at-most, type-of, afterNumber, afterRep, step-no, step-ok, members-ref, members-number}
+use Rattle.sheet_read_type.proofs.one_type.Statement.{statement}
+use Rattle.sheet_read_type.proofs.one_type.Tie as tie
 
 slice-aggregate-next-number : tie.Need-slice-aggregate-next-number
 slice-aggregate-next-number c = search needs

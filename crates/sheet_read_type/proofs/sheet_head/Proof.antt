@@ -1,8 +1,8 @@
 -- The head of a sheet type is the parts handed in, with 0 for kind, left and right (B14).
 use borrow.Author.Needs.{needs}
-use Rattle.sheet_read.proofs.Stored.{head-eq}
-use Rattle.sheet_read.proofs.sheet_head.Statement.{statement}
-use Rattle.sheet_read.proofs.sheet_head.Tie as tie
+use Rattle.sheet_read_type.proofs.Stored.{head-eq}
+use Rattle.sheet_read_type.proofs.sheet_head.Statement.{statement}
+use Rattle.sheet_read_type.proofs.sheet_head.Tie as tie
 
 narrow-requires : tie.Need-narrow-requires
 narrow-requires c κs = search needs

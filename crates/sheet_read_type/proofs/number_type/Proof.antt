@@ -6,9 +6,9 @@ use borrow.Author.Needs.{needs}
 use Rattle.law_table.proofs.Exact.{sheet-key, number-exact}
 use Rattle.table_record.specs.Store.{rawOf}
 use Rattle.table_record.specs.declared.Head.{Head}
-use Rattle.sheet_read.proofs.Stored.{number-means, methods-blank}
-use Rattle.sheet_read.proofs.number_type.Statement.{statement}
-use Rattle.sheet_read.proofs.number_type.Tie as tie
+use Rattle.sheet_read_type.proofs.Stored.{number-means, methods-blank}
+use Rattle.sheet_read_type.proofs.number_type.Statement.{statement}
+use Rattle.sheet_read_type.proofs.number_type.Tie as tie
 use Rattle.spec_model.specs.Table.{maxMethods}
 
 empty-requires : tie.Need-empty-requires

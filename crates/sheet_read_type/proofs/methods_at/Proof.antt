@@ -7,11 +7,11 @@ use native.Mathlib.Omega.{arith}
 use lib.ListN.{length, drop, take, length-set}
 use borrow.Author.Needs.{needs}
 use Rattle.spec_sheet.specs.Lines.{split, times, got}
-use Rattle.sheet_read.proofs.Readings.{read-no, read-ok, refused-is, times-done, times-stop, times-next}
-use Rattle.sheet_read.proofs.Stored.{methods-add, methods-blank, methods-put}
-use Rattle.sheet_read.specs.View.{methodIs, MethodsExact, eachMethod}
-use Rattle.sheet_read.proofs.methods_at.Statement.{statement}
-use Rattle.sheet_read.proofs.methods_at.Tie as tie
+use Rattle.sheet_read_type.proofs.Readings.{read-no, read-ok, refused-is, times-done, times-stop, times-next}
+use Rattle.sheet_read_type.proofs.Stored.{methods-add, methods-blank, methods-put}
+use Rattle.sheet_read_type.specs.View.{methodIs, MethodsExact, eachMethod}
+use Rattle.sheet_read_type.proofs.methods_at.Statement.{statement}
+use Rattle.sheet_read_type.proofs.methods_at.Tie as tie
 use Rattle.spec_model.specs.Table.{maxMethods}
 
 abbrev Inv-loop : tie.InvT-loop

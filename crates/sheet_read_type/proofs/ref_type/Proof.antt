@@ -11,11 +11,11 @@ use Rattle.table_record.specs.Store.{rawOf, rawMethod}
 use Rattle.table_record.specs.declared.Head.{Head}
 use Rattle.spec_sheet.specs.Lines.{split, got}
 use Rattle.sheet_read_line.specs.View.{yesOf}
-use Rattle.sheet_read.proofs.Readings.{read-no, read-ok, refused-is, got-no, got-ok, got-refusal, got-at-most, members-of, afterOwn, afterMethods, step-no, step-ok}
-use Rattle.sheet_read.proofs.Stored.{methods-all, ref-means}
-use Rattle.sheet_read.specs.View.{methodIs}
-use Rattle.sheet_read.proofs.ref_type.Statement.{statement}
-use Rattle.sheet_read.proofs.ref_type.Tie as tie
+use Rattle.sheet_read_type.proofs.Readings.{read-no, read-ok, refused-is, got-no, got-ok, got-refusal, got-at-most, members-of, afterOwn, afterMethods, step-no, step-ok}
+use Rattle.sheet_read_type.proofs.Stored.{methods-all, ref-means}
+use Rattle.sheet_read_type.specs.View.{methodIs}
+use Rattle.sheet_read_type.proofs.ref_type.Statement.{statement}
+use Rattle.sheet_read_type.proofs.ref_type.Tie as tie
 
 next-own-requires : tie.Need-next-own-requires
 next-own-requires c κs = search needs

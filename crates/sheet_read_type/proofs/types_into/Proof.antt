@@ -14,10 +14,10 @@ use Rattle.table_record.specs.Records.{typeBytes}
 use Rattle.table_record.specs.Store.{typesIn, typesTo, rawOf}
 use Rattle.spec_sheet.specs.Lines.{split, times, got}
 use Rattle.spec_sheet.specs.Sheet.{oneType}
-use Rattle.sheet_read.proofs.Readings.{read-no, read-ok, times-done, times-stop, times-next}
-use Rattle.sheet_read.proofs.Stored.{types-none, types-next, empty-types, types-room, types-stored, type-record}
-use Rattle.sheet_read.proofs.types_into.Statement.{statement}
-use Rattle.sheet_read.proofs.types_into.Tie as tie
+use Rattle.sheet_read_type.proofs.Readings.{read-no, read-ok, times-done, times-stop, times-next}
+use Rattle.sheet_read_type.proofs.Stored.{types-none, types-next, empty-types, types-room, types-stored, type-record}
+use Rattle.sheet_read_type.proofs.types_into.Statement.{statement}
+use Rattle.sheet_read_type.proofs.types_into.Tie as tie
 
 abbrev Inv-loop : tie.InvT-loop
 Inv-loop s m cats n b₀ i₀ at₀ b i at = (i ≤ n) × (b ≡ typeBytes (typesTo m n i (typesIn b))) ×
