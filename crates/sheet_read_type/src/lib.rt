@@ -1,5 +1,5 @@
 // The types of a sheet (docs/SPEC.md S25): the lines of each are read as the record of the type, and it is stored in lent bytes by crate `table_store`.
-// What comes of the lines is crate `spec_sheet`'s definition `oneType`. One line is read by `text_read` or `sheet_read_line`.
+// What comes of the lines is crate `spec_sheet`'s definition `oneType`. One line is read by `text_read`, `sheet_read_line` or `sheet_read_method`.
 ghost use mathlib.Core.Path.{_≡_};
 ghost use mathlib.Core.Bool.{false};
 ghost use mathlib.Core.List.{[], map};
@@ -54,7 +54,7 @@ fn methods_at(s: &[u8], c: Cursor, m: usize, n: usize) -> MethodsGot
     let mut j: usize = 0;
     let mut at = c.at;
     while j < m {
-        let g = sheet_read_line::next_method(s, Cursor { at }, n);
+        let g = sheet_read_method::next_method(s, Cursor { at }, n);
         let next = g.next;
         if g.refusal != 0 {
             return MethodsGot {

@@ -2,9 +2,9 @@
 use mathlib.Core.Path.{refl, sym, _∙_}
 use native.Mathlib.Omega.{arith}
 use borrow.Author.Needs.{needs}
-use Rattle.sheet_read_line.proofs.Laws.{bare-denied, bare-unavail, bare-none}
-use Rattle.sheet_read_line.proofs.read_bare.Statement.{statement}
-use Rattle.sheet_read_line.proofs.read_bare.Tie as tie
+use Rattle.sheet_read_method.proofs.Laws.{bare-denied, bare-unavail, bare-none}
+use Rattle.sheet_read_method.proofs.read_bare.Statement.{statement}
+use Rattle.sheet_read_method.proofs.read_bare.Tie as tie
 
 slice-aggregate-is-word : tie.Need-slice-aggregate-is-word
 slice-aggregate-is-word c = search needs

@@ -2,9 +2,9 @@
 use mathlib.Core.Path.{refl, sym, _∙_}
 use borrow.Author.Needs.{needs}
 use Rattle.text_read.proofs.Laws.{starts-length}
-use Rattle.sheet_read_line.proofs.Laws.{method-avail, method-optional, method-bare}
-use Rattle.sheet_read_line.proofs.opened.Statement.{statement}
-use Rattle.sheet_read_line.proofs.opened.Tie as tie
+use Rattle.sheet_read_method.proofs.Laws.{method-avail, method-optional, method-bare}
+use Rattle.sheet_read_method.proofs.opened.Statement.{statement}
+use Rattle.sheet_read_method.proofs.opened.Tie as tie
 
 slice-aggregate-begins : tie.Need-slice-aggregate-begins
 slice-aggregate-begins c = search needs

@@ -9,11 +9,12 @@ use Rattle.spec_model.specs.Basics.{ok}
 use Rattle.spec_model.specs.Check.{stateOf, answerOf}
 use Rattle.law_table.proofs.Exact.{signed-exact}
 use Rattle.text_read.proofs.Laws.{scan-right, scan-wrong, number-scan-wrong, number-scan-right}
-use Rattle.sheet_read_line.proofs.Laws.{signature-args, signature-answer, signature-behind, signature-high, signature-answer-high, signature-good, signed-means, permits-below}
-use Rattle.sheet_read_line.proofs.Laws.{item-small, args-taken, args-rest}
+use Rattle.sheet_read_method.proofs.Laws.{signature-args, signature-answer, signature-behind, signature-high, signature-answer-high, signature-good, signed-means, permits-below}
+use Rattle.sheet_read_line.proofs.Laws.{item-small}
+use Rattle.sheet_read_method.proofs.Laws.{args-taken, args-rest}
 use Rattle.text_read.specs.View.{numbersOf}
-use Rattle.sheet_read_line.proofs.read_signature.Statement.{statement}
-use Rattle.sheet_read_line.proofs.read_signature.Tie as tie
+use Rattle.sheet_read_method.proofs.read_signature.Statement.{statement}
+use Rattle.sheet_read_method.proofs.read_signature.Tie as tie
 
 args-at-requires : tie.Need-args-at-requires
 args-at-requires c κs = search needs

@@ -4,9 +4,9 @@ use Rattle.spec_model.specs.Check.{methodOf}
 use Rattle.table_record.specs.Store.{rawMethod}
 use Rattle.spec_sheet.specs.Sheet.{methodLine}
 use Rattle.text_read.proofs.Laws.{line-result}
-use Rattle.sheet_read_line.proofs.Laws.{method-empty}
-use Rattle.sheet_read_line.proofs.next_method.Statement.{statement}
-use Rattle.sheet_read_line.proofs.next_method.Tie as tie
+use Rattle.sheet_read_method.proofs.Laws.{method-empty}
+use Rattle.sheet_read_method.proofs.next_method.Statement.{statement}
+use Rattle.sheet_read_method.proofs.next_method.Tie as tie
 
 next-line-requires : tie.Need-next-line-requires
 next-line-requires c κs = search needs

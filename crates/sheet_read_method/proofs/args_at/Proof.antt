@@ -7,9 +7,9 @@ use borrow.Author.Needs.{needs}
 use borrow.Author.Tests.{not-true, not-false}
 use Rattle.text_read.specs.View.{numbersOf}
 use Rattle.text_read.proofs.Laws.{scan-right, scan-wrong}
-use Rattle.sheet_read_line.proofs.Laws.{args-none, args-empty, args-wrong, args-open, args-other, args-closed, none-read, empty-read, closed-read}
-use Rattle.sheet_read_line.proofs.args_at.Statement.{statement}
-use Rattle.sheet_read_line.proofs.args_at.Tie as tie
+use Rattle.sheet_read_method.proofs.Laws.{args-none, args-empty, args-wrong, args-open, args-other, args-closed, none-read, empty-read, closed-read}
+use Rattle.sheet_read_method.proofs.args_at.Statement.{statement}
+use Rattle.sheet_read_method.proofs.args_at.Tie as tie
 
 no-numbers-requires : tie.Need-no-numbers-requires
 no-numbers-requires c κs = search needs

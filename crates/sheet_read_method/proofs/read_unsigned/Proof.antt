@@ -3,9 +3,9 @@ use mathlib.Core.List.{[], _∷_}
 use mathlib.Core.Path.{ap}
 use Rattle.spec_model.specs.Basics.{ok}
 use Rattle.law_table.proofs.Exact.{unsigned-exact}
-use Rattle.sheet_read_line.proofs.Laws.{unsigned-means}
-use Rattle.sheet_read_line.proofs.read_unsigned.Statement.{statement}
-use Rattle.sheet_read_line.proofs.read_unsigned.Tie as tie
+use Rattle.sheet_read_method.proofs.Laws.{unsigned-means}
+use Rattle.sheet_read_method.proofs.read_unsigned.Statement.{statement}
+use Rattle.sheet_read_method.proofs.read_unsigned.Tie as tie
 
 returns : tie.Need-returns
 returns c = (ap ok (unsigned-means (c .args .state) 0 0 (0 ∷ 0 ∷ 0 ∷ 0 ∷ []) (c .pre .0)), unsigned-exact (c .args .state) (c .pre .1) (c .pre .0))

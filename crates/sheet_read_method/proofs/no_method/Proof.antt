@@ -5,9 +5,9 @@ use borrow.Author.Needs.{needs}
 use Rattle.law_table.proofs.Exact.{unsigned-exact}
 use Rattle.table_record.specs.Store.{rawMethod, MethodExact}
 use Rattle.table_record.specs.declared.Method.{Method}
-use Rattle.sheet_read_line.proofs.Laws.{result-refused}
-use Rattle.sheet_read_line.proofs.no_method.Statement.{statement}
-use Rattle.sheet_read_line.proofs.no_method.Tie as tie
+use Rattle.sheet_read_method.proofs.Laws.{result-refused}
+use Rattle.sheet_read_method.proofs.no_method.Statement.{statement}
+use Rattle.sheet_read_method.proofs.no_method.Tie as tie
 
 empty-requires : tie.Need-empty-requires
 empty-requires c κs = search needs

@@ -4,9 +4,9 @@ use native.Mathlib.Omega.{arith}
 use lib.ListN.{length}
 use borrow.Author.Needs.{needs}
 use Rattle.text_read.proofs.Laws.{number-scan-wrong, number-scan-right, right-within}
-use Rattle.sheet_read_line.proofs.Laws.{answer-none, answer-dash, answer-wrong, answer-took}
-use Rattle.sheet_read_line.proofs.answer_at.Statement.{statement}
-use Rattle.sheet_read_line.proofs.answer_at.Tie as tie
+use Rattle.sheet_read_method.proofs.Laws.{answer-none, answer-dash, answer-wrong, answer-took}
+use Rattle.sheet_read_method.proofs.answer_at.Statement.{statement}
+use Rattle.sheet_read_method.proofs.answer_at.Tie as tie
 
 returns : tie.Need-returns
 returns c = answer-none _ _ (c .if1 .taken)

@@ -1,9 +1,9 @@
 -- Behind its beginning an `m=` line is what the beginning says (`Opens`).
 use mathlib.Core.Path.{_∙_}
 use borrow.Author.Needs.{needs}
-use Rattle.sheet_read_line.proofs.Laws.{signed-opens, other-opens}
-use Rattle.sheet_read_line.proofs.read_method.Statement.{statement}
-use Rattle.sheet_read_line.proofs.read_method.Tie as tie
+use Rattle.sheet_read_method.proofs.Laws.{signed-opens, other-opens}
+use Rattle.sheet_read_method.proofs.read_method.Statement.{statement}
+use Rattle.sheet_read_method.proofs.read_method.Tie as tie
 
 opened-requires : tie.Need-opened-requires
 opened-requires c κs = search needs
