@@ -1,31 +1,17 @@
 -- What the reader's results say, in the words of crate `spec_sheet`: the code's records as the model's, and the lines of a sheet in the groups in which the code reads them.
-use mathlib.Core.Path.{_≡_}
-use mathlib.Core.List.{List, [], map}
-use Prim.Native.Nat.{ℕ, _≤_, _<_}
+use mathlib.Core.List.{List, []}
+use Prim.Native.Nat.{ℕ, _≤_}
 use lib.ListN.{getD, drop}
 use Rattle.spec_model.specs.Basics.{from}
-use Rattle.spec_model.specs.Table.{ref, Method as Methodᵐ, Ty, Table, maxSubjects, maxMethods, maxCategories, maxSheetTypes}
-use Rattle.spec_model.specs.Check.{RawLinks, noRawMethod, noRawLinks, methodOf, linksOf}
-use Rattle.table_record.specs.declared.Method.{Method}
-use Rattle.table_record.specs.Store.{rawMethod, blankMethod, MethodExact}
+use Rattle.spec_model.specs.Table.{Table, maxSubjects, maxMethods, maxCategories, maxSheetTypes}
+use Rattle.spec_model.specs.Check.{RawLinks, noRawLinks, linksOf}
 use Rattle.spec_sheet.specs.Lines.{bytes, split, Reading, refused, got, Reader, pure, line, bind, times}
 use Rattle.spec_sheet.specs.Text.{newestForm}
-use Rattle.spec_sheet.specs.Sheet.{numberLine, underLine, ownLine, methodLine, sheetType, oneType}
-use Rattle.sheet_read.specs.declared.Done.{Done}
-use Rattle.sheet_read.specs.declared.Done.the-variants.{Refused, At}
+use Rattle.spec_sheet.specs.Sheet.{numberLine, underLine, oneType}
 use Rattle.sheet_read.specs.declared.Front.{Front}
 use Rattle.sheet_read.specs.declared.First.{First}
 use Rattle.sheet_read.specs.declared.First.the-variants.{Refused as Refusedᶠ, At as Atᶠ}
 pub use Rattle.sheet_read.specs.Result.{sheetFor, sheetOf, readIntoOf}
-
--- Several lines of s, read as x; and what holds where they are accepted.
-abbrev pub doneBy : {A : Type 0} → List ℕ → A → Done → Reading A
-doneBy s x (Refused k c) = refused k (c .at)
-doneBy s x (At c) = got x (c .at) (split (drop (c .at) s))
-
-abbrev pub OnDone : Done → Type 0 → Type 0
-OnDone (Refused k c) P = Unit {0}
-OnDone (At c) P = P
 
 -- the first four lines of s
 abbrev pub firstBy : List ℕ → First → Reading Front
@@ -40,26 +26,9 @@ FirstWithin (Atᶠ f c) = (f .methods ≤ maxMethods) × (f .cats ≤ maxCategor
 unfoldable pub linksTo : ℕ → List RawLinks → List (List ℕ)
 linksTo n ls = from n 1 (λ k. linksOf (getD ls k noRawLinks))
 
--- a method of the code
-abbrev pub methodIs : Method → Methodᵐ
-methodIs m = methodOf (rawMethod m)
-
--- Of sixteen methods the first m are the records that stand for what they mean, and the bytes of the others are 0.
-pub record MethodsExact (m : ℕ) (ms : List Method) : Type 0 where
-  pub exact : (j : ℕ) → j < m → MethodExact (getD (map rawMethod ms) j noRawMethod)
-  pub rest : (j : ℕ) → m ≤ j → j < maxMethods → getD (map rawMethod ms) j noRawMethod ≡ blankMethod
-
--- the `under=` line of a category, and the `m=` line of a method
+-- the `under=` line of a category
 abbrev pub eachUnder : ℕ → ℕ → Reader (List ℕ)
 eachUnder cats k = line (underLine cats k)
-
-abbrev pub eachMethod : ℕ → ℕ → Reader Methodᵐ
-eachMethod n j = line (methodLine n)
-
--- the lines of a reference type behind its `cat=` line
-unfoldable pub membersRead : ℕ → ℕ → ℕ → Reader Ty
-unfolding times ownLine methodLine
-membersRead m n k = bind (line ownLine) λ o. bind (times (eachMethod n) m 0 []) λ ms. pure (sheetType ref k o ms)
 
 -- The lines of `body` (S22) in groups: the first four, the `under=` lines, the number of types, and the rest.
 abbrev pub first₁ : ℕ → Reader Front

@@ -1,23 +1,15 @@
--- What the answers for an `own=`, an `under=` and an `m=` line say, in the words of crate `spec_sheet` (text_read's View has those of a number, and of answers that hold an array).
+-- What the answers for an `own=` and an `under=` line say, in the words of crate `spec_sheet` (text_read's View has those of a number).
 use mathlib.Core.Path.{_≡_}
-use mathlib.Core.Bool.{Bool, true, cond}
+use mathlib.Core.Bool.{Bool}
 use mathlib.Core.List.{List}
-use Prim.Native.Nat.{ℕ, _≤_}
+use Prim.Native.Nat.{ℕ}
 use lib.Dec.{eqb}
-use lib.ListN.{length, drop}
+use lib.ListN.{drop}
 use Rattle.spec_model.specs.Basics.{Res, refuse, ok}
-use Rattle.spec_model.specs.Table.{denied, unavail, Method, maxArguments, bare, permit}
-use Rattle.spec_model.specs.Check.{RawLinks, linksOf, stateOf}
+use Rattle.spec_model.specs.Check.{RawLinks, linksOf}
 use Rattle.spec_model.specs.Records.{linksRecord}
-use Rattle.spec_model.specs.Refusals.{form}
 use Rattle.table_record.specs.Store.{rawLinks}
-use Rattle.spec_sheet.specs.Lines.{Reading, refused, got, split, same}
-use Rattle.spec_sheet.specs.Text.{stateText}
-use Rattle.spec_sheet.specs.Sheet.{signature, methodLine}
-use Rattle.text_read.specs.declared.Numbers.{Numbers}
-use Rattle.text_read.specs.View.{RestEmpty}
-use Rattle.sheet_read_line.specs.declared.Opening.{Opening}
-use Rattle.sheet_read_line.specs.declared.Opening.the-variants.{Other, Signed}
+use Rattle.spec_sheet.specs.Lines.{Reading, refused, got, split}
 use Rattle.sheet_read_line.specs.declared.Under.{Under}
 use Rattle.sheet_read_line.specs.declared.Under.the-variants.{Refused as Refusedᵘ, Are}
 use Rattle.sheet_read_line.specs.declared.UnderGot.{UnderGot}
@@ -46,16 +38,3 @@ UnderExact (Are x) = LinksExact (rawLinks x)
 abbrev pub UnderGotExact : UnderGot → Type 0
 UnderGotExact (Refused k) = Unit {0}
 UnderGotExact (At x c) = LinksExact (rawLinks x)
-
--- Where the arguments end in a line of this length; there are not too many, and those that are not there are 0.
-abbrev pub ArgsWithin : ℕ → Numbers → Type 0
-ArgsWithin size t = (t .next ≤ size) × (t .count ≤ maxArguments) × RestEmpty t
-
--- the lines of the two states without a signature
-abbrev pub bareLine : List ℕ → Res Method
-bareLine l = cond (same (stateText denied) l) (ok (bare denied)) (cond (same (stateText unavail) l) (ok (bare unavail)) (refuse form))
-
--- What is left to be read of an `m=` line, by its beginning.
-abbrev pub Opens : List ℕ → Opening → Type 0
-Opens l Other = (n : ℕ) → bareLine l ≡ methodLine n l
-Opens l (Signed s at) = (at ≤ length l) × (permit (stateOf s) ≡ true) × ((n : ℕ) → signature n (stateOf s) (drop at l) ≡ methodLine n l)

@@ -5,7 +5,8 @@ use borrow.Author.Needs.{needs}
 use Rattle.table_record.specs.Store.{linksIn}
 use Rattle.spec_sheet.specs.Lines.{split}
 use Rattle.spec_sheet.specs.Sheet.{sheetResult}
-use Rattle.sheet_read.proofs.Readings.{got-no, got-ok, got-at-most, done-no, done-ok, on-done, links-no, count-no, count-ok}
+use Rattle.sheet_read_type.proofs.Readings.{got-no, got-ok, got-at-most}
+use Rattle.sheet_read.proofs.Readings.{done-no, done-ok, on-done, links-no, count-no, count-ok}
 use Rattle.sheet_read.proofs.Stored.{links-count}
 use Rattle.sheet_read.specs.View.{linksTo, sheetFor}
 use Rattle.sheet_read.proofs.after_first.Statement.{statement}

@@ -5,7 +5,8 @@ use lib.ListN.{drop}
 use borrow.Author.Needs.{needs}
 use Rattle.spec_sheet.specs.Lines.{bytes, split, line}
 use Rattle.spec_sheet.specs.Sheet.{numberLine}
-use Rattle.sheet_read.proofs.Readings.{got-no, got-ok, got-at-most, first-of, afterSubjectsLine, afterMethodsLine, afterCatsLine, step-no, step-ok}
+use Rattle.sheet_read_type.proofs.Readings.{got-no, got-ok, got-at-most, step-no, step-ok}
+use Rattle.sheet_read.proofs.Readings.{first-of, afterSubjectsLine, afterMethodsLine, afterCatsLine}
 use Rattle.sheet_read.proofs.first_lines.Statement.{statement}
 use Rattle.sheet_read.proofs.first_lines.Tie as tie
 use Rattle.sheet_read.specs.View.{first₁}

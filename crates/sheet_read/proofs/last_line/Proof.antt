@@ -3,7 +3,8 @@ use mathlib.Core.Path.{sym, _∙_}
 use borrow.Author.Needs.{needs}
 use borrow.Author.Tests.{not-true, not-false}
 use Rattle.table_record.specs.Store.{typesIn}
-use Rattle.sheet_read.proofs.Readings.{got-no, got-ok, ending-no, ending-more, ending-own, ending-good}
+use Rattle.sheet_read_type.proofs.Readings.{got-no, got-ok}
+use Rattle.sheet_read.proofs.Readings.{ending-no, ending-more, ending-own, ending-good}
 use Rattle.sheet_read_signatures.proofs.Laws.{table-stands}
 use Rattle.sheet_read.proofs.last_line.Statement.{statement}
 use Rattle.sheet_read.proofs.last_line.Tie as tie

@@ -14,7 +14,8 @@ use Rattle.table_record.specs.Records.{linkBytes}
 use Rattle.table_record.specs.Store.{linksIn, rawLinks}
 use Rattle.spec_sheet.specs.Lines.{split, times, got}
 use Rattle.sheet_read_line.specs.View.{UnderGotExact}
-use Rattle.sheet_read.proofs.Readings.{under-no, under-ok, times-done, times-stop, times-next}
+use Rattle.sheet_read_type.proofs.Readings.{times-done, times-stop, times-next}
+use Rattle.sheet_read.proofs.Readings.{under-no, under-ok}
 use Rattle.sheet_read.proofs.Stored.{links-none, links-add, empty-links, links-count, links-room, links-stored}
 use Rattle.sheet_read.specs.View.{linksTo, eachUnder}
 use Rattle.sheet_read.proofs.links_into.Statement.{statement}
