@@ -12,14 +12,14 @@ ghost use Rattle.spec_model.specs.Table.{maxMethods, maxTypes};
 ghost use Rattle.spec_model.specs.Records.{argumentSlots};
 ghost use Rattle.table_record.specs.Store.{rawIn, tableIn, methodIn};
 ghost use Rattle.table_record.specs.Limits.{Checked};
-ghost use Rattle.relation_rule.specs.Asked.{relationOf};
-ghost use Rattle.relation_rule.specs.Parts.{Says};
+ghost use Rattle.relation_states.specs.Asked.{relationOf};
+ghost use Rattle.relation_states.specs.Squares.{Says};
 ghost use Rattle.relation_search.specs.Comparing.{comparisonOf, comparisonAt};
 ghost use Rattle.relation_search.specs.Found.{eachBelow, queueIn, Added, ListedIn, MetIn, Clear, maxPairs};
 use base_numbers::least;
 use base_numbers::wide;
 use base_numbers::wide16;
-use relation_rule::Relation;
+use relation_states::Relation;
 use table_record::Counts;
 use table_record::Head;
 use table_record::LINK_BYTES;
@@ -194,11 +194,11 @@ fn find_method(
 {
     let x = method_state(b, a, j);
     let y = method_state(b, d, j);
-    let fine = relation_rule::state_rule(square, k, x, y);
+    let fine = relation_states::state_rule(square, k, x, y);
     if !fine {
         return Step::Broken;
     }
-    let both = relation_rule::both_permit(x, y);
+    let both = relation_states::both_permit(x, y);
     if !both {
         return Step::Tail(tail);
     }
@@ -368,7 +368,7 @@ pub fn related_at(
     if c.types <= s {
         return false;
     }
-    let square = relation_rule::state_square(k);
+    let square = relation_states::state_square(k);
     search(b, l, c, k, &square, t, s)
 }
 

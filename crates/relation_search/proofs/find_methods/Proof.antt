@@ -6,7 +6,7 @@ use lib.ListN.{length}
 use borrow.Author.Needs.{needs}
 use Rattle.spec_model.specs.Relations.{methodRule}
 use Rattle.table_record.specs.Store.{methodIn}
-use Rattle.relation_rule.specs.Asked.{relationOf}
+use Rattle.relation_states.specs.Asked.{relationOf}
 use Rattle.relation_search.specs.Found.{Grew, eachBelow, marksIn, queueIn}
 use Rattle.relation_search.proofs.Steps.{methods-start, methods-broke, methods-more, methods-end}
 use Rattle.relation_search.proofs.find_methods.Statement.{statement}
