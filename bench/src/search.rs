@@ -1,4 +1,4 @@
-//! Compare and the pair table in safe Rust, by the algorithm of crates/relation_search, relation_found and relation_rule: the check of the table,
+//! Compare and the pair table in safe Rust, by the algorithm of crates/relation_search, relation_found, relation_states and relation_rule: the check of the table,
 //! then for each relation a search for a pair that breaks a rule, over pairs found through signatures that both sides permit.
 
 use crate::fits;

@@ -10,13 +10,13 @@ ghost use Rattle.spec_model.specs.Check.{answerOf};
 ghost use Rattle.spec_model.specs.Table.{maxMethods, maxTypes};
 ghost use Rattle.spec_model.specs.Records.{argumentSlots};
 ghost use Rattle.table_record.specs.Store.{rawIn, methodIn};
-ghost use Rattle.relation_rule.specs.Asked.{relationOf};
-ghost use Rattle.relation_rule.specs.Parts.{Says};
+ghost use Rattle.relation_states.specs.Asked.{relationOf};
+ghost use Rattle.relation_states.specs.Squares.{Says};
 ghost use Rattle.relation_found.specs.Found.{Added, ListedIn, MetIn, maxPairs};
 use base_numbers::least;
 use base_numbers::wide;
 use base_numbers::wide16;
-use relation_rule::Relation;
+use relation_states::Relation;
 use table_record::Counts;
 use table_record::Method;
 use table_record::TYPE_BYTES;
@@ -174,11 +174,11 @@ pub fn find_method(
 {
     let x = method_state(b, a, j);
     let y = method_state(b, d, j);
-    let fine = relation_rule::state_rule(square, k, x, y);
+    let fine = relation_states::state_rule(square, k, x, y);
     if !fine {
         return Step::Broken;
     }
-    let both = relation_rule::both_permit(x, y);
+    let both = relation_states::both_permit(x, y);
     if !both {
         return Step::Tail(tail);
     }

@@ -1,14 +1,13 @@
 -- The rule of a pair by its parts (Relations), as the code asks for them one after another.
-use mathlib.Core.Path.{_≡_}
 use mathlib.Core.Bool.{Bool, true, false, _&&_, _||_, cond}
 use mathlib.Core.List.{List, [], _∷_}
-use Prim.Native.Nat.{ℕ, _<_}
+use Prim.Native.Nat.{ℕ}
 use lib.Dec.{eqb}
 use lib.ListN.{getD}
 use Rattle.spec_model.specs.Basics.{_⇒_, any, from}
 use Rattle.spec_model.specs.Table.{Rep, Table}
-use Rattle.spec_model.specs.Relations.{Relation, subtype, conforms, strict, loose, free, stateRule, sameRep, sameSort, catLe}
-use Rattle.spec_model.specs.Check.{stateOf, repOf}
+use Rattle.spec_model.specs.Relations.{Relation, subtype, conforms, strict, loose, free, sameRep, sameSort, catLe}
+use Rattle.spec_model.specs.Check.{repOf}
 use Rattle.table_record.specs.declared.Counts.{Counts}
 use Rattle.table_record.specs.declared.Head.{Head}
 use Rattle.table_record.specs.Store.{rawOf, broaderOf, ownOf}
@@ -48,10 +47,6 @@ headOwns x = ownOf (rawOf (record { head = x; methods = [] }))
 unfoldable pub outerHeads : Relation → Table → Head → Head → Bool
 unfolding catLe
 outerHeads k t x y = repRule k (repOf (x .rep)) (repOf (y .rep)) && ((ordered k ⇒ catLe t (x .cat) (y .cat)) && (owned k ⇒ (headOwns x ⇒ headOwns y)))
-
--- A four by four square of yes and no says the state rule of k: the row is T's state, the column S's.
-unfoldable pub Says : Relation → List (List Bool) → Type 0
-Says k square = (a b : ℕ) → a < 4 → b < 4 → getD (getD square a []) b false ≡ stateRule k (stateOf a) (stateOf b)
 
 -- the broader categories of every category; category 0 names none. They are `broader` of the table (proofs/Categories).
 unfoldable pub broaderIn : List ℕ → Counts → List (List ℕ)

@@ -8,13 +8,13 @@ ghost use Rattle.spec_model.specs.Relations.{methodRule, rule, related};
 ghost use Rattle.spec_model.specs.Table.{maxMethods, maxTypes};
 ghost use Rattle.table_record.specs.Store.{tableIn, methodIn};
 ghost use Rattle.table_record.specs.Limits.{Checked};
-ghost use Rattle.relation_rule.specs.Asked.{relationOf};
-ghost use Rattle.relation_rule.specs.Parts.{Says};
+ghost use Rattle.relation_states.specs.Asked.{relationOf};
+ghost use Rattle.relation_states.specs.Squares.{Says};
 ghost use Rattle.relation_found.specs.Found.{queueIn, ListedIn, MetIn};
 ghost use Rattle.relation_search.specs.Search.{eachBelow, Clear};
 use base_numbers::wide16;
 use relation_found::Step;
-use relation_rule::Relation;
+use relation_states::Relation;
 use table_record::Counts;
 use table_record::Head;
 use table_record::LINK_BYTES;
@@ -195,6 +195,6 @@ pub fn related_at(
     if c.types <= s {
         return false;
     }
-    let square = relation_rule::state_square(k);
+    let square = relation_states::state_square(k);
     search(b, l, c, k, &square, t, s)
 }

@@ -15,8 +15,8 @@ use Rattle.spec_model.proofs.Rules.{never}
 use Rattle.spec_model.specs.Refusals.{outOfRange}
 use Rattle.law_handed.proofs.Counted.{means-same, accepted-same, outcome-same}
 use Rattle.law_handed.proofs.Laws.{returns-alike}
-use Rattle.table_check.proofs.Steps.{passed}
-use Rattle.table_check.proofs.Steps.{refused as unfit}
+use Rattle.table_check_links.proofs.Steps.{passed}
+use Rattle.table_check_links.proofs.Steps.{refused as unfit}
 use Rattle.table_record.specs.Store.{tableIn, withCount}
 use Rattle.table_record.specs.Records.{bytesOf}
 use Rattle.table_record.proofs.Tables.{size-is}

@@ -11,8 +11,8 @@ use Rattle.spec_model.specs.Check.{RawPlace, RawCall, noRawPlace, noRawCall}
 use Rattle.spec_model.proofs.Lists.{length-from, from-first}
 use Rattle.spec_model.specs.Crossing.{maxPlaces}
 use Rattle.spec_model.specs.Requests.{maxCalls}
-use Rattle.table_check.specs.Parts.{eachFrom}
-use Rattle.table_check.proofs.Each.{all-each}
+use Rattle.table_check_links.specs.Parts.{eachFrom}
+use Rattle.table_check_links.proofs.Each.{all-each}
 use Rattle.state_bytes.specs.Flat.{rawPlaceAt, rawCallAt, rawPlaces, rawCalls, placeSize, callSize}
 use Rattle.state_bytes.specs.Records.{placeCodes, callCodes}
 

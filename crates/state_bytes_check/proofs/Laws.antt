@@ -12,7 +12,7 @@ use Rattle.spec_model.proofs.Rules.{never}
 use Rattle.law_handed.proofs.Counted.{accepted-same}
 use Rattle.table_record.specs.declared.Counts.{Counts}
 use Rattle.table_record.specs.Store.{typesIn, rawTable}
-use Rattle.table_check.specs.Parts.{eachFrom}
+use Rattle.table_check_links.specs.Parts.{eachFrom}
 use Rattle.state_record.specs.declared.Cell.{Cell}
 use Rattle.state_record.specs.declared.PlaceRec.{PlaceRec}
 use Rattle.state_record.specs.declared.Call.{Call}

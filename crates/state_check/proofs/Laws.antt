@@ -21,7 +21,7 @@ use Rattle.table_record.specs.declared.Counts.{Counts}
 use Rattle.table_record.specs.Limits.{Limits}
 use Rattle.table_record.specs.Store.{typesIn, tableIn, rawTable}
 use Rattle.table_record.proofs.Tables.{size-is, type-is}
-use Rattle.table_check.proofs.Each.{under-and, all-each, every-each, each-same}
+use Rattle.table_check_links.proofs.Each.{under-and, all-each, every-each, each-same}
 use Rattle.table_check.proofs.Accepted.{accepted-limits}
 use Rattle.state_record.specs.declared.PlaceRec.{PlaceRec}
 use Rattle.state_record.specs.declared.Call.{Call}

@@ -12,7 +12,7 @@ use Rattle.spec_model.specs.Check.{RawType, noRawType, noRawMethod, stateOf}
 use Rattle.table_record.specs.declared.Counts.{Counts}
 use Rattle.table_record.specs.Store.{mayStandAs}
 pub use Rattle.table_record.specs.Store.{refAs}
-use Rattle.table_check.specs.Parts.{eachFrom}
+use Rattle.table_check_links.specs.Parts.{eachFrom}
 use Rattle.state_record.specs.declared.Cells.{Cells}
 use Rattle.state_record.specs.declared.Places.{Places}
 use Rattle.state_record.specs.declared.Calls.{Calls}

@@ -22,8 +22,9 @@ use Rattle.table_record.specs.Store.{typesIn, linksIn, rawTable, tableIn, headO
 use Rattle.table_record.specs.Limits.{Limits}
 use Rattle.table_record.proofs.Lists.{length-from}
 use Rattle.table_record.proofs.Tables.{size-is, type-is, cats-length}
-use Rattle.table_check.specs.Parts.{eachFrom, countsAccepted, standsAs, methodAccepted, keyAccepted, boundOf, methodsAccepted, typeAccepted, linksAccepted, typesAccepted}
-use Rattle.table_check.proofs.Each.{left-comm, interchange, under-and, all-each, every-each, each-and, each-same}
+use Rattle.table_check_links.specs.Parts.{eachFrom, countsAccepted, linksAccepted}
+use Rattle.table_check.specs.Parts.{standsAs, methodAccepted, keyAccepted, boundOf, methodsAccepted, typeAccepted, typesAccepted}
+use Rattle.table_check_links.proofs.Each.{left-comm, interchange, under-and, all-each, every-each, each-and, each-same}
 
 -- Counts that pass are within the limits.
 pub counts-limits : (c : Counts) → countsAccepted c ≡ true → Limits c

@@ -1,4 +1,3 @@
-pub mod Each
 pub mod Laws
 pub mod Steps
 pub mod Accepted

@@ -1,41 +1,22 @@
 -- One law for each return of the code: the tests on the way, and what the part of the check then is.
-use mathlib.Core.Path.{_≡_, refl, ap, sym, _∙_}
-use mathlib.Core.Bool.{Bool, true, false, not, _&&_, _||_, and-true}
+use mathlib.Core.Path.{_≡_, refl, ap, _∙_}
+use mathlib.Core.Bool.{Bool, true, false, _&&_}
 use mathlib.Core.List.{List}
 use Prim.Native.Nat.{ℕ, zero, suc, _-_, _≤_, _<_}
 use native.Mathlib.Omega.{arith}
-use lib.Dec.{eqb, ltb}
+use lib.Dec.{ltb}
 use lib.ListN.{length, getD, take}
-use borrow.Author.Tests.{lt-ltb, le-ltb, eq-eqb, ne-eqb, not-true, not-false}
+use borrow.Author.Tests.{lt-ltb, le-ltb}
 use Rattle.spec_model.specs.Basics.{_⇒_, all, unlessMissing}
-use Rattle.spec_model.specs.Table.{isRef, permit, between, linksFit}
-use Rattle.spec_model.specs.Check.{RawLinks, stateOf, repOf, answerOf, linksOf}
-use Rattle.spec_model.proofs.Rules.{first, second}
+use Rattle.spec_model.specs.Table.{isRef, permit}
+use Rattle.spec_model.specs.Check.{stateOf, repOf, answerOf}
 use Rattle.table_record.specs.declared.Counts.{Counts}
 use Rattle.table_record.specs.declared.Head.{Head}
-use Rattle.table_check.specs.Parts.{eachFrom, linkAccepted, headAccepted, boundOf}
-use Rattle.table_check.proofs.Each.{all-take}
 use Rattle.table_record.proofs.Codes.{number-rep, ref-rep}
-
--- A test in an `if`, and the part of the check that it stands for.
-pub refused : (r x : Bool) → r ≡ x → not r ≡ true → x ≡ false
-refused r x e h = sym e ∙ not-true r h
-
-pub passed : (r x : Bool) → r ≡ x → not r ≡ false → x ≡ true
-passed r x e h = sym e ∙ not-false r h
-
--- A conjunction that ends at its first part, or goes on; a disjunction.
-pub ends : (a b : Bool) → a ≡ false → false ≡ (a && b)
-ends a b e = rw e
-
-pub goes : (a b r : Bool) → a ≡ true → r ≡ b → r ≡ (a && b)
-goes a b r e f = rw e f
-
-pub holds : (a b : Bool) → a ≡ true → true ≡ (a || b)
-holds a b e = rw e
-
-pub leaves : (a b r : Bool) → a ≡ false → r ≡ b → r ≡ (a || b)
-leaves a b r e f = rw e f
+use Rattle.table_check_links.specs.Parts.{eachFrom}
+use Rattle.table_check_links.proofs.Each.{all-take}
+use Rattle.table_check_links.proofs.Steps.{ends, goes}
+use Rattle.table_check.specs.Parts.{headAccepted, boundOf}
 
 -- Counts.
 pub bound-sheet : (c : Counts) (i : ℕ) → i < c .sheet → c .sheet ≡ boundOf c i
@@ -43,32 +24,6 @@ bound-sheet c i h = rw (lt-ltb i (c .sheet) h)
 
 pub bound-all : (c : Counts) (i : ℕ) → c .sheet ≤ i → c .types ≡ boundOf c i
 bound-all c i h = rw (le-ltb i (c .sheet) h)
-
--- The links of category k: n of them, a and d.
-abbrev pub linksBy : ℕ → ℕ → ℕ → RawLinks
-linksBy n a d = record { count = n; first = a; second = d }
-
--- the numbers as they are read, and the record
-pub links-eq : (n a d : ℕ) (x y : RawLinks) → n ≡ x .count → a ≡ x .first → d ≡ x .second → x ≡ y → linksBy n a d ≡ y
-links-eq n a d x y p q r e = ap (λ (z : ℕ). linksBy z a d) p ∙ ap (λ (z : ℕ). linksBy (x .count) z d) q ∙ ap (linksBy (x .count) (x .first)) r ∙ e
-
-module _ (k n a d : ℕ) where
-  pub link-count : between 1 2 n ≡ false → false ≡ linkAccepted k (linksBy n a d)
-  link-count e = ends (between 1 2 n) _ e
-
-  module _ (e : between 1 2 n ≡ true) where
-    pub link-high : k ≤ a → false ≡ linkAccepted k (linksBy n a d)
-    link-high h = goes (between 1 2 n) _ _ e (go (eqb n 2) refl)
-      where
-        go : (t : Bool) → eqb n 2 ≡ t → false ≡ linksFit k (linksOf (linksBy n a d))
-        go true f = rw f (ends (ltb a k) _ (le-ltb a k h))
-        go false f = rw f (ends (ltb a k) _ (le-ltb a k h))
-
-    pub link-two : a < k → n ≡ 2 → ltb d k ≡ linkAccepted k (linksBy n a d)
-    link-two h f = goes (between 1 2 n) _ _ e (rw (eq-eqb n 2 f) (goes (ltb a k) _ _ (lt-ltb a k h) (sym (and-true (ltb d k)))))
-
-    pub link-one : a < k → (n ≡ 2 → ⊥) → true ≡ linkAccepted k (linksBy n a d)
-    link-one h f = goes (between 1 2 n) _ _ e (rw (ne-eqb n 2 f) (goes (ltb a k) _ _ (lt-ltb a k h) refl))
 
 -- The arguments: as many as the count says.
 pub args-start : (p : ℕ → Bool) (n w : ℕ) (xs : List ℕ) → w ≡ n → n ≤ length xs → all p (take n xs) ≡ eachFrom (w - 0) 0 (λ k. p (getD xs k 0))

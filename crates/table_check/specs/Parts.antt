@@ -1,31 +1,17 @@
--- The check for 2 by its parts, over the records as they are handed in: what the functions of this crate test. That the parts come to the model's
--- `tableAccepted` is proved (proofs/Laws), so nothing here has to be believed.
-use mathlib.Core.Bool.{Bool, true, _&&_, _||_, cond}
+-- The check for 2 by its parts, over the records as they are handed in: what the functions of this crate test, after counts and links (table_check_links).
+-- That the parts come to the model's `tableAccepted` is proved (proofs/Laws), so nothing here has to be believed.
+use mathlib.Core.Bool.{Bool, _&&_, _||_, cond}
 use mathlib.Core.List.{List}
-use Prim.Native.Nat.{ℕ, zero, suc}
+use Prim.Native.Nat.{ℕ}
 use lib.Dec.{ltb, leb}
 use lib.ListN.{getD, take}
 use Rattle.spec_model.specs.Basics.{_⇒_, all, unlessMissing}
-use Rattle.spec_model.specs.Table.{maxSubjects, maxMethods, maxCategories, maxSheetTypes, maxTypes, maxArguments, isRef, permit, between, linksFit}
-use Rattle.spec_model.specs.Check.{RawMethod, RawType, RawLinks, noRawType, noRawMethod, noRawLinks, stateOf, repOf, answerOf, linksOf}
-use Rattle.spec_model.specs.Table.{maxBroader}
+use Rattle.spec_model.specs.Table.{maxArguments, isRef, permit}
+use Rattle.spec_model.specs.Check.{RawMethod, RawType, noRawType, noRawMethod, stateOf, repOf, answerOf}
 use Rattle.table_record.specs.declared.Counts.{Counts}
 use Rattle.table_record.specs.declared.Head.{Head}
 use Rattle.table_record.specs.Store.{headOf, mayStandAs}
-
--- a test holds of i, i + 1, ..: c numbers
-unfoldable pub eachFrom : ℕ → ℕ → (ℕ → Bool) → Bool
-eachFrom zero i f = true
-eachFrom (suc c) i f = f i && eachFrom c (suc i) f
-
--- every count within its limits (H1)
-abbrev pub countsAccepted : Counts → Bool
-countsAccepted c = between 1 maxSubjects (c .subjects) && (between 1 maxMethods (c .methods) && (leb (c .cats) maxCategories
-    && (between 1 maxSheetTypes (c .sheet) && (leb (c .sheet) (c .types) && leb (c .types) maxTypes))))
-
--- T6: category k names one or two categories below it
-abbrev pub linkAccepted : ℕ → RawLinks → Bool
-linkAccepted k x = between 1 maxBroader (x .count) && linksFit k (linksOf x)
+use Rattle.table_check_links.specs.Parts.{eachFrom}
 
 -- Type a may stand in a signature whose types are the first n.
 abbrev pub standsAs : List RawType → ℕ → ℕ → Bool
@@ -57,10 +43,6 @@ methodsAccepted rs n ms x = eachFrom ms 0 (λ j. methodAccepted rs n (getD (x .m
 
 abbrev pub typeAccepted : List RawType → Counts → ℕ → RawType → Bool
 typeAccepted rs c i x = headAccepted c i (headOf x) && (isRef (repOf (x .rep)) ⇒ (ltb (x .own) 2 && methodsAccepted rs (boundOf c i) (c .methods) x))
-
-unfoldable pub linksAccepted : ℕ → List RawLinks → Bool
-unfolding eachFrom
-linksAccepted n ls = eachFrom n 1 (λ k. linkAccepted k (getD ls k noRawLinks))
 
 unfoldable pub typesAccepted : List RawType → Counts → Bool
 unfolding eachFrom methodsAccepted

@@ -1,15 +1,14 @@
 // The check of a table that is handed in (H1 to H8, of the table's part), for any bytes and any counts: counts first, so that every index is below its count,
-// then the broader links, then each type with its signatures.
+// then the broader links (both in crate `table_check_links`), then each type with its signatures.
 ghost use mathlib.Core.Path.{_≡_};
-ghost use mathlib.Core.Bool.{true};
-ghost use Prim.Native.Nat.{suc, _≤_, _<_};
+ghost use Prim.Native.Nat.{_≤_, _<_};
 ghost use lib.ListN.{getD};
-ghost use Rattle.spec_model.specs.Table.{between, maxMethods, maxCategories, maxTypes};
-ghost use Rattle.spec_model.specs.Check.{noRawType, noRawLinks, tableAccepted};
+ghost use Rattle.spec_model.specs.Table.{maxMethods, maxTypes};
+ghost use Rattle.spec_model.specs.Check.{noRawType, tableAccepted};
 ghost use Rattle.spec_model.specs.Records.{argumentSlots};
-ghost use Rattle.table_record.specs.Store.{typesIn, linksIn, rawTable, rawMethod};
+ghost use Rattle.table_record.specs.Store.{typesIn, rawTable, rawMethod};
 ghost use Rattle.table_record.specs.Limits.{Limits};
-ghost use Rattle.table_check.specs.Parts.{countsAccepted, linkAccepted, linksAccepted, standsAs, signatureAccepted, methodAccepted};
+ghost use Rattle.table_check.specs.Parts.{standsAs, signatureAccepted, methodAccepted};
 ghost use Rattle.table_check.specs.Parts.{methodsAccepted, keyAccepted, headAccepted, boundOf, typeAccepted, typesAccepted, argsAccepted};
 use table_record::Counts;
 use table_record::Head;
@@ -17,72 +16,6 @@ use table_record::Key;
 use table_record::LINK_BYTES;
 use table_record::Method;
 use table_record::TYPE_BYTES;
-
-// A count in its range.
-fn within(low: usize, high: usize, n: usize) -> bool
-    ensures { λ r. ⌜ r ≡ between low high n ⌝ }
-{
-    if n < low {
-        return false;
-    }
-    n <= high
-}
-
-fn counts_fit(c: Counts) -> bool
-    ensures { λ r. ⌜ r ≡ countsAccepted c ⌝ }
-{
-    if !within(1, Counts::SUBJECTS, c.subjects) {
-        return false;
-    }
-    if !within(1, Counts::METHODS, c.methods) {
-        return false;
-    }
-    if Counts::CATEGORIES < c.cats {
-        return false;
-    }
-    if !within(1, Counts::SHEET_TYPES, c.sheet) {
-        return false;
-    }
-    if c.types < c.sheet {
-        return false;
-    }
-    c.types <= Counts::TYPES
-}
-
-// T6: category k names one or two categories below it.
-fn link_fits(l: &[u8; LINK_BYTES], k: usize) -> bool
-    requires { ⌜ k < suc maxCategories ⌝ }
-    ensures { λ r. ⌜ r ≡ linkAccepted k (getD (linksIn (now (l .entry))) k noRawLinks) ⌝ }
-{
-    let x = table_record::get_links(l, k);
-    let count = base_numbers::wide(x.count);
-    let first = base_numbers::wide(x.first);
-    let second = base_numbers::wide(x.second);
-    if !within(1, Counts::BROADER, count) {
-        return false;
-    }
-    if k <= first {
-        return false;
-    }
-    if count == 2 {
-        return second < k;
-    }
-    true
-}
-
-fn links_fit(l: &[u8; LINK_BYTES], cats: usize) -> bool
-    requires { ⌜ cats ≤ maxCategories ⌝ }
-    ensures { λ r. ⌜ r ≡ linksAccepted cats (linksIn (now (l .entry))) ⌝ }
-{
-    let mut k: usize = 1;
-    while k < cats + 1 {
-        if !link_fits(l, k) {
-            return false;
-        }
-        k += 1;
-    }
-    true
-}
 
 // Whether type a may stand in a signature whose types are the first n (T14).
 fn stands_in(b: &[u8; TYPE_BYTES], n: usize, a: usize) -> bool
@@ -239,10 +172,10 @@ fn types_fit(b: &[u8; TYPE_BYTES], c: Counts) -> bool
 pub fn table_fits(b: &[u8; TYPE_BYTES], l: &[u8; LINK_BYTES], c: Counts) -> bool
     ensures { λ r. ⌜ r ≡ tableAccepted (rawTable (now (b .entry)) (now (l .entry)) c) ⌝ }
 {
-    if !counts_fit(c) {
+    if !table_check_links::counts_fit(c) {
         return false;
     }
-    if !links_fit(l, c.cats) {
+    if !table_check_links::links_fit(l, c.cats) {
         return false;
     }
     types_fit(b, c)

@@ -4,7 +4,7 @@ use borrow.Author.Tests.{not-true, not-false}
 use borrow.Author.Needs.{needs}
 use Rattle.table_record.specs.Store.{refIn}
 use Rattle.derive_record.proofs.Begins.{not-left}
-use Rattle.table_check.proofs.Steps.{goes}
+use Rattle.table_check_links.proofs.Steps.{goes}
 use Rattle.derive_entry.proofs.Laws.{asked-both, asked-none, asked-closed}
 use Rattle.derive_entry.proofs.is_asked.Statement.{statement}
 use Rattle.derive_entry.proofs.is_asked.Tie as tie

@@ -1,6 +1,6 @@
 -- The C function gives back what `request_run::run` leaves of the state that the bytes mean (proofs/Running); on 2 every array is as it was.
 use mathlib.Core.Path.{refl, subst}
-use Rattle.table_check.proofs.Steps.{refused, passed}
+use Rattle.table_check_links.proofs.Steps.{refused, passed}
 use Rattle.state_record.specs.View.{rawState}
 use Rattle.state_bytes.specs.Flat.{flat}
 use Rattle.request_run.specs.Requested.{runHanded}

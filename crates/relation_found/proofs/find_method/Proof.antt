@@ -10,7 +10,7 @@ use Rattle.spec_model.specs.Check.{RawMethod, stateOf}
 use Rattle.table_record.specs.Store.{rawIn}
 use Rattle.relation_found.specs.Found.{marksIn, queueIn}
 use Rattle.relation_found.proofs.Steps.{method-broke, method-bare, method-args, method-answer}
-use Rattle.relation_rule.specs.Asked.{relationOf}
+use Rattle.relation_states.specs.Asked.{relationOf}
 use Rattle.relation_found.proofs.find_method.Statement.{statement}
 use Rattle.relation_found.proofs.find_method.Tie as tie
 

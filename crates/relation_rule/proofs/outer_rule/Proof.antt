@@ -4,7 +4,7 @@ use borrow.Author.Tests.{not-true, not-false}
 use borrow.Author.Needs.{needs}
 use Rattle.table_record.specs.Store.{tableIn}
 use Rattle.relation_rule.proofs.Outside.{heads-rep, heads-cat, heads-own}
-use Rattle.relation_rule.specs.Asked.{relationOf}
+use Rattle.relation_states.specs.Asked.{relationOf}
 use Rattle.relation_rule.proofs.outer_rule.Statement.{statement}
 use Rattle.relation_rule.proofs.outer_rule.Tie as tie
 

@@ -4,7 +4,7 @@ use borrow.Author.Needs.{needs}
 use borrow.Author.Tests.{not-true, not-false}
 use Rattle.relation_found.specs.Found.{marksIn, queueIn}
 use Rattle.relation_search.proofs.Types.{types-broke, types-numbers, types-methods}
-use Rattle.relation_rule.specs.Asked.{relationOf}
+use Rattle.relation_states.specs.Asked.{relationOf}
 use Rattle.relation_search.proofs.find_types.Statement.{statement}
 use Rattle.relation_search.proofs.find_types.Tie as tie
 

@@ -3,7 +3,7 @@ use borrow.Author.Needs.{needs}
 use Rattle.table_record.specs.Store.{tableIn}
 use Rattle.table_record.proofs.Tables.{size-is}
 use Rattle.relation_search.proofs.Loop.{out-left, out-right}
-use Rattle.relation_rule.specs.Asked.{relationOf}
+use Rattle.relation_states.specs.Asked.{relationOf}
 use Rattle.relation_search.proofs.related_at.Statement.{statement}
 use Rattle.relation_search.proofs.related_at.Tie as tie
 

@@ -6,7 +6,7 @@ use lib.ListN.{length}
 use borrow.Author.Needs.{needs}
 use Rattle.table_record.specs.Store.{tableIn}
 use Rattle.table_record.proofs.Tables.{size-is}
-use Rattle.relation_rule.specs.Asked.{relationOf}
+use Rattle.relation_states.specs.Asked.{relationOf}
 use Rattle.relation_found.specs.Found.{marksIn, queueIn, maxPairs}
 use Rattle.relation_found.proofs.Pairs.{fits}
 use Rattle.relation_search.proofs.Loop.{Going, start-at, again, broken, ended}

@@ -9,7 +9,7 @@ use Rattle.spec_model.specs.Basics.{names, named}
 use Rattle.spec_model.specs.Requests.{isSheetRef}
 use Rattle.state_record.specs.Whole.{Whole, whole}
 use Rattle.state_record.specs.View.{systemIn}
-use Rattle.table_check.proofs.Steps as test
+use Rattle.table_check_links.proofs.Steps as test
 use Rattle.request_common.specs.Served.{isSheetClass}
 use Rattle.request_common.proofs.Laws.{step-refuses, step-as, subject-at, sheet-at}
 use Rattle.request_new_move.proofs.Laws.{new-unknown-subject, new-class, new-type, new-places-full, new-sends, new-goes}

@@ -1,7 +1,7 @@
 -- By whether the answer is a refusal.
 use mathlib.Core.Path.{refl, sym, _∙_}
 use Rattle.spec_model.proofs.Rules.{never}
-use Rattle.table_check.proofs.Steps.{refused, passed}
+use Rattle.table_check_links.proofs.Steps.{refused, passed}
 use borrow.Author.Needs.{needs}
 use Rattle.request_results.proofs.hand_back.Statement.{statement}
 use Rattle.request_results.proofs.hand_back.Tie as tie

@@ -3,7 +3,7 @@ use mathlib.Core.Path.{refl, sym, ap, subst}
 use Prim.Native.Nat.{ℕ}
 use borrow.Author.Needs.{needs}
 use Rattle.spec_model.specs.Coded.{byCode}
-use Rattle.table_check.proofs.Steps.{refused, passed}
+use Rattle.table_check_links.proofs.Steps.{refused, passed}
 use Rattle.state_record.specs.Whole.{whole}
 use Rattle.state_check.proofs.Sound.{accepted-sound}
 use Rattle.request_common.specs.Served.{done}

@@ -1,5 +1,5 @@
 -- All codes fit where the places' do and then the calls': the definition's test, in the same order.
-use Rattle.table_check.proofs.Steps.{refused, passed, ends, goes}
+use Rattle.table_check_links.proofs.Steps.{refused, passed, ends, goes}
 use borrow.Author.Needs.{needs}
 use Rattle.state_bytes.proofs.codes_fit.Statement.{statement}
 use Rattle.state_bytes.proofs.codes_fit.Tie as tie

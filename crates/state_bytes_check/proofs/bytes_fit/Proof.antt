@@ -1,7 +1,7 @@
 -- A code that names nothing is refused; else the check is that of the state that is read (`read-accepted`).
 use mathlib.Core.Path.{sym, _∙_}
 use borrow.Author.Needs.{needs}
-use Rattle.table_check.proofs.Steps.{refused, passed}
+use Rattle.table_check_links.proofs.Steps.{refused, passed}
 use Rattle.state_bytes.specs.Flat.{flat}
 use Rattle.state_bytes.proofs.Laws.{codes-refused}
 use Rattle.state_bytes_check.proofs.Laws.{read-accepted}

@@ -6,9 +6,9 @@ use borrow.Author.Needs.{needs}
 use Rattle.spec_model.specs.Requests.{maxCalls}
 use Rattle.state_record.specs.declared.Call.{Call}
 use Rattle.state_record.specs.View.{callOf}
-use Rattle.table_check.proofs.Each.{rest-next, rest-broken, rest-end}
-use Rattle.table_check.proofs.Steps.{refused, passed}
-use Rattle.table_check.specs.Parts.{eachFrom}
+use Rattle.table_check_links.proofs.Each.{rest-next, rest-broken, rest-end}
+use Rattle.table_check_links.proofs.Steps.{refused, passed}
+use Rattle.table_check_links.specs.Parts.{eachFrom}
 use Rattle.state_check.specs.Parts.{callAccepted, callsAccepted}
 use Rattle.state_bytes.specs.Records.{callsFrom}
 use Rattle.state_bytes_check.proofs.Laws.{CallAt, calls-each}

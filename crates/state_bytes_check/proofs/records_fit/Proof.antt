@@ -2,7 +2,7 @@
 use mathlib.Core.Path.{refl, sym, _∙_}
 use borrow.Author.Needs.{needs}
 use Rattle.table_check.proofs.Accepted.{accepted-limits}
-use Rattle.table_check.proofs.Steps.{refused, passed, ends, goes}
+use Rattle.table_check_links.proofs.Steps.{refused, passed, ends, goes}
 use Rattle.state_check.proofs.Laws.{sizes-are}
 use Rattle.state_bytes.specs.Flat.{flat, countsIn, cellCount, placeCount, callCount}
 use Rattle.state_bytes_check.proofs.Laws.{bytes-are}

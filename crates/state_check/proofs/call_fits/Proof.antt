@@ -3,7 +3,7 @@ use mathlib.Core.Path.{ap}
 use Prim.Native.Nat.{ℕ}
 use lib.Dec.{ltb}
 use borrow.Author.Needs.{needs}
-use Rattle.table_check.proofs.Steps.{ends, goes}
+use Rattle.table_check_links.proofs.Steps.{ends, goes}
 use Rattle.state_check.proofs.Steps.{out, inside}
 use Rattle.state_check.proofs.call_fits.Statement.{statement}
 use Rattle.state_check.proofs.call_fits.Tie as tie

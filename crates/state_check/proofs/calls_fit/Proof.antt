@@ -3,9 +3,9 @@ use mathlib.Core.Path.{_≡_, refl, ap, sym, _∙_}
 use Prim.Native.Nat.{ℕ, _-_, _≤_}
 use native.Mathlib.Omega.{arith}
 use borrow.Author.Needs.{needs}
-use Rattle.table_check.proofs.Each.{rest-next, rest-broken, rest-end}
-use Rattle.table_check.proofs.Steps.{refused, passed}
-use Rattle.table_check.specs.Parts.{eachFrom}
+use Rattle.table_check_links.proofs.Each.{rest-next, rest-broken, rest-end}
+use Rattle.table_check_links.proofs.Steps.{refused, passed}
+use Rattle.table_check_links.specs.Parts.{eachFrom}
 use Rattle.state_check.specs.Parts.{callsAccepted}
 use Rattle.state_check.proofs.Steps.{CallAt}
 use Rattle.state_check.proofs.calls_fit.Statement.{statement}

@@ -7,7 +7,7 @@ use lib.ListN.{getD}
 use borrow.Author.Needs.{needs}
 use Rattle.spec_model.specs.Check.{noRawType}
 use Rattle.table_record.specs.Store.{typesIn}
-use Rattle.table_check.proofs.Steps.{ends, goes}
+use Rattle.table_check_links.proofs.Steps.{ends, goes}
 use Rattle.state_check.specs.Parts.{refAs}
 use Rattle.state_check.proofs.Steps.{out, inside}
 use Rattle.state_check.proofs.cell_fits.Statement.{statement}

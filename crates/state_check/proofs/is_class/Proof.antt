@@ -3,7 +3,7 @@ use native.Mathlib.Omega.{arith}
 use lib.ListN.{getD}
 use Rattle.spec_model.specs.Check.{noRawType}
 use Rattle.table_record.specs.Store.{typesIn, mayStandAs}
-use Rattle.table_check.proofs.Steps.{refused, passed, ends, goes}
+use Rattle.table_check_links.proofs.Steps.{refused, passed, ends, goes}
 use Rattle.state_check.specs.Parts.{refAs}
 use Rattle.state_check.proofs.is_class.Statement.{statement}
 use Rattle.state_check.proofs.is_class.Tie as tie

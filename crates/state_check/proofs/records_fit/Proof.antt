@@ -1,6 +1,6 @@
 -- Each return goes through the tests before it (`goes`) and ends at its own (`ends`).
 use Rattle.table_record.specs.Store.{typesIn}
-use Rattle.table_check.proofs.Steps.{refused, passed, ends, goes}
+use Rattle.table_check_links.proofs.Steps.{refused, passed, ends, goes}
 use Rattle.state_check.specs.Parts.{cellsAccepted, placesAccepted}
 use Rattle.state_check.proofs.records_fit.Statement.{statement}
 use Rattle.state_check.proofs.records_fit.Tie as tie

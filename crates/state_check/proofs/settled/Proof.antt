@@ -7,8 +7,8 @@ use borrow.Author.Needs.{needs}
 use Rattle.spec_model.specs.Check.{RawMethod, noRawType, stateOf}
 use Rattle.spec_model.specs.Table.{isSettled}
 use Rattle.table_record.specs.Store.{typesIn}
-use Rattle.table_check.proofs.Each.{rest-next, rest-broken, rest-end}
-use Rattle.table_check.specs.Parts.{eachFrom}
+use Rattle.table_check_links.proofs.Each.{rest-next, rest-broken, rest-end}
+use Rattle.table_check_links.specs.Parts.{eachFrom}
 use Rattle.state_check.specs.Parts.{settledAs}
 use Rattle.state_check.proofs.Steps.{SettledAt, unsettled, settles}
 use Rattle.state_check.proofs.settled.Statement.{statement}

@@ -2,7 +2,7 @@
 use mathlib.Core.Path.{refl}
 use lib.Dec.{leb}
 use borrow.Author.Tests.{lt-leb, le-leb}
-use Rattle.table_check.proofs.Steps.{ends, goes}
+use Rattle.table_check_links.proofs.Steps.{ends, goes}
 use Rattle.state_check.proofs.sizes_fit.Statement.{statement}
 use Rattle.state_check.proofs.sizes_fit.Tie as tie
 use Rattle.spec_model.specs.Crossing.{maxPlaces}

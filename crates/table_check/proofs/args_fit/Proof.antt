@@ -5,9 +5,11 @@ use native.Mathlib.Omega.{arith}
 use lib.ListN.{length, getD}
 use borrow.Author.Needs.{needs}
 use Rattle.table_record.specs.Store.{typesIn, rawMethod}
-use Rattle.table_check.specs.Parts.{eachFrom, standsAs, argsAccepted}
-use Rattle.table_check.proofs.Steps.{refused, passed, args-start}
-use Rattle.table_check.proofs.Each.{rest-next, rest-broken, rest-end}
+use Rattle.table_check_links.specs.Parts.{eachFrom}
+use Rattle.table_check.specs.Parts.{standsAs, argsAccepted}
+use Rattle.table_check_links.proofs.Steps.{refused, passed}
+use Rattle.table_check.proofs.Steps.{args-start}
+use Rattle.table_check_links.proofs.Each.{rest-next, rest-broken, rest-end}
 use Rattle.table_check.proofs.args_fit.Statement.{statement}
 use Rattle.table_check.proofs.args_fit.Tie as tie
 use Rattle.spec_model.specs.Records.{argumentSlots}

@@ -3,7 +3,7 @@ use native.Mathlib.Omega.{arith}
 use lib.Dec.{ltb, leb}
 use borrow.Author.Tests.{lt-ltb, le-ltb, lt-leb, le-leb}
 use borrow.Author.Needs.{needs}
-use Rattle.table_check.proofs.Steps.{ends, goes}
+use Rattle.table_check_links.proofs.Steps.{ends, goes}
 use Rattle.table_check.proofs.head_fits.Statement.{statement}
 use Rattle.table_check.proofs.head_fits.Tie as tie
 

@@ -5,7 +5,7 @@ use native.Mathlib.Omega.{arith}
 use lib.Dec.{ltb}
 use borrow.Author.Tests.{lt-ltb, le-ltb}
 use borrow.Author.Needs.{needs}
-use Rattle.table_check.proofs.Steps.{holds, leaves, ends, goes}
+use Rattle.table_check_links.proofs.Steps.{holds, leaves, ends, goes}
 use Rattle.table_check.proofs.key_fits.Statement.{statement}
 use Rattle.table_check.proofs.key_fits.Tie as tie
 

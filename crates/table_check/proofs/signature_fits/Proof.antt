@@ -7,7 +7,8 @@ use borrow.Author.Needs.{needs}
 use Rattle.spec_model.specs.Table.{maxArguments}
 use Rattle.table_record.specs.Store.{typesIn, rawMethod}
 use Rattle.table_check.specs.Parts.{standsAs, argsAccepted}
-use Rattle.table_check.proofs.Steps.{refused, passed, ends, goes, answer-none, answer-some}
+use Rattle.table_check_links.proofs.Steps.{refused, passed, ends, goes}
+use Rattle.table_check.proofs.Steps.{answer-none, answer-some}
 use Rattle.table_check.proofs.signature_fits.Statement.{statement}
 use Rattle.table_check.proofs.signature_fits.Tie as tie
 

@@ -2,7 +2,7 @@
 use lib.Dec.{ltb}
 use borrow.Author.Tests.{lt-ltb, le-ltb}
 use borrow.Author.Needs.{needs}
-use Rattle.table_check.proofs.Steps.{ends, goes}
+use Rattle.table_check_links.proofs.Steps.{ends, goes}
 use Rattle.table_check.proofs.stands_in.Statement.{statement}
 use Rattle.table_check.proofs.stands_in.Tie as tie
 

@@ -2,8 +2,8 @@
 use mathlib.Core.Path.{sym, _∙_}
 use borrow.Author.Needs.{needs}
 use Rattle.table_record.specs.Store.{linksIn}
-use Rattle.table_check.specs.Parts.{countsAccepted, linksAccepted}
-use Rattle.table_check.proofs.Steps.{refused, passed, ends, goes}
+use Rattle.table_check_links.specs.Parts.{countsAccepted, linksAccepted}
+use Rattle.table_check_links.proofs.Steps.{refused, passed, ends, goes}
 use Rattle.table_check.proofs.Laws.{counts-limits, accepted-is}
 use Rattle.table_check.proofs.table_fits.Statement.{statement}
 use Rattle.table_check.proofs.table_fits.Tie as tie

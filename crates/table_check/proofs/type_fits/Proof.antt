@@ -7,7 +7,8 @@ use borrow.Author.Needs.{needs}
 use Rattle.table_record.specs.Store.{typesIn}
 use Rattle.spec_model.specs.Check.{noRawType}
 use Rattle.table_check.specs.Parts.{methodsAccepted}
-use Rattle.table_check.proofs.Steps.{refused, passed, typed-head, typed-number, typed-own, typed-ref}
+use Rattle.table_check_links.proofs.Steps.{refused, passed}
+use Rattle.table_check.proofs.Steps.{typed-head, typed-number, typed-own, typed-ref}
 use Rattle.table_check.proofs.type_fits.Statement.{statement}
 use Rattle.table_check.proofs.type_fits.Tie as tie
 

@@ -6,9 +6,10 @@ use lib.ListN.{getD}
 use borrow.Author.Needs.{needs}
 use Rattle.table_record.specs.Store.{typesIn}
 use Rattle.spec_model.specs.Check.{noRawType}
-use Rattle.table_check.specs.Parts.{eachFrom, typeAccepted, typesAccepted}
-use Rattle.table_check.proofs.Steps.{refused, passed}
-use Rattle.table_check.proofs.Each.{rest-next, rest-broken, rest-end}
+use Rattle.table_check_links.specs.Parts.{eachFrom}
+use Rattle.table_check.specs.Parts.{typeAccepted, typesAccepted}
+use Rattle.table_check_links.proofs.Steps.{refused, passed}
+use Rattle.table_check_links.proofs.Each.{rest-next, rest-broken, rest-end}
 use Rattle.table_check.proofs.types_fit.Statement.{statement}
 use Rattle.table_check.proofs.types_fit.Tie as tie
 

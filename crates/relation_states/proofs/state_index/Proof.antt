@@ -2,8 +2,8 @@
 use native.Mathlib.Omega.{arith}
 use borrow.Author.Needs.{needs}
 use Rattle.table_record.proofs.Codes.{state-high}
-use Rattle.relation_rule.proofs.state_index.Statement.{statement}
-use Rattle.relation_rule.proofs.state_index.Tie as tie
+use Rattle.relation_states.proofs.state_index.Statement.{statement}
+use Rattle.relation_states.proofs.state_index.Tie as tie
 
 wide-requires : tie.Need-wide-requires
 wide-requires c κs = search needs

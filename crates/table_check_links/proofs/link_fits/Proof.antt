@@ -1,10 +1,10 @@
 -- One law for each return: `link-count`, `link-high`, `link-two`, `link-one`.
 use mathlib.Core.Path.{ap, _∙_}
 use borrow.Author.Needs.{needs}
-use Rattle.table_check.specs.Parts.{linkAccepted}
-use Rattle.table_check.proofs.Steps.{refused, passed, links-eq, link-count, link-high, link-two, link-one}
-use Rattle.table_check.proofs.link_fits.Statement.{statement}
-use Rattle.table_check.proofs.link_fits.Tie as tie
+use Rattle.table_check_links.specs.Parts.{linkAccepted}
+use Rattle.table_check_links.proofs.Steps.{refused, passed, links-eq, link-count, link-high, link-two, link-one}
+use Rattle.table_check_links.proofs.link_fits.Statement.{statement}
+use Rattle.table_check_links.proofs.link_fits.Tie as tie
 
 get-links-requires : tie.Need-get-links-requires
 get-links-requires c κs = search needs

@@ -6,11 +6,11 @@ use lib.ListN.{getD}
 use borrow.Author.Needs.{needs}
 use Rattle.table_record.specs.Store.{linksIn}
 use Rattle.spec_model.specs.Check.{noRawLinks}
-use Rattle.table_check.specs.Parts.{eachFrom, linkAccepted, linksAccepted}
-use Rattle.table_check.proofs.Steps.{refused, passed}
-use Rattle.table_check.proofs.Each.{rest-next, rest-broken, rest-end}
-use Rattle.table_check.proofs.links_fit.Statement.{statement}
-use Rattle.table_check.proofs.links_fit.Tie as tie
+use Rattle.table_check_links.specs.Parts.{eachFrom, linkAccepted, linksAccepted}
+use Rattle.table_check_links.proofs.Steps.{refused, passed}
+use Rattle.table_check_links.proofs.Each.{rest-next, rest-broken, rest-end}
+use Rattle.table_check_links.proofs.links_fit.Statement.{statement}
+use Rattle.table_check_links.proofs.links_fit.Tie as tie
 
 abbrev Inv-loop : tie.InvT-loop
 Inv-loop l cats k₀ k = (1 ≤ k) × (k ≤ cats + 1) × (linksAccepted cats (linksIn l) ≡ eachFrom (cats + 1 - k) k (λ j. linkAccepted j (getD (linksIn l) j noRawLinks)))

@@ -2,9 +2,9 @@
 use mathlib.Core.Path.{refl}
 use lib.Dec.{leb}
 use borrow.Author.Tests.{lt-leb, le-leb}
-use Rattle.table_check.proofs.Steps.{ends, goes}
-use Rattle.table_check.proofs.within.Statement.{statement}
-use Rattle.table_check.proofs.within.Tie as tie
+use Rattle.table_check_links.proofs.Steps.{ends, goes}
+use Rattle.table_check_links.proofs.within.Statement.{statement}
+use Rattle.table_check_links.proofs.within.Tie as tie
 
 returns : tie.Need-returns
 returns c = ends (leb (c .before .args .low) (c .before .args .n)) _ (lt-leb (c .before .args .low) (c .before .args .n) (c .if1 .taken))

@@ -8,7 +8,7 @@ use native.Mathlib.Numerals.{add-one}
 use native.Mathlib.Omega.{arith}
 use lib.ListN.{length, getD, take}
 use Rattle.spec_model.specs.Basics.{all, every, from}
-use Rattle.table_check.specs.Parts.{eachFrom}
+use Rattle.table_check_links.specs.Parts.{eachFrom}
 
 -- Conjunctions in another order.
 pub left-comm : (a b c : Bool) → (a && (b && c)) ≡ (b && (a && c))

@@ -4,9 +4,9 @@ use lib.Dec.{leb}
 use borrow.Author.Tests.{lt-leb, le-leb}
 use borrow.Author.Needs.{needs}
 use Rattle.spec_model.specs.Table.{between, maxSubjects, maxMethods, maxCategories, maxSheetTypes}
-use Rattle.table_check.proofs.Steps.{refused, passed, ends, goes}
-use Rattle.table_check.proofs.counts_fit.Statement.{statement}
-use Rattle.table_check.proofs.counts_fit.Tie as tie
+use Rattle.table_check_links.proofs.Steps.{refused, passed, ends, goes}
+use Rattle.table_check_links.proofs.counts_fit.Statement.{statement}
+use Rattle.table_check_links.proofs.counts_fit.Tie as tie
 
 within-requires : tie.Need-within-requires
 within-requires c κs = search needs

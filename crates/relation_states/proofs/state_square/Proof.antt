@@ -2,9 +2,9 @@
 use mathlib.Core.Path.{refl}
 use borrow.Author.Needs.{needs}
 use Rattle.spec_model.specs.Relations.{subtype, conforms, strict, loose, free}
-use Rattle.relation_rule.proofs.Squares.{says}
-use Rattle.relation_rule.proofs.state_square.Statement.{statement}
-use Rattle.relation_rule.proofs.state_square.Tie as tie
+use Rattle.relation_states.proofs.Squares.{says}
+use Rattle.relation_states.proofs.state_square.Statement.{statement}
+use Rattle.relation_states.proofs.state_square.Tie as tie
 
 enum-told : tie.Need-enum-told
 enum-told c = search needs

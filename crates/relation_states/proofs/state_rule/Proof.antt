@@ -1,10 +1,10 @@
 -- The square at the rows of two codes is the state rule of the states that they mean (`says-at`); of one code with itself nothing need be looked up (`same-code`).
 use mathlib.Core.Path.{_∙_}
 use borrow.Author.Needs.{needs}
-use Rattle.relation_rule.proofs.Squares.{says-at, same-code}
-use Rattle.relation_rule.specs.Asked.{relationOf}
-use Rattle.relation_rule.proofs.state_rule.Statement.{statement}
-use Rattle.relation_rule.proofs.state_rule.Tie as tie
+use Rattle.relation_states.proofs.Squares.{says-at, same-code}
+use Rattle.relation_states.specs.Asked.{relationOf}
+use Rattle.relation_states.proofs.state_rule.Statement.{statement}
+use Rattle.relation_states.proofs.state_rule.Tie as tie
 
 returns : tie.Need-returns
 returns c = let a = c .before .args in same-code (relationOf (a .k)) (a .a) (a .b) (c .if1 .taken)

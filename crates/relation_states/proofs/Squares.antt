@@ -9,7 +9,7 @@ use Rattle.spec_model.specs.Check.{stateOf}
 use Rattle.spec_model.specs.Records.{stateCode}
 use Rattle.spec_model.proofs.Tests.{beq-so}
 use Rattle.spec_model.proofs.States.{each, eachB, each₂}
-use Rattle.relation_rule.specs.Parts.{Says}
+use Rattle.relation_states.specs.Squares.{Says}
 use Rattle.table_record.proofs.Codes.{state-back}
 
 -- one test over every two states, by their codes
