@@ -10,8 +10,8 @@ ghost use Rattle.relation_compare.specs.Comparing.{comparisonOf, compari
 ghost use Rattle.relation_compare.specs.Compared.{comparedOf, pairsGiven};
 ghost use Rattle.relation_compare.specs.Pairs.{pairCode, pairEntry, pairTable, noPairs, pairsHanded};
 use base_numbers::bit_of;
-use relation_states::Relation;
 use relation_search::related_at;
+use relation_states::Relation;
 use table_record::Counts;
 use table_record::LINK_BYTES;
 use table_record::TYPE_BYTES;
