@@ -19,7 +19,7 @@
  *   - a slice passes as pointer and length (text, text_len), the length in elements;
  *   - arrays of one call do not overlap, but for two of which both are only read.
  *
- * Stack. Measured, not proved (docs/MEASURED.md): the deepest request takes 160 KB, a run 168; load 20, offers 8. Give the thread 256 KB.
+ * Stack. Measured, not proved (docs/MEASURED.md): the deepest request takes 160 KB, a run 168; load 20, tiny 16, offers 8. Give the thread 256 KB.
  */
 #ifndef PILGONCA_H
 #define PILGONCA_H
@@ -68,6 +68,10 @@ typedef char pilgonca_needs_a_size_t_of_64_bits[sizeof(size_t) == 8 ? 1 : -1];
 /* The longest input that pilgonca_script serves (P1), and a buffer that holds the output of every input (P18). */
 #define PILGONCA_INPUT_BYTES 32768
 #define PILGONCA_PRINTED_BYTES 32773
+
+/* How many tiny sheets there are, and the bytes of all of them (P25). */
+#define PILGONCA_TINY_SHEETS 130
+#define PILGONCA_TINY_BYTES 13659
 
 /* What a function returns; pilgonca_refusal_text has the words. The last section of docs/SPEC.md says where each is met, docs/GUIDE.md what to do. */
 enum pilgonca_refusal {
@@ -314,6 +318,17 @@ size_t pilgonca_run(
 size_t pilgonca_script(
     const uint8_t *input,
     size_t input_len,
+    uint8_t *buffer,
+    size_t buffer_len,
+    size_t *length);
+
+/* ---- sheets to try ---- */
+
+/*
+ * Every tiny sheet (P22), as the program tiny prints them (P26): one behind the other in front of the buffer, each from `guide=1` to the LF of its
+ * `end=sheet`, and their length, which is PILGONCA_TINY_BYTES. 4.
+ */
+size_t pilgonca_tiny(
     uint8_t *buffer,
     size_t buffer_len,
     size_t *length);

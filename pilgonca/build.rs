@@ -1,6 +1,6 @@
 //! Links the core. Where PILGONCA_LIB_DIR names a directory that is its libpilgonca.a, which tools/install puts there. Else it is target/staticlib/libNAME.a of this
-//! repository for every crate of crates.txt whose name begins with `export_`, or for `export_sheet` and `export_table` where the feature `visits` is off; tools/libraries writes
-//! them (./test does that first).
+//! repository for every crate of crates.txt whose name begins with `export_`, but for those of features that are off: `export_tiny` is of `tiny`, and all others but
+//! `export_sheet` and `export_table` are of `visits`. tools/libraries writes them (./test does that first).
 //! What a library doesn't export is local to it, so functions that two of them hold don't clash. Packages that depend on this one need no build script.
 //! The tests that compile C find the files in PILGONCA_LIBRARIES.
 
@@ -33,17 +33,24 @@ fn in_the_repository() -> Vec<PathBuf> {
     let root = Path::new(env!("CARGO_MANIFEST_DIR")).join("..");
     let crates = root.join("crates.txt");
     println!("cargo:rerun-if-changed={}", crates.display());
-    let visits = env::var_os("CARGO_FEATURE_VISITS").is_some();
     let text = fs::read_to_string(&crates).expect("crates.txt");
     let names = text
         .lines()
         .map(|line| line.split(':').next().unwrap_or(""));
     names
-        .filter(|name| {
-            ["export_sheet", "export_table"].contains(name) || visits && name.starts_with("export_")
-        })
+        .filter(|name| name.starts_with("export_") && is_on(name))
         .map(|name| root.join(format!("target/staticlib/lib{name}.a")))
         .collect()
+}
+
+/// Whether the feature that the functions of a crate are of is on.
+fn is_on(name: &str) -> bool {
+    let feature = match name {
+        "export_sheet" | "export_table" => return true,
+        "export_tiny" => "TINY",
+        _ => "VISITS",
+    };
+    env::var_os(format!("CARGO_FEATURE_{feature}")).is_some()
 }
 
 /// Links the archive; gives its path.

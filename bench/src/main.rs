@@ -262,23 +262,25 @@ fn main() {
 #[cfg(test)]
 mod tests {
     use super::*;
-    use conformance::inputs::damaged;
-    use reference::hostile;
+    use conformance::tiny_first;
     use reference::refusal::OUT_OF_RANGE;
 
     /// What is measured against refuses what the proved core refuses, so that both do the same work.
     #[test]
     fn sheets_and_tables_are_refused_alike() {
         let mut read = [0; 4];
-        for seed in 0..3000 {
-            read[same_reading(&damaged(seed))] += 1;
+        for sheet in tiny_first::damaged_sheets(0..3000) {
+            read[same_reading(&sheet.of)] += 1;
+        }
+        for sheet in reference::tiny::texts() {
+            assert_eq!(same_reading(&sheet), 0);
         }
         assert!(read.iter().all(|count| *count > 50), "{read:?}");
         let mut unfit = 0;
-        for seed in 0..1000 {
-            let table = hostile::generate(seed).state.table;
+        for hostile in tiny_first::states(0..1000) {
+            let table = hostile.of.state.table;
             let refused = compare(&table, 0, 0) == Err(OUT_OF_RANGE as usize);
-            assert_eq!(fits::table(&table), !refused, "hostile seed {seed}");
+            assert_eq!(fits::table(&table), !refused, "{}", hostile.from);
             unfit += u32::from(refused);
         }
         assert!((100..900).contains(&unfit), "{unfit}");

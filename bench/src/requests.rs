@@ -420,6 +420,7 @@ fn answer(state: &mut RawState, by: i64, call: i64, given: Option<i64>) -> Resul
 mod tests {
     use super::*;
     use conformance::requests::{on_handed_in, on_loaded, on_offers, watch, Core};
+    use conformance::tiny_first;
     use reference::coverage::Seen;
     use reference::generators::Profile;
 
@@ -439,16 +440,21 @@ mod tests {
     #[test]
     fn is_the_reference() {
         let mut seen = Seen::default();
-        for seed in 0..2000 {
-            assert_eq!(on_handed_in(&Rust, seed, &mut seen), None, "{seed}");
-            assert_eq!(on_offers(&Rust, seed, &mut [0; 3]), None, "{seed}");
+        for one in tiny_first::crowded_states(0..2000) {
+            let found = on_handed_in(&Rust, &one.of, &mut seen);
+            assert_eq!(found, None, "{}", one.from);
         }
-        for seed in 0..100 {
-            for profile in [Profile::Small, Profile::Medium, Profile::Full] {
-                let found = on_loaded(&Rust, seed, profile, &mut seen);
-                assert_eq!(found, None, "{} {seed}", profile.name());
-            }
-            assert_eq!(watch(&Rust, seed, Profile::Medium), None, "{seed}");
+        for one in tiny_first::states(0..2000) {
+            let found = on_offers(&Rust, &one, &mut [0; 3]);
+            assert_eq!(found, None, "{}", one.from);
+        }
+        let profiles = [Profile::Small, Profile::Medium, Profile::Full];
+        for script in tiny_first::scripts(&profiles.map(|profile| (profile, 100))) {
+            let found = on_loaded(&Rust, &script, &mut seen);
+            assert_eq!(found, None, "{}", script.from);
+        }
+        for script in tiny_first::scripts(&[(Profile::Medium, 100)]) {
+            assert_eq!(watch(&Rust, &script), None, "{}", script.from);
         }
         for number in [2].into_iter().chain(5..=19) {
             assert!(seen.number(number) > 5, "{number}");

@@ -111,16 +111,15 @@ pub fn all() {
 mod tests {
     use super::*;
     use conformance::scripts::{damaged, Met};
-    use reference::generators::{generate, PROFILES};
+    use conformance::tiny_first;
+    use reference::generators::PROFILES;
 
     /// What is measured against does the same work.
     #[test]
     fn in_bytes_is_the_reference() {
         let mut met = Met::default();
-        for profile in PROFILES {
-            for seed in 0..30 {
-                met.same(&in_bytes, &generate(seed, profile), profile.name());
-            }
+        for script in tiny_first::scripts(&PROFILES.map(|profile| (profile, 30))) {
+            met.same(&in_bytes, &script.of, &script.from);
         }
         for seed in 0..500 {
             met.same(&in_bytes, &damaged(seed), "damaged");

@@ -13,6 +13,7 @@ pub mod scripts;
 pub mod served;
 pub mod states;
 pub mod stream;
+pub mod tiny_first;
 pub mod worked;
 pub mod worst_scripts;
 

@@ -3,12 +3,12 @@
 
 use crate::served::{counts, load, set_counts};
 use crate::states::of_table;
+use crate::tiny_first::Input;
 use pilgonca::raw::MAX_TEXT;
 use reference::book::Book;
 use reference::chains::All;
 use reference::coverage::Seen;
 use reference::entry;
-use reference::generators::{generate, Profile};
 use reference::hostile::{self, Hostile};
 use reference::random::Random;
 use reference::raw::{RawState, RawTable, CALL_BYTES, CELL_BYTES, PLACE_BYTES, TYPE_BYTES};
@@ -71,15 +71,11 @@ pub fn difference(core: &impl Core, hostile: &Hostile, seen: &mut Seen) -> Optio
     None
 }
 
-/// A difference on a state handed in, shown on the smallest found; every other seed's state is nearly full.
-pub fn on_handed_in(core: &impl Core, seed: u64, seen: &mut Seen) -> Option<String> {
-    let hostile = match seed % 2 {
-        0 => hostile::generate(seed / 2),
-        _ => hostile::crowded(seed / 2),
-    };
-    difference(core, &hostile, seen)?;
+/// A difference on a state handed in, shown on the smallest found.
+pub fn on_handed_in(core: &impl Core, hostile: &Hostile, seen: &mut Seen) -> Option<String> {
+    difference(core, hostile, seen)?;
     let mut differs = |other: &Hostile| difference(core, other, &mut Seen::default()).is_some();
-    let small = shrink_hostile(&hostile, &mut differs);
+    let small = shrink_hostile(hostile, &mut differs);
     difference(core, &small, &mut Seen::default())
 }
 
@@ -94,19 +90,23 @@ fn any_number(random: &mut Random, count: u32) -> i64 {
 }
 
 /// A cell and a chain on which what is offered in a state handed in differs; `offered` counts the chains that are.
-pub fn on_offers(core: &impl Core, seed: u64, offered: &mut [u32; 3]) -> Option<String> {
-    let state = hostile::generate(seed).state;
-    let mut random = Random::new(seed);
+pub fn on_offers(
+    core: &impl Core,
+    hostile: &Input<Hostile>,
+    offered: &mut [u32; 3],
+) -> Option<String> {
+    let state = &hostile.of.state;
+    let mut random = Random::new(hostile.seed);
     for _ in 0..20 {
         let cell = any_number(&mut random, state.cells);
         let length = random.below(4);
         let chain: Vec<i64> = (0..length)
             .map(|_| any_number(&mut random, state.table.methods))
             .collect();
-        let wanted = entry::offers(&state, cell, &chain);
+        let wanted = entry::offers(state, cell, &chain);
         let kind = wanted.map_or(2, usize::from);
         offered[kind] += 1;
-        let answer = core.offers(&state, cell, &chain);
+        let answer = core.offers(state, cell, &chain);
         if answer != wanted {
             return Some(format!(
                 "cell {cell}, chain {chain:?}: {answer:?} for {wanted:?} in\n{state:?}"
@@ -128,9 +128,10 @@ pub fn loaded_anew(table: &RawTable) -> RawState {
     state
 }
 
-/// The state of a generated sheet, and the requests of its script; every other seed's state has noise in the bytes that mean nothing.
-pub fn loaded(seed: u64, profile: Profile) -> Option<(Table, Hostile)> {
-    let script = script::read(&generate(seed, profile)).ok()?;
+/// The state of a script's sheet, and its requests; every other seed's state has noise in the bytes that mean nothing.
+pub fn loaded(script: &Input<Vec<u8>>) -> Option<(Table, Hostile)> {
+    let seed = script.seed;
+    let script = script::read(&script.of).ok()?;
     let mut state = RawState::of(&State::of_sheet(script.table.clone()));
     if seed % 2 == 1 {
         hostile::noise(&mut Random::new(seed), &mut state);
@@ -140,14 +141,14 @@ pub fn loaded(seed: u64, profile: Profile) -> Option<(Table, Hostile)> {
 }
 
 /// A difference on the state of a loaded sheet.
-pub fn on_loaded(core: &impl Core, seed: u64, profile: Profile, seen: &mut Seen) -> Option<String> {
-    difference(core, &loaded(seed, profile)?.1, seen)
+pub fn on_loaded(core: &impl Core, script: &Input<Vec<u8>>, seen: &mut Seen) -> Option<String> {
+    difference(core, &loaded(script)?.1, seen)
 }
 
 /// Demand 3 on what runs: the book learns each request and whether it was accepted (L1), and a cell has to offer exactly the chains that its
 /// page permits. Every chain of one or two methods, and longer ones that go on where the page does.
-pub fn watch(core: &impl Core, seed: u64, profile: Profile) -> Option<String> {
-    let (table, mut list) = loaded(seed, profile)?;
+pub fn watch(core: &impl Core, script: &Input<Vec<u8>>) -> Option<String> {
+    let (table, mut list) = loaded(script)?;
     let mut book = Book::of_sheet(&table);
     for request in &list.requests {
         let accepted = core.request(&mut list.state, request).is_ok();
@@ -155,7 +156,7 @@ pub fn watch(core: &impl Core, seed: u64, profile: Profile) -> Option<String> {
             return Some(format!("{request:?}: {trouble:?}"));
         }
     }
-    let mut random = Random::new(seed);
+    let mut random = Random::new(script.seed);
     (0..book.pages.len()).find_map(|cell| {
         let types = book.pages[cell].permitted();
         let page = All {

@@ -4,8 +4,8 @@
 use crate::requests::{counted, loaded};
 use crate::runs::{coded, decoded, words, ANSWER};
 use crate::served::counts;
-use reference::generators::Profile;
-use reference::hostile;
+use crate::tiny_first::Input;
+use reference::hostile::Hostile;
 use reference::random::Random;
 use reference::raw::RawState;
 use reference::refusal::Refusal;
@@ -22,21 +22,17 @@ pub struct List {
     pub answers: Vec<i64>,
 }
 
-/// On states handed in; every other seed's state is nearly full.
-pub fn on_handed_in(seed: u64) -> List {
-    let hostile = match seed % 2 {
-        0 => hostile::generate(seed / 2),
-        _ => hostile::crowded(seed / 2),
-    };
-    list(seed, hostile)
+/// On a state handed in.
+pub fn on_handed_in(hostile: Input<Hostile>) -> List {
+    list(hostile.seed, hostile.of)
 }
 
-/// On the state of a generated sheet, with the requests of its script.
-pub fn on_loaded(seed: u64, profile: Profile) -> Option<List> {
-    Some(list(seed, loaded(seed, profile)?.1))
+/// On the state of a script's sheet, with its requests.
+pub fn on_loaded(script: Input<Vec<u8>>) -> Option<List> {
+    Some(list(script.seed, loaded(&script)?.1))
 }
 
-fn list(seed: u64, of: hostile::Hostile) -> List {
+fn list(seed: u64, of: Hostile) -> List {
     let mut random = Random::new(seed ^ 0x0000_2042_0000_0000);
     let mut words = mixed(&mut random, &of.requests);
     if random.chance(40) {

@@ -2,12 +2,11 @@
 //! count; what is refused leaves every byte as it was.
 
 use conformance::chains::{self, chain, nesting, MOST};
-use conformance::inputs::{shares, table};
+use conformance::inputs::shares;
+use conformance::tiny_first::{self, Input};
 use conformance::{counts, derive, layout, Asked, Counts};
 use reference::check;
 use reference::entry;
-use reference::generators::{MEDIUM, SMALL};
-use reference::hostile;
 use reference::random::Random;
 use reference::raw::{self, RawTable, TYPE_BYTES};
 use reference::relations::{Relation, Relations};
@@ -177,24 +176,20 @@ fn crossing_pairs(table: &Table) -> Vec<(usize, usize)> {
 #[test]
 fn on_pairs_that_cross() {
     let mut seen = Seen::default();
-    for share in shares(1500, 500, 60, 60) {
-        for seed in 0..share.seeds {
-            let mut random = Random::new(seed ^ 0xde44_0000);
-            let sheet = table(&share.plan, seed);
-            let pairs = crossing_pairs(&sheet);
-            let mut table = RawTable::of(&sheet);
-            let from = format!("{} seed {seed}", share.name);
-            for _ in 0..pairs.len().min(8) {
-                let (t, s) = *random.pick(&pairs);
-                let mut ask = |kind: usize, t: usize, s: usize| {
-                    let (t, s) = (t as i64, s as i64);
-                    same(&mut table, Asked { kind, t, s }, &mut seen, &from)
-                };
-                let r = ask(0, t, s);
-                let _ = ask(1, t, s);
-                if let Ok(r) = r {
-                    let _ = ask(2, r, s);
-                }
+    for Input { from, seed, of } in tiny_first::tables(shares(1500, 500, 60, 60)) {
+        let mut random = Random::new(seed ^ 0xde44_0000);
+        let pairs = crossing_pairs(&of);
+        let mut table = RawTable::of(&of);
+        for _ in 0..pairs.len().min(8) {
+            let (t, s) = *random.pick(&pairs);
+            let mut ask = |kind: usize, t: usize, s: usize| {
+                let (t, s) = (t as i64, s as i64);
+                same(&mut table, Asked { kind, t, s }, &mut seen, &from)
+            };
+            let r = ask(0, t, s);
+            let _ = ask(1, t, s);
+            if let Ok(r) = r {
+                let _ = ask(2, r, s);
             }
         }
     }
@@ -207,13 +202,10 @@ fn on_pairs_that_cross() {
 #[test]
 fn on_generated_sheets() {
     let mut seen = Seen::default();
-    for share in shares(1500, 500, 100, 100) {
-        for seed in 0..share.seeds {
-            let mut random = Random::new(seed ^ 0xde41_0000);
-            let mut table = RawTable::of(&table(&share.plan, seed));
-            let from = format!("{} seed {seed}", share.name);
-            sequence(&mut table, 24, &mut random, &mut seen, &from);
-        }
+    for Input { from, seed, of } in tiny_first::tables(shares(1500, 500, 100, 100)) {
+        let mut random = Random::new(seed ^ 0xde41_0000);
+        let mut table = RawTable::of(&of);
+        sequence(&mut table, 24, &mut random, &mut seen, &from);
     }
     println!("{seen:?}");
     assert!(seen.new > 10_000 && seen.many > 300);
@@ -225,10 +217,9 @@ fn on_generated_sheets() {
 #[test]
 fn on_tables_handed_in() {
     let mut seen = Seen::default();
-    for seed in 0..4000 {
+    for Input { from, seed, of } in tiny_first::states(0..4000) {
         let mut random = Random::new(seed ^ 0xde42_0000);
-        let mut table = hostile::generate(seed).state.table;
-        let from = format!("hostile seed {seed}");
+        let mut table = of.state.table;
         sequence(&mut table, 6, &mut random, &mut seen, &from);
     }
     println!("{seen:?}");
@@ -241,15 +232,13 @@ fn on_tables_handed_in() {
 #[test]
 fn on_tables_with_noise() {
     let mut seen = Seen::default();
-    for share in shares(600, 300, 60, 60) {
-        for seed in 0..share.seeds {
-            let mut random = Random::new(seed ^ 0xde45_0000);
-            let from = format!("{} seed {seed} with noise", share.name);
-            let mut raw = RawTable::of(&table(&share.plan, seed));
-            sequence(&mut raw, 4, &mut random, &mut Seen::default(), &from);
-            let mut raw = layout::noisy(&check::table(&raw).unwrap(), &mut random);
-            sequence(&mut raw, 12, &mut random, &mut seen, &from);
-        }
+    for Input { from, seed, of } in tiny_first::tables(shares(600, 300, 60, 60)) {
+        let mut random = Random::new(seed ^ 0xde45_0000);
+        let from = format!("{from} with noise");
+        let mut raw = RawTable::of(&of);
+        sequence(&mut raw, 4, &mut random, &mut Seen::default(), &from);
+        let mut raw = layout::noisy(&check::table(&raw).unwrap(), &mut random);
+        sequence(&mut raw, 12, &mut random, &mut seen, &from);
     }
     println!("{seen:?}");
     assert!(seen.new > 2000 && seen.many > 50 && seen.known > 500 && seen.full > 200);
@@ -260,11 +249,10 @@ fn on_tables_with_noise() {
 #[test]
 fn on_damaged_tables() {
     let mut seen = Seen::default();
-    for seed in 0..4000 {
+    for Input { from, seed, of } in tiny_first::tables(shares(2000, 2000, 0, 0)) {
         let mut random = Random::new(seed ^ 0xde43_0000);
-        let plan = [SMALL, MEDIUM][seed as usize % 2].clone();
-        let mut table = RawTable::of(&table(&plan, seed));
-        let from = format!("damaged seed {seed}");
+        let mut table = RawTable::of(&of);
+        let from = format!("damaged {from}");
         sequence(&mut table, 3, &mut random, &mut Seen::default(), &from);
         damage(&mut random, &mut table);
         sequence(&mut table, 4, &mut random, &mut seen, &from);
@@ -325,15 +313,12 @@ fn odd(random: &mut Random, n: i64) -> Asked {
 #[test]
 fn kinds_and_numbers_that_name_nothing() {
     let mut seen = Seen::default();
-    for share in shares(12, 4, 1, 1) {
-        for seed in 0..share.seeds {
-            let mut table = RawTable::of(&table(&share.plan, seed));
-            let from = format!("{} seed {seed}", share.name);
-            let numbers = odd_numbers(i64::from(table.types));
-            for kind in [0, 1, 2].into_iter().chain(ODD_KINDS) {
-                for (t, s) in numbers.iter().flat_map(|t| numbers.map(|s| (*t, s))) {
-                    let _ = same(&mut table, Asked { kind, t, s }, &mut seen, &from);
-                }
+    for Input { from, of, .. } in tiny_first::tables(shares(12, 4, 1, 1)) {
+        let mut table = RawTable::of(&of);
+        let numbers = odd_numbers(i64::from(table.types));
+        for kind in [0, 1, 2].into_iter().chain(ODD_KINDS) {
+            for (t, s) in numbers.iter().flat_map(|t| numbers.map(|s| (*t, s))) {
+                let _ = same(&mut table, Asked { kind, t, s }, &mut seen, &from);
             }
         }
     }
@@ -345,21 +330,23 @@ fn kinds_and_numbers_that_name_nothing() {
 /// A count that is right only in its low 32 bits, or as large as can be, is outside its limits: 2 before all else.
 #[test]
 fn wide_counts() {
-    let table = RawTable::of(&table(&SMALL, 0));
-    let answer = |counts: Counts, kind: usize| {
-        let (mut theirs, mut now, mut stored) = (table.clone(), counts, MARK);
-        let asked = Asked { kind, t: 0, s: 0 };
-        let code = derive(&mut theirs, &mut now, asked, &mut stored);
-        (code, theirs == table && now == counts && stored == MARK)
-    };
-    assert_eq!(answer(counts(&table), 0), (0, false));
-    assert_eq!(answer(counts(&table), 3), (7, true));
-    for place in 0..5 {
-        for wide in [counts(&table)[place] + (1 << 32), usize::MAX, 1 << 63] {
-            let mut counts = counts(&table);
-            counts[place] = wide;
-            assert_eq!(answer(counts, 0), (2, true), "{counts:?}");
-            assert_eq!(answer(counts, 3), (2, true), "{counts:?}");
+    for Input { from, of, .. } in tiny_first::tables(shares(1, 0, 0, 0)) {
+        let table = RawTable::of(&of);
+        let answer = |counts: Counts, kind: usize| {
+            let (mut theirs, mut now, mut stored) = (table.clone(), counts, MARK);
+            let asked = Asked { kind, t: 0, s: 0 };
+            let code = derive(&mut theirs, &mut now, asked, &mut stored);
+            (code, theirs == table && now == counts && stored == MARK)
+        };
+        assert_eq!(answer(counts(&table), 0), (0, false), "{from}");
+        assert_eq!(answer(counts(&table), 3), (7, true), "{from}");
+        for place in 0..5 {
+            for wide in [counts(&table)[place] + (1 << 32), usize::MAX, 1 << 63] {
+                let mut counts = counts(&table);
+                counts[place] = wide;
+                assert_eq!(answer(counts, 0), (2, true), "{from} {counts:?}");
+                assert_eq!(answer(counts, 3), (2, true), "{from} {counts:?}");
+            }
         }
     }
 }

@@ -1,9 +1,10 @@
 //! The state of a sheet in the proved core against the reference: number, offset, every count and every byte.
 
-use conformance::inputs::{damaged, largest, shares, table};
+use conformance::inputs::{largest, shares};
 use conformance::layout;
 use conformance::served::{load, set_counts};
 use conformance::states::of_table;
+use conformance::tiny_first::{self, Input};
 use reference::raw::{RawState, RawTable, BROADER_LENGTH, TYPES_LENGTH};
 use reference::refusal::Refusal;
 use reference::sheet;
@@ -57,16 +58,14 @@ fn same(text: &[u8], from: &str) -> bool {
 #[test]
 fn generated_sheets_are_loaded() {
     assert!(same(&sheet::text(&largest()), "largest"));
-    for share in shares(1000, 400, 100, 50) {
-        for seed in 0..share.seeds {
-            let text = sheet::text(&table(&share.plan, seed));
-            assert!(same(&text, &format!("{} seed {seed}", share.name)));
-        }
+    for Input { from, of, .. } in tiny_first::tables(shares(1000, 400, 100, 50)) {
+        assert!(same(&sheet::text(&of), &from));
     }
 }
 
 fn damaged_sheets(seeds: u64) {
-    let accepted = (0..seeds).filter(|seed| same(&damaged(*seed), &format!("damaged {seed}")));
+    let sheets = tiny_first::damaged_sheets(0..seeds);
+    let accepted = sheets.filter(|one| same(&one.of, &one.from));
     let accepted = accepted.count() as u64;
     println!("{accepted} of {seeds} damaged sheets are loaded");
     assert!((seeds / 100..seeds / 2).contains(&accepted));

@@ -1,10 +1,9 @@
 //! The pair table of a sheet in the proved core against the reference's relations: generated sheets, and tables handed in.
 
-use conformance::inputs::{shares, table};
+use conformance::inputs::shares;
+use conformance::tiny_first::{self, Input};
 use conformance::{counts, pairs, Counts, PAIRS_LENGTH};
 use reference::check::{self, Reason};
-use reference::generators::SMALL;
-use reference::hostile;
 use reference::raw::RawTable;
 use reference::relations::{Relations, RELATIONS};
 use reference::sheet;
@@ -57,26 +56,19 @@ fn first_difference(raw: &RawTable) -> String {
 fn generated_sheets() {
     // how many pairs have each of the sixteen combinations of bits
     let mut met = [0; 16];
-    for share in shares(1200, 250, 30, 20) {
-        for seed in 0..share.seeds {
-            let table = table(&share.plan, seed);
-            let raw = RawTable::of(&table);
-            if differs(&raw) {
-                let text = shrink(&sheet::text(&table), &mut |text| {
-                    sheet::read(text).is_ok_and(|table| differs(&RawTable::of(&table)))
-                });
-                let small = RawTable::of(&sheet::read(&text).unwrap());
-                panic!(
-                    "{} seed {seed}: {}\n{small:?}",
-                    share.name,
-                    first_difference(&small)
-                );
-            }
-            let (_, out) = expected(&raw);
-            for t in 0..table.sheet_types {
-                for s in 0..table.sheet_types {
-                    met[usize::from(out[t * MAX_SHEET_TYPES + s])] += 1;
-                }
+    for Input { from, of, .. } in tiny_first::tables(shares(1200, 250, 30, 20)) {
+        let raw = RawTable::of(&of);
+        if differs(&raw) {
+            let text = shrink(&sheet::text(&of), &mut |text| {
+                sheet::read(text).is_ok_and(|table| differs(&RawTable::of(&table)))
+            });
+            let small = RawTable::of(&sheet::read(&text).unwrap());
+            panic!("{from}: {}\n{small:?}", first_difference(&small));
+        }
+        let (_, out) = expected(&raw);
+        for t in 0..of.sheet_types {
+            for s in 0..of.sheet_types {
+                met[usize::from(out[t * MAX_SHEET_TYPES + s])] += 1;
             }
         }
     }
@@ -92,13 +84,15 @@ fn generated_sheets() {
 fn tables_handed_in() {
     let mut reasons: BTreeMap<Reason, u32> = BTreeMap::new();
     let (mut answered, mut derived) = (0, 0);
-    for seed in 0..4000 {
-        let hostile = hostile::generate(seed);
+    for Input {
+        from, of: hostile, ..
+    } in tiny_first::states(0..4000)
+    {
         let raw = &hostile.state.table;
         if differs(raw) {
             let small = shrink_hostile(&hostile, &mut |other| differs(&other.state.table));
             let raw = &small.state.table;
-            panic!("hostile seed {seed}: {}\n{raw:?}", first_difference(raw));
+            panic!("{from}: {}\n{raw:?}", first_difference(raw));
         }
         match check::table(raw) {
             Ok(table) => {
@@ -118,17 +112,16 @@ fn tables_handed_in() {
 /// A count that is right only in its low 32 bits, or as large as can be, is outside its limits.
 #[test]
 fn wide_counts() {
-    let raw = RawTable::of(&table(&SMALL, 0));
-    assert_eq!(proved(&raw, counts(&raw)).0, 0);
-    for place in 0..5 {
-        for wide in [counts(&raw)[place] + (1 << 32), usize::MAX, 1 << 63] {
-            let mut counts = counts(&raw);
-            counts[place] = wide;
-            assert_eq!(
-                proved(&raw, counts),
-                (2, [MARK; PAIRS_LENGTH]),
-                "{counts:?}"
-            );
+    for Input { from, of, .. } in tiny_first::tables(shares(1, 0, 0, 0)) {
+        let raw = RawTable::of(&of);
+        assert_eq!(proved(&raw, counts(&raw)).0, 0, "{from}");
+        for place in 0..5 {
+            for wide in [counts(&raw)[place] + (1 << 32), usize::MAX, 1 << 63] {
+                let mut counts = counts(&raw);
+                counts[place] = wide;
+                let kept = (2, [MARK; PAIRS_LENGTH]);
+                assert_eq!(proved(&raw, counts), kept, "{from} {counts:?}");
+            }
         }
     }
 }

@@ -1,7 +1,9 @@
 //! The proved program `pairs` (target/bin/pairs, built by `rt ci` or `rt check pairs`) against the reference's.
 
-use conformance::inputs::{damaged, largest, shares, table, with_48_types, worst};
+use conformance::inputs::{damaged, largest, shares, with_48_types, worst};
 use conformance::process::{built, feed, limited, plain, printed, run};
+use conformance::tiny_first::{self, Input};
+use pilgonca::raw::TINY_SHEETS;
 use reference::entry;
 use reference::pairs;
 use reference::script::MAX_INPUT;
@@ -80,19 +82,12 @@ fn examples_are_answered() {
 #[test]
 fn generated_inputs_are_answered() {
     let mut seen = Seen::default();
-    for share in shares(100, 40, 12, 4) {
-        for seed in 0..share.seeds {
-            let input = sheet::text(&table(&share.plan, seed));
-            let start = [plain, limited][seed as usize % 2];
-            same(
-                start,
-                &input,
-                &mut seen,
-                &format!("{} seed {seed}", share.name),
-            );
-        }
+    for Input { from, seed, of } in tiny_first::tables(shares(100, 40, 12, 4)) {
+        let start = [plain, limited][seed as usize % 2];
+        same(start, &sheet::text(&of), &mut seen, &from);
     }
-    assert_eq!((seen.pairs, seen.refused), (156, [0; 4]));
+    let all = TINY_SHEETS as u32 + 156;
+    assert_eq!((seen.pairs, seen.refused), (all, [0; 4]));
     for seed in 0..400 {
         let start = [plain, limited][seed as usize % 2];
         same(

@@ -14,6 +14,7 @@ use reference::refusal::Refusal;
 use reference::requests::{Got, Request};
 use reference::script;
 use reference::sheet;
+use reference::tiny;
 use std::path::Path;
 use std::process::Command;
 
@@ -122,6 +123,18 @@ fn load() -> Work {
     }
 }
 
+fn tiny_sheets() -> Work {
+    let bytes = to_bytes(&mut deep_state());
+    let text = tiny::printed();
+    Work {
+        name: "every tiny sheet".to_string(),
+        word: "tiny",
+        input: bytes.clone(),
+        output: [numbers(&[0, text.len() as i64]), text, bytes].concat(),
+        said: said::TINY,
+    }
+}
+
 /// The program itself, which calls nothing.
 fn nothing() -> Work {
     let bytes = to_bytes(&mut deep_state());
@@ -169,6 +182,7 @@ fn all() -> Vec<Work> {
         run_of("40 adapters, 48 types", &worst, &worst_requests()),
         offers(),
         load(),
+        tiny_sheets(),
     ];
     let deepest = nested.into_iter().chain(layers).chain(others);
     deepest.chain(small()).collect()

@@ -6,6 +6,8 @@ use conformance::heavy::{
 };
 use conformance::requests::{difference, loaded_anew, on_handed_in, on_loaded, on_offers, watch};
 use conformance::served::{counts, offers, request, Proved, StateCounts};
+use conformance::tiny_first;
+use pilgonca::raw::TINY_SHEETS;
 use reference::check;
 use reference::coverage::{serve, Seen, OF_ARGUMENTS, OF_REQUESTS};
 use reference::entry;
@@ -33,10 +35,13 @@ fn numbers(name: &str) -> Vec<Refusal> {
 /// States handed in; every refusal 2 and 5 to 19 is met, by each request that can meet it, and so is acceptance.
 fn handed_in(seeds: Range<u64>) {
     let mut seen = Seen::default();
-    for seed in seeds.clone() {
-        assert_eq!(on_handed_in(&Proved, seed, &mut seen), None, "{seed}");
+    let mut states = 0;
+    for hostile in tiny_first::crowded_states(seeds) {
+        let found = on_handed_in(&Proved, &hostile.of, &mut seen);
+        assert_eq!(found, None, "{}", hostile.from);
+        states += 1;
     }
-    println!("{} states handed in\n{}", seeds.count(), seen.text());
+    println!("{states} states handed in\n{}", seen.text());
     for number in [2].into_iter().chain(5..=19) {
         assert!(seen.number(number) >= 20, "{number}");
     }
@@ -52,9 +57,9 @@ fn handed_in(seeds: Range<u64>) {
 /// Chains offered, not offered and 2, each so often.
 fn chains(seeds: Range<u64>, least: u32) {
     let mut offered = [0; 3];
-    for seed in seeds {
-        let found = on_offers(&Proved, seed, &mut offered);
-        assert_eq!(found, None, "{seed}");
+    for hostile in tiny_first::states(seeds) {
+        let found = on_offers(&Proved, &hostile, &mut offered);
+        assert_eq!(found, None, "{}", hostile.from);
     }
     println!("chains not offered, offered, refused: {offered:?}");
     assert!(offered.iter().all(|count| *count > least), "{offered:?}");
@@ -79,11 +84,9 @@ fn scripts(small: u64, medium: u64, big: u64, full: u64, long: u64) -> Scripts {
 /// Scripts on loaded sheets: every number from 5 to 18 is met, and neither 2 nor 19.
 fn loaded(scripts: Scripts) {
     let mut seen = Seen::default();
-    for (profile, seeds) in scripts {
-        for seed in 0..seeds {
-            let found = on_loaded(&Proved, seed, profile, &mut seen);
-            assert_eq!(found, None, "{} {seed}", profile.name());
-        }
+    for script in tiny_first::scripts(&scripts) {
+        let found = on_loaded(&Proved, &script, &mut seen);
+        assert_eq!(found, None, "{}", script.from);
     }
     println!("scripts {scripts:?}\n{}", seen.text());
     let never: Vec<Refusal> = (1..=19).filter(|one| seen.number(*one) == 0).collect();
@@ -92,11 +95,9 @@ fn loaded(scripts: Scripts) {
 
 /// Demand 3 after scripts on loaded sheets.
 fn watched(scripts: Scripts) {
-    for (profile, seeds) in scripts {
-        for seed in 0..seeds {
-            let found = watch(&Proved, seed, profile);
-            assert_eq!(found, None, "{} {seed}", profile.name());
-        }
+    for script in tiny_first::scripts(&scripts) {
+        let found = watch(&Proved, &script);
+        assert_eq!(found, None, "{}", script.from);
     }
     println!("demand 3 watched after scripts {scripts:?}");
 }
@@ -121,8 +122,8 @@ fn requests_on_loaded_sheets() {
 #[test]
 fn long_scripts_meet_every_position() {
     let mut seen = Seen::default();
-    for seed in 0..LONG {
-        let (table, list) = conformance::requests::loaded(seed, Profile::Long).expect("a script");
+    for script in tiny_first::scripts(&[(Profile::Long, LONG)]) {
+        let (table, list) = conformance::requests::loaded(&script).expect("a script");
         seen.add(&serve(State::of_sheet(table), &list.requests));
     }
     for situation in [FourReferencesThroughSeveral, TypesFullAtLastArgument] {
@@ -170,9 +171,9 @@ fn demand_3_on_loaded_sheets() {
 /// A count that is right but for its high half is refused with 2, by every request and by offers, and every byte stays.
 #[test]
 fn counts_of_any_size() {
-    let found = (0..).map(hostile::generate);
+    let found = tiny_first::states(0..u64::MAX).map(|hostile| hostile.of);
     let right = |one: &hostile::Hostile| entry::offers(&one.state, 0, &[]).is_ok();
-    for one in found.filter(right).take(40) {
+    for one in found.filter(right).take(TINY_SHEETS + 40) {
         let of_state = counts(&one.state);
         for (at, high) in (0..of_state.len()).flat_map(|at| [(at, 1), (at, 1 << 31)]) {
             let mut far = of_state;

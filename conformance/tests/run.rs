@@ -4,9 +4,10 @@
 use conformance::run_lists::{difference, on_handed_in, on_loaded, List, Met, Run};
 use conformance::runs::{self, decoded, words};
 use conformance::served::{counts, run, Proved};
+use conformance::tiny_first;
 use faults::named;
+use pilgonca::raw::TINY_SHEETS;
 use reference::generators::Profile;
-use reference::hostile;
 use reference::raw::RawState;
 use reference::refusal::Refusal;
 use reference::sheet;
@@ -14,11 +15,10 @@ use reference::state::State;
 use reference::table::{Key, Kind};
 
 /// Lists of both kinds.
-fn lists(handed_in: u64, sheets: [(Profile, u64); 5]) -> impl Iterator<Item = List> {
-    let of_sheets = |(profile, seeds)| (0..seeds).filter_map(move |seed| on_loaded(seed, profile));
-    (0..handed_in)
-        .map(on_handed_in)
-        .chain(sheets.into_iter().flat_map(of_sheets))
+fn lists(handed_in: u64, sheets: &[(Profile, u64)]) -> impl Iterator<Item = List> {
+    let of_sheets = tiny_first::scripts(sheets).filter_map(on_loaded);
+    let handed_in = tiny_first::crowded_states(0..handed_in);
+    handed_in.map(on_handed_in).chain(of_sheets)
 }
 
 /// As many long ones as full ones.
@@ -48,14 +48,14 @@ fn compare(lists: impl Iterator<Item = List>) {
 
 #[test]
 fn runs_as_the_reference() {
-    compare(lists(6000, sheets(800, 300, 20, 40)));
+    compare(lists(6000, &sheets(800, 300, 20, 40)));
 }
 
 /// Seed 193896 shows R12: a derived type handed in with own is used again and comes to stand in a signature.
 #[test]
 #[ignore = "long"]
 fn hundreds_of_thousands_of_runs() {
-    compare(lists(300_000, sheets(40_000, 10_000, 500, 1000)));
+    compare(lists(300_000, &sheets(40_000, 10_000, 500, 1000)));
 }
 
 /// A state with two known types that have own (Q19): the first request takes them into signatures, and an argument of a later call
@@ -91,7 +91,7 @@ fn a_call_meets_9() {
 /// The encoder's words are read as the requests they are of.
 #[test]
 fn words_are_read_back() {
-    for one in (0..500).map(hostile::generate) {
+    for one in tiny_first::states(0..500).map(|hostile| hostile.of) {
         let all: Vec<i64> = one.requests.iter().flat_map(words).collect();
         let read: Option<Vec<_>> = decoded(&all).into_iter().collect();
         assert_eq!(read, Some(one.requests));
@@ -102,7 +102,8 @@ fn words_are_read_back() {
 #[test]
 fn counts_of_any_size() {
     let right = |list: &List| runs::run(&mut list.state.clone(), &[], &mut []).is_ok();
-    for list in (0..).map(on_handed_in).filter(right).take(40) {
+    let lists = tiny_first::crowded_states(0..u64::MAX).map(on_handed_in);
+    for list in lists.filter(right).take(TINY_SHEETS + 40) {
         for (at, high) in (0..8).flat_map(|at| [(at, 1 << 32), (at, 1 << 63)]) {
             let (mut state, mut answers, mut served) = (list.state.clone(), [7; 40], 7);
             let mut far = counts(&state);
@@ -157,6 +158,7 @@ const STAND_INS: [Run; 7] = [
 fn stand_ins_are_found() {
     for (at, stand_in) in STAND_INS.into_iter().enumerate() {
         let differs = |list| difference(stand_in, runs::run, &list, &mut Met::default()).is_some();
-        assert!((0..6000).map(on_handed_in).any(differs), "{at}");
+        let mut lists = tiny_first::crowded_states(0..6000).map(on_handed_in);
+        assert!(lists.any(differs), "{at}");
     }
 }

@@ -4,11 +4,12 @@
 use conformance::requests::{counted, Core};
 use conformance::served::{counts, given, set_counts, Proved};
 use conformance::states::of_table;
+use conformance::tiny_first;
 use pilgonca::raw::State;
 use pilgonca::saved::checksum;
 use pilgonca::{Refusal, SavedRefused, Visit};
-use reference::generators::{generate, Profile, PROFILES};
-use reference::hostile::{self, Hostile};
+use reference::generators::{Profile, PROFILES};
+use reference::hostile::Hostile;
 use reference::raw::{RawState, RawTable, BROADER_BYTES};
 use reference::script;
 
@@ -84,15 +85,16 @@ fn left_by(input: &[u8]) -> Option<Hostile> {
 #[test]
 fn states_that_scripts_leave_come_back() {
     let mut met = [0; 3];
-    for profile in PROFILES {
-        let seeds = if profile == Profile::Full { 20 } else { 80 };
-        for seed in 0..seeds {
-            if let Some(left) = left_by(&generate(seed, profile)) {
-                assert!(round(&left), "{profile:?}, seed {seed}");
-                let [.., cells, places, calls] = counts(&left.state);
-                for (most, count) in met.iter_mut().zip([cells, places, calls]) {
-                    *most = count.max(*most);
-                }
+    let scripts = PROFILES.map(|profile| match profile {
+        Profile::Full => (profile, 20),
+        _ => (profile, 80),
+    });
+    for script in tiny_first::scripts(&scripts) {
+        if let Some(left) = left_by(&script.of) {
+            assert!(round(&left), "{}", script.from);
+            let [.., cells, places, calls] = counts(&left.state);
+            for (most, count) in met.iter_mut().zip([cells, places, calls]) {
+                *most = count.max(*most);
             }
         }
     }
@@ -103,22 +105,18 @@ fn states_that_scripts_leave_come_back() {
 #[test]
 fn hostile_states_come_back_or_are_refused() {
     let (mut sound, mut unsound, mut wide) = (0, 0, 0);
-    for seed in 0..4000 {
-        let hostile = match seed % 2 {
-            0 => hostile::generate(seed / 2),
-            _ => hostile::crowded(seed / 2),
-        };
-        if round(&hostile) {
+    for hostile in tiny_first::crowded_states(0..4000) {
+        if round(&hostile.of) {
             sound += 1;
             continue;
         }
-        let Some(file) = by_hand(&hostile.state) else {
+        let Some(file) = by_hand(&hostile.of.state) else {
             wide += 1;
             continue;
         };
         let refused = Visit::from_saved(&file).expect_err("unsound");
         let by_core = SavedRefused::State(Refusal::OutOfRange);
-        assert_eq!(refused, by_core, "seed {seed}");
+        assert_eq!(refused, by_core, "{}", hostile.from);
         unsound += 1;
     }
     println!("{sound} sound, {unsound} refused by the core, {wide} with a count above its limit");
@@ -128,8 +126,8 @@ fn hostile_states_come_back_or_are_refused() {
 /// Every bit of whole states, and every length.
 #[test]
 fn every_bit_is_held_by_the_checksum() {
-    for seed in 0..3 {
-        let left = left_by(&generate(seed, Profile::Small)).expect("a sheet");
+    for script in tiny_first::scripts(&[(Profile::Small, 3)]) {
+        let left = left_by(&script.of).expect("a sheet");
         let file = by_hand(&left.state).expect("counts of a sound state");
         for at in 0..file.len() {
             assert!(Visit::from_saved(&file[..at]).is_err());

@@ -6,6 +6,7 @@ use conformance::inputs::with_48_types;
 use conformance::process::{built, feed, limited_to, plain, printed};
 use conformance::said;
 use conformance::scripts::{damaged, deepest, in_stack, need, proved, stack, Met};
+use conformance::tiny_first;
 use conformance::worst_scripts::{layered, turned};
 use reference::coverage::OF_REQUESTS;
 use reference::generators::{generate, Profile};
@@ -134,13 +135,10 @@ fn broader_equal_to_k() {
     }
 }
 
-/// Scripts of these profiles, from seed 0 on.
+/// Scripts of these profiles, from seed 0 on, behind those of tiny sheets.
 fn generated(profiles: &[(Profile, u64)], met: &mut Met) {
-    for (profile, seeds) in profiles {
-        for seed in 0..*seeds {
-            let from = format!("{} {seed}", profile.name());
-            met.same(&proved, &generate(seed, *profile), &from);
-        }
+    for script in tiny_first::scripts(profiles) {
+        met.same(&proved, &script.of, &script.from);
     }
 }
 

@@ -1,21 +1,19 @@
 //! What `script` prints, by its C function: the reference's outputs and the program's, in buffers of every length that matters.
 
 use conformance::scripts::{damaged, deepest, proved, Met, LONGER};
+use conformance::tiny_first;
 use conformance::worst_scripts::layered;
 use pilgonca::raw::script;
 use pilgonca::script as printed;
-use reference::generators::{generate, Profile, PROFILES};
+use reference::generators::{Profile, PROFILES};
 use reference::refusal::Refusal;
 use reference::script::{self as ours, MAX_INPUT};
 
-/// Scripts of the profiles and damaged ones, from seed 0 on, and the numbers that none of them meets.
+/// Scripts of tiny sheets, those of the profiles and damaged ones, from seed 0 on, and the numbers that none of them meets.
 fn compare(profiles: &[(Profile, u64)], damages: u64, unmet: &[Refusal]) -> Met {
     let mut met = Met::default();
-    for (profile, seeds) in profiles {
-        for seed in 0..*seeds {
-            let from = format!("{} {seed}", profile.name());
-            met.same(&printed, &generate(seed, *profile), &from);
-        }
+    for script in tiny_first::scripts(profiles) {
+        met.same(&printed, &script.of, &script.from);
     }
     for seed in 0..damages {
         met.same(&printed, &damaged(seed), &format!("damaged here {seed}"));
@@ -58,12 +56,13 @@ fn the_reference_prints_the_same_for_millions_of_requests() {
     assert!(met.requests > 5_000_000);
 }
 
-/// Some scripts of every profile, the worst ones, and ones that are too long.
+/// Some scripts of every profile behind those of tiny sheets, the worst ones, and ones that are too long.
 fn some() -> Vec<Vec<u8>> {
-    let generated = PROFILES.into_iter().flat_map(|profile| {
-        let seeds = if profile == Profile::Full { 5 } else { 40 };
-        (0..seeds).map(move |seed| generate(seed, profile))
+    let profiles = PROFILES.map(|profile| match profile {
+        Profile::Full => (profile, 5),
+        _ => (profile, 40),
     });
+    let generated = tiny_first::scripts(&profiles).map(|script| script.of);
     let worst = deepest().map(|(_, input)| input);
     let long = [MAX_INPUT, MAX_INPUT + 1, 2 * MAX_INPUT].map(|length| {
         let mut input = layered(20);

@@ -1,12 +1,12 @@
 //! Sheet read and Sheet write in the proved core against the reference: number, offset, every byte of the table, every byte of
 //! the buffer.
 
-use conformance::inputs::{damaged, largest, shares, table};
+use conformance::inputs::{largest, shares};
+use conformance::tiny_first::{self, Input};
 use conformance::{counts, derive, layout, read, write, Asked, Counts, Loaded};
+use pilgonca::raw::TINY_SHEETS;
 use reference::damage::{lines, BYTES, NUMBERS};
 use reference::entry;
-use reference::generators::{BIG, SMALL};
-use reference::hostile;
 use reference::random::Random;
 use reference::raw::{RawTable, BROADER_LENGTH, TYPES_LENGTH};
 use reference::refusal::Refusal;
@@ -120,20 +120,18 @@ fn same(input: &[u8], seen: &mut Seen, from: &str) {
 #[test]
 fn generated_sheets_are_read() {
     let mut seen = Seen::default();
-    for share in shares(3000, 1000, 300, 100) {
-        for seed in 0..share.seeds {
-            let text = sheet::text(&table(&share.plan, seed));
-            same(&text, &mut seen, &format!("{} seed {seed}", share.name));
-        }
+    for Input { from, of, .. } in tiny_first::tables(shares(3000, 1000, 300, 100)) {
+        same(&sheet::text(&of), &mut seen, &from);
     }
-    assert_eq!((seen.accepted, seen.refused.len()), (4400, 0));
+    let all = TINY_SHEETS as u32 + 4400;
+    assert_eq!((seen.accepted, seen.refused.len()), (all, 0));
 }
 
 #[test]
 fn damaged_sheets_are_read() {
     let mut seen = Seen::default();
-    for seed in 0..40_000 {
-        same(&damaged(seed), &mut seen, &format!("damaged seed {seed}"));
+    for Input { from, of, .. } in tiny_first::damaged_sheets(0..40_000) {
+        same(&of, &mut seen, &from);
     }
     println!("{seen:?}");
     assert!(seen.accepted > 600);
@@ -206,9 +204,9 @@ fn every_place_of_a_sheet() {
 #[test]
 fn any_bytes_are_read() {
     let mut seen = Seen::default();
-    for seed in 0..6000 {
+    for Input { from, seed, of } in tiny_first::tables(shares(6000, 0, 0, 0)) {
         let mut random = Random::new(seed ^ 0x0a11_0000);
-        let text = sheet::text(&table(&SMALL, seed));
+        let text = sheet::text(&of);
         let start = if seed % 3 == 0 {
             0
         } else {
@@ -221,11 +219,7 @@ fn any_bytes_are_read() {
                 _ => *random.pick(BYTES),
             })
             .collect();
-        same(
-            &[&text[..start], &any].concat(),
-            &mut seen,
-            &format!("seed {seed}"),
-        );
+        same(&[&text[..start], &any].concat(), &mut seen, &from);
     }
     println!("{seen:?}");
     assert!(seen.count(1) > 5000 && seen.refused.len() > 12);
@@ -432,23 +426,20 @@ fn same_text(raw: &RawTable, from: &str) {
 #[test]
 fn sheets_are_written_as_they_were_read() {
     let mut derivations = 0;
-    for share in shares(1500, 500, 150, 50) {
-        for seed in 0..share.seeds {
-            let from = format!("{} seed {seed}", share.name);
-            let text = sheet::text(&table(&share.plan, seed));
-            let mut raw = proved(&text).0;
-            same_text(&raw, &from);
-            assert_eq!(
-                written(&raw, counts(&raw), text.len()),
-                (0, text.len(), text.clone())
-            );
-            derivations += derive_some(&mut raw, seed);
-            same_text(&raw, &from);
-            assert_eq!(
-                written(&raw, counts(&raw), text.len()),
-                (0, text.len(), text)
-            );
-        }
+    for Input { from, seed, of } in tiny_first::tables(shares(1500, 500, 150, 50)) {
+        let text = sheet::text(&of);
+        let mut raw = proved(&text).0;
+        same_text(&raw, &from);
+        assert_eq!(
+            written(&raw, counts(&raw), text.len()),
+            (0, text.len(), text.clone())
+        );
+        derivations += derive_some(&mut raw, seed);
+        same_text(&raw, &from);
+        assert_eq!(
+            written(&raw, counts(&raw), text.len()),
+            (0, text.len(), text)
+        );
     }
     println!("{derivations} derived types were not written");
     assert!(derivations > 4000);
@@ -477,8 +468,8 @@ fn derive_some(raw: &mut RawTable, seed: u64) -> u32 {
 #[test]
 fn odd_sheets_are_written_as_they_were_read() {
     let mut accepted = 0;
-    let odd = (0..8000)
-        .map(damaged)
+    let odd = tiny_first::damaged_sheets(0..8000)
+        .map(|sheet| sheet.of)
         .filter(|text| sheet::read(text).is_ok());
     for text in odd.chain([sheet::text(&largest())]) {
         let raw = proved(&text).0;
@@ -493,8 +484,10 @@ fn odd_sheets_are_written_as_they_were_read() {
 #[test]
 fn tables_handed_in_are_written_or_refused() {
     let (mut accepted, mut refused) = (0, 0);
-    for seed in 0..2500 {
-        let hostile = hostile::generate(seed);
+    for Input {
+        from, of: hostile, ..
+    } in tiny_first::states(0..2500)
+    {
         let raw = &hostile.state.table;
         if differing_size(raw).is_some() {
             let small = shrink_hostile(&hostile, &mut |other| {
@@ -502,7 +495,7 @@ fn tables_handed_in_are_written_or_refused() {
             });
             same_text(
                 &small.state.table,
-                &format!("hostile seed {seed}\n{:?}", small.state.table),
+                &format!("{from}\n{:?}", small.state.table),
             );
         }
         match written(raw, counts(raw), 0).0 {
@@ -517,14 +510,16 @@ fn tables_handed_in_are_written_or_refused() {
 /// A count that is right only in its low 32 bits, or as large as can be, is outside its limits: 2 before 4.
 #[test]
 fn wide_counts() {
-    let raw = RawTable::of(&table(&BIG, 0));
-    for place in 0..5 {
-        for wide in [counts(&raw)[place] + (1 << 32), usize::MAX, 1 << 63] {
-            let mut counts = counts(&raw);
-            counts[place] = wide;
-            for size in [0, 20_000] {
-                let kept = (2, NUMBER_MARK, vec![MARK; size]);
-                assert!(written(&raw, counts, size) == kept, "{counts:?}");
+    for Input { from, of, .. } in tiny_first::tables(shares(0, 0, 1, 0)) {
+        let raw = RawTable::of(&of);
+        for place in 0..5 {
+            for wide in [counts(&raw)[place] + (1 << 32), usize::MAX, 1 << 63] {
+                let mut counts = counts(&raw);
+                counts[place] = wide;
+                for size in [0, 20_000] {
+                    let kept = (2, NUMBER_MARK, vec![MARK; size]);
+                    assert!(written(&raw, counts, size) == kept, "{from} {counts:?}");
+                }
             }
         }
     }

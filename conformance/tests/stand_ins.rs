@@ -4,12 +4,14 @@
 
 use conformance::requests::{on_handed_in, on_loaded, on_offers, watch, Core};
 use conformance::scripts::damaged;
+use conformance::tiny_first::{self, Input};
 use faults::{named, Fault, ALL};
 use reference::chains::{offered, permits};
 use reference::check;
 use reference::coverage::Seen;
 use reference::entry;
-use reference::generators::{generate, Profile};
+use reference::generators::Profile;
+use reference::hostile::Hostile;
 use reference::raw::RawState;
 use reference::refusal::{Refusal, OUT_OF_RANGE};
 use reference::requests::{index, Got, Request};
@@ -37,12 +39,18 @@ fn every_fault_is_found() {
     for fault in ALL {
         let core = StandIn(*fault);
         let mut seen = Seen::default();
-        let found = (0..2000).any(|seed| on_handed_in(&core, seed, &mut seen).is_some())
-            || [Profile::Full, Profile::Long].into_iter().any(|profile| {
-                (0..200).any(|seed| on_loaded(&core, seed, profile, &mut seen).is_some())
-            });
+        let mut differs = |one: Input<Hostile>| on_handed_in(&core, &one.of, &mut seen).is_some();
+        let found = tiny_first::crowded_states(0..2000).any(&mut differs)
+            || tiny_first::scripts(&[(Profile::Full, 200), (Profile::Long, 200)])
+                .any(|script| on_loaded(&core, &script, &mut seen).is_some());
         assert!(found, "{}", fault.name);
     }
+}
+
+/// Whether demand 3 finds something on scripts.
+fn is_watched(core: &impl Core) -> bool {
+    let mut scripts = tiny_first::scripts(&[(Profile::Medium, 400)]);
+    scripts.any(|script| watch(core, &script).is_some())
 }
 
 /// Demand 3 alone finds what it is for, without the reference's answers beside it.
@@ -55,8 +63,7 @@ fn demand_3_is_watched() {
         "static_type_forgotten",
     ] {
         let core = StandIn(named(name));
-        let found = (0..400).any(|seed| watch(&core, seed, Profile::Medium).is_some());
-        assert!(found, "{name}");
+        assert!(is_watched(&core), "{name}");
     }
 }
 
@@ -99,7 +106,8 @@ fn every_byte_is_compared() {
     for (at, (accepted, spoil)) in spoils.into_iter().enumerate() {
         let core = Spoils { accepted, spoil };
         let mut seen = Seen::default();
-        let found = (0..50).any(|seed| on_handed_in(&core, seed, &mut seen).is_some());
+        let mut states = tiny_first::crowded_states(0..50);
+        let found = states.any(|one| on_handed_in(&core, &one.of, &mut seen).is_some());
         assert!(found, "{at}");
     }
 }
@@ -128,9 +136,9 @@ impl Core for OneSided {
 fn both_sides_of_offers_are_tried() {
     for side in 0..2 {
         let core = OneSided(side);
-        let found = (0..200).any(|seed| on_offers(&core, seed, &mut [0; 3]).is_some());
-        let watched = (0..400).any(|seed| watch(&core, seed, Profile::Medium).is_some());
-        assert_eq!((found, watched), (true, true), "{side}");
+        let mut states = tiny_first::states(0..200);
+        let found = states.any(|one| on_offers(&core, &one, &mut [0; 3]).is_some());
+        assert_eq!((found, is_watched(&core)), (true, true), "{side}");
     }
 }
 
@@ -196,8 +204,9 @@ fn wrong_programs_are_found() {
     ];
     for (name, program) in programs {
         let differs = |input: &[u8]| program(input) != script::run(input);
-        let found = (0..2000).any(|seed| differs(&damaged(seed)))
-            || (0..1000).any(|seed| differs(&generate(seed, Profile::Damaged)));
+        let mut scripts = tiny_first::scripts(&[(Profile::Damaged, 1000)]);
+        let found = scripts.any(|script| differs(&script.of))
+            || (0..2000).any(|seed| differs(&damaged(seed)));
         assert!(found, "{name}");
     }
 }

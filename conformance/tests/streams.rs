@@ -6,9 +6,11 @@ use std::io::{Read, Seek, SeekFrom};
 use std::path::{Path, PathBuf};
 use std::process::{Command, Output, Stdio};
 
-const PROGRAMS: [&str; 2] = ["pairs", "script"];
+/// Those that read, and all.
+const READERS: [&str; 2] = ["pairs", "script"];
+const PROGRAMS: [&str; 3] = ["pairs", "script", "tiny"];
 
-/// An input that the program answers with some lines: Case P.
+/// An input that the program answers with some lines: Case P. `tiny` reads none.
 fn input(program: &str) -> PathBuf {
     let folder = Path::new(env!("CARGO_MANIFEST_DIR")).join("../examples");
     let ending = if program == "pairs" {
@@ -44,7 +46,7 @@ fn redirected(program: &str, how: &str) -> Output {
 
 #[test]
 fn a_directory_is_no_input() {
-    for program in PROGRAMS {
+    for program in READERS {
         let output = on(program, File::open("/").unwrap());
         failed(&output, program, "read standard input");
     }
@@ -52,7 +54,7 @@ fn a_directory_is_no_input() {
 
 #[test]
 fn a_closed_input_is_none() {
-    for program in PROGRAMS {
+    for program in READERS {
         let output = redirected(program, "<&-");
         failed(&output, program, "read standard input");
     }
@@ -75,7 +77,7 @@ fn a_read_that_fails_halfway_is_not_the_end() {
     let (mut file, mut bytes) = (ends_badly(), [0; 200]);
     assert_eq!(file.read(&mut bytes).unwrap(), 100);
     assert!(file.read(&mut bytes).is_err());
-    for program in PROGRAMS {
+    for program in READERS {
         failed(&on(program, ends_badly()), program, "read standard input");
     }
 }

@@ -2,9 +2,10 @@
 
 use conformance::compare;
 use conformance::inputs::worst;
+use conformance::tiny_first::{self, Input};
 use reference::entry;
-use reference::generators::{generate, Profile};
-use reference::hostile::{self, Hostile};
+use reference::generators::Profile;
+use reference::hostile::Hostile;
 use reference::raw::RawTable;
 use reference::sheet;
 use reference::shrink::{shrink, shrink_hostile};
@@ -21,12 +22,12 @@ fn differs(table: &RawTable, t: i64, s: i64) -> bool {
 }
 
 /// One comparison on a table handed in; a difference is shown on the smallest table found.
-fn same_handed_in(hostile: &Hostile, t: i64, s: i64, seed: u64) -> bool {
+fn same_handed_in(hostile: &Hostile, t: i64, s: i64, from: &str) -> bool {
     let table = &hostile.state.table;
     if differs(table, t, s) {
         let small = shrink_hostile(hostile, &mut |other| differs(&other.state.table, t, s));
         panic!(
-            "hostile seed {seed}: compare {t} {s} gives {:?}\n{small:?}",
+            "{from}: compare {t} {s} gives {:?}\n{small:?}",
             both(&small.state.table, t, s)
         );
     }
@@ -37,14 +38,18 @@ fn same_handed_in(hostile: &Hostile, t: i64, s: i64, seed: u64) -> bool {
 fn compare_on_tables_handed_in() {
     let mut answered = 0;
     let odd = [i64::MIN, -1, 0, 1, 47, 48, 127, 128, 255, 256, i64::MAX];
-    for seed in 0..4000 {
-        let hostile = hostile::generate(seed);
+    for Input {
+        from,
+        seed,
+        of: hostile,
+    } in tiny_first::states(0..4000)
+    {
         let n = i64::from(hostile.state.table.types);
         for (t, s) in [(0, 1), (1, 0), (n - 1, 0), (n / 2, n - 1), (n, 0)] {
-            answered += u32::from(same_handed_in(&hostile, t, s, seed));
+            answered += u32::from(same_handed_in(&hostile, t, s, &from));
         }
         let (t, s) = (seed as usize % odd.len(), seed as usize / 11 % odd.len());
-        same_handed_in(&hostile, odd[t], odd[s], seed);
+        same_handed_in(&hostile, odd[t], odd[s], &from);
     }
     assert!(answered > 2000, "only {answered} comparisons were answered");
 }
@@ -73,24 +78,18 @@ fn every_pair_of_generated_sheets() {
         (Profile::Medium, 60),
         (Profile::Big, 6),
     ];
-    for (profile, seeds) in profiles {
-        for seed in 0..seeds {
-            let input = generate(seed, profile);
-            let Some(table) = table_of(&input) else {
-                continue;
-            };
-            pairs += table.types * table.types;
-            if differing_pair(&table).is_some() {
-                let small = shrink(&input, &mut |other| {
-                    table_of(other).is_some_and(|table| differing_pair(&table).is_some())
-                });
-                let pair = table_of(&small).and_then(|table| differing_pair(&table));
-                panic!(
-                    "{} seed {seed}: pair {pair:?} of\n{}",
-                    profile.name(),
-                    String::from_utf8_lossy(&small)
-                );
-            }
+    for Input { from, of, .. } in tiny_first::scripts(&profiles) {
+        let Some(table) = table_of(&of) else {
+            continue;
+        };
+        pairs += table.types * table.types;
+        if differing_pair(&table).is_some() {
+            let small = shrink(&of, &mut |other| {
+                table_of(other).is_some_and(|table| differing_pair(&table).is_some())
+            });
+            let pair = table_of(&small).and_then(|table| differing_pair(&table));
+            let small = String::from_utf8_lossy(&small);
+            panic!("{from}: pair {pair:?} of\n{small}");
         }
     }
     assert!(pairs > 10_000, "only {pairs} pairs");

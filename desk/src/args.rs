@@ -26,6 +26,10 @@ desk: sheets and scripts at the desk; every answer is the proved core's
   desk powers SHEET           for each type what its holder can call, can come
                               to call alone, and never can
   desk diff OLD NEW           what a new version of a sheet gives and takes
+  desk tiny                   every tiny sheet, as the program tiny prints them,
+                              for tests; --out FILE writes them there
+  desk tiny N                 the tiny sheet with this number, 0 to 129
+      --list                  in words: what each of them says
   desk explain N              what the refusal with this number means
   desk help, -h, --help       this text
   desk --version, -V          the version
@@ -36,7 +40,8 @@ desk: sheets and scripts at the desk; every answer is the proved core's
                               X.script or X.state is found; --no-names leaves
                               it out
   --json                      one JSON document, as desk/schema/desk.json says:
-                              of check, pairs, compare, run, audit, powers, diff
+                              of check, pairs, compare, run, audit, powers,
+                              diff, tiny
   --svg FILE                  draws pairs, or the references at the end of run
 
 --names=FILE is --names FILE. Behind -- no word is an option. A file that is
@@ -95,6 +100,12 @@ pub enum Command {
         old: PathBuf,
         new: PathBuf,
     },
+    Tiny {
+        /// One of them, or all.
+        number: Option<String>,
+        list: bool,
+        out: Option<PathBuf>,
+    },
     Explain(String),
 }
 
@@ -111,7 +122,9 @@ impl Command {
     /// The files that names may stand beside, the nearest first.
     pub fn files(&self) -> Vec<&Path> {
         match self {
-            Command::Help | Command::Version | Command::Explain(_) => Vec::new(),
+            Command::Help | Command::Version | Command::Explain(_) | Command::Tiny { .. } => {
+                Vec::new()
+            }
             Command::Check(file) | Command::Powers(file) => vec![file],
             Command::Fix { sheet, .. }
             | Command::Pairs { sheet, .. }
@@ -157,23 +170,24 @@ struct Choice {
 }
 
 const SHOWN: &[&str] = &[
-    "check", "pairs", "compare", "run", "audit", "powers", "diff",
+    "check", "pairs", "compare", "run", "audit", "powers", "diff", "tiny",
 ];
 const NAMED: &[&str] = &[
     "check", "fix", "pairs", "compare", "run", "audit", "powers", "diff",
 ];
 
-const CHOICES: [Choice; 10] = [
+const CHOICES: [Choice; 11] = [
     Choice::new("--names", Some("a file"), NAMED),
     Choice::new("--no-names", None, NAMED),
     Choice::new("--json", None, SHOWN),
     Choice::new("--svg", Some("a file"), &["pairs", "run"]),
     Choice::new("--plain", None, &["pairs"]),
     Choice::new("--save", Some("a file"), &["run"]),
-    Choice::new("--out", Some("a file"), &["fix"]),
+    Choice::new("--out", Some("a file"), &["fix", "tiny"]),
     Choice::new("--subject", Some("a number or a name"), &["audit"]),
     Choice::new("--method", Some("a number or a name"), &["audit"]),
     Choice::new("--calls", None, &["audit"]),
+    Choice::new("--list", None, &["tiny"]),
 ];
 
 impl Choice {
@@ -238,6 +252,9 @@ impl Words {
         let both = [
             ("--names", self.has("--no-names"), "--no-names"),
             ("--plain", self.has("--json"), "--json"),
+            ("--list", self.has("--json"), "--json"),
+            ("--out", self.has("--json"), "--json"),
+            ("--out", self.has("--list"), "--list"),
             ("--svg", drawn && self.has("--json"), "--json"),
             ("--svg", drawn && self.has("--plain"), "--plain"),
         ];
@@ -361,6 +378,11 @@ fn command(name: &str, words: &Words, rest: &[OsString]) -> Result<Command, Stri
         },
         "powers" => Command::Powers(file("sheet")?),
         "diff" => diff(rest)?,
+        "tiny" => Command::Tiny {
+            number: tiny(rest)?,
+            list: words.has("--list"),
+            out: words.file("--out"),
+        },
         "explain" => Command::Explain(file("number")?.to_string_lossy().into_owned()),
         _ => return Err(format!("there is no command {name:?}")),
     })
@@ -376,6 +398,19 @@ fn compare(rest: &[OsString]) -> Result<Command, String> {
     let [from, to] = [from, to].map(|word| word.to_string_lossy().into_owned());
     let sheet = sheet.into();
     Ok(Command::Compare { sheet, from, to })
+}
+
+fn tiny(rest: &[OsString]) -> Result<Option<String>, String> {
+    match rest {
+        [] => Ok(None),
+        [number] => Ok(Some(number.to_string_lossy().into_owned())),
+        _ => {
+            let called = called();
+            Err(format!(
+                "{called} tiny takes the number of one tiny sheet, or nothing"
+            ))
+        }
+    }
 }
 
 fn diff(rest: &[OsString]) -> Result<Command, String> {

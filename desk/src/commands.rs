@@ -161,6 +161,7 @@ fn answered(args: &Args, paints: Paints) -> Result<String, Stop> {
         Command::Audit { script, asked } => desk.audit(script, asked),
         Command::Powers(path) => desk.powers(path),
         Command::Diff { old, new } => desk.diff(old, new),
+        Command::Tiny { number, list, out } => desk.tiny(number.as_deref(), *list, out.as_deref()),
         Command::Explain(number) => desk.explain(number),
     }
 }
@@ -188,7 +189,7 @@ fn beside(command: &Command) -> Option<PathBuf> {
     found.map(|(_, names)| names)
 }
 
-/// What the commands share; desk run and desk audit are in `scripts`, desk powers and desk diff in modules of those names.
+/// What the commands share; desk run and desk audit are in `scripts`, desk powers, desk diff and desk tiny in modules of those names.
 pub struct Desk {
     pub names: Names,
     pub paints: Paints,

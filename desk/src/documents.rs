@@ -110,6 +110,21 @@ fn method(method: &MethodInfo) -> Json {
     ])
 }
 
+/// Tiny sheets, each with its number: the one type of each, and its text.
+pub fn tiny(sheets: &[(usize, Vec<u8>)]) -> Result<Json, Stop> {
+    let one = |(number, text): &(usize, Vec<u8>)| {
+        let sheet = Sheet::read(text).map_err(|why| Stop::from(why.to_string()))?;
+        let types = sheet.types().map(|info| type_(&info, &Names::default()));
+        Ok(Json::Object(vec![
+            ("number", (*number).into()),
+            ("types", Json::list(types)),
+            ("text", String::from_utf8_lossy(text).into_owned().into()),
+        ]))
+    };
+    let sheets: Result<Vec<Json>, Stop> = sheets.iter().map(one).collect();
+    Ok(Json::Object(vec![("sheets", Json::List(sheets?))]))
+}
+
 /// Every pair of a sheet's types.
 pub fn pairs(sheet: &Sheet, names: &Names) -> Json {
     let pairs = sheet.pairs();

@@ -35,6 +35,7 @@ mod shown;
 mod spoilt;
 mod summary;
 mod svg;
+mod tiny;
 mod words;
 
 pub use words::called;

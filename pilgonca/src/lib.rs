@@ -21,7 +21,8 @@
 //! writes them, into target/staticlib, where the package finds them. Elsewhere, as for a dependency by git: `tools/install PREFIX` in a clone, and
 //! `PILGONCA_LIB_DIR=PREFIX/lib` in the environment of cargo, an absolute path. Both need the toolchain `rt`, once.
 //!
-//! `Visit` and `script` are the feature `visits`, which is on unless it is turned off: sheets alone need two static libraries of the five.
+//! `Visit` and `script` are the feature `visits`, `tiny` and `tiny_sheets` the feature `tiny`. Both are on unless they are turned off: sheets alone need two static libraries
+//! of the six.
 //!
 //! # Stack
 //!
@@ -36,6 +37,8 @@ mod refusal;
 #[cfg(feature = "visits")]
 pub mod saved;
 mod sheet;
+#[cfg(feature = "tiny")]
+mod tiny;
 #[cfg(feature = "visits")]
 mod visit;
 
@@ -45,6 +48,8 @@ pub use refusal::{Refusal, SheetRefused};
 #[cfg(feature = "visits")]
 pub use saved::SavedRefused;
 pub use sheet::{Comparison, Pairs, Sheet};
+#[cfg(feature = "tiny")]
+pub use tiny::{tiny, tiny_sheets};
 #[cfg(feature = "visits")]
 pub use visit::{script, Answered, CallInfo, Called, CellInfo, Held, PlaceInfo, PlaceKind, Visit};
 

@@ -10,6 +10,8 @@ mod state;
 
 #[cfg(feature = "visits")]
 pub use functions::states::{answer, call, load, move_reference, new_object, offers, run, script};
+#[cfg(feature = "tiny")]
+pub use functions::tiny::tiny;
 #[cfg(feature = "tools")]
 pub use functions::tools;
 pub use functions::{compare, pairs, read, write};
@@ -48,6 +50,13 @@ pub const MAX_TEXT: usize = "guide=1\nsubjects=16\nmethods=16\ncats=31\ntypes=48
     + MAX_SHEET_TYPES
         * MAX_METHODS
         * ("m=optional(47)47\n".len() + (MAX_ARGUMENTS - 1) * ",47".len());
+
+/// How many tiny sheets there are (P25).
+#[cfg(feature = "tiny")]
+pub const TINY_SHEETS: usize = 130;
+/// The bytes of all tiny sheets (P25).
+#[cfg(feature = "tiny")]
+pub const TINY_BYTES: usize = 13_659;
 
 /// The records of types (B1 to B10).
 pub type Types = [u8; MAX_TYPES * TYPE_RECORD];

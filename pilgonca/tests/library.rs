@@ -40,7 +40,7 @@ fn the_first_screen_says_what_it_needs() {
         "no heap",
         "160 KB of stack",
         "45 KB of code",
-        "120 KB",
+        "125 KB",
         "no other processor yet",
         "an emulator (qemu-x86_64, not tried)",
         "`reference/`: the same rules in plain Rust",
@@ -96,6 +96,38 @@ fn the_longest_text_is_written() {
     assert!(
         matches!(&last.methods[15], MethodInfo::Optional(s) if s.arguments.len() == raw::MAX_ARGUMENTS)
     );
+}
+
+/// Every tiny sheet through the package: read and written, compared, loaded, saved, and a first request, which is served where the type is a class.
+#[test]
+fn every_tiny_sheet_is_served() {
+    let sheets = pilgonca::tiny_sheets();
+    assert_eq!(sheets.len(), raw::TINY_SHEETS);
+    let mut classes = 0;
+    for text in sheets {
+        let sheet = Sheet::read(&text).expect("a sheet");
+        assert_eq!((sheet.write(), sheet.subjects()), (text.clone(), 1));
+        assert_eq!((sheet.categories(), sheet.sheet_types()), (0, 1));
+        let only = sheet.type_info(Type(0)).expect("a type");
+        assert_eq!(only.methods.len(), sheet.methods());
+        let itself = sheet.compare(Type(0), Type(0)).expect("a type");
+        assert_eq!(sheet.pairs().at(Type(0), Type(0)), itself);
+        assert!(itself.subtype && itself.strict && itself.loose && itself.free);
+        let mut visit = Visit::load(&text).expect("a sheet");
+        let made = visit.new_object(DESK, Type(0), Type(0));
+        let (cell, place) = (Cell(0), Place(0));
+        match only.is_class() {
+            true => assert_eq!(made, Ok(Held { cell, place })),
+            false => assert_eq!(made, Err(Refusal::UnknownType)),
+        }
+        classes += usize::from(only.is_class());
+        let saved = visit.save();
+        let back = Visit::from_saved(&saved).expect("a saved state");
+        assert_eq!(back.save(), saved);
+        assert_eq!(pilgonca::script(&text), b"");
+    }
+    // own=no, and of each method unavail or avail with one of four signatures
+    assert_eq!(classes, 5 + 5 * 5);
 }
 
 /// Requests until they are refused; the last refusal.

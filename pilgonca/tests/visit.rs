@@ -1,8 +1,8 @@
-//! The headers and the examples in C compile without a warning with the system's C compiler; visit.c and route.c print what examples/visit.out and
-//! examples/route.out have, and saved.c reads and writes the saved states that this package does.
+//! The headers and the examples in C compile without a warning with the system's C compiler; visit.c, route.c and tiny.c print what stands beside them, as
+//! examples/visit.out, and saved.c reads and writes the saved states that this package does.
 
 use pilgonca::saved::checksum;
-use pilgonca::{Refusal, Subject, Type, Visit, EXAMPLE};
+use pilgonca::{raw, Refusal, Subject, Type, Visit, EXAMPLE};
 use std::fs;
 use std::path::{Path, PathBuf};
 use std::process::{Command, Output};
@@ -135,6 +135,18 @@ fn the_c_example_of_four_arguments_prints_its_route() {
     ] {
         assert!(said.contains(words), "{words}");
     }
+}
+
+/// Every tiny sheet from C: it takes no sheet, and says of what it was given that each is accepted.
+#[test]
+fn the_c_example_of_tiny_sheets_reads_them_all() {
+    let output = Command::new(compiled(&example("tiny.c"))).output();
+    let output = output.expect("the program runs");
+    let expected = fs::read_to_string(example("tiny.out")).expect("what it prints");
+    assert_eq!(String::from_utf8_lossy(&output.stdout), expected);
+    assert!(output.status.success() && output.stderr.is_empty());
+    let count = format!("{} sheets, and each is accepted\n", raw::TINY_SHEETS);
+    assert!(expected.ends_with(&count));
 }
 
 /// A file of this test alone.

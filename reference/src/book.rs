@@ -80,8 +80,8 @@ impl Book {
     /// The book as it begins.
     pub fn of_sheet(table: &Table) -> Book {
         Book {
-            relations: Relations::of(table),
             table: table.clone(),
+            relations: Relations::default(),
             pages: Vec::new(),
             notes: Vec::new(),
         }
@@ -196,9 +196,8 @@ impl Book {
             page.closed.clear();
             page.trail.clear();
             self.adapt(page, t)?;
-        } else if !self.relations.holds(Relation::Subtype, t, s) {
+        } else if !self.holds(Relation::Subtype, t, s) {
             let r = sub(&mut self.table, t, s).ok()?;
-            self.relations.extend(&self.table);
             self.adapt(page, r)?;
         }
         page.trail.push(t);
@@ -208,12 +207,15 @@ impl Book {
     /// L7.
     fn adapt(&mut self, page: &mut Page, r: TypeNo) -> Option<()> {
         let v = page.last_closed();
-        if !self.relations.holds(Relation::SubtypeOwnAside, r, v) {
+        if !self.holds(Relation::SubtypeOwnAside, r, v) {
             let adapter = closed(&mut self.table, r, v).ok()?;
-            self.relations.extend(&self.table);
             page.closed.push(adapter);
         }
         Some(())
+    }
+
+    fn holds(&mut self, relation: Relation, t: TypeNo, s: TypeNo) -> bool {
+        self.relations.holds_in(&self.table, relation, t, s)
     }
 
     fn page(&self, cell: i64) -> Option<&Page> {

@@ -21,7 +21,7 @@ impl Model {
         let own = self.state.table.types[t].own;
         // X1
         let needed = if own { Relation::Free } else { Relation::Loose };
-        if !self.relations.holds(needed, t, s) {
+        if !self.holds(needed, t, s) {
             return Err(UNRELATED);
         }
         if own {
@@ -29,11 +29,11 @@ impl Model {
             return self.adapt(base, t);
         }
         // X4
-        if self.relations.holds(Relation::Subtype, t, s) {
+        if self.holds(Relation::Subtype, t, s) {
             return Ok(place);
         }
         // X5
-        let r = self.derive(sub, t, s)?;
+        let r = sub(&mut self.state.table, t, s)?;
         self.adapt(place, r)
     }
 
@@ -49,15 +49,15 @@ impl Model {
     fn adapt(&mut self, place: usize, r: TypeNo) -> Result<usize, Refusal> {
         let v = self.state.place_type(place);
         // X6
-        if self.relations.holds(Relation::SubtypeOwnAside, r, v) {
+        if self.holds(Relation::SubtypeOwnAside, r, v) {
             return Ok(place);
         }
         // X7
-        if !self.relations.holds(Relation::Strict, r, v) {
+        if !self.holds(Relation::Strict, r, v) {
             return Err(NOT_STRICT);
         }
         // X8, X9
-        let closed = self.derive(closed, r, v)?;
+        let closed = closed(&mut self.state.table, r, v)?;
         let behind = place;
         self.add_place(Place::Adapter { behind, closed })
     }

@@ -3,10 +3,12 @@
 mod lists;
 mod plans;
 mod tables;
+mod tiny;
 
 pub use lists::{any_request, request, requests};
-pub use plans::{Goal, Plan, Profile, BIG, FULL, LONG, MEDIUM, PROFILES, SMALL};
+pub use plans::{Goal, Plan, Profile, BIG, FULL, LONG, MEDIUM, PROFILES, SMALL, TINY};
 pub use tables::table;
+pub use tiny::{damaged_tiny, on_tiny, tiny_first};
 
 use crate::damage::{damage, lengthen};
 use crate::random::Random;
@@ -36,8 +38,13 @@ fn one_of(random: &mut Random, plans: &[Plan]) -> Vec<u8> {
 /// A sheet and requests by a plan.
 fn input(random: &mut Random, plan: &Plan) -> Vec<u8> {
     let (table, requests) = aimed(random, plan);
-    let mut input = sheet::text(&table);
-    for request in &requests {
+    text(&table, &requests)
+}
+
+/// The sheet of a table, and requests as far as an input may go (P1).
+fn text(table: &Table, requests: &[Request]) -> Vec<u8> {
+    let mut input = sheet::text(table);
+    for request in requests {
         let line = script::line(request);
         if input.len() + line.len() > script::MAX_INPUT {
             break;
@@ -65,12 +72,17 @@ fn aimed(random: &mut Random, plan: &Plan) -> (Table, Vec<Request>) {
 fn damaged(random: &mut Random) -> Vec<u8> {
     let plan = if random.chance(70) { SMALL } else { MEDIUM };
     let mut text = input(random, &plan);
+    spoil(random, &mut text);
+    text
+}
+
+/// Makes a few things bad in a text.
+fn spoil(random: &mut Random, text: &mut Vec<u8>) {
     for _ in 0..random.weighted(&[0, 60, 25, 15]) {
         if random.chance(2) {
-            lengthen(random, &mut text);
+            lengthen(random, text);
         } else {
-            damage(random, &mut text);
+            damage(random, text);
         }
     }
-    text
 }

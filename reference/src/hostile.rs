@@ -9,13 +9,14 @@ pub use breaking::break_one;
 pub use noise::noise;
 
 use crate::check::{self, REASONS};
-use crate::generators::{self, LONG, MEDIUM, SMALL};
+use crate::generators::{self, Plan, LONG, MEDIUM, SMALL, TINY};
 use crate::model::Model;
 use crate::random::Random;
 use crate::raw::RawState;
 use crate::requests::Request;
 use crate::state::State;
-use crate::table::MAX_ARGUMENTS;
+use crate::table::{Table, MAX_ARGUMENTS};
+use crate::tiny;
 use bending::{bend, fill};
 
 /// A hostile state and requests to put to it, each to the same state or to
@@ -45,13 +46,27 @@ pub fn crowded(seed: u64) -> Hostile {
     handed_in(&mut random, state)
 }
 
+/// One for each tiny sheet, in the order of P24.
+pub fn on_tiny(seed: u64) -> Vec<Hostile> {
+    let mut random = Random::new(seed ^ 0x0057_a7e7_1147_0000);
+    let mut hostile = |table| {
+        let state = bent_from(&mut random, &TINY, table);
+        handed_in(&mut random, state)
+    };
+    tiny::tables().into_iter().map(&mut hostile).collect()
+}
+
 /// A state that requests led to, mostly bent.
 fn bent(random: &mut Random) -> State {
     let plan = random
         .pick(&[SMALL, SMALL, MEDIUM, LONG[0].clone()])
         .clone();
     let table = generators::table(random, &plan);
-    let mut state = generators::requests(random, &plan, table).model.state;
+    bent_from(random, &plan, table)
+}
+
+fn bent_from(random: &mut Random, plan: &Plan, table: Table) -> State {
+    let mut state = generators::requests(random, plan, table).model.state;
     if random.chance(70) {
         for _ in 0..random.within((1, 12)) {
             bend(random, &mut state);

@@ -48,6 +48,8 @@ pub mod script;
 
 pub mod pairs;
 
+pub mod tiny;
+
 // B
 pub mod raw;
 

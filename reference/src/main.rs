@@ -8,10 +8,12 @@ use reference::hostile;
 use reference::pairs;
 use reference::report;
 use reference::script;
+use reference::tiny;
 use std::io::{Read, Write};
 use std::process::ExitCode;
 
 const USAGE: &str = "usage: reference script|sheet|pairs|dump|account < input
+       reference tiny
        reference gen SEED small|medium|big|full|long|damaged
        reference hostile SEED
        reference cover [SEEDS]
@@ -40,6 +42,7 @@ fn output(words: &[&str]) -> Option<Vec<u8>> {
         ["pairs"] => Some(pairs::run(&input())),
         ["dump"] => Some(dump::run(&input())),
         ["account"] => Some(dump::account(&input()).into_bytes()),
+        ["tiny"] => Some(tiny::printed()),
         ["gen", seed, profile] => {
             let profile = Profile::of_name(profile)?;
             Some(generators::generate(seed.parse().ok()?, profile))

@@ -2,22 +2,23 @@
 //! end, and refusals that leave nothing (Q).
 
 use crate::refusal::{Refusal, CALLS_FULL, CELLS_FULL, PLACES_FULL};
-use crate::relations::Relations;
+use crate::relations::{Relation, Relations};
 use crate::state::{Call, Cell, Counts, Place, State, MAX_CALLS, MAX_CELLS, MAX_PLACES};
-use crate::table::{Table, TypeNo};
+use crate::table::TypeNo;
+use std::cell::RefCell;
 
-/// A state and the relations of its table.
+/// A state, and the relations of its table as far as they were asked for.
 #[derive(Clone, Debug)]
 pub struct Model {
     pub state: State,
-    pub relations: Relations,
+    relations: RefCell<Relations>,
 }
 
 impl Model {
     pub fn new(state: State) -> Model {
         Model {
-            relations: Relations::of(&state.table),
             state,
+            relations: RefCell::new(Relations::default()),
         }
     }
 
@@ -36,22 +37,16 @@ impl Model {
 
     fn take_back(&mut self, before: Counts) {
         self.state.table.truncate(before.types);
-        self.relations.truncate(before.types);
+        self.relations.get_mut().truncate(before.types);
         self.state.places.truncate(before.places);
         self.state.cells.truncate(before.cells);
         self.state.calls.truncate(before.calls);
     }
 
-    /// A type derived by a restriction, which the relations then speak of too.
-    pub(crate) fn derive(
-        &mut self,
-        restriction: fn(&mut Table, TypeNo, TypeNo) -> Result<TypeNo, Refusal>,
-        left: TypeNo,
-        right: TypeNo,
-    ) -> Result<TypeNo, Refusal> {
-        let number = restriction(&mut self.state.table, left, right)?;
-        self.relations.extend(&self.state.table);
-        Ok(number)
+    /// Whether a relation holds at (T, S), both of the table.
+    pub fn holds(&self, relation: Relation, t: TypeNo, s: TypeNo) -> bool {
+        let mut relations = self.relations.borrow_mut();
+        relations.holds_in(&self.state.table, relation, t, s)
     }
 
     /// The next place (Q6, Q8).

@@ -5,8 +5,8 @@ use crate::coverage::{self, Seen, OF_ARGUMENTS, OF_REQUESTS};
 use crate::damage::lines;
 use crate::demand;
 use crate::entry;
-use crate::generators::{generate, Profile, PROFILES};
-use crate::hostile;
+use crate::generators::{generate, on_tiny, PROFILES};
+use crate::hostile::{self, Hostile};
 use crate::random::Random;
 use crate::raw::RawTable;
 use crate::refusal::{Refusal, FORM, LATER_LAYER, OUT_OF_RANGE, SHORT_BUFFER, UNKNOWN_TYPE};
@@ -21,7 +21,7 @@ use std::collections::BTreeMap;
 /// What a set of generated inputs met.
 #[derive(Clone, Debug, Default)]
 pub struct Report {
-    /// Inputs of the program by profile.
+    /// Inputs of the program by profile, and those on tiny sheets.
     pub inputs: BTreeMap<&'static str, u64>,
     /// Requests of scripts.
     pub scripts: Seen,
@@ -38,10 +38,10 @@ pub struct Report {
     pub five_in_call: u64,
     pub five_in_record: u64,
     /// Runs whose book was held against the state, cells compared, and the
-    /// seeds of those where demand 3 did not hold.
+    /// inputs where demand 3 did not hold, by profile and seed.
     pub books: u64,
     pub cells: u64,
-    pub broken: Vec<(Profile, u64)>,
+    pub broken: Vec<(&'static str, u64)>,
     /// Handed-in states: how many, how many of them right, reasons of 2.
     pub handed_in: u64,
     pub right: u64,
@@ -57,40 +57,45 @@ pub struct Report {
     pub compare_refused: u64,
 }
 
-/// Generates inputs and handed-in states and reports what they met.
+/// Generates inputs and handed-in states, on tiny sheets first, and reports what they met.
 pub fn collect(seeds: std::ops::Range<u64>) -> Report {
     let mut report = Report::default();
+    for (number, input) in (0..).zip(on_tiny(0)) {
+        report.script("tiny", number, &input);
+    }
     for profile in PROFILES {
         for seed in seeds.clone() {
-            report.script(seed, profile);
+            report.script(profile.name(), seed, &generate(seed, profile));
         }
     }
+    for (number, hostile) in (0..).zip(hostile::on_tiny(0)) {
+        report.hostile(number, &hostile);
+    }
     for seed in seeds.start * 10..seeds.end * 10 {
-        report.hostile(seed);
+        report.hostile(seed, &hostile::generate(seed));
     }
     report
 }
 
 impl Report {
-    fn script(&mut self, seed: u64, profile: Profile) {
-        let input = generate(seed, profile);
-        *self.inputs.entry(profile.name()).or_default() += 1;
-        let (run, found) = demand::run(&input);
+    fn script(&mut self, profile: &'static str, seed: u64, input: &[u8]) {
+        *self.inputs.entry(profile).or_default() += 1;
+        let (run, found) = demand::run(input);
         if found.is_err() {
             self.broken.push((profile, seed));
         }
         let Some(model) = run.model else {
-            self.refused_sheet(&input);
+            self.refused_sheet(input);
             return;
         };
         self.books += 1;
         self.cells += model.state.cells.len() as u64;
-        let Ok(script) = script::read(&input) else {
+        let Ok(script) = script::read(input) else {
             return;
         };
         self.malformed += u64::from(script.malformed);
         if script.malformed {
-            let (_, rest) = script::split(&input);
+            let (_, rest) = script::split(input);
             let line = lines(rest)[script.requests.len()];
             self.five_in_call += u64::from(is_longer_call(line));
         }
@@ -113,8 +118,7 @@ impl Report {
         }
     }
 
-    fn hostile(&mut self, seed: u64) {
-        let hostile = hostile::generate(seed);
+    fn hostile(&mut self, seed: u64, hostile: &Hostile) {
         let mut random = Random::new(seed);
         self.handed_in += 1;
         self.write(&mut random, &hostile.state.table);

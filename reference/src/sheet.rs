@@ -286,12 +286,16 @@ fn signature_text(signature: &Signature) -> String {
     format!("({}){answer}", arguments.join(","))
 }
 
-/// Writes the text to the front of a buffer: its length, or 4 (W2 to W4).
+/// Writes the text of a table to the front of a buffer (W2 to W4).
 pub fn write(table: &Table, buffer: &mut [u8]) -> Result<usize, Refusal> {
-    let text = text(table);
+    put(&text(table), buffer)
+}
+
+/// Puts a text to the front of a buffer: its length, or 4 (W2 to W4, P26).
+pub fn put(text: &[u8], buffer: &mut [u8]) -> Result<usize, Refusal> {
     if text.len() > buffer.len() {
         return Err(SHORT_BUFFER);
     }
-    buffer[..text.len()].copy_from_slice(&text);
+    buffer[..text.len()].copy_from_slice(text);
     Ok(text.len())
 }

@@ -192,7 +192,7 @@ fn passages(model: &Model, before: Counts, request: &Request, got: Got) -> Vec<S
             _ => Situation::UnwrappedSeveral,
         });
     }
-    if !own && model.relations.holds(Relation::Subtype, t, s) {
+    if !own && model.holds(Relation::Subtype, t, s) {
         met.push(Situation::PassedBySubtype);
     } else if place == from {
         met.push(Situation::PassedByPlaceType);

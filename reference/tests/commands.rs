@@ -1,8 +1,8 @@
 //! The commands, run as programs, against the library.
 
 use reference::external::{difference, run};
-use reference::generators::{generate, PROFILES};
-use reference::{dump, pairs, script};
+use reference::generators::{generate, on_tiny, PROFILES};
+use reference::{dump, pairs, script, tiny};
 use std::path::Path;
 
 fn command(arguments: &[&str], input: &[u8]) -> Vec<u8> {
@@ -21,20 +21,27 @@ fn commands_print_what_the_library_says() {
         ("pairs", pairs::run),
         ("dump", dump::run),
     ];
-    for profile in PROFILES {
-        for seed in 0..4 {
-            let input = generate(seed, profile);
-            let (sheet, _) = script::split(&input);
-            for (name, ours) in pairs {
-                let input = if name == "script" || name == "dump" {
-                    &input
-                } else {
-                    sheet
-                };
-                let found = difference(input, &|input| command(&[name], input), &ours);
-                assert_eq!(found, None);
-            }
+    let of_profile = |profile| (0..4).map(move |seed| generate(seed, profile));
+    let generated = PROFILES.into_iter().flat_map(of_profile);
+    for input in on_tiny(0).into_iter().chain(generated) {
+        let (sheet, _) = script::split(&input);
+        for (name, ours) in pairs {
+            let input = if name == "script" || name == "dump" {
+                &input
+            } else {
+                sheet
+            };
+            let found = difference(input, &|input| command(&[name], input), &ours);
+            assert_eq!(found, None);
         }
+    }
+}
+
+/// P21.
+#[test]
+fn tiny_reads_nothing() {
+    for input in [&b""[..], &[b'x'; 100_000]] {
+        assert_eq!(command(&["tiny"], input), tiny::printed());
     }
 }
 

@@ -1,10 +1,10 @@
 //! Deliberate faults, each an edit of the model's sources (faults/edits), are
-//! each found by the generated inputs.
+//! each found by the generated inputs. The tiny sheets come first (02 k).
 
 use faults::{named, Fault, ALL};
 use reference::book::Book;
 use reference::external::difference;
-use reference::generators::{generate, Profile};
+use reference::generators::{tiny_first, Profile};
 use reference::script::{self, printed};
 use reference::serving;
 use reference::shrink::shrink;
@@ -38,15 +38,19 @@ fn found(fault: Fault) -> Option<Vec<u8>> {
         Profile::Long,
         Profile::Full,
     ];
-    let mut inputs = profiles
-        .into_iter()
-        .flat_map(|profile| (0..SEEDS).map(move |seed| generate(seed, profile)));
-    inputs.find(|input| differs(input, fault))
+    inputs(&profiles).find(|input| differs(input, fault))
+}
+
+fn inputs(profiles: &[Profile]) -> impl Iterator<Item = Vec<u8>> {
+    let of_profile = |profile: &Profile| tiny_first(*profile, 0..SEEDS);
+    profiles.iter().flat_map(of_profile).map(|(_, input)| input)
 }
 
 /// Whether a fault that loaded sheets cannot meet is found on handed-in states.
 fn found_handed_in(fault: Fault) -> bool {
-    (0..3000).map(hostile::generate).any(|hostile| {
+    let generated = (0..3000).map(hostile::generate);
+    let mut states = hostile::on_tiny(0).into_iter().chain(generated);
+    states.any(|hostile| {
         check::state(&hostile.state).is_ok_and(|state| {
             let right = serving::run(state.clone(), &hostile.requests);
             (fault.run)(state, &hostile.requests).0 != right.0
@@ -56,8 +60,8 @@ fn found_handed_in(fault: Fault) -> bool {
 
 /// Whether a fault that shows in the state alone is found there.
 fn found_in_state(fault: Fault) -> bool {
-    (0..SEEDS).any(|seed| {
-        let script = script::read(&generate(seed, Profile::Medium)).unwrap();
+    inputs(&[Profile::Medium]).any(|input| {
+        let script = script::read(&input).unwrap();
         let state = State::of_sheet(script.table);
         let right = serving::run(state.clone(), &script.requests);
         (fault.run)(state, &script.requests).1 != right.1
@@ -88,11 +92,8 @@ fn demand_3_finds_what_it_is_for() {
         "answer_unrestricted",
         "static_type_forgotten",
     ] {
-        let profiles = [Profile::Small, Profile::Medium];
-        let broken = profiles
-            .into_iter()
-            .any(|profile| (0..SEEDS).any(|seed| is_broken(named(name), &generate(seed, profile))));
-        assert!(broken, "{name}");
+        let mut inputs = inputs(&[Profile::Small, Profile::Medium]);
+        assert!(inputs.any(|input| is_broken(named(name), &input)), "{name}");
     }
 }
 
@@ -125,8 +126,8 @@ fn faults_shrink() {
 #[test]
 fn a_difference_comes_with_a_small_input() {
     let theirs = |input: &[u8]| faulty(named("wraps_first_passes_later"), input);
-    let found = (0..SEEDS)
-        .find_map(|seed| difference(&generate(seed, Profile::Medium), &theirs, &script::run))
+    let found = inputs(&[Profile::Medium])
+        .find_map(|input| difference(&input, &theirs, &script::run))
         .unwrap();
     assert_ne!(found.theirs, found.ours);
     assert!(found.input.len() < 700, "{found:?}");

@@ -1,25 +1,30 @@
-//! Generated inputs: demand 3, coverage, and facts that hold of every model.
+//! Generated inputs: demand 3, coverage, and facts that hold of every model. The tiny sheets come
+//! first in each test (02 k).
 
 use reference::chains::{first_difference, All};
 use reference::check::{self, REASONS};
 use reference::demand;
 use reference::entry;
-use reference::generators::{self, generate, Profile, PROFILES};
+use reference::generators::{self, tiny_first, Profile, PROFILES};
 use reference::hostile;
+use reference::model::Model;
 use reference::random::Random;
 use reference::raw::{RawState, RawTable};
+use reference::refusal::Refusal;
 use reference::relations::{Relation, Relations, ALL, RELATIONS};
 use reference::report::{self, line_kind};
 use reference::script;
 use reference::sheet;
 use reference::table::{Kind, MethodState, Table, Type, MAX_ARGUMENTS};
+use reference::tiny;
 use std::collections::BTreeMap;
+use std::ops::Range;
 
 /// Demand 3, and book and state agreeing in every type and adapter.
-fn demand_3(profile: Profile, seeds: std::ops::Range<u64>) {
-    for seed in seeds {
-        let (_, found) = demand::run(&generate(seed, profile));
-        assert_eq!(found, Ok(()), "{} {seed}", profile.name());
+fn demand_3(profile: Profile, seeds: Range<u64>) {
+    for (name, input) in tiny_first(profile, seeds) {
+        let (_, found) = demand::run(&input);
+        assert_eq!(found, Ok(()), "{name}");
     }
 }
 
@@ -102,11 +107,10 @@ fn coverage_is_whole() {
 fn generated_inputs_keep_their_limits() {
     for profile in PROFILES {
         let right = profile != Profile::Damaged;
-        for seed in (0..40).filter(|_| right) {
-            let input = generate(seed, profile);
+        for (name, input) in tiny_first(profile, 0..40).filter(|_| right) {
             assert!(input.len() <= script::MAX_INPUT);
             let run = script::run_whole(&input);
-            assert!(run.model.is_some(), "{} {seed}", profile.name());
+            assert!(run.model.is_some(), "{name}");
             let lines = run.output.iter().filter(|byte| **byte == b'\n').count();
             assert_eq!(lines, run.requests.len());
         }
@@ -114,14 +118,15 @@ fn generated_inputs_keep_their_limits() {
 }
 
 fn tables(count: u64) -> impl Iterator<Item = Table> {
-    (0..count).map(|seed| {
+    let generated = (0..count).map(|seed| {
         let plan = if seed % 4 == 0 {
             generators::BIG
         } else {
             generators::MEDIUM
         };
         generators::table(&mut Random::new(seed), &plan)
-    })
+    });
+    tiny::tables().into_iter().chain(generated)
 }
 
 #[test]
@@ -139,18 +144,23 @@ fn what_is_written_reads_back() {
 fn the_buffer_behind_and_a_short_one_stay() {
     for table in tables(60) {
         let raw = RawTable::of(&table);
-        let text = sheet::text(&table);
-        for length in [0, 1, text.len() / 2, text.len() - 1] {
-            let mut buffer = vec![170; length];
-            assert_eq!(entry::write(&raw, &mut buffer), Err(4));
-            assert!(buffer.iter().all(|byte| *byte == 170));
-        }
-        for length in [text.len(), text.len() + 1, text.len() + 999] {
-            let mut buffer = vec![170; length];
-            assert_eq!(entry::write(&raw, &mut buffer), Ok(text.len()));
-            assert_eq!(buffer[..text.len()], text[..]);
-            assert!(buffer[text.len()..].iter().all(|byte| *byte == 170));
-        }
+        writes(&sheet::text(&table), |buffer| entry::write(&raw, buffer));
+    }
+    writes(&tiny::printed(), tiny::write);
+}
+
+/// W2 to W4, P26.
+fn writes(text: &[u8], write: impl Fn(&mut [u8]) -> Result<usize, Refusal>) {
+    for length in [0, 1, text.len() / 2, text.len() - 1] {
+        let mut buffer = vec![170; length];
+        assert_eq!(write(&mut buffer), Err(4));
+        assert!(buffer.iter().all(|byte| *byte == 170));
+    }
+    for length in [text.len(), text.len() + 1, text.len() + 999] {
+        let mut buffer = vec![170; length];
+        assert_eq!(write(&mut buffer), Ok(text.len()));
+        assert_eq!(buffer[..text.len()], text[..]);
+        assert!(buffer[text.len()..].iter().all(|byte| *byte == 170));
     }
 }
 
@@ -158,8 +168,7 @@ fn the_buffer_behind_and_a_short_one_stay() {
 /// as it was.
 #[test]
 fn damaged_sheets() {
-    for seed in 0..3000 {
-        let input = generate(seed, Profile::Damaged);
+    for (_, input) in tiny_first(Profile::Damaged, 0..3000) {
         let (text, _) = script::split(&input);
         match sheet::read(text) {
             Ok(table) => assert_eq!(sheet::text(&table), text),
@@ -177,8 +186,7 @@ fn damaged_sheets() {
 #[test]
 fn damaged_lines_cover_the_reader() {
     let mut met = std::collections::BTreeSet::new();
-    for seed in 0..6_000 {
-        let input = generate(seed, Profile::Damaged);
+    for (_, input) in tiny_first(Profile::Damaged, 0..6_000) {
         let (text, _) = script::split(&input);
         if let Err((number, offset)) = sheet::read(text) {
             met.insert((number, line_kind(&text[offset..])));
@@ -201,23 +209,28 @@ fn damaged_lines_cover_the_reader() {
     }
 }
 
-/// A run's table with derived types.
-fn grown(seed: u64) -> Table {
-    let run = script::run_whole(&generate(seed, Profile::Medium));
-    run.model.unwrap().state.table
+/// What runs lead to, each with its name.
+fn models(seeds: Range<u64>) -> impl Iterator<Item = (String, Model)> {
+    tiny_first(Profile::Medium, seeds)
+        .map(|(name, input)| (name, script::run_whole(&input).model.unwrap()))
+}
+
+/// Their tables, with derived types.
+fn grown(seeds: Range<u64>) -> impl Iterator<Item = (String, Table)> {
+    models(seeds).map(|(name, model)| (name, model.state.table))
 }
 
 #[test]
 fn relations_follow_from_one_another() {
-    for seed in 0..200 {
-        let table = grown(seed);
+    for (name, table) in grown(0..200) {
         let relations = Relations::of(&table);
         let count = table.types.len();
         for t in 0..count {
             assert!(relations.holds(Relation::Subtype, t, t));
             for s in 0..count {
                 let answers = RELATIONS.map(|relation| relations.holds(relation, t, s));
-                assert!(answers.windows(2).all(|two| !two[0] || two[1]), "{t} {s}");
+                let follow = answers.windows(2).all(|two| !two[0] || two[1]);
+                assert!(follow, "{name}: {t} {s}");
                 if answers[0] {
                     for u in 0..count {
                         let above = relations.holds(Relation::Subtype, u, t);
@@ -232,18 +245,13 @@ fn relations_follow_from_one_another() {
 /// The relations taken in step by step are those of the whole table.
 #[test]
 fn relations_grow_with_the_table() {
-    for seed in 0..200 {
-        let run = script::run_whole(&generate(seed, Profile::Medium));
-        let model = run.model.unwrap();
+    for (_, model) in models(0..200) {
         let fresh = Relations::of(&model.state.table);
         let count = model.state.table.types.len();
         for relation in ALL {
             for t in 0..count {
                 for s in 0..count {
-                    assert_eq!(
-                        fresh.holds(relation, t, s),
-                        model.relations.holds(relation, t, s)
-                    );
+                    assert_eq!(fresh.holds(relation, t, s), model.holds(relation, t, s));
                 }
             }
         }
@@ -254,7 +262,8 @@ fn relations_grow_with_the_table() {
 /// and refute it if a broken rule is reached.
 #[test]
 fn relations_by_refutation() {
-    for table in tables(24).chain((0..24).map(grown)) {
+    let grown = grown(0..24).map(|(_, table)| table);
+    for table in tables(24).chain(grown) {
         let relations = Relations::of(&table);
         for relation in ALL {
             for t in 0..table.types.len() {
@@ -339,8 +348,7 @@ fn led_to<'a>(
 /// other, and has the category of D1, D3 or D7.
 #[test]
 fn derived_types_permit_what_both_permit() {
-    for seed in 0..400 {
-        let table = grown(seed);
+    for (name, table) in grown(0..400) {
         for (index, key) in table.keys.iter().enumerate() {
             let number = table.sheet_types + index;
             let derived = All {
@@ -351,7 +359,7 @@ fn derived_types_permit_what_both_permit() {
                 table: &table,
                 types: &[key.left, key.right],
             };
-            assert_eq!(first_difference(derived, both), None, "{seed} {number}");
+            assert_eq!(first_difference(derived, both), None, "{name}: {number}");
             let from = match key.kind {
                 Kind::Sub | Kind::Closed => key.left,
                 Kind::Sup => key.right,
@@ -367,13 +375,11 @@ fn derived_types_permit_what_both_permit() {
 /// own aside (R12).
 #[test]
 fn a_place_type_is_a_subtype_of_the_cell_type() {
-    for seed in 0..500 {
-        let run = script::run_whole(&generate(seed, Profile::Medium));
-        let model = run.model.unwrap();
+    for (_, model) in models(0..500) {
         for cell in &model.state.cells {
             let place_type = model.state.place_type(cell.place);
             let relation = Relation::SubtypeOwnAside;
-            assert!(model.relations.holds(relation, cell.type_, place_type));
+            assert!(model.holds(relation, cell.type_, place_type));
         }
     }
 }
@@ -382,8 +388,9 @@ fn a_place_type_is_a_subtype_of_the_cell_type() {
 /// earlier records, and noise in bytes without meaning changes nothing.
 #[test]
 fn handed_in_states() {
-    for seed in 0..1500 {
-        let hostile = hostile::generate(seed);
+    let generated = (0..1500).map(hostile::generate);
+    let states = hostile::on_tiny(0).into_iter().chain(generated);
+    for (number, hostile) in states.enumerate() {
         let mut state = hostile.state.clone();
         let plain = check::state(&hostile.state).ok();
         let mut plain = plain.map(|state| RawState::of(&state));
@@ -391,13 +398,13 @@ fn handed_in_states() {
             let before = state.clone();
             let result = entry::request(&mut state, request);
             if let Some(plain) = &mut plain {
-                assert_eq!(entry::request(plain, request), result, "{seed}");
-                assert_eq!(check::state(plain), check::state(&state), "{seed}");
+                assert_eq!(entry::request(plain, request), result, "{number}");
+                assert_eq!(check::state(plain), check::state(&state), "{number}");
             } else {
                 assert_eq!(result, Err(2));
             }
             match result {
-                Err(_) => assert!(state == before, "{seed}"),
+                Err(_) => assert!(state == before, "{number}"),
                 Ok(_) => assert_earlier_records_stay(&before, &state),
             }
         }
@@ -425,10 +432,8 @@ fn assert_earlier_records_stay(before: &RawState, after: &RawState) {
 #[test]
 fn each_reason_is_met_alone() {
     for reason in REASONS {
-        let met = (0..400).any(|seed| {
+        let met = (0..).zip(models(0..400)).any(|(seed, (_, model))| {
             let mut random = Random::new(seed);
-            let input = generate(seed, Profile::Medium);
-            let model = script::run_whole(&input).model.unwrap();
             let mut raw = RawState::of(&model.state);
             assert_eq!(check::state(&raw), Ok(model.state));
             hostile::break_one(&mut random, &mut raw, reason);

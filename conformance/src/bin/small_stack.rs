@@ -6,6 +6,7 @@
 //!   run        in: a state, words. out: answer, how many were served, their answers, the state that is left
 //!   offers     in: a state, cell, chain. out: answer, whether it is offered, the state
 //!   load       in: a sheet. out: answer, offset, the state
+//!   tiny       in: a state. out: answer, length, the tiny sheets, the state
 //!   nothing    in: a state. out: the state
 //!   sheet      in: a sheet. out: the answers of reading, pair table and writing, the pair table, the text written
 //!   overflow   goes through as much stack as the limit, and so must not come to its end
@@ -15,6 +16,7 @@ use conformance::runs::ANSWER;
 use conformance::served::{self, set_counts};
 use conformance::stream::{empty, next_number, next_state, numbers, to_bytes};
 use conformance::{counts, derive, pairs, read, write, Asked, Loaded, PAIRS_LENGTH};
+use pilgonca::raw::{self, TINY_BYTES};
 use reference::raw::{RawTable, BROADER_LENGTH, TYPES_LENGTH};
 use reference::script;
 use std::io::{Read, Write};
@@ -28,6 +30,7 @@ fn main() {
         Some("run") => ran(&input),
         Some("offers") => offered(&input),
         Some("load") => loaded(&input),
+        Some("tiny") => tiny(&input),
         Some("nothing") => to_bytes(&mut next_state(&mut &input[..])),
         Some("sheet") => sheet(&input),
         Some("overflow") => vec![deep(STACK)],
@@ -107,6 +110,14 @@ fn loaded(input: &[u8]) -> Vec<u8> {
     let mut output = numbers(&[code as i64, at as i64]);
     output.extend(to_bytes(&mut state));
     output
+}
+
+fn tiny(mut input: &[u8]) -> Vec<u8> {
+    let mut state = next_state(&mut input);
+    let (mut buffer, mut length) = (vec![0; TINY_BYTES], 0);
+    let code = raw::tiny(&mut buffer, &mut length);
+    let numbers = numbers(&[code as i64, length as i64]);
+    [numbers, buffer, to_bytes(&mut state)].concat()
 }
 
 fn sheet(input: &[u8]) -> Vec<u8> {

@@ -20,9 +20,9 @@ use Rattle.table_record.proofs.Codes.{answer-is}
 use Rattle.table_record.specs.Layout.{typesSize}
 use Rattle.state_record.specs.declared.Places.{Places}
 use Rattle.state_record.specs.View.{placesIn}
-use Rattle.crossing_one.specs.declared.Crossed.{Crossed}
-use Rattle.crossing_one.specs.Crossed.{Ready, PlaceKnown, reference, referenceOf, crossedOf, stopped, Came, Leaves}
-use Rattle.crossing_one.proofs.Laws.{ready-on, refused-is, came-is, stops, leaves-on}
+use Rattle.crossing_meet.specs.declared.Crossed.{Crossed}
+use Rattle.crossing_meet.specs.Crossed.{Ready, PlaceKnown, reference, referenceOf, crossedOf, stopped, Came, Leaves}
+use Rattle.crossing_meet.proofs.Laws.{ready-on, refused-is, came-is, stops, leaves-on}
 use Rattle.crossing_targets.specs.Targets.{maxLayers}
 use Rattle.crossing_targets.proofs.Laws.{rest-next, nothing-left}
 use Rattle.crossing_layers.specs.Carried.{crossTo}

@@ -8,11 +8,11 @@ ghost use Rattle.spec_model.specs.Requests.{crossLayers};
 ghost use Rattle.spec_model.specs.Check.{answerOf};
 ghost use Rattle.table_record.specs.Store.{tableIn, withCount};
 ghost use Rattle.state_record.specs.View.{placesIn};
-ghost use Rattle.crossing_one.specs.Crossed.{Ready, PlaceKnown, reference, referenceOf, crossedOf, Leaves};
+ghost use Rattle.crossing_meet.specs.Crossed.{Ready, PlaceKnown, reference, referenceOf, crossedOf, Leaves};
 ghost use Rattle.crossing_targets.specs.Targets.{targetsIn, maxLayers};
 ghost use Rattle.crossing_layers.specs.Carried.{crossTo};
 use base_numbers::refusal;
-use crossing_one::Crossed;
+use crossing_meet::Crossed;
 use crossing_one::Crossing;
 use crossing_targets::Targets;
 use crossing_targets::at_layer;
@@ -38,7 +38,7 @@ fn carry_one(
 {
     let ps = x.places;
     if target == 0 {
-        return crossing_one::refused(ps, at_layer(i, refusal::UNRELATED));
+        return crossing_meet::refused(ps, at_layer(i, refusal::UNRELATED));
     }
     let d = c.with_types(x.types);
     let next = Crossing {

@@ -3,25 +3,17 @@
 // puts its operands into a list; `serve_bytes` does the rest for all of them, by the code of the request (U3 to U5).
 ghost use mathlib.Core.Path.{_≡_};
 ghost use mathlib.Core.Option.{some};
-ghost use Prim.Native.Nat.{_≤_};
 ghost use Rattle.spec_model.specs.Requests.{Request, new, move, call, answer};
 ghost use Rattle.spec_model.specs.Coded.{byCode};
 ghost use Rattle.state_bytes.specs.Flat.{flat};
 ghost use Rattle.request_results.specs.States.{Handed, lentState};
-ghost use Rattle.export_requests.specs.States.{givenIn, answerOperands, callOperands, Listed};
+ghost use Rattle.request_operands.specs.Given.{givenIn};
 use base_numbers::refusal;
 use state_bytes::CALL_BYTES;
 use state_bytes::CELL_BYTES;
 use state_bytes::PLACE_BYTES;
-use table_record::Counts;
 use table_record::LINK_BYTES;
 use table_record::TYPE_BYTES;
-
-// The operands of a call in front of its arguments (U4).
-const FIRST: usize = 3;
-
-// The most operands of a call that are looked at: of its arguments, one more than a signature may have.
-const OPERANDS: usize = FIRST + Counts::ARGUMENTS + 1;
 
 // The request of a code and its operands on the state that the bytes hold: 2 where a code in them names nothing (H3); else it is served, and what comes of it
 // goes back.
@@ -79,7 +71,7 @@ pub extern "C" fn pilgonca_new(
         places,
         calls,
         counts,
-        request_by_code::NEW,
+        request_operands::NEW,
         &ops,
         values,
     )
@@ -114,40 +106,10 @@ pub extern "C" fn pilgonca_move(
         places,
         calls,
         counts,
-        request_by_code::MOVE,
+        request_operands::MOVE,
         &ops,
         values,
     )
-}
-
-struct Operands {
-    count: usize,
-    items: [i64; OPERANDS],
-}
-
-// The operands of a call. A list of arguments that is longer than any signature is cut behind one too many, and refused with 15 as it would be whole (C4).
-fn call_operands(subject: i64, cell: i64, method: i64, arguments: &[i64]) -> Operands
-    ensures { λ r. ⌜ Listed (callOperands subject cell method (now (arguments .entry))) r ⌝ }
-{
-    let mut items = [0i64; OPERANDS];
-    items[0] = subject;
-    items[1] = cell;
-    items[2] = method;
-    let mut i: usize = 0;
-    while i <= Counts::ARGUMENTS {
-        if arguments.len() <= i {
-            return Operands {
-                count: FIRST + i,
-                items,
-            };
-        }
-        items[FIRST + i] = arguments[i];
-        i += 1;
-    }
-    Operands {
-        count: FIRST + i,
-        items,
-    }
 }
 
 // Call (C): subject, cell, method and any number of arguments; the values are the call and how many adapters it goes through (C19).
@@ -171,7 +133,7 @@ pub extern "C" fn pilgonca_call(
         (lentState (flat (now (types .exit)) (now (links .entry)) (now (cells .exit)) (now (places .exit)) (now (calls .exit)) (now (counts .exit)))
         (now (values .exit))) ⌝ }
 {
-    let o = call_operands(subject, cell, method, arguments);
+    let o = request_operands::call_operands(subject, cell, method, arguments);
     let items = o.items;
     let n = o.count;
     serve_bytes(
@@ -181,20 +143,10 @@ pub extern "C" fn pilgonca_call(
         places,
         calls,
         counts,
-        request_by_code::CALL,
+        request_operands::CALL,
         &items[..n],
         values,
     )
-}
-
-// How many operands an answer has: a third where a value is given (U5).
-fn answer_count(given: usize) -> usize
-    ensures { λ r. ⌜ r ≡ answerOperands given ⌝ }
-{
-    if given == 0 {
-        return 2;
-    }
-    3
 }
 
 // Answer (A): subject, call, and a value unless `given` is 0; the values are the caller's new cell and its place, or the number, or none.
@@ -219,7 +171,7 @@ pub extern "C" fn pilgonca_answer(
         (now (values .exit))) ⌝ }
 {
     let ops = [subject, call, value];
-    let n = answer_count(given);
+    let n = request_operands::answer_count(given);
     serve_bytes(
         types,
         links,
@@ -227,7 +179,7 @@ pub extern "C" fn pilgonca_answer(
         places,
         calls,
         counts,
-        request_by_code::ANSWER,
+        request_operands::ANSWER,
         &ops[..n],
         values,
     )

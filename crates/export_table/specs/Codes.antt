@@ -12,7 +12,6 @@ use Rattle.state_bytes.specs.Flat.{countsIn}
 use Rattle.relation_compare.specs.Pairs.{pairCode}
 use Rattle.derive_sub_sup.specs.Bytes.{Writes}
 use Rattle.derive_entry.specs.Result.{Derivation, derivationOf}
-use Rattle.spec_sheet.specs.Text.{Written}
 pub use Rattle.text_write.specs.Written.{numberOf, valueOf}
 
 -- 16 and the comparison, as in the pair table (B24)
@@ -23,12 +22,6 @@ comparisonCode a = 16 + pairCode a
 abbrev pub comparedCode : Res Comparison → ℕ
 comparedCode (refuse n) = n
 comparedCode (ok a) = comparisonCode a
-
--- what the writer leaves, each part by itself: number, length (old and new) and buffer
-pub record WrittenIs (w : Written) (n old new : ℕ) (buffer : List ℕ) : Type 0 where
-  pub number : n ≡ numberOf (w .result)
-  pub length : new ≡ valueOf old (w .result)
-  pub bytes : buffer ≡ w .buffer
 
 -- the number and the value together, for a result with one value
 abbrev pub handedOut : {A : Type 0} → A → Res A → ℕ × A

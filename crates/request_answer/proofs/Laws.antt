@@ -41,7 +41,7 @@ use Rattle.request_common.specs.declared.Outcome.the-variants.{Refused, Pair, N
 use Rattle.request_common.specs.Served.{Done as Served, refusalOf as refusal}
 use Rattle.request_common.specs.Served.{outcomeOf, servedWith, Step}
 use Rattle.request_common.proofs.Laws.{refuses, step-as, table-is, cells-are, places-are, calls-are, subject-at}
-use Rattle.request_value.specs.Sent.{isAccepted}
+use Rattle.request_common.specs.Back.{isAccepted}
 use Rattle.request_value.proofs.Sending.{step-after, step-stops}
 use Rattle.request_value.proofs.OtherCalls.{callsLeft, calls-step}
 use Rattle.request_answer.specs.declared.Given.{Given}

@@ -11,7 +11,7 @@ ghost use Rattle.state_record.specs.View.{systemIn};
 ghost use Rattle.state_record.specs.Sound.{Sound};
 ghost use Rattle.crossing_targets.specs.Targets.{targetsIn, maxLayers};
 ghost use Rattle.request_common.specs.Served.{outcomeOf, Step, done};
-ghost use Rattle.request_value.specs.Sent.{isAccepted};
+ghost use Rattle.request_common.specs.Back.{isAccepted};
 ghost use Rattle.request_answer.specs.Given.{givenAs, Keeps};
 ghost use Rattle.request_answer.specs.Parts.{giveReference, giveValue, answerCall, Called};
 use base_numbers::index_of;
@@ -77,7 +77,7 @@ fn give_reference(
 {
     let q = request_value::send(types, s, r, v, targets);
     let outcome = q.outcome;
-    if !request_value::accepted(outcome) {
+    if !request_common::accepted(outcome) {
         return q;
     }
     answered(q.state, j, outcome)

@@ -10,19 +10,12 @@ use base_numbers::refusal;
 use request_answer::Given;
 use request_common::Served;
 use request_common::refused;
+use request_operands::ANSWER;
+use request_operands::CALL;
+use request_operands::MOVE;
+use request_operands::NEW;
 use state_record::State;
 use table_record::TYPE_BYTES;
-
-// The codes of the requests (U3 to U5), and how many there are.
-pub const NEW: usize = 0;
-
-pub const MOVE: usize = 1;
-
-pub const CALL: usize = 2;
-
-pub const ANSWER: usize = 3;
-
-pub const CODES: usize = 4;
 
 // New: three operands (U3).
 fn serve_new(types: &mut [u8; TYPE_BYTES], s: State, ops: &[i64]) -> Served

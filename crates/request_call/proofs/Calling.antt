@@ -40,7 +40,8 @@ use Rattle.request_common.specs.Served.{outcomeOf, servedWith, servedAs, Step}
 use Rattle.request_common.proofs.Laws.{refuses-kept, step-as, table-is, cells-are, places-are, calls-are, subject-at, held-at}
 use Rattle.request_value.specs.declared.Numbers.{Numbers}
 use Rattle.request_value.specs.declared.Numbers.the-variants as numbers
-use Rattle.request_value.specs.Sent.{isAccepted, argumentsOf, allSent, Sent, Passes}
+use Rattle.request_value.specs.Sent.{argumentsOf, allSent, Sent, Passes}
+use Rattle.request_common.specs.Back.{isAccepted}
 use Rattle.request_value.proofs.Sending.{goes-on, only-refused, step-after}
 use Rattle.request_value.proofs.OtherCalls.{callsLeft, calls-step}
 use Rattle.request_call.specs.Called.{newCall, callThrough, callHeld, Planned}

@@ -134,7 +134,7 @@ fn call_through(
     );
     let outcome = q.outcome;
     let sent = q.state;
-    if !request_value::accepted(outcome) {
+    if !request_common::accepted(outcome) {
         return Served { outcome, state: s };
     }
     add_call(sent, who, k, m, state_places::adapters_of(ps, p))

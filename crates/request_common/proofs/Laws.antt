@@ -37,11 +37,11 @@ use Rattle.state_record.proofs.Kept.{sound-types}
 use Rattle.state_record.specs.View.{cellOf, cellsIn, placesIn, callsIn, cellAdded, systemIn, withTypes}
 use Rattle.state_record.specs.Sound.{CellIn, Sound}
 use Rattle.state_record.proofs.Laws.{cells-length, system-is, means-counted}
-use Rattle.state_check.specs.Parts.{refAs, classAs}
-use Rattle.state_check.proofs.Laws.{ref-is, class-is}
+use Rattle.state_check_records.specs.Parts.{refAs, classAs}
+use Rattle.state_check_records.proofs.Laws.{ref-is, class-is}
 use Rattle.derive_sub_sup.specs.Link.{Kept}
-use Rattle.crossing_one.specs.Crossed.{Grew}
-use Rattle.crossing_one.proofs.Laws.{grown-checked, grew-on}
+use Rattle.crossing_meet.specs.Crossed.{Grew}
+use Rattle.crossing_meet.proofs.Laws.{grown-checked, grew-on}
 use Rattle.request_common.specs.declared.Outcome.{Outcome}
 use Rattle.request_common.specs.declared.Outcome.the-variants.{Refused, Pair, Number, Nothing}
 use Rattle.request_common.specs.declared.Served.{Served}

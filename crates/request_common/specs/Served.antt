@@ -18,7 +18,7 @@ use Rattle.state_record.specs.declared.State.{State as Rest}
 use Rattle.state_record.specs.Whole.{Whole as State}
 use Rattle.state_record.specs.View.{placesIn, systemIn, withTypes}
 use Rattle.state_record.specs.Sound.{Descending, Typed, Sound}
-use Rattle.crossing_one.specs.Crossed.{Grew, reference}
+use Rattle.crossing_meet.specs.Crossed.{Grew, reference}
 use Rattle.request_common.specs.declared.Outcome.the-variants.{Refused}
 use Rattle.request_common.specs.declared.Served.{Served}
 pub use Rattle.request_common.specs.Outcome.{outcomeOf, Done, done, refusalOf}

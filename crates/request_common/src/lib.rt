@@ -4,11 +4,14 @@ ghost use mathlib.Core.Path.{_≡_};
 ghost use mathlib.Core.List.{List};
 ghost use Prim.Native.Nat.{ℕ, _≤_, _<_};
 ghost use lib.IntN.{ℤ};
+ghost use lib.ListN.{length};
 ghost use Rattle.spec_model.specs.Basics.{names, named};
 ghost use Rattle.spec_model.specs.Requests.{addCell, held, isSheetRef, maxCells};
+ghost use Rattle.table_record.specs.Layout.{typesSize};
 ghost use Rattle.table_record.specs.Limits.{Limits};
 ghost use Rattle.state_record.specs.Whole.{Whole, whole};
 ghost use Rattle.state_record.specs.View.{systemIn};
+ghost use Rattle.request_common.specs.Back.{isAccepted, givenBack};
 ghost use Rattle.request_common.specs.Served.{refusal, Step, done, Arrives, arrived, isSheetClass};
 use base_numbers::index_of;
 use base_numbers::narrow;
@@ -42,6 +45,38 @@ pub fn refused(s: State, number: usize) -> Served
         outcome: Outcome::Refused(number),
         state: s,
     }
+}
+
+// Whether a request was accepted.
+pub fn accepted(a: Outcome) -> bool
+    ensures { λ r. ⌜ r ≡ isAccepted a ⌝ }
+{
+    match a {
+        Outcome::Refused(_) => false,
+        Outcome::Pair {
+            first: _,
+            second: _,
+        } => true,
+        Outcome::Number(_) => true,
+        Outcome::Nothing => true,
+    }
+}
+
+// A copy of lent bytes. Bytes that are held have their length, of lent ones nothing says it.
+pub fn copied(b: [u8; TYPE_BYTES]) -> [u8; TYPE_BYTES]
+    ensures { λ r. ⌜ (r ≡ b) × (length b ≡ typesSize) ⌝ }
+{
+    b
+}
+
+// Where a request was refused, the types are given back, every byte (Q14).
+pub fn give_back(types: &mut [u8; TYPE_BYTES], old: &[u8; TYPE_BYTES], a: Outcome)
+    ensures { λ _. ⌜ now (types .exit) ≡ givenBack (now (old .entry)) (now (types .entry)) a ⌝ }
+{
+    if accepted(a) {
+        return;
+    }
+    *types = *old;
 }
 
 // The reference that arrived becomes a cell of `holder`; 13 where there is no room for a cell (N7, M5, C17, A10).
@@ -128,5 +163,5 @@ pub fn is_sheet_class(types: &[u8; TYPE_BYTES], c: Counts, z: i64) -> bool
     if c.sheet <= i {
         return false;
     }
-    state_check::is_class(types, c.methods, i)
+    state_check_records::is_class(types, c.methods, i)
 }

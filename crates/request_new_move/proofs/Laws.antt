@@ -24,10 +24,11 @@ use Rattle.state_record.specs.View.{cellOf, cellsIn, placesIn, placeAdded, syst
 use Rattle.state_record.specs.Sound.{Descending, Sound}
 use Rattle.state_record.proofs.Laws.{places-length, system-is, means-counted}
 use Rattle.state_record.proofs.Kept.{descending-more, typed-more}
+use Rattle.crossing_meet.specs.declared.Crossed.{Crossed}
+use Rattle.crossing_meet.specs.Crossed.{reference, crossedOf, Leaves}
+use Rattle.crossing_meet.proofs.Laws.{refused-is, came-is}
 use Rattle.crossing_one.specs.declared.Crossing.{Crossing}
-use Rattle.crossing_one.specs.declared.Crossed.{Crossed}
-use Rattle.crossing_one.specs.Crossed.{reference, crossing, crossedOf, Leaves}
-use Rattle.crossing_one.proofs.Laws.{refused-is, came-is}
+use Rattle.crossing_one.specs.Crosses.{crossing}
 use Rattle.request_common.specs.Served.{isSheetClass, arrived, Arrives}
 use Rattle.request_new_move.specs.Sent.{sentTo, Sends, Made}
 

@@ -12,7 +12,7 @@ use Rattle.state_record.specs.Whole.{Whole as State}
 use Rattle.state_record.specs.View.{placesIn, systemIn}
 use Rattle.state_record.specs.Sound.{Descending, Typed, Sound}
 use Rattle.crossing_one.specs.declared.Crossing.{Crossing}
-use Rattle.crossing_one.specs.Crossed.{crossing}
+use Rattle.crossing_one.specs.Crosses.{crossing}
 
 -- The reference x to a place of ps crosses, and becomes a cell of its receiver.
 abbrev pub sentTo : State → Places → Crossing → Res (System × Result)

@@ -30,7 +30,7 @@ use Rattle.request_common.specs.declared.Outcome.{Outcome}
 use Rattle.request_common.specs.declared.Outcome.the-variants.{Refused, Pair, Number, Nothing}
 use Rattle.request_common.specs.Served.{Done as Served}
 use Rattle.request_common.specs.Served.{outcomeOf}
-use Rattle.request_value.specs.Sent.{isAccepted}
+use Rattle.request_common.specs.Back.{isAccepted}
 use Rattle.request_serve.specs.Serves.{Serves}
 use Rattle.request_serve.specs.Serves.{leaves as leavesState}
 use Rattle.request_results.specs.States.{LentState, lentState, outcomeNumber, outcomeValues, leaves, outcomeOn, Handed}

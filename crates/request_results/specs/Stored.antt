@@ -9,7 +9,7 @@ use Rattle.request_common.specs.declared.Outcome.{Outcome}
 use Rattle.request_common.specs.declared.Outcome.the-variants.{Refused, Pair, Number, Nothing}
 use Rattle.request_common.specs.Served.{Done as Served}
 use Rattle.request_common.specs.Served.{outcomeOf}
-use Rattle.request_value.specs.Sent.{isAccepted}
+use Rattle.request_common.specs.Back.{isAccepted}
 use Rattle.request_results.specs.States.{LentState, outcomeNumber, outcomeValues}
 
 -- two numbers that are small enough to be signed

@@ -95,7 +95,7 @@ pub fn hand_back(
         (lentState (flat t l (now (cells .exit)) (now (places .exit)) (now (calls .exit)) (now (counts .exit))) (now (values .exit)))) ⌝ }
 {
     let a = r.outcome;
-    if !request_value::accepted(a) {
+    if !request_common::accepted(a) {
         return outcome_out(a, values);
     }
     let s = r.state;

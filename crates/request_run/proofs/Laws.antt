@@ -26,7 +26,7 @@ use Rattle.request_common.specs.declared.Outcome.the-variants.{Refused, Pair, N
 use Rattle.request_common.specs.Served.{Done as Served}
 use Rattle.request_common.specs.Served.{outcomeOf, Stored, Step}
 use Rattle.request_common.proofs.Laws.{stored-self, stored-on, system-kept}
-use Rattle.request_value.specs.Sent.{isAccepted}
+use Rattle.request_common.specs.Back.{isAccepted}
 use Rattle.spec_model.specs.Coded.{byCode}
 use Rattle.spec_model.specs.Refusals.{outOfRange}
 use Rattle.request_by_code.specs.Coded.{serveAsked}

@@ -16,11 +16,11 @@ ghost use Rattle.request_run.specs.Requested.{runAsked, runHanded};
 ghost use Rattle.request_run.specs.Ran.{room, over, Runs};
 use base_numbers::index_of;
 use base_numbers::refusal;
-use request_by_code::CODES;
 use request_by_code::serve_coded;
 use request_common::Served;
+use request_common::copied;
 use request_common::refused;
-use request_serve::copied;
+use request_operands::CODES;
 use request_words::next;
 use request_words::operands;
 use request_words::put_outcome;
@@ -123,7 +123,7 @@ fn run_checked(
         }
         let r = serve_at(types, state, words, at);
         let outcome = r.outcome;
-        any = either(any, request_value::accepted(outcome));
+        any = either(any, request_common::accepted(outcome));
         put_outcome(answers, served * Ran::WORDS, outcome);
         state = r.state;
         served += 1;

@@ -32,13 +32,13 @@ use Rattle.request_common.specs.declared.Served.{Served}
 use Rattle.request_common.specs.Served.{Done, refusalOf as refusal}
 use Rattle.request_common.specs.Served.{outcomeOf, servedWith, servedAs, done, Step}
 use Rattle.request_common.proofs.Laws.{refuses}
-use Rattle.request_value.specs.Sent.{isAccepted}
+use Rattle.request_common.specs.Back.{isAccepted}
 use Rattle.request_call.specs.declared.Plan.{Plan}
 use Rattle.request_call.specs.Called.{Planned}
 use Rattle.request_by_code.specs.Coded.{serveAsked}
 use Rattle.request_by_code.proofs.Laws.{outcome-is}
 use Rattle.request_serve.specs.Serves.{defined, leaves, Serves, ServesAsked}
-use Rattle.request_serve.specs.Back.{givenBack}
+use Rattle.request_common.specs.Back.{givenBack}
 use Rattle.request_serve.specs.Known.{Known}
 use Rattle.request_serve.proofs.Stored.{sized, counted-stored, counts-stored, bytes-stored}
 

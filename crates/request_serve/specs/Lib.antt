@@ -1,3 +1,2 @@
 pub mod Serves
-pub mod Back
 pub mod Known

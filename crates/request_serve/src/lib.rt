@@ -11,34 +11,15 @@ ghost use Rattle.state_record.specs.Sound.{Sound};
 ghost use Rattle.request_common.specs.Served.{done};
 ghost use Rattle.request_by_code.specs.Coded.{serveAsked};
 ghost use Rattle.request_serve.specs.Serves.{ServesAsked};
-ghost use Rattle.request_serve.specs.Back.{givenBack};
 ghost use Rattle.request_serve.specs.Known.{Known};
 ghost use Rattle.table_record.specs.Layout.{typesSize};
 use base_numbers::refusal;
 use request_answer::Given;
 use request_call::Plan;
-use request_common::Outcome;
 use request_common::Served;
 use state_record::State;
 use table_record::Method;
 use table_record::TYPE_BYTES;
-
-// A copy of lent bytes. Bytes that are held have their length, of lent ones nothing says it.
-pub fn copied(b: [u8; TYPE_BYTES]) -> [u8; TYPE_BYTES]
-    ensures { λ r. ⌜ (r ≡ b) × (length b ≡ typesSize) ⌝ }
-{
-    b
-}
-
-// Where a request was refused, the types are given back, every byte (Q14).
-fn give_back(types: &mut [u8; TYPE_BYTES], old: &[u8; TYPE_BYTES], a: Outcome)
-    ensures { λ _. ⌜ now (types .exit) ≡ givenBack (now (old .entry)) (now (types .entry)) a ⌝ }
-{
-    if request_value::accepted(a) {
-        return;
-    }
-    *types = *old;
-}
 
 // An array that is held has its length, of a lent one nothing says it; the copy goes when this is inlined.
 fn type_bytes(b: [u8; TYPE_BYTES])
@@ -64,7 +45,7 @@ fn planned(types: &[u8; TYPE_BYTES], s: State, code: usize, ops: &[i64]) -> Plan
     requires { ⌜ Sound (whole (now types) s) ⌝ }
     ensures { λ r. ⌜ Known (whole (now (types .entry)) s) (serveAsked (systemIn (whole (now (types .entry)) s)) (byCode code (now (ops .entry)))) r ⌝ }
 {
-    if code != request_by_code::CALL {
+    if code != request_operands::CALL {
         return unplanned();
     }
     if ops.len() < 3 {
@@ -78,21 +59,11 @@ fn serve_saved(types: &mut [u8; TYPE_BYTES], s: State, code: usize, ops: &[i64])
     requires { ⌜ Sound (whole (now types) s) × (systemAccepted (rawState (whole (now types) s)) ≡ true) ⌝ }
     ensures { λ r. ⌜ ServesAsked (whole (now (types .entry)) s) (byCode code (now (ops .entry))) (done (now (types .exit)) r) ⌝ }
 {
-    let old = copied(*types);
+    let old = request_common::copied(*types);
     let r = request_by_code::serve_coded(types, s, code, ops);
     let a = r.outcome;
-    give_back(types, &old, a);
+    request_common::give_back(types, &old, a);
     r
-}
-
-// Whether so many operands of a code are an answer of nothing (U5).
-fn is_nothing(code: usize, operands: usize) -> bool
-    ensures { λ r. ⌜ (r ≡ true → (code ≡ 3) × (operands ≡ 2)) ⌝ }
-{
-    if code != request_by_code::ANSWER {
-        return false;
-    }
-    operands == 2
 }
 
 // An answer of nothing, whose operands are two (U5): whatever comes of it, no type is stored.
@@ -112,7 +83,7 @@ pub fn serve(types: &mut [u8; TYPE_BYTES], s: State, code: usize, ops: &[i64]) -
         return request_common::refused(s, refusal::OUT_OF_RANGE);
     }
     type_bytes(*types);
-    if is_nothing(code, ops.len()) {
+    if request_operands::is_nothing(code, ops.len()) {
         return serve_nothing(types, s, ops);
     }
     let p = planned(types, s, code, ops);

@@ -14,7 +14,7 @@ use Rattle.state_record.proofs.Laws.{system-is}
 use Rattle.request_common.specs.declared.Outcome.{Outcome}
 use Rattle.request_common.specs.Served.{outcomeOf, servedWith, Step}
 use Rattle.request_common.proofs.Laws.{stored-self}
-use Rattle.request_value.specs.Sent.{isAccepted}
+use Rattle.request_common.specs.Back.{isAccepted}
 
 abbrev pub callsLeft : State → Calls → State
 callsLeft s calls = record { types = s .types; links = s .links; counts = s .counts; cells = s .cells; places = s .places; calls = calls }

@@ -27,9 +27,9 @@ use Rattle.state_record.specs.Whole.{Whole as State}
 use Rattle.state_record.specs.View.{cellOf, cellsIn, placesIn, systemIn}
 use Rattle.state_record.specs.Sound.{CellIn, Sound}
 use Rattle.state_record.proofs.Laws.{cells-length, places-length, system-is, means-counted}
-use Rattle.crossing_one.specs.declared.Crossed.{Crossed}
-use Rattle.crossing_one.specs.Crossed.{reference, Ready, PlaceKnown, crossedOf, Leaves}
-use Rattle.crossing_one.proofs.Laws.{refused-is, came-is}
+use Rattle.crossing_meet.specs.declared.Crossed.{Crossed}
+use Rattle.crossing_meet.specs.Crossed.{reference, Ready, PlaceKnown, crossedOf, Leaves}
+use Rattle.crossing_meet.proofs.Laws.{refused-is, came-is}
 use Rattle.crossing_targets.specs.Targets.{passedOf}
 use Rattle.request_common.specs.declared.Outcome.{Outcome}
 use Rattle.request_common.specs.declared.Outcome.the-variants.{Refused, Pair, Number, Nothing}
@@ -37,7 +37,8 @@ use Rattle.request_common.specs.Served.{Done as Served, refusalOf as refusal}
 use Rattle.state_record.specs.View.{withTypes}
 use Rattle.request_common.specs.Served.{outcomeOf, servedWith, servedAs, Stored, Step, Arrives, arrived}
 use Rattle.request_common.proofs.Laws.{stored-self, stored-on, refuses, refuses-kept, step-as, table-is}
-use Rattle.request_value.specs.Sent.{isAccepted, sendArgument, allSent, Went, Sent}
+use Rattle.request_value.specs.Sent.{sendArgument, allSent, Went, Sent}
+use Rattle.request_common.specs.Back.{isAccepted}
 
 -- ---- Answers.
 -- what goes on with the state of an accepted request alone

@@ -1,6 +1,6 @@
 -- What comes of one argument, and of all of them.
 use mathlib.Core.Path.{_≡_}
-use mathlib.Core.Bool.{Bool, true, false}
+use mathlib.Core.Bool.{true, false}
 use mathlib.Core.List.{List, map}
 use Prim.Native.Nat.{ℕ, _≤_}
 use lib.IntN.{ℤ}
@@ -11,18 +11,10 @@ use Rattle.spec_model.specs.Requests.{System, Result, nothing, send, passLayers
 use Rattle.table_record.specs.declared.Method.{Method}
 use Rattle.state_record.specs.Whole.{Whole as State}
 use Rattle.state_record.specs.Sound.{Sound}
-use Rattle.request_common.specs.declared.Outcome.{Outcome}
-use Rattle.request_common.specs.declared.Outcome.the-variants.{Refused, Pair, Number, Nothing}
 use Rattle.request_common.specs.Served.{Done as Served}
 use Rattle.request_common.specs.Served.{servedAs, Stored}
 use Rattle.request_value.specs.declared.Numbers.{Numbers}
 use Rattle.request_value.specs.declared.Numbers.the-variants as numbers
-
-abbrev pub isAccepted : Outcome → Bool
-isAccepted (Refused e) = false
-isAccepted (Pair a b) = true
-isAccepted (Number v) = true
-isAccepted Nothing = true
 
 -- argument types of a signature as it is stored
 abbrev pub argumentsOf : Method → List ℕ

@@ -12,7 +12,7 @@ ghost use Rattle.state_record.specs.View.{cellOf, cellsIn, systemIn};
 ghost use Rattle.state_record.specs.Sound.{Sound};
 ghost use Rattle.crossing_targets.specs.Targets.{callLayersIn, targetsIn, maxLayers};
 ghost use Rattle.request_common.specs.Served.{Step, done};
-ghost use Rattle.request_value.specs.Sent.{isAccepted, argumentsOf, sendArgument, allSent, Went, Sent, Passes};
+ghost use Rattle.request_value.specs.Sent.{argumentsOf, sendArgument, allSent, Went, Sent, Passes};
 use base_numbers::index_of;
 use base_numbers::wide;
 use crossing_targets::CallLayers;
@@ -79,21 +79,6 @@ pub fn send(types: &mut [u8; TYPE_BYTES], s: State, r: usize, v: i64, targets: T
         return request_common::refused(s, x.refusal);
     }
     request_common::add_cell(s, x.types, x.places, r, x.ty, x.place)
-}
-
-// Whether a request was accepted.
-pub fn accepted(a: Outcome) -> bool
-    ensures { λ r. ⌜ r ≡ isAccepted a ⌝ }
-{
-    match a {
-        Outcome::Refused(_) => false,
-        Outcome::Pair {
-            first: _,
-            second: _,
-        } => true,
-        Outcome::Number(_) => true,
-        Outcome::Nothing => true,
-    }
 }
 
 // Argument i, of type a in the signature of the cell's type, meets the layers by the types as they are now (C8, C10).
@@ -195,7 +180,7 @@ pub fn send_arguments(
         }
         let q = send_argument(types, at, r, w, m, i, a - 1, vs[i]);
         let outcome = q.outcome;
-        if !accepted(outcome) {
+        if !request_common::accepted(outcome) {
             return q;
         }
         at = q.state;

@@ -1,7 +1,7 @@
 -- The proved cases (K), worked derivations, and demand 3 evaluated on lists. Everything here is computed from the definitions.
 use mathlib.Core.Path.{_≡_, refl}
 use mathlib.Core.Bool.{Bool, true, false, _&&_}
-use mathlib.Core.List.{List, [], _∷_, _++_, map}
+use mathlib.Core.List.{List, [], _∷_, map}
 use mathlib.Core.Option.{none, some}
 use Prim.Native.Nat.{ℕ}
 use lib.IntN.{pos, negsuc}
@@ -59,13 +59,6 @@ pub all-valid : all validSheet (caseP ∷ twice ∷ answering ∷ nested ∷ [])
 unfolding validSheet
 all-valid = refl
 
--- the first two requests of Case P, and the first three
-abbrev two : List Request
-two = new′ 0 1 4 ∷ move′ 0 0 1 2 ∷ []
-
-abbrev pub three : List Request
-three = two ++ (move′ 1 1 2 3 ∷ [])
-
 -- ---- Demand 3 evaluated: what the state offers in a cell and what the book says of its page, each computed on its own. Requests are served once for all chains that are asked.
 pub record Ask : Type 0 where
   pub cell : ℕ
@@ -93,86 +86,117 @@ AllSeen (l ∷ ls) = Seen l × AllSeen ls
 abbrev ask : ℕ → List ℕ → Bool → Ask
 ask k w b = record { cell = k; chain = w; says = b }
 
-abbrev adapted : List Request
-adapted = new′ 0 0 1 ∷ move′ 0 0 1 2 ∷ move′ 1 1 1 3 ∷ []
-
 abbrev pub looks : List Look
 looks =
-    -- Case P's third request: read is offered, mark is not, since type 2 was crossed. Cell 1 has type 2: what the object provides beyond it is not offered
-    record { table = caseP; requests = three; asks = ask 2 (0 ∷ []) true ∷ ask 2 (1 ∷ []) false ∷ ask 1 (1 ∷ []) false ∷ [] }
-    -- the owner unwraps: all is offered again
-    ∷ record { table = caseP; requests = three ++ (move′ 2 2 0 4 ∷ []); asks = ask 3 (1 ∷ []) true ∷ [] }
+    -- Case P: read is offered in cell 2, mark is not, since type 2 was crossed. Cell 1 has type 2: what the object provides beyond it is not offered. Cell 3 is its owner's,
+    -- who unwrapped: all is offered again
+    record {
+      table = caseP;
+      requests = new′ 0 1 4 ∷ move′ 0 0 1 2 ∷ move′ 1 1 2 3 ∷ move′ 2 2 0 4 ∷ [];
+      asks = ask 2 (0 ∷ []) true ∷ ask 2 (1 ∷ []) false ∷ ask 1 (1 ∷ []) false ∷ ask 3 (1 ∷ []) true ∷ [];
+    }
     -- two adapters: the second takes method 2 away, the first method 1, and unwrapping takes both off
-    ∷ record { table = twice; requests = adapted; asks = ask 2 (2 ∷ []) false ∷ ask 0 (2 ∷ []) true ∷ [] }
-    ∷ record { table = twice; requests = adapted ++ (move′ 1 2 0 4 ∷ []); asks = ask 3 (1 ∷ []) true ∷ [] }
+    ∷ record {
+      table = twice;
+      requests = new′ 0 0 1 ∷ move′ 0 0 1 2 ∷ move′ 1 1 1 3 ∷ move′ 1 2 0 4 ∷ [];
+      asks = ask 2 (2 ∷ []) false ∷ ask 0 (2 ∷ []) true ∷ ask 3 (1 ∷ []) true ∷ [];
+    }
     -- the answer through an adapter is restricted too
     ∷ record { table = answering; requests = new′ 0 0 1 ∷ move′ 0 0 1 3 ∷ []; asks = ask 1 (0 ∷ 1 ∷ []) false ∷ ask 1 (0 ∷ []) true ∷ [] }
     ∷ []
 
 pub demand3-evaluated : AllSeen looks
 unfolding follow enter offered
-demand3-evaluated = (refl, (refl, (refl, (refl, (refl, tt)))))
+demand3-evaluated = (refl, (refl, (refl, tt)))
 
--- ---- The proved cases as a table: a sheet, requests, what they come to, and how many types there are at the end
+-- ---- The proved cases as a table: a request and what it comes to. Those on one sheet are served one after the other, the refused ones leaving the state as it was; beside them
+-- how many types there are at the end.
 pub record Row : Type 0 where
+  pub request : Request
+  pub gives : Outcome
+
+pub record Case : Type 0 where
   pub table : Table
-  pub requests : List Request
-  pub gives : List Outcome
+  pub rows : List Row
   pub types : ℕ
+
+abbrev row : Request → Outcome → Row
+row q o = record { request = q; gives = o }
 
 abbrev ended : List Outcome × System → List Outcome × ℕ
 ended x = (x .0, size (x .1 .table))
 
-abbrev pub Holds : Row → Type 0
-Holds r = ended (run (loaded (r .table)) (r .requests)) ≡ (r .gives, r .types)
+abbrev pub Holds : Case → Type 0
+Holds c = ended (run (loaded (c .table)) (map (λ (r : Row). r .request) (c .rows))) ≡ (map (λ (r : Row). r .gives) (c .rows), c .types)
 
-abbrev pub AllHold : List Row → Type 0
+abbrev pub AllHold : List Case → Type 0
 AllHold [] = Unit
-AllHold (r ∷ rs) = Holds r × AllHold rs
+AllHold (c ∷ cs) = Holds c × AllHold cs
 
-abbrev pub provedCases : List Row
+abbrev pub provedCases : List Case
 provedCases =
-    -- K2 to K4: two types are derived
-    record { table = caseP; requests = three; gives = got (pair 0 0) ∷ got (pair 1 0) ∷ got (pair 2 1) ∷ []; types = 8 }
-    ∷ record {
+    record {
       table = caseP;
-      requests = three ++ (move′ 1 1 2 5 ∷ move′ 2 2 1 4 ∷ move′ 2 2 0 4 ∷ []);
-      gives = got (pair 0 0) ∷ got (pair 1 0) ∷ got (pair 2 1) ∷ refused 8 ∷ refused 9 ∷ got (pair 3 0) ∷ [];
-      types = 8;
-    }
-    -- K8: what was derived on the way is gone
-    ∷ record { table = caseP; requests = three ++ (move′ 2 2 2 5 ∷ []); gives = got (pair 0 0) ∷ got (pair 1 0) ∷ got (pair 2 1) ∷ refused 10 ∷ []; types = 8 }
-    -- K9
-    ∷ record { table = caseP; requests = new′ 0 2 2 ∷ []; gives = refused 7 ∷ []; types = 6 }
-    -- K10 and K11: erase is denied in type 2, mark only optional in type 3
-    ∷ record { table = caseP; requests = two ++ (call′ 1 1 2 [] ∷ []); gives = got (pair 0 0) ∷ got (pair 1 0) ∷ refused 14 ∷ []; types = 6 }
-    ∷ record { table = caseP; requests = three ++ (call′ 2 2 1 (pos 7 ∷ []) ∷ []); gives = got (pair 0 0) ∷ got (pair 1 0) ∷ got (pair 2 1) ∷ refused 14 ∷ []; types = 8 }
-    -- further: a number answered through an adapter, one too large for w32, and numbers that are negative
-    ∷ record {
-      table = caseP;
-      requests = three ++ (call′ 2 2 0 [] ∷ answer′ 0 0 (some (pos 2147483648)) ∷ answer′ 0 0 (some (negsuc 2147483647)) ∷ move (negsuc 0) (pos 2) (pos 2) (pos 3) ∷ []);
-      gives = got (pair 0 0) ∷ got (pair 1 0) ∷ got (pair 2 1) ∷ got (pair 0 1) ∷ refused 16 ∷ got (number (negsuc 2147483647)) ∷ refused 5 ∷ [];
+      rows =
+          -- K9, on the loaded sheet
+          row (new′ 0 2 2) (refused 7)
+          -- K2, K3
+          ∷ row (new′ 0 1 4) (got (pair 0 0))
+          ∷ row (move′ 0 0 1 2) (got (pair 1 0))
+          -- K10: erase is denied in type 2
+          ∷ row (call′ 1 1 2 []) (refused 14)
+          -- K4, with which two types are derived
+          ∷ row (move′ 1 1 2 3) (got (pair 2 1))
+          -- K5, K6
+          ∷ row (move′ 1 1 2 5) (refused 8)
+          ∷ row (move′ 2 2 1 4) (refused 9)
+          -- K8: what was derived on the way is gone at the end
+          ∷ row (move′ 2 2 2 5) (refused 10)
+          -- K11: mark is only optional in type 3
+          ∷ row (call′ 2 2 1 (pos 7 ∷ [])) (refused 14)
+          -- further: a number answered through an adapter, one too large for w32 before it, and a negative subject
+          ∷ row (call′ 2 2 0 []) (got (pair 0 1))
+          ∷ row (answer′ 0 0 (some (pos 2147483648))) (refused 16)
+          ∷ row (answer′ 0 0 (some (negsuc 2147483647))) (got (number (negsuc 2147483647)))
+          ∷ row (move (negsuc 0) (pos 2) (pos 2) (pos 3)) (refused 5)
+          -- K7
+          ∷ row (move′ 2 2 0 4) (got (pair 3 0))
+          ∷ [];
       types = 8;
     }
     -- further: two adapters counted, an answer of nothing given twice, and unwrapping through both, by the owner alone
     ∷ record {
       table = twice;
-      requests = new′ 0 0 1 ∷ move′ 0 0 1 2 ∷ move′ 1 1 1 3 ∷ call′ 1 2 0 [] ∷ answer′ 0 0 none ∷ answer′ 0 0 none ∷ move′ 1 2 0 4 ∷ move′ 1 2 1 4 ∷ [];
-      gives = got (pair 0 1) ∷ got (pair 1 1) ∷ got (pair 2 2) ∷ got (pair 0 2) ∷ got nothing ∷ refused 17 ∷ got (pair 3 0) ∷ refused 9 ∷ [];
+      rows =
+          row (new′ 0 0 1) (got (pair 0 1))
+          ∷ row (move′ 0 0 1 2) (got (pair 1 1))
+          ∷ row (move′ 1 1 1 3) (got (pair 2 2))
+          ∷ row (call′ 1 2 0 []) (got (pair 0 2))
+          ∷ row (answer′ 0 0 none) (got nothing)
+          ∷ row (answer′ 0 0 none) (refused 17)
+          ∷ row (move′ 1 2 0 4) (got (pair 3 0))
+          ∷ row (move′ 1 2 1 4) (refused 9)
+          ∷ [];
       types = 9;
     }
     -- further: a reference answered through an adapter
     ∷ record {
       table = answering;
-      requests = new′ 0 0 1 ∷ move′ 0 0 1 3 ∷ call′ 1 1 0 [] ∷ new′ 0 0 0 ∷ answer′ 0 0 (some (pos 2)) ∷ call′ 1 3 1 [] ∷ [];
-      gives = got (pair 0 0) ∷ got (pair 1 1) ∷ got (pair 0 1) ∷ got (pair 2 2) ∷ got (pair 3 3) ∷ refused 14 ∷ [];
+      rows =
+          row (new′ 0 0 1) (got (pair 0 0))
+          ∷ row (move′ 0 0 1 3) (got (pair 1 1))
+          ∷ row (call′ 1 1 0 []) (got (pair 0 1))
+          ∷ row (new′ 0 0 0) (got (pair 2 2))
+          ∷ row (answer′ 0 0 (some (pos 2))) (got (pair 3 3))
+          ∷ row (call′ 1 3 1 []) (refused 14)
+          ∷ [];
       types = 11;
     }
     ∷ []
 
 pub proved-cases : AllHold provedCases
 unfolding run
-proved-cases = (refl, (refl, (refl, (refl, (refl, (refl, (refl, (refl, (refl, tt)))))))))
+proved-cases = (refl, (refl, (refl, tt)))
 
 -- ---- Worked derivations: every derived type with its number, key and methods. They show the order (D17); 9 is used again in
 -- method 1 of type 6, and the second request derives nothing.

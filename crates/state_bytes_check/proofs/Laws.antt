@@ -17,7 +17,8 @@ use Rattle.state_record.specs.declared.Cell.{Cell}
 use Rattle.state_record.specs.declared.PlaceRec.{PlaceRec}
 use Rattle.state_record.specs.declared.Call.{Call}
 use Rattle.state_record.specs.View.{cellOf, placeOf, callOf, blankCell, blankPlace, blankCall, rawState}
-use Rattle.state_check.specs.Parts.{cellAccepted, placeAccepted, callAccepted, cellsAccepted, placesAccepted, callsAccepted, sizesAccepted}
+use Rattle.state_check_records.specs.Parts.{cellAccepted, placeAccepted, callAccepted, sizesAccepted}
+use Rattle.state_check.specs.Parts.{cellsAccepted, placesAccepted, callsAccepted}
 use Rattle.state_check.proofs.Laws.{accepted-is}
 use Rattle.state_bytes.specs.Flat.{Flat, countsIn, cellCount, placeCount, callCount, rawFlat}
 use Rattle.state_bytes.specs.Records.{cellFrom, placeFrom, callFrom, cellsFrom, placesFrom, callsFrom, stateFrom}

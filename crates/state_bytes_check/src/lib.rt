@@ -32,7 +32,7 @@ fn cells_fit(
     let mut k: usize = 0;
     while k < n {
         let x = state_bytes::cell_from(b, k);
-        if !state_check::cell_fits(types, c, places, x) {
+        if !state_check_records::cell_fits(types, c, places, x) {
             return false;
         }
         k += 1;
@@ -48,7 +48,7 @@ fn places_fit(types: &[u8; TYPE_BYTES], c: Counts, b: &[u8; PLACE_BYTES], n: usi
     let mut p: usize = 0;
     while p < n {
         let x = state_bytes::place_from(b, p);
-        if !state_check::place_fits(types, c, p, x) {
+        if !state_check_records::place_fits(types, c, p, x) {
             return false;
         }
         p += 1;
@@ -64,7 +64,7 @@ fn calls_fit(c: Counts, cells: usize, b: &[u8; CALL_BYTES], n: usize) -> bool
     let mut j: usize = 0;
     while j < n {
         let x = state_bytes::call_from(b, j);
-        if !state_check::call_fits(c, cells, x) {
+        if !state_check_records::call_fits(c, cells, x) {
             return false;
         }
         j += 1;
@@ -90,7 +90,7 @@ fn records_fit(
     let cn = counts[5];
     let pn = counts[6];
     let jn = counts[7];
-    if !state_check::sizes_fit(cn, pn, jn) {
+    if !state_check_records::sizes_fit(cn, pn, jn) {
         return false;
     }
     let c = state_bytes::counts_from(*counts);

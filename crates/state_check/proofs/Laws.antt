@@ -1,26 +1,25 @@
 -- The parts of the check come to the model's `systemAccepted`.
 use mathlib.Core.Path.{_≡_, refl, ap, sym, _∙_}
-use mathlib.Core.Bool.{Bool, true, false, not, _&&_, and-false}
+use mathlib.Core.Bool.{Bool, true, false, _&&_, and-false}
 use mathlib.Core.List.{List, map}
 use Prim.Native.Nat.{ℕ, _≤_, _<_}
 use native.Mathlib.Omega.{arith}
 use lib.Dec.{ltb, leb}
 use lib.ListN.{getD, List·getD-map}
 use borrow.Author.Tests.{ltb-true, leb-true}
-use Rattle.spec_model.specs.Basics.{all, every, from}
-use Rattle.spec_model.specs.Table.{Ty, Method, typeAt, isRef, isSettled, isClass, tableFits}
+use Rattle.spec_model.specs.Basics.{all, every}
+use Rattle.spec_model.specs.Table.{tableFits}
 use Rattle.spec_model.specs.Crossing.{Place as Placeᵐ, object, adapter, maxPlaces}
 use Rattle.spec_model.specs.Requests.{Cell as Cellᵐ, Call as Callᵐ, System, maxCells, maxCalls}
-use Rattle.spec_model.specs.Check.{RawType, RawTable, noRawType, noRawMethod, methodOf, typeOf, repOf, cellFits, placeFits, callFits, systemFits, tableOf, codesFit, stateCodesFit, tableAccepted}
+use Rattle.spec_model.specs.Check.{RawType, RawTable, cellFits, placeFits, callFits, systemFits, tableOf, codesFit, stateCodesFit, tableAccepted}
 use Rattle.spec_model.specs.Check.{systemAccepted, noRawPlace, noRawCall}
 use Rattle.spec_model.specs.Handed.{placeRecord, callRecord}
 use Rattle.spec_model.proofs.Rules.{both, first, second}
 use Rattle.law_model.proofs.Records.{place-code, call-code}
 use Rattle.spec_model.proofs.Lists.{all-from}
-use Rattle.table_record.specs.declared.Counts.{Counts}
 use Rattle.table_record.specs.Limits.{Limits}
 use Rattle.table_record.specs.Store.{typesIn, tableIn, rawTable}
-use Rattle.table_record.proofs.Tables.{size-is, type-is}
+use Rattle.table_record.proofs.Tables.{size-is}
 use Rattle.table_check_links.proofs.Each.{under-and, all-each, every-each, each-same}
 use Rattle.table_check.proofs.Accepted.{accepted-limits}
 use Rattle.state_record.specs.declared.PlaceRec.{PlaceRec}
@@ -28,27 +27,9 @@ use Rattle.state_record.specs.declared.Call.{Call}
 use Rattle.state_record.specs.Whole.{Whole as State}
 use Rattle.state_record.specs.View.{cellOf, placeOf, callOf, blankCell, blankPlace, blankCall, cellsIn, placesIn, callsIn, rawState, systemIn}
 use Rattle.state_record.proofs.Laws.{cells-length, places-length, calls-length, system-is}
-use Rattle.state_check.specs.Parts.{refAs, settledAs, classAs, cellAccepted, placeAccepted, callAccepted, cellsAccepted, placesAccepted, callsAccepted, sizesAccepted, recordsAccepted}
-
--- a class, as its record says
-class-parts : (r o s : Bool) (ms ms′ : List Method) (p : Method → Bool) → (r ≡ true → ms′ ≡ ms) → all p ms ≡ s → (r && (not (r && o) && all p ms′)) ≡ (r && (not (r && o) && s))
-class-parts true o s ms ms′ p on e = rw (on refl, e)
-class-parts false o s ms ms′ p on e = refl
-
-pub class-of : (methods sheet i : ℕ) (x : RawType) → isClass (typeOf methods sheet i x) ≡ classAs methods x
-unfolding settledAs
-class-of methods sheet i x =
-    let y : Ty = typeOf methods sheet i x in
-    let ms : List Method = from methods 0 (λ j. methodOf (getD (x .methods) j noRawMethod)) in
-    class-parts (isRef (repOf (x .rep))) _ (settledAs methods x) ms (y .methods) (λ m. isSettled (m .state)) (λ e. rw e)
-    (all-each (λ j. methodOf (getD (x .methods) j noRawMethod)) (λ m. isSettled (m .state)) methods 0)
-
-module _ (b l : List ℕ) (c : Counts) (i : ℕ) (h : i < c .types) where
-  pub class-is : isClass (typeAt (tableIn b l c) i) ≡ classAs (c .methods) (getD (typesIn b) i noRawType)
-  class-is = ap isClass (type-is b l c i h) ∙ class-of (c .methods) (c .sheet) i (getD (typesIn b) i noRawType)
-
-  pub ref-is : isRef (typeAt (tableIn b l c) i .rep) ≡ refAs (getD (typesIn b) i noRawType)
-  ref-is = ap (λ (x : Ty). isRef (x .rep)) (type-is b l c i h)
+use Rattle.state_check_records.specs.Parts.{cellAccepted, placeAccepted, callAccepted, sizesAccepted}
+use Rattle.state_check_records.proofs.Laws.{class-is, ref-is}
+use Rattle.state_check.specs.Parts.{cellsAccepted, placesAccepted, callsAccepted, recordsAccepted}
 
 -- A state of the model, by the parts of the code's.
 module _ (s : State) (limits : Limits (s .counts)) where

@@ -23,7 +23,7 @@ use Rattle.state_record.specs.Whole.{Whole as State}
 use Rattle.state_record.specs.View.{cellsIn, placesIn, callsIn, rawState, systemIn, isObject, behindOf, withTypes}
 use Rattle.state_record.specs.Sound.{Sound}
 use Rattle.state_record.proofs.Laws.{cells-length, places-length, calls-length, system-is}
-use Rattle.state_check.specs.Parts.{sizesAccepted}
+use Rattle.state_check_records.specs.Parts.{sizesAccepted}
 use Rattle.state_check.proofs.Laws.{accepted-is, sizes-are}
 
 descends : (s : System) (p : ℕ) (x : Placeᵐ) → So (placeFits s p x) → isObject x ≡ false → behindOf x < p

@@ -1,45 +1,15 @@
--- Small laws for the returns of the code: a byte that was read against a bound, and codes.
-use mathlib.Core.Path.{_≡_, refl, sym}
-use mathlib.Core.Bool.{Bool, true, false}
+-- What the loops test at a number.
+use mathlib.Core.Bool.{Bool}
 use mathlib.Core.List.{List}
-use Prim.Native.Nat.{ℕ, zero, suc, _≤_, _<_}
-use native.Mathlib.Omega.{arith}
-use lib.Dec.{ltb}
+use Prim.Native.Nat.{ℕ}
 use lib.ListN.{getD}
-use borrow.Author.Tests.{lt-ltb, le-ltb}
-use Rattle.spec_model.specs.Table.{isSettled}
-use Rattle.spec_model.specs.Crossing.{Place as Placeᵐ, object, adapter, placeType, ownerOf}
-use Rattle.spec_model.specs.Check.{RawType, noRawType, noRawMethod, stateOf}
-use Rattle.spec_model.proofs.Rules.{never}
 use Rattle.table_record.specs.declared.Counts.{Counts}
 use Rattle.table_record.specs.Store.{typesIn}
 use Rattle.state_record.specs.declared.Cells.{Cells}
 use Rattle.state_record.specs.declared.Places.{Places}
 use Rattle.state_record.specs.declared.Calls.{Calls}
-use Rattle.state_record.specs.View.{cellOf, placeOf, callOf, blankCell, blankPlace, blankCall, isObject, behindOf}
-use Rattle.state_check.specs.Parts.{cellAccepted, objectAccepted, adapterAccepted, placeAccepted, callAccepted}
-
--- w is the byte x as a number
-pub out : (w x n : ℕ) → w ≡ x → n ≤ w → ltb x n ≡ false
-out w x n e h = le-ltb x n (omega arith)
-
-pub inside : (w x n : ℕ) → w ≡ x → w < n → ltb x n ≡ true
-inside w x n e h = lt-ltb x n (omega arith)
-
-pub unsettled : (s : ℕ) → s < 2 → isSettled (stateOf s) ≡ false
-unsettled zero h = refl
-unsettled (suc zero) h = refl
-unsettled (suc (suc s)) h = absurd (omega arith)
-
-pub settles : (s : ℕ) → 2 ≤ s → isSettled (stateOf s) ≡ true
-settles zero h = absurd (omega arith)
-settles (suc zero) h = absurd (omega arith)
-settles (suc (suc zero)) h = refl
-settles (suc (suc (suc s))) h = refl
-
--- What the loops test at a number.
-abbrev pub SettledAt : List ℕ → ℕ → ℕ → Bool
-SettledAt b i j = isSettled (stateOf (getD (getD (typesIn b) i noRawType .methods) j noRawMethod .state))
+use Rattle.state_record.specs.View.{cellOf, placeOf, callOf, blankCell, blankPlace, blankCall}
+use Rattle.state_check_records.specs.Parts.{cellAccepted, placeAccepted, callAccepted}
 
 abbrev pub CellAt : List ℕ → Counts → ℕ → Cells → ℕ → Bool
 CellAt b c places cs k = cellAccepted (typesIn b) c places (cellOf (getD (cs .list) k blankCell))
@@ -49,13 +19,3 @@ PlaceAt b c ps p = placeAccepted (typesIn b) c p (placeOf (getD (ps .list) p bla
 
 abbrev pub CallAt : Counts → ℕ → Calls → ℕ → Bool
 CallAt c cells js j = callAccepted c cells (callOf (getD (js .list) j blankCall))
-
--- A place by its kind.
-module _ (rs : List RawType) (c : Counts) (p : ℕ) where
-  pub place-object : (x : Placeᵐ) → isObject x ≡ true → objectAccepted rs c (placeType x) (ownerOf x) ≡ placeAccepted rs c p x
-  place-object (object k o) e = refl
-  place-object (adapter b k) e = never e
-
-  pub place-adapter : (x : Placeᵐ) → isObject x ≡ false → adapterAccepted rs c p (behindOf x) (placeType x) ≡ placeAccepted rs c p x
-  place-adapter (object k o) e = never (sym e)
-  place-adapter (adapter b k) e = refl

@@ -3,45 +3,15 @@
 use mathlib.Core.Bool.{Bool, _&&_}
 use mathlib.Core.List.{List}
 use Prim.Native.Nat.{ℕ}
-use lib.Dec.{ltb, leb}
 use lib.ListN.{getD}
-use Rattle.spec_model.specs.Table.{isSettled}
-use Rattle.spec_model.specs.Crossing.{Place as Placeᵐ, object, adapter, maxPlaces}
-use Rattle.spec_model.specs.Requests.{Cell as Cellᵐ, Call as Callᵐ, maxCells, maxCalls}
-use Rattle.spec_model.specs.Check.{RawType, noRawType, noRawMethod, stateOf}
+use Rattle.spec_model.specs.Check.{RawType}
 use Rattle.table_record.specs.declared.Counts.{Counts}
-use Rattle.table_record.specs.Store.{mayStandAs}
-pub use Rattle.table_record.specs.Store.{refAs}
 use Rattle.table_check_links.specs.Parts.{eachFrom}
 use Rattle.state_record.specs.declared.Cells.{Cells}
 use Rattle.state_record.specs.declared.Places.{Places}
 use Rattle.state_record.specs.declared.Calls.{Calls}
 use Rattle.state_record.specs.View.{cellOf, placeOf, callOf, blankCell, blankPlace, blankCall}
-
--- a class (T16), as it is stored
-unfoldable pub settledAs : ℕ → RawType → Bool
-unfolding eachFrom
-settledAs ms x = eachFrom ms 0 (λ j. isSettled (stateOf (getD (x .methods) j noRawMethod .state)))
-
-abbrev pub classAs : ℕ → RawType → Bool
-classAs ms x = refAs x && (mayStandAs x && settledAs ms x)
-
--- a cell (H9), an object, an adapter (H10) and a call (H11)
-abbrev pub cellAccepted : List RawType → Counts → ℕ → Cellᵐ → Bool
-cellAccepted rs c places x = ltb (x .holder) (c .subjects) && (ltb (x .place) places && (ltb (x .type) (c .sheet) && refAs (getD rs (x .type) noRawType)))
-
-abbrev pub objectAccepted : List RawType → Counts → ℕ → ℕ → Bool
-objectAccepted rs c class owner = ltb owner (c .subjects) && (ltb class (c .sheet) && classAs (c .methods) (getD rs class noRawType))
-
-abbrev pub adapterAccepted : List RawType → Counts → ℕ → ℕ → ℕ → Bool
-adapterAccepted rs c p behind closed = ltb behind p && (ltb closed (c .types) && refAs (getD rs closed noRawType))
-
-abbrev pub placeAccepted : List RawType → Counts → ℕ → Placeᵐ → Bool
-placeAccepted rs c p (object class owner) = objectAccepted rs c class owner
-placeAccepted rs c p (adapter behind closed) = adapterAccepted rs c p behind closed
-
-abbrev pub callAccepted : Counts → ℕ → Callᵐ → Bool
-callAccepted c cells x = ltb (x .caller) (c .subjects) && (ltb (x .cell) cells && ltb (x .method) (c .methods))
+use Rattle.state_check_records.specs.Parts.{settledAs, cellAccepted, placeAccepted, callAccepted}
 
 -- the counted ones
 unfoldable pub cellsAccepted : List RawType → Counts → ℕ → Cells → Bool
@@ -55,10 +25,6 @@ placesAccepted rs c ps = eachFrom (ps .count) 0 (λ p. placeAccepted rs c p (pla
 unfoldable pub callsAccepted : Counts → ℕ → Calls → Bool
 unfolding eachFrom
 callsAccepted c cells js = eachFrom (js .count) 0 (λ j. callAccepted c cells (callOf (getD (js .list) j blankCall)))
-
--- the counts of cells, places and calls (H1)
-abbrev pub sizesAccepted : ℕ → ℕ → ℕ → Bool
-sizesAccepted cells places calls = leb cells maxCells && (leb places maxPlaces && leb calls maxCalls)
 
 abbrev pub recordsAccepted : List RawType → Counts → Cells → Places → Calls → Bool
 recordsAccepted rs c cs ps js = cellsAccepted rs c (ps .count) cs && (placesAccepted rs c ps && callsAccepted c (cs .count) js)

@@ -1,76 +1,21 @@
 // The check of a state that is handed in (H1 to H11): any counts and any records. Counts first, so that every index is below its array's length, then the
 // table, then cells, places and calls.
 ghost use mathlib.Core.Path.{_≡_};
-ghost use Prim.Native.Nat.{_≤_, _<_};
-ghost use lib.ListN.{getD};
-ghost use Rattle.spec_model.specs.Check.{noRawType, systemAccepted};
-ghost use Rattle.spec_model.specs.Table.{maxMethods, maxTypes};
+ghost use Prim.Native.Nat.{_≤_};
+ghost use Rattle.spec_model.specs.Check.{systemAccepted};
 ghost use Rattle.spec_model.specs.Crossing.{maxPlaces};
 ghost use Rattle.spec_model.specs.Requests.{maxCells, maxCalls};
 ghost use Rattle.table_record.specs.Limits.{Limits};
 ghost use Rattle.table_record.specs.Store.{typesIn};
 ghost use Rattle.state_record.specs.Whole.{whole};
-ghost use Rattle.state_record.specs.View.{cellOf, placeOf, callOf, rawState};
-ghost use Rattle.state_check.specs.Parts.{settledAs, classAs, cellAccepted, cellsAccepted, objectAccepted};
-ghost use Rattle.state_check.specs.Parts.{adapterAccepted, placeAccepted, placesAccepted, callAccepted, callsAccepted, sizesAccepted, recordsAccepted};
-use state_record::Call;
+ghost use Rattle.state_record.specs.View.{rawState};
+ghost use Rattle.state_check.specs.Parts.{cellsAccepted, placesAccepted, callsAccepted, recordsAccepted};
 use state_record::Calls;
-use state_record::Cell;
 use state_record::Cells;
-use state_record::PlaceRec;
 use state_record::Places;
 use state_record::State;
 use table_record::Counts;
-use table_record::Method;
 use table_record::TYPE_BYTES;
-
-// Whether every method of type i is avail or unavail.
-fn settled(b: &[u8; TYPE_BYTES], methods: usize, i: usize) -> bool
-    requires { ⌜ (methods ≤ maxMethods) × (i < maxTypes) ⌝ }
-    ensures { λ r. ⌜ r ≡ settledAs methods (getD (typesIn (now (b .entry))) i noRawType) ⌝ }
-{
-    let mut j: usize = 0;
-    while j < methods {
-        let m = table_record::get_method(b, i, j);
-        if m.state < Method::AVAIL {
-            return false;
-        }
-        j += 1;
-    }
-    true
-}
-
-// Whether type i is a class (T16), in a table of so many methods.
-pub fn is_class(b: &[u8; TYPE_BYTES], methods: usize, i: usize) -> bool
-    requires { ⌜ (methods ≤ maxMethods) × (i < maxTypes) ⌝ }
-    ensures { λ r. ⌜ r ≡ classAs methods (getD (typesIn (now (b .entry))) i noRawType) ⌝ }
-{
-    if !table_record::is_ref(b, i) {
-        return false;
-    }
-    if !table_record::may_stand(b, i) {
-        return false;
-    }
-    settled(b, methods, i)
-}
-
-// A cell (H9), in a state of so many places.
-pub fn cell_fits(b: &[u8; TYPE_BYTES], c: Counts, places: usize, x: Cell) -> bool
-    requires { ⌜ Limits c ⌝ }
-    ensures { λ r. ⌜ r ≡ cellAccepted (typesIn (now (b .entry))) c places (cellOf x) ⌝ }
-{
-    if c.subjects <= base_numbers::wide(x.holder) {
-        return false;
-    }
-    if places <= base_numbers::wide(x.place) {
-        return false;
-    }
-    let i = base_numbers::wide(x.ty);
-    if c.sheet <= i {
-        return false;
-    }
-    table_record::is_ref(b, i)
-}
 
 fn cells_fit(b: &[u8; TYPE_BYTES], c: Counts, places: usize, cs: Cells) -> bool
     requires { ⌜ Limits c × (cs .count ≤ maxCells) ⌝ }
@@ -80,51 +25,12 @@ fn cells_fit(b: &[u8; TYPE_BYTES], c: Counts, places: usize, cs: Cells) -> bool
     let mut k: usize = 0;
     while k < n {
         let x = cs.list[k];
-        if !cell_fits(b, c, places, x) {
+        if !state_check_records::cell_fits(b, c, places, x) {
             return false;
         }
         k += 1;
     }
     true
-}
-
-// An object (H10).
-fn object_fits(b: &[u8; TYPE_BYTES], c: Counts, class: usize, owner: usize) -> bool
-    requires { ⌜ Limits c ⌝ }
-    ensures { λ r. ⌜ r ≡ objectAccepted (typesIn (now (b .entry))) c class owner ⌝ }
-{
-    if c.subjects <= owner {
-        return false;
-    }
-    if c.sheet <= class {
-        return false;
-    }
-    is_class(b, c.methods, class)
-}
-
-// An adapter at place p (H10).
-fn adapter_fits(b: &[u8; TYPE_BYTES], c: Counts, p: usize, behind: usize, closed: usize) -> bool
-    requires { ⌜ Limits c ⌝ }
-    ensures { λ r. ⌜ r ≡ adapterAccepted (typesIn (now (b .entry))) c p behind closed ⌝ }
-{
-    if p <= behind {
-        return false;
-    }
-    if c.types <= closed {
-        return false;
-    }
-    table_record::is_ref(b, closed)
-}
-
-pub fn place_fits(b: &[u8; TYPE_BYTES], c: Counts, p: usize, x: PlaceRec) -> bool
-    requires { ⌜ Limits c ⌝ }
-    ensures { λ r. ⌜ r ≡ placeAccepted (typesIn (now (b .entry))) c p (placeOf (x .place)) ⌝ }
-{
-    let t = state_places::place_type(x);
-    if state_places::is_object(x) {
-        return object_fits(b, c, t, state_places::place_owner(x));
-    }
-    adapter_fits(b, c, p, state_places::place_behind(x), t)
 }
 
 fn places_fit(b: &[u8; TYPE_BYTES], c: Counts, ps: Places) -> bool
@@ -135,25 +41,12 @@ fn places_fit(b: &[u8; TYPE_BYTES], c: Counts, ps: Places) -> bool
     let mut p: usize = 0;
     while p < n {
         let x = ps.list[p];
-        if !place_fits(b, c, p, x) {
+        if !state_check_records::place_fits(b, c, p, x) {
             return false;
         }
         p += 1;
     }
     true
-}
-
-// A call (H11), in a state of so many cells.
-pub fn call_fits(c: Counts, cells: usize, x: Call) -> bool
-    ensures { λ r. ⌜ r ≡ callAccepted c cells (callOf x) ⌝ }
-{
-    if c.subjects <= base_numbers::wide(x.caller) {
-        return false;
-    }
-    if cells <= base_numbers::wide(x.cell) {
-        return false;
-    }
-    base_numbers::wide(x.method) < c.methods
 }
 
 fn calls_fit(c: Counts, cells: usize, js: Calls) -> bool
@@ -164,25 +57,12 @@ fn calls_fit(c: Counts, cells: usize, js: Calls) -> bool
     let mut j: usize = 0;
     while j < n {
         let x = js.list[j];
-        if !call_fits(c, cells, x) {
+        if !state_check_records::call_fits(c, cells, x) {
             return false;
         }
         j += 1;
     }
     true
-}
-
-// The counts of cells, places and calls (H1).
-pub fn sizes_fit(cells: usize, places: usize, calls: usize) -> bool
-    ensures { λ r. ⌜ r ≡ sizesAccepted cells places calls ⌝ }
-{
-    if State::CELLS < cells {
-        return false;
-    }
-    if State::PLACES < places {
-        return false;
-    }
-    calls <= State::CALLS
 }
 
 // Cells, places and calls, in a table that is accepted.
@@ -208,7 +88,7 @@ pub fn state_fits(types: &[u8; TYPE_BYTES], s: State) -> bool
     let cs = s.cells;
     let ps = s.places;
     let js = s.calls;
-    if !sizes_fit(cs.count, ps.count, js.count) {
+    if !state_check_records::sizes_fit(cs.count, ps.count, js.count) {
         return false;
     }
     let links = s.links;

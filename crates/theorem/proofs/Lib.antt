@@ -8,3 +8,4 @@ pub mod Writes
 pub mod OfStates
 pub mod OfBytes
 pub mod Scripted
+pub mod Listed

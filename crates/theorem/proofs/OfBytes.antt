@@ -28,8 +28,8 @@ use Rattle.request_run.specs.Ran.{room}
 use Rattle.state_offers.specs.Chained.{offersNamed, offersHanded}
 use Rattle.state_bytes.specs.Flat.{Flat, countsIn, rawCells, rawPlaces, rawCalls, rawFlat}
 use Rattle.request_results.specs.States.{outcomeNumber, outcomeOn}
-use Rattle.export_table.specs.Codes.{WrittenIs}
 use Rattle.export_runs.specs.Results.{offeredOut, LoadedIs, LentRun, RanOut, RunsOut}
+use Rattle.text_write.specs.Written.{WrittenIs}
 use Rattle.theorem.specs.Shown.{first, taken, RunReturns, History, begins, asks, runs, alike, Holds, Permitted}
 use Rattle.theorem.specs.OfStates.{toldBy}
 use Rattle.theorem.specs.OfBytes.{sheetIn, ShownOfLoads, ShownOfBytes}

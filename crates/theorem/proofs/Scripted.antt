@@ -31,8 +31,7 @@ use Rattle.spec_sheet.proofs.Exact.{loaded-valid, loaded-demand3}
 use Rattle.script_read_request.specs.Asked.{requestLine}
 use Rattle.script_write_outcome.specs.Outcomes.{integerText, outcomeText}
 use Rattle.script_output.specs.Output.{maxInput, sheetPart, requestPart, asked, servedLines, printedLines, scriptOutput}
-use Rattle.text_write.specs.Written.{writtenOf}
-use Rattle.export_table.specs.Codes.{WrittenIs}
+use Rattle.text_write.specs.Written.{writtenOf, WrittenIs}
 use Rattle.script_output.proofs.Short.{output-short, output-fits}
 use Rattle.script_output.proofs.Whole.{lastLine}
 use Rattle.theorem.specs.Shown.{Permitted}
@@ -40,7 +39,7 @@ use Rattle.theorem.specs.Scripted.{Fits, TooShort, lineOf, requestsOf, e
 use Rattle.theorem.proofs.Calls.{if-accepted, call-tested, tested-permitted}
 
 -- ---- the buffer
-written : (text old : List ℕ) → let w = writeText text old in Fits text old w ⊎ TooShort text old w
+pub written : (text old : List ℕ) → let w = writeText text old in Fits text old w ⊎ TooShort text old w
 unfolding writeText
 written text old = go (leb (length text) (length old)) refl
   where
@@ -211,7 +210,7 @@ pub shown-of-scripts : ShownOfScripts
 shown-of-scripts input old new r e = script-is input old (writtenOf r new) e
 
 -- number, length and buffer are all that the writer leaves
-written-in : (text old new : List ℕ) (n before len : ℕ) → WrittenIs (writeText text old) n before len new → writtenIn n len new ≡ writeText text old
+pub written-in : (text old new : List ℕ) (n before len : ℕ) → WrittenIs (writeText text old) n before len new → writtenIn n len new ≡ writeText text old
 unfolding writeText
 written-in text old new n before len = go (leb (length text) (length old))
   where

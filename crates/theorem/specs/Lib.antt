@@ -2,3 +2,4 @@ pub mod Shown
 pub mod OfStates
 pub mod OfBytes
 pub mod Scripted
+pub mod Listed

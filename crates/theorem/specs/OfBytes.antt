@@ -25,8 +25,8 @@ use Rattle.request_run.specs.Ran.{room}
 use Rattle.state_offers.specs.Chained.{offersHanded}
 use Rattle.state_bytes.specs.Flat.{Flat, countsIn, rawFlat}
 use Rattle.request_results.specs.States.{LentState, Handed}
-use Rattle.export_table.specs.Codes.{WrittenIs}
 use Rattle.export_runs.specs.Results.{offeredOut, LoadedIs, LentRun, RunsOut}
+use Rattle.text_write.specs.Written.{WrittenIs}
 use Rattle.theorem.specs.Shown.{Accepts, sheetTable, History, Permitted}
 use Rattle.theorem.specs.OfStates.{toldBy}
 

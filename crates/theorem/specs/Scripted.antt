@@ -24,8 +24,7 @@ use Rattle.script_read_request.specs.Asked.{requestLine}
 use Rattle.script_write_outcome.specs.Outcomes.{outcomeText}
 use Rattle.script_output.specs.Output.{maxInput, maxLonger, sheetPart, requestPart, asked, scriptOutput}
 use Rattle.text_write.specs.declared.Wrote.{Wrote}
-use Rattle.text_write.specs.Written.{writtenOf}
-use Rattle.export_table.specs.Codes.{WrittenIs}
+use Rattle.text_write.specs.Written.{writtenOf, WrittenIs}
 use Rattle.theorem.specs.Shown.{Permitted}
 
 -- ---- The buffer, which was `old`

@@ -5,7 +5,7 @@ use crate::json::Value;
 use crate::pictures::sixteen;
 use desk::scripts::requests::split;
 use pilgonca::Visit;
-use reference::generators::{generate, Profile};
+use reference::generators::{generate, on_tiny, Profile};
 
 /// Case P, where the printer was lent the log as a type in which mark is optional.
 pub const OPTIONAL: &str = "examples/optional.script";
@@ -374,14 +374,19 @@ fn derived_types_are_told_in_words() {
         &["run", "--svg=-"],
     ];
     let mut told = [0; 5];
-    for seed in 0..40 {
-        let input = generate(seed, Profile::Medium);
+    // each tiny sheet by one of them in turn, and others by all
+    let tiny = (0..).zip(on_tiny(0)).map(|(number, input)| {
+        let command = number % commands.len();
+        (command..command + 1, input)
+    });
+    let others = (0..40).map(|seed| (0..5, generate(seed, Profile::Medium)));
+    for (chosen, input) in tiny.chain(others) {
         let Ok(visit) = Visit::load(split(&input).0) else {
             continue;
         };
         let last = visit.sheet().sheet_types() as i64;
         with_file("derived", &input, |path| {
-            for (command, told) in commands.iter().zip(&mut told) {
+            for (command, told) in commands[chosen.clone()].iter().zip(&mut told[chosen]) {
                 let (_, out, _) = run(&[command, &[path][..]].concat());
                 *told += out.matches("[permits ").count();
                 *told += out.matches("type that permits ").count();
@@ -390,7 +395,7 @@ fn derived_types_are_told_in_words() {
                 for number in numbered(&out).into_iter().filter(|number| *number >= last) {
                     let written = requests.contains(&format!(" {number}"));
                     let is_run = matches!(command, ["run"] | ["run", "--json"]);
-                    assert!(written && is_run, "seed {seed}, {command:?}: type {number}");
+                    assert!(written && is_run, "{requests}{command:?}: type {number}");
                 }
             }
         });

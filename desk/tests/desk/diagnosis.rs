@@ -2,11 +2,12 @@
 
 use crate::damage::damaged;
 use crate::files::read;
+use conformance::tiny_first;
 use desk::diagnosis::diagnose;
 use desk::names::Names;
 use desk::scripts::requests::split;
 use pilgonca::{Sheet, SheetRefused};
-use reference::generators::{generate, Profile};
+use reference::generators::Profile;
 
 /// How often each number was met; 0 stands for accepted.
 type Counts = [usize; 4];
@@ -96,10 +97,9 @@ fn every_small_damage_has_words() {
 #[test]
 fn generated_sheets_have_words() {
     let mut counts = [0; 4];
-    for seed in 0..3000 {
-        let input = generate(seed, Profile::Damaged);
-        fits(&input, &mut counts);
-        fits(split(&input).0, &mut counts);
+    for script in tiny_first::scripts(&[(Profile::Damaged, 3000)]) {
+        fits(&script.of, &mut counts);
+        fits(split(&script.of).0, &mut counts);
     }
     enough(&counts, 20);
 }

@@ -1,6 +1,6 @@
 //! What desk prints with --json: one document each, as desk/schema/desk.json says, and with the same answers as the core and the words.
 
-use crate::files::{accepted, read, run, with_file, NAMES, SCRIPT, SHEET};
+use crate::files::{accepted, read, run, tiny_in_turn, with_file, NAMES, SCRIPT, SHEET};
 use crate::json::{Schema, Value};
 use pilgonca::{Sheet, Type};
 use reference::generators::{generate, Profile};
@@ -35,7 +35,7 @@ fn document(schema: &Schema, words: &[&str]) -> Value {
 #[test]
 fn every_document_fits_the_schema() {
     let schema = schema();
-    let all: [&[&str]; 25] = [
+    let all: [&[&str]; 28] = [
         &["check", SHEET],
         &["check", "examples/categories.sheet"],
         &["check", "examples/types-48.sheet"],
@@ -61,9 +61,18 @@ fn every_document_fits_the_schema() {
         &["powers", "examples/types-48.sheet"],
         &["diff", SHEET, SHEET],
         &["diff", "examples/guide.sheet", SHEET],
+        &["tiny"],
+        &["tiny", "129"],
+        &["tiny", "130"],
     ];
     for words in all {
         document(&schema, words);
+    }
+    for (command, text) in tiny_in_turn() {
+        with_file("tiny", &text, |path| {
+            let document = document(&schema, &[command, path]);
+            assert_eq!(document.get("status").number(), 0, "{command}");
+        });
     }
     for seed in 0..30 {
         let text = generate(seed, Profile::Damaged);
@@ -122,6 +131,7 @@ fn the_schema_refuses_other_documents() {
         &["audit", OPTIONAL, "--method", "1"],
         &["powers", SHEET],
         &["diff", "examples/guide.sheet", SHEET],
+        &["tiny", "44"],
     ] {
         let document = document(&schema, words);
         let others = spoilt(&document);

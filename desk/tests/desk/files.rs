@@ -1,8 +1,11 @@
 //! Files of the repository, files of a test, and the program run on them.
 
+use reference::generators::on_tiny;
+use reference::tiny::texts;
 use std::fs;
 use std::path::{Path, PathBuf};
 use std::process::{Command, Output, Stdio};
+use std::sync::atomic::{AtomicUsize, Ordering};
 
 pub const SHEET: &str = "examples/case-p.sheet";
 pub const SCRIPT: &str = "examples/case-p.script";
@@ -73,10 +76,12 @@ pub fn place(line: &str) -> Option<(&str, usize, usize)> {
     Some((parts.next()?, line, column))
 }
 
-/// A file of this test run alone.
+/// A file of this call alone: tests run side by side, and two may call theirs the same.
 fn file(name: &str, bytes: &[u8]) -> PathBuf {
-    let path =
-        PathBuf::from(env!("CARGO_TARGET_TMPDIR")).join(format!("{}-{name}", std::process::id()));
+    static FILES: AtomicUsize = AtomicUsize::new(0);
+    let number = FILES.fetch_add(1, Ordering::Relaxed);
+    let name = format!("{}-{number}-{name}", std::process::id());
+    let path = PathBuf::from(env!("CARGO_TARGET_TMPDIR")).join(name);
     fs::write(&path, bytes).expect("a file");
     path
 }
@@ -85,6 +90,20 @@ pub fn with_file(name: &str, bytes: &[u8], test: impl FnOnce(&str)) {
     let path = file(name, bytes);
     test(path.to_str().expect("UTF-8"));
     fs::remove_file(path).expect("the file is there");
+}
+
+/// Every tiny sheet for one command, the commands in turn; with requests behind where the command takes a script. So each is given to desk once.
+pub fn tiny_in_turn() -> impl Iterator<Item = (&'static str, Vec<u8>)> {
+    let commands = ["check", "pairs", "powers", "run", "audit"];
+    let both = texts().into_iter().zip(on_tiny(0));
+    commands
+        .into_iter()
+        .cycle()
+        .zip(both)
+        .map(|(command, (sheet, script))| match command {
+            "run" | "audit" => (command, script),
+            _ => (command, sheet),
+        })
 }
 
 pub fn root() -> PathBuf {

@@ -5,6 +5,7 @@ use crate::files::{accepted, place, read, run, with_file, NAMES, SCRIPT, SHEET};
 use desk::scripts::requests::split;
 use pilgonca::Sheet;
 use reference::generators::{generate, Profile};
+use reference::tiny::texts;
 use std::fs;
 
 fn lines(text: &[u8], change: impl Fn(&[u8]) -> Vec<u8>) -> Vec<u8> {
@@ -238,7 +239,7 @@ fn nothing_is_written_that_is_refused() {
     let text = read("examples/guide.sheet");
     let few = damaged(&text).step_by(211);
     let generated = (0..40).map(|seed| generate(seed, Profile::Damaged));
-    for text in few.chain(generated) {
+    for text in texts().into_iter().chain(few).chain(generated) {
         with_file("any", &text, |path| {
             let (status, out, _) = run(&["fix", path, "--names", NAMES]);
             let kind = match (status, Sheet::read(&text)) {

@@ -13,7 +13,7 @@ fn help_fits_a_terminal_and_says_what_there_is() {
         assert!(line.chars().count() <= 80, "{line}");
     }
     let commands = [
-        "check", "fix", "pairs", "compare", "run", "audit", "powers", "diff", "explain",
+        "check", "fix", "pairs", "compare", "run", "audit", "powers", "diff", "tiny", "explain",
     ];
     for command in commands {
         assert!(help.contains(&format!("  desk {command} ")), "{command}");
@@ -27,6 +27,7 @@ fn help_fits_a_terminal_and_says_what_there_is() {
         "--out",
         "--subject S --method M",
         "--calls",
+        "--list",
         "--version",
         "NO_COLOR",
         "0 yes or accepted, 1 no or refused, 2 words that desk does not\nunderstand, 3 what cannot be read or written",
@@ -54,7 +55,7 @@ fn messages_name_the_program_as_it_was_called() {
     let zero = "examples/refused-leading-zero.sheet";
     with_file("called", crlf.replace('\n', "\r\n").as_bytes(), |path| {
         let fix = format!("./run desk fix {path} prints what was meant");
-        let messages: [(&[&str], &str); 16] = [
+        let messages: [(&[&str], &str); 17] = [
             (&["chek"], "; ./run desk --help says what there is"),
             (&["check"], "./run desk check takes one sheet"),
             (&["fix"], "./run desk fix takes one sheet or script"),
@@ -65,6 +66,7 @@ fn messages_name_the_program_as_it_was_called() {
             ),
             (&["compare", SHEET], "./run desk compare takes a sheet"),
             (&["diff", SHEET], "./run desk diff takes two sheets"),
+            (&["tiny", "1", "2"], "./run desk tiny takes the number"),
             (&["run", SCRIPT, "--plain"], "is for ./run desk pairs"),
             (&["check", path], &fix),
             (&["fix", zero], "./run desk fix cannot mend that"),

@@ -21,5 +21,6 @@ mod saved;
 mod scripts;
 mod sheets_alone;
 mod steps;
+mod tiny;
 mod versions;
 mod why;

@@ -4,7 +4,7 @@ use crate::drawing::{apart, attribute, body, boxes, content, drawn, drawn_run, s
 use crate::files::{accepted, read, run, with_file, NAMES, SCRIPT, SHEET};
 use desk::reach::Power;
 use desk::scripts::follow::{follow, Run};
-use reference::generators::{generate, Profile};
+use reference::generators::{generate, on_tiny, Profile};
 
 /// A script on Case P's sheet with 256 cells: every subject holds some as every type that it can.
 fn cells_256() -> Vec<u8> {
@@ -78,6 +78,14 @@ fn the_pictures_of_the_guide_are_true() {
     }
 }
 
+/// Every tiny sheet with requests, full states, and many references.
+fn scripts() -> impl Iterator<Item = Vec<u8>> {
+    let full = (0..6).map(|seed| generate(seed, Profile::Full));
+    let tiny = on_tiny(0).into_iter();
+    tiny.chain(full)
+        .chain([cells_256(), forty(), forty_alike()])
+}
+
 #[test]
 fn pictures_are_sound() {
     sound(&drawn(&["pairs", "examples/types-48.sheet"]));
@@ -87,8 +95,7 @@ fn pictures_are_sound() {
         (boxes(&case_p).len(), ways(&case_p).len()),
         (3 + 2 + 4, 3 + 1)
     );
-    let full = (0..6).map(|seed| generate(seed, Profile::Full));
-    for script in full.chain([cells_256(), forty(), forty_alike()]) {
+    for script in scripts() {
         let picture = drawn_run("full", &script);
         sound(&picture);
         apart(&picture);
@@ -202,8 +209,7 @@ fn rows_are_true(picture: &str, run: &Run) {
 /// No number and no method is lost where rows are grouped.
 #[test]
 fn grouped_rows_tell_every_cell_and_method() {
-    let full = (0..6).map(|seed| generate(seed, Profile::Full));
-    for script in full.chain([cells_256(), forty(), forty_alike()]) {
+    for script in scripts() {
         let run = follow(&script).unwrap_or_else(|_| panic!("a sheet"));
         rows_are_true(&drawn_run("grouped", &script), &run);
     }

@@ -1,17 +1,18 @@
 //! The program itself: what it prints, its exit status, and that nothing makes it panic.
 
 use crate::files::{
-    accepted, desk, failed, is_message, no, read, refused, run, told, with_file, NAMES, SCRIPT,
-    SHEET,
+    accepted, desk, failed, is_message, no, read, refused, run, tiny_in_turn, told, with_file,
+    NAMES, SCRIPT, SHEET,
 };
 use reference::generators::{generate, Profile};
+use reference::tiny;
 use std::fs::File;
 use std::io::Write;
 use std::process::Stdio;
 
 #[test]
 fn wrong_words_are_told_apart_from_bad_input() {
-    let wrong: [&[&str]; 27] = [
+    let wrong: [&[&str]; 35] = [
         &["chek"],
         &["check"],
         &["check", "a", "b"],
@@ -39,6 +40,14 @@ fn wrong_words_are_told_apart_from_bad_input() {
         &["pairs", SHEET, "--plain", "--json"],
         &["pairs", SHEET, "--svg", "-", "--json"],
         &["check", "--", SHEET, "--no-names"],
+        &["tiny", "1", "2"],
+        &["tiny", "--plain"],
+        &["tiny", "--names", NAMES],
+        &["tiny", "--list=1"],
+        &["tiny", "--list", "--json"],
+        &["tiny", "--out", "x", "--json"],
+        &["tiny", "--out", "x", "--list"],
+        &["check", SHEET, "--list"],
     ];
     for words in wrong {
         let (status, out, error) = run(words);
@@ -81,6 +90,7 @@ fn files_that_cannot_be_read_or_written() {
         ["pairs", SHEET, "--svg"],
         ["run", SCRIPT, "--svg"],
         ["fix", SHEET, "--out"],
+        ["tiny", "7", "--out"],
     ] {
         let words = [&words[..], &["no/such/folder/x"]].concat();
         assert!(failed(&words, 3).contains("cannot write"));
@@ -102,6 +112,11 @@ fn any_bytes_get_an_answer() {
     ];
     texts.extend(odd.map(<[u8]>::to_vec));
     texts.push([b"guide=", "3D".repeat(200_000).as_bytes()].concat());
+    for (command, text) in tiny_in_turn() {
+        with_file("any-tiny", &text, |path| {
+            accepted(&[command, path]);
+        });
+    }
     for text in texts {
         with_file("any", &text, |path| {
             let with_names = ["check", SHEET, "--names", path];
@@ -144,6 +159,7 @@ fn a_reader_may_go_away() {
     for words in [
         &["pairs", "examples/types-48.sheet", "--plain"][..],
         &["explain", "1"],
+        &["tiny"],
     ] {
         assert_eq!(
             unread(words),
@@ -201,6 +217,7 @@ fn no_colours_in_a_pipe() {
         &["powers", SHEET],
         &["diff", SHEET, "examples/guide.sheet"],
         &["run", "examples/refused-01.script"],
+        &["tiny", "--list"],
     ] {
         let (_, out, error) = run(words);
         assert!(
@@ -212,11 +229,12 @@ fn no_colours_in_a_pipe() {
 
 #[test]
 fn plain_pairs_are_those_of_the_program() {
-    let mut texts = vec![
+    let mut texts = tiny::texts();
+    texts.extend([
         read(SHEET),
         read("examples/types-48.sheet"),
         vec![b'x'; 32_769],
-    ];
+    ]);
     texts.extend((0..30).map(|seed| generate(seed, Profile::Damaged)));
     for text in texts {
         with_file("plain", &text, |path| {

@@ -1,6 +1,7 @@
 //! What a holder can come to call by itself is what the core lets it come to: every way is tried, without the short cuts that desk takes.
 
 use crate::scripts::same;
+use conformance::tiny_first;
 use desk::reach::{of_sheet, Power, Reach, TypePowers};
 use desk::scripts::follow::Run;
 use desk::scripts::requests::split;
@@ -8,7 +9,7 @@ use desk::scripts::trails::Hands;
 use pilgonca::{
     Cell, CellInfo, Method, MethodInfo, PlaceKind, Refusal, Subject, Type, TypeInfo, Visit,
 };
-use reference::generators::{generate, Profile};
+use reference::generators::{generate, on_tiny, Profile};
 
 fn avail(info: &TypeInfo, method: usize) -> bool {
     matches!(info.methods.get(method), Some(MethodInfo::Avail(_)))
@@ -96,17 +97,19 @@ fn compared(visit: &Visit, steps: usize) -> [usize; 4] {
 #[test]
 fn what_can_be_come_to_is_what_the_core_lets_come() {
     let mut met = [0; 4];
-    for (profile, seeds, steps) in [
+    let tiny = on_tiny(0).into_iter().map(|input| (input, 3));
+    let generated = [
         (Profile::Small, 250, 3),
         (Profile::Medium, 40, 2),
         (Profile::Full, 6, 1),
-    ] {
-        for seed in 0..seeds {
-            let input = generate(seed, profile);
-            if let Some(run) = same(&input) {
-                let found = compared(&run.visit, steps);
-                met.iter_mut().zip(found).for_each(|(all, one)| *all += one);
-            }
+    ];
+    let generated = generated.into_iter().flat_map(|(profile, seeds, steps)| {
+        (0..seeds).map(move |seed| (generate(seed, profile), steps))
+    });
+    for (input, steps) in tiny.chain(generated) {
+        if let Some(run) = same(&input) {
+            let found = compared(&run.visit, steps);
+            met.iter_mut().zip(found).for_each(|(all, one)| *all += one);
         }
     }
     println!("can call, can come to, never, no room: {met:?}");
@@ -151,13 +154,15 @@ fn before(run: &Run) -> [usize; 2] {
 #[test]
 fn nobody_before_was_told_never() {
     let mut met = [0; 2];
-    for profile in [Profile::Small, Profile::Medium, Profile::Big] {
-        for seed in 0..(if profile == Profile::Big { 15 } else { 150 }) {
-            let input = generate(seed, profile);
-            if let Some(run) = same(&input) {
-                let found = before(&run);
-                met.iter_mut().zip(found).for_each(|(all, one)| *all += one);
-            }
+    let scripts = [
+        (Profile::Small, 150),
+        (Profile::Medium, 150),
+        (Profile::Big, 15),
+    ];
+    for script in tiny_first::scripts(&scripts) {
+        if let Some(run) = same(&script.of) {
+            let found = before(&run);
+            met.iter_mut().zip(found).for_each(|(all, one)| *all += one);
         }
     }
     println!("by moves and by calls: {met:?}");
@@ -217,14 +222,16 @@ fn within(run: &Run, powers: &[TypePowers]) -> usize {
 #[test]
 fn a_sheet_gives_what_its_runs_show() {
     let mut met = 0;
-    for profile in [Profile::Small, Profile::Medium, Profile::Big] {
-        for seed in 0..(if profile == Profile::Big { 10 } else { 100 }) {
-            let input = generate(seed, profile);
-            if let Some(run) = same(&input) {
-                let visit = Visit::load(split(&input).0).expect("it was followed");
-                let powers = of_sheet(&visit).expect("a sound state");
-                met += within(&run, &powers);
-            }
+    let scripts = [
+        (Profile::Small, 100),
+        (Profile::Medium, 100),
+        (Profile::Big, 10),
+    ];
+    for script in tiny_first::scripts(&scripts) {
+        if let Some(run) = same(&script.of) {
+            let visit = Visit::load(split(&script.of).0).expect("it was followed");
+            let powers = of_sheet(&visit).expect("a sound state");
+            met += within(&run, &powers);
         }
     }
     println!("{met} ways");

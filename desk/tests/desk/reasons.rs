@@ -1,10 +1,11 @@
 //! Where a relation fails, desk names a rule that is broken: exactly where the core says no, and what it says of the types is so.
 
 use crate::files::{accepted, no, with_file, SHEET};
+use conformance::tiny_first;
 use desk::reasons::{Broken, Part, Reason, Reasons, Relation, Says};
 use desk::scripts::requests::split;
 use pilgonca::{Comparison, Sheet, Type};
-use reference::generators::{generate, Profile, PROFILES};
+use reference::generators::{Profile, PROFILES};
 use reference::relations::{self, state_le, Relations};
 use reference::table::{MethodState, Table};
 use std::collections::BTreeMap;
@@ -134,11 +135,12 @@ fn all_pairs(text: &[u8], met: &mut BTreeMap<(&'static str, bool), usize>) {
 #[test]
 fn a_reason_is_found_exactly_where_the_core_says_no() {
     let mut met = BTreeMap::new();
-    for profile in PROFILES {
-        let seeds = if profile == Profile::Big { 12 } else { 60 };
-        for seed in 0..seeds {
-            all_pairs(split(&generate(seed, profile)).0, &mut met);
-        }
+    let scripts = PROFILES.map(|profile| match profile {
+        Profile::Big => (profile, 12),
+        _ => (profile, 60),
+    });
+    for script in tiny_first::scripts(&scripts) {
+        all_pairs(split(&script.of).0, &mut met);
     }
     println!("{met:?}");
     let whats = [

@@ -5,12 +5,13 @@ use crate::audits::{ASKED, OPTIONAL};
 use crate::files::{accepted, failed, read, refused, root, run, with_file, NAMES, SCRIPT, SHEET};
 use crate::scripts::same;
 use conformance::served::given;
+use conformance::tiny_first;
 use desk::reach::Power;
 use desk::scripts::follow::{follow, Run};
 use desk::scripts::requests::split;
 use pilgonca::saved::checksum;
 use pilgonca::Visit;
-use reference::generators::{generate, Profile};
+use reference::generators::{generate, on_tiny, Profile};
 use reference::hostile;
 
 /// The state at the end of OPTIONAL.
@@ -136,8 +137,8 @@ fn the_audit_of_a_state_agrees_with_that_of_its_script() {
         audits_agree(&read(script));
     }
     let mut told = [0; 2];
-    for seed in 0..30 {
-        let input = generate(seed, Profile::Medium);
+    let medium = (0..30).map(|seed| generate(seed, Profile::Medium));
+    for input in on_tiny(0).into_iter().chain(medium) {
         if same(&input).is_some() {
             let one = audits_agree(&input);
             told.iter_mut().zip(one).for_each(|(all, one)| *all += one);
@@ -151,32 +152,31 @@ fn the_audit_of_a_state_agrees_with_that_of_its_script() {
 #[test]
 fn powers_are_those_of_the_script() {
     let (mut known, mut once) = ([0; 3], 0);
-    for (profile, seeds) in [
+    let scripts = [
         (Profile::Small, 200),
         (Profile::Medium, 60),
         (Profile::Full, 20),
-    ] {
-        for input in (0..seeds).map(|seed| generate(seed, profile)) {
-            let Some(run) = same(&input) else {
-                continue;
-            };
-            let visit = Visit::from_saved(&run.visit.save()).expect("a state");
-            let state = Run::begun(visit, true);
-            let [script, state] = [&run, &state].map(|one| one.powers().expect("powers"));
-            for (script, state) in script.iter().flatten().zip(state.iter().flatten()) {
-                match (script, state) {
-                    (Some(Power::Once(_, there)), Some(Power::NoRoom(here))) => {
-                        assert_eq!(there, here);
-                        once += 1;
-                    }
-                    _ => assert_eq!(script, state),
+    ];
+    for script in tiny_first::scripts(&scripts) {
+        let Some(run) = same(&script.of) else {
+            continue;
+        };
+        let visit = Visit::from_saved(&run.visit.save()).expect("a state");
+        let state = Run::begun(visit, true);
+        let [script, state] = [&run, &state].map(|one| one.powers().expect("powers"));
+        for (script, state) in script.iter().flatten().zip(state.iter().flatten()) {
+            match (script, state) {
+                (Some(Power::Once(_, there)), Some(Power::NoRoom(here))) => {
+                    assert_eq!(there, here);
+                    once += 1;
                 }
-                match state {
-                    Some(Power::Now) => known[0] += 1,
-                    Some(Power::Alone(_)) => known[1] += 1,
-                    Some(Power::Never) => known[2] += 1,
-                    _ => {}
-                }
+                _ => assert_eq!(script, state),
+            }
+            match state {
+                Some(Power::Now) => known[0] += 1,
+                Some(Power::Alone(_)) => known[1] += 1,
+                Some(Power::Never) => known[2] += 1,
+                _ => {}
             }
         }
     }
@@ -299,11 +299,12 @@ const LEFT_UNSOUND: [u64; 3] = [3787, 6065, 14_637];
 #[test]
 fn hostile_states_are_audited() {
     let mut audited = 0;
-    for seed in (0..120).chain(LEFT_UNSOUND) {
-        let state = given(&hostile::generate(seed).state);
-        if let Ok(visit) = Visit::from_state(state) {
+    let unsound = LEFT_UNSOUND.into_iter().map(hostile::generate);
+    let others = tiny_first::states(0..120).map(|hostile| hostile.of);
+    for (number, hostile) in others.chain(unsound).enumerate() {
+        if let Ok(visit) = Visit::from_state(given(&hostile.state)) {
             with_file("hostile.state", &visit.save(), |path| {
-                assert!(accepted(&["audit", path]).contains("Calls"), "seed {seed}");
+                assert!(accepted(&["audit", path]).contains("Calls"), "{number}");
                 audited += 1;
             });
         }

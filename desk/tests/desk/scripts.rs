@@ -3,12 +3,13 @@
 use crate::damage::{bytes_damaged, damaged};
 use crate::diagnosis::is_no_rule;
 use crate::files::read;
+use conformance::tiny_first;
 use desk::relation::Strongest;
 use desk::scripts::follow::{follow, output, Got, Run, Step};
 use desk::scripts::requests::{split, Request};
 use desk::scripts::trails::Hands;
 use pilgonca::{raw, CellInfo, Method, MethodInfo, PlaceKind, Refusal, Subject, Type, TypeInfo};
-use reference::generators::{generate, Profile, PROFILES};
+use reference::generators::{Profile, PROFILES};
 
 /// Runs a script here and by the core. None where it is too long or its sheet is refused.
 pub fn same(input: &[u8]) -> Option<Run<'_>> {
@@ -64,9 +65,8 @@ fn every_small_damage_is_read_as_the_core_reads_it() {
 #[test]
 fn generated_scripts_are_read_as_the_core_reads_them() {
     let (mut accepted, mut refused) = (0, 0);
-    for seed in 0..1500 {
-        let input = generate(seed, Profile::Damaged);
-        match same(&input) {
+    for script in tiny_first::scripts(&[(Profile::Damaged, 1500)]) {
+        match same(&script.of) {
             Some(_) => accepted += 1,
             None => refused += 1,
         }
@@ -142,21 +142,21 @@ fn hands(hands: &Hands) -> [Subject; 2] {
 #[test]
 fn trails_explain_what_is_offered() {
     let (mut offered, mut longest) = (0, 0);
-    for profile in PROFILES {
-        let seeds = if profile == Profile::Full { 12 } else { 60 };
-        for seed in 0..seeds {
-            let input = generate(seed, profile);
-            let Some(run) = same(&input) else {
-                continue;
-            };
-            offered += explained(&run);
-            handed(&run);
-            let lengths = run.visit.cells().map(|cell| {
-                let trail = run.trails.of(cell.number);
-                trail.map_or(0, |trail| trail.crossings.len())
-            });
-            longest = longest.max(lengths.max().unwrap_or(0));
-        }
+    let scripts = PROFILES.map(|profile| match profile {
+        Profile::Full => (profile, 12),
+        _ => (profile, 60),
+    });
+    for script in tiny_first::scripts(&scripts) {
+        let Some(run) = same(&script.of) else {
+            continue;
+        };
+        offered += explained(&run);
+        handed(&run);
+        let lengths = run.visit.cells().map(|cell| {
+            let trail = run.trails.of(cell.number);
+            trail.map_or(0, |trail| trail.crossings.len())
+        });
+        longest = longest.max(lengths.max().unwrap_or(0));
     }
     println!("{offered} methods offered, the longest trail has {longest} types");
     assert!(offered > 10_000 && longest > 5);
@@ -207,10 +207,9 @@ fn moves_come_true(run: &Run) -> usize {
 
 #[test]
 fn what_is_said_of_pairs_comes_true() {
-    let moves: usize = [Profile::Small, Profile::Medium, Profile::Big, Profile::Full]
-        .into_iter()
-        .flat_map(|profile| (0..40).map(move |seed| generate(seed, profile)))
-        .filter_map(|input| same(&input).map(|run| moves_come_true(&run)))
+    let profiles = [Profile::Small, Profile::Medium, Profile::Big, Profile::Full];
+    let moves: usize = tiny_first::scripts(&profiles.map(|profile| (profile, 40)))
+        .filter_map(|script| same(&script.of).map(|run| moves_come_true(&run)))
         .sum();
     println!("{moves} moves");
     assert!(moves > 5_000);

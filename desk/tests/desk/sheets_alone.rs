@@ -25,6 +25,9 @@ fn sheets_are_answered_alike_and_scripts_not_at_all() {
         &["pairs", SHEET],
         &["compare", SHEET, "3", "2"],
         &["explain", "8"],
+        &["tiny", "44"],
+        &["tiny", "--list"],
+        &["tiny", "--json"],
         &["help"],
     ] {
         assert_eq!(alone(words), run(words), "{words:?}");

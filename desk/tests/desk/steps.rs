@@ -4,17 +4,17 @@ use crate::drawing::drawn_run;
 use crate::files::{accepted, run, with_file};
 use crate::json::Value;
 use crate::scripts::same;
+use conformance::tiny_first;
 use desk::reach::{of_sheet, within, Power, Reach};
 use pilgonca::Visit;
-use reference::generators::{generate, Profile};
+use reference::generators::Profile;
 
 /// What a search of a few steps finds is what the whole one does, or that it is not settled.
 #[test]
 fn few_steps_find_less_and_nothing_else() {
     let mut met = [0; 3];
-    for seed in 0..60 {
-        let input = generate(seed, Profile::Medium);
-        let Some(run) = same(&input) else {
+    for script in tiny_first::scripts(&[(Profile::Medium, 60)]) {
+        let Some(run) = same(&script.of) else {
             continue;
         };
         let sheet = run.visit.sheet();
@@ -24,7 +24,7 @@ fn few_steps_find_less_and_nothing_else() {
             for (all, few) in all.iter().zip(&few) {
                 match few {
                     Some(Power::Unsettled(3)) => met[0] += 1,
-                    few => assert_eq!(few, all, "seed {seed}, cell {}", cell.number),
+                    few => assert_eq!(few, all, "{}, cell {}", script.from, cell.number),
                 }
                 met[1] += usize::from(matches!(few, Some(Power::Alone(_))));
             }

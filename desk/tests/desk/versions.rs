@@ -3,6 +3,7 @@
 use crate::files::{accepted, read, run, with_file, NAMES, SHEET};
 use desk::scripts::requests::split;
 use reference::generators::{generate, Profile};
+use reference::tiny::texts;
 
 #[test]
 fn powers_of_case_p() {
@@ -101,9 +102,16 @@ fn types_come_and_go() {
 /// Any two sheets get an answer, and a sheet and itself the one that is due.
 #[test]
 fn any_sheets_can_be_compared() {
-    for seed in 0..12 {
-        let texts = [seed, seed + 100].map(|seed| generate(seed, Profile::Medium));
-        let [one, other] = [&texts[0], &texts[1]].map(|text| split(text).0);
+    // each tiny sheet with the next, and the last with the first
+    let tiny = texts();
+    let next = tiny.clone().into_iter().cycle().skip(1);
+    let tiny = tiny.into_iter().zip(next);
+    let medium = (0..12).map(|seed| {
+        let text = |seed| split(&generate(seed, Profile::Medium)).0.to_vec();
+        (text(seed), text(seed + 100))
+    });
+    for (one, other) in tiny.chain(medium) {
+        let [one, other] = [&one, &other];
         with_file("one", one, |one| {
             with_file("other", other, |other| {
                 assert_eq!(run(&["diff", one, one]).0, 0);

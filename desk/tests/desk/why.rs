@@ -2,6 +2,7 @@
 
 use crate::files::{accepted, with_file, NAMES, SCRIPT};
 use crate::scripts::same;
+use conformance::tiny_first::{self, Input};
 use desk::names::Names;
 use desk::scripts::follow::put;
 use desk::scripts::requests::{split, Request};
@@ -9,8 +10,7 @@ use desk::scripts::trial::{served, why};
 use desk::scripts::why::{Cross, Full, Given, Layer, LeadsTo, NoClass, Operand, Why};
 use pilgonca::raw::State;
 use pilgonca::{Cell, MethodInfo, PlaceKind, Refusal, Representation, Subject, Type, Visit};
-use reference::generators::{generate, Profile, PROFILES};
-use reference::hostile;
+use reference::generators::{Profile, PROFILES};
 use reference::raw::RawState;
 use reference::requests;
 use std::collections::BTreeMap;
@@ -261,11 +261,12 @@ fn explained(input: &[u8], met: &mut BTreeMap<&'static str, usize>) -> usize {
 #[test]
 fn every_refusal_has_a_reason_that_is_so() {
     let (mut met, mut passed) = (BTreeMap::new(), 0);
-    for profile in PROFILES {
-        let seeds = if profile == Profile::Full { 15 } else { 150 };
-        for seed in 0..seeds {
-            passed += explained(&generate(seed, profile), &mut met);
-        }
+    let scripts = PROFILES.map(|profile| match profile {
+        Profile::Full => (profile, 15),
+        _ => (profile, 150),
+    });
+    for script in tiny_first::scripts(&scripts) {
+        passed += explained(&script.of, &mut met);
     }
     println!("{passed} accepted; {met:?}");
     assert!(passed > 10_000 && met.len() >= 25, "{passed} {met:?}");
@@ -340,19 +341,14 @@ fn ours(request: requests::Request) -> Request {
 #[test]
 fn states_handed_in_have_reasons() {
     let (mut explained, mut not, mut later) = (0, 0, 0);
-    for seed in 0..250 {
-        let hostile = hostile::generate(seed);
-        let Some(mut visit) = handed_in(&hostile.state) else {
+    for Input { from, of, .. } in tiny_first::states(0..250) {
+        let Some(mut visit) = handed_in(&of.state) else {
             continue;
         };
-        for request in hostile.requests.into_iter().map(ours) {
+        for request in of.requests.into_iter().map(ours) {
             let before = visit.clone();
             match put(&mut visit, &request) {
-                Ok(_) => assert_eq!(
-                    served(&before, &request),
-                    Ok(()),
-                    "seed {seed}: {request:?}"
-                ),
+                Ok(_) => assert_eq!(served(&before, &request), Ok(()), "{from}: {request:?}"),
                 // a state that is not sound any more (Q19)
                 Err(Refusal::OutOfRange) => break,
                 Err(refusal) => match why(&before, &request, refusal) {

@@ -5,6 +5,8 @@
 
 #[cfg(feature = "visits")]
 pub mod states;
+#[cfg(feature = "tiny")]
+pub mod tiny;
 #[cfg(feature = "tools")]
 pub mod tools;
 

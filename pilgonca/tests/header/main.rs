@@ -128,6 +128,7 @@ fn declared() -> Functions {
     let texts = [
         include_str!("../../src/raw/functions.rs"),
         include_str!("../../src/raw/functions/states.rs"),
+        include_str!("../../src/raw/functions/tiny.rs"),
         include_str!("../../src/raw/functions/tools.rs"),
     ];
     let blocks = texts.map(|text| {
@@ -242,6 +243,20 @@ fn every_number_is_the_sources() {
     }
     let words = numbers.remove("PILGONCA_ANSWER_WORDS");
     assert_eq!(words, Some(constant("request_run", "WORDS")));
+    // the tiny sheets: their crates call it otherwise
+    for (name, word, ours, called) in [
+        ("tiny_record", "SHEETS", raw::TINY_SHEETS, "TINY_SHEETS"),
+        (
+            "tiny_output",
+            "PRINTED_BYTES",
+            raw::TINY_BYTES,
+            "TINY_BYTES",
+        ),
+    ] {
+        let found = numbers.remove(&format!("PILGONCA_{called}"));
+        assert_eq!(found, Some(constant(name, word)), "{called}");
+        assert_eq!(found, Some(ours), "{called}");
+    }
     // the rest are lengths of arrays, which are held against the functions
     let lengths = ["STATE_COUNTS", "TABLE_COUNTS", "VALUES"].map(|word| format!("PILGONCA_{word}"));
     assert_eq!(numbers.into_keys().collect::<Vec<_>>(), lengths);

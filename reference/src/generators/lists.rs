@@ -100,7 +100,7 @@ fn target(random: &mut Random, model: &Model, from: TypeNo, own: usize) -> Optio
         .copied()
         .filter(|number| table.types[*number].own == own)
         .collect();
-    let holds = |relation, t: TypeNo| model.relations.holds(relation, t, from);
+    let holds = |relation, t: TypeNo| model.holds(relation, t, from);
     let worth: Vec<TypeNo> = some
         .iter()
         .copied()
@@ -206,7 +206,7 @@ fn easy_value(random: &mut Random, model: &Model, holder: usize, named: TypeNo) 
     }
     let passes = |cell: &usize| {
         let cell = state.cells[*cell];
-        cell.holder == holder && model.relations.holds(Relation::Subtype, named, cell.type_)
+        cell.holder == holder && model.holds(Relation::Subtype, named, cell.type_)
     };
     let cells: Vec<usize> = (0..state.cells.len()).filter(passes).collect();
     random.pick_some(&cells).map(|cell| number(*cell))
@@ -254,12 +254,12 @@ fn value(random: &mut Random, model: &Model, holder: usize, named: TypeNo) -> i6
         .copied()
         .filter(|cell| {
             let from = state.cells[*cell].type_;
-            model.relations.holds(Relation::Loose, named, from)
+            model.holds(Relation::Loose, named, from)
         })
         .collect();
     let subtype = |cell: &usize| {
         let from = state.cells[*cell].type_;
-        model.relations.holds(Relation::Subtype, named, from)
+        model.holds(Relation::Subtype, named, from)
     };
     let worth: Vec<usize> = able.iter().copied().filter(|one| !subtype(one)).collect();
     let list = match random.weighted(&[35, 40, 25]) {

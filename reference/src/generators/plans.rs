@@ -105,6 +105,13 @@ pub const SMALL: Plan = Plan {
     goal: None,
 };
 
+/// For tables of tiny sheets: of one type there is more to call than to move.
+pub const TINY: Plan = Plan {
+    requests: (8, 24),
+    weights: [15, 15, 30, 25, 15],
+    ..SMALL
+};
+
 pub const MEDIUM: Plan = Plan {
     subjects: (2, 4),
     methods: (2, 4),

@@ -4,8 +4,8 @@ use lib.Seq.{length-take-le}
 use mir.Facts.{toZ-ofZ}
 use borrow.Author.Needs.{needs}
 use Rattle.spec_model.specs.Requests.{answer}
-use Rattle.export_requests.specs.States.{givenIn}
-use Rattle.export_requests.proofs.Listing.{answer-few, answer-is}
+use Rattle.request_operands.specs.Given.{givenIn}
+use Rattle.request_operands.proofs.Listing.{answer-few, answer-is}
 use Rattle.export_requests.proofs.pilgonca_answer.Statement.{statement}
 use Rattle.export_requests.proofs.pilgonca_answer.Tie as tie
 

@@ -7,7 +7,7 @@ use lib.Seq.{length-take-le}
 use borrow.Author.Needs.{needs}
 use Rattle.spec_model.specs.Table.{maxArguments}
 use Rattle.spec_model.specs.Requests.{call}
-use Rattle.export_requests.proofs.Listing.{call-is}
+use Rattle.request_operands.proofs.Listing.{call-is}
 use Rattle.export_requests.proofs.Cut.{handed-cut}
 use Rattle.export_requests.proofs.pilgonca_call.Statement.{statement}
 use Rattle.export_requests.proofs.pilgonca_call.Tie as tie

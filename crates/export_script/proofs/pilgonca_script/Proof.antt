@@ -1,6 +1,6 @@
 -- The C function gives the library's answer and leaves its buffer, which are the definition's for every input.
 use borrow.Author.Needs.{needs}
-use Rattle.export_table.proofs.Leaving.{written-is}
+use Rattle.text_write.proofs.Written.{written-is}
 use Rattle.export_script.proofs.pilgonca_script.Statement.{statement}
 use Rattle.export_script.proofs.pilgonca_script.Tie as tie
 

@@ -3,7 +3,7 @@ use mathlib.Core.Path.{ap, _∙_}
 use borrow.Author.Needs.{needs}
 use Rattle.table_record.specs.Store.{rawTable}
 use Rattle.spec_sheet.specs.Text.{write}
-use Rattle.export_table.proofs.Leaving.{written-is}
+use Rattle.text_write.proofs.Written.{written-is}
 use Rattle.export_table.proofs.pilgonca_write.Statement.{statement}
 use Rattle.export_table.proofs.pilgonca_write.Tie as tie
 

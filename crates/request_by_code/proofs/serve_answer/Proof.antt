@@ -1,7 +1,7 @@
 -- Two operands for an answer of nothing, three with the value; else none such.
 use Rattle.state_record.specs.View.{systemIn}
 use Rattle.spec_model.specs.Coded.{byCode}
-use Rattle.request_by_code.proofs.Words.{is-read}
+use Rattle.request_operands.proofs.Words.{is-read}
 use Rattle.request_by_code.proofs.Laws.{refuses, answer-none, nothing-is, answer-is}
 use borrow.Author.Needs.{needs}
 use Rattle.state_record.specs.Whole.{whole}

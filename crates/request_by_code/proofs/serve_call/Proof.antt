@@ -6,7 +6,7 @@ use lib.ListN.{length, getD, drop, drop-of-length-le}
 use Rattle.spec_model.specs.Requests.{callRequest}
 use Rattle.state_record.specs.View.{systemIn}
 use Rattle.spec_model.specs.Coded.{byCode}
-use Rattle.request_by_code.proofs.Words.{is-read, all-behind}
+use Rattle.request_operands.proofs.Words.{is-read, all-behind}
 use Rattle.request_by_code.proofs.Laws.{refuses, call-none, call-is}
 use native.Mathlib.Omega.{arith}
 use borrow.Author.Needs.{needs}

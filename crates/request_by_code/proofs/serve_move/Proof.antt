@@ -1,7 +1,7 @@
 -- One operand too many or too few, or the step.
 use Rattle.state_record.specs.View.{systemIn}
 use Rattle.spec_model.specs.Coded.{byCode}
-use Rattle.request_by_code.proofs.Words.{is-read}
+use Rattle.request_operands.proofs.Words.{is-read}
 use Rattle.request_by_code.proofs.Laws.{refuses, move-none, move-is}
 use borrow.Author.Needs.{needs}
 use Rattle.state_record.specs.Whole.{whole}

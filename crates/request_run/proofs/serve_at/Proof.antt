@@ -3,7 +3,7 @@ use Prim.Native.Nat.{_+_, _-_}
 use mathlib.Core.Path.{_≡_, refl, ap, sym}
 use Rattle.state_record.specs.View.{systemIn}
 use Rattle.request_by_code.specs.Coded.{serveAsked}
-use Rattle.request_by_code.proofs.Words.{is-read}
+use Rattle.request_operands.proofs.Words.{is-read}
 use Rattle.request_by_code.proofs.Laws.{refuses}
 use Rattle.request_words.specs.Found.{askedAt}
 use Rattle.request_words.proofs.Words.{asked-none, asked-is}

@@ -9,7 +9,7 @@ use Rattle.spec_model.specs.Requests.{callRequest}
 use Rattle.state_record.specs.Whole.{whole}
 use Rattle.state_record.specs.View.{systemIn}
 use Rattle.request_by_code.specs.Coded.{serveAsked}
-use Rattle.request_by_code.proofs.Words.{is-read, all-behind}
+use Rattle.request_operands.proofs.Words.{is-read, all-behind}
 use Rattle.request_by_code.proofs.Laws.{call-is}
 use Rattle.request_serve.proofs.Laws.{known-open, known-call}
 use Rattle.request_serve.proofs.planned.Statement.{statement}

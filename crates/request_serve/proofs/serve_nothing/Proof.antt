@@ -5,7 +5,7 @@ use Rattle.spec_model.specs.Coded.{byCode}
 use Rattle.state_record.specs.Whole.{whole}
 use Rattle.state_record.specs.View.{systemIn}
 use Rattle.request_common.proofs.Laws.{step-as}
-use Rattle.request_by_code.proofs.Words.{is-read}
+use Rattle.request_operands.proofs.Words.{is-read}
 use Rattle.request_by_code.proofs.Laws.{nothing-is}
 use Rattle.request_serve.proofs.Laws.{kept-serves}
 use Rattle.request_serve.proofs.serve_nothing.Statement.{statement}

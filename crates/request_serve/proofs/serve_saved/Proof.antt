@@ -4,7 +4,7 @@ use mathlib.Core.List.{List}
 use Prim.Native.Nat.{ℕ}
 use borrow.Author.Needs.{needs}
 use Rattle.spec_model.specs.Coded.{byCode}
-use Rattle.request_serve.specs.Back.{givenBack}
+use Rattle.request_common.specs.Back.{givenBack}
 use Rattle.request_serve.proofs.Laws.{back-serves}
 use Rattle.request_serve.proofs.serve_saved.Statement.{statement}
 use Rattle.request_serve.proofs.serve_saved.Tie as tie

@@ -1,6 +1,6 @@
 -- What was read stands within the input's buffer (`counted-is`), and what was written within the other (`wrote-within`).
 use Rattle.base_streams.proofs.Laws.{counted-is}
-use Rattle.script_output.proofs.Buffer.{wrote-within}
+use Rattle.text_write.proofs.Written.{wrote-within}
 use borrow.Author.Needs.{needs}
 use Rattle.script.proofs.main.Statement.{statement}
 use Rattle.script.proofs.main.Tie as tie

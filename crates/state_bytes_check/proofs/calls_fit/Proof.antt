@@ -9,7 +9,8 @@ use Rattle.state_record.specs.View.{callOf}
 use Rattle.table_check_links.proofs.Each.{rest-next, rest-broken, rest-end}
 use Rattle.table_check_links.proofs.Steps.{refused, passed}
 use Rattle.table_check_links.specs.Parts.{eachFrom}
-use Rattle.state_check.specs.Parts.{callAccepted, callsAccepted}
+use Rattle.state_check_records.specs.Parts.{callAccepted}
+use Rattle.state_check.specs.Parts.{callsAccepted}
 use Rattle.state_bytes.specs.Records.{callsFrom}
 use Rattle.state_bytes_check.proofs.Laws.{CallAt, calls-each}
 use Rattle.state_bytes_check.proofs.calls_fit.Statement.{statement}

@@ -10,7 +10,8 @@ use Rattle.state_record.specs.View.{cellOf}
 use Rattle.table_check_links.proofs.Each.{rest-next, rest-broken, rest-end}
 use Rattle.table_check_links.proofs.Steps.{refused, passed}
 use Rattle.table_check_links.specs.Parts.{eachFrom}
-use Rattle.state_check.specs.Parts.{cellAccepted, cellsAccepted}
+use Rattle.state_check_records.specs.Parts.{cellAccepted}
+use Rattle.state_check.specs.Parts.{cellsAccepted}
 use Rattle.state_bytes.specs.Records.{cellsFrom}
 use Rattle.state_bytes_check.proofs.Laws.{CellAt, cells-each}
 use Rattle.state_bytes_check.proofs.cells_fit.Statement.{statement}

@@ -10,7 +10,8 @@ use Rattle.state_record.specs.View.{placeOf}
 use Rattle.table_check_links.proofs.Each.{rest-next, rest-broken, rest-end}
 use Rattle.table_check_links.proofs.Steps.{refused, passed}
 use Rattle.table_check_links.specs.Parts.{eachFrom}
-use Rattle.state_check.specs.Parts.{placeAccepted, placesAccepted}
+use Rattle.state_check_records.specs.Parts.{placeAccepted}
+use Rattle.state_check.specs.Parts.{placesAccepted}
 use Rattle.state_bytes.specs.Records.{placesFrom}
 use Rattle.state_bytes_check.proofs.Laws.{PlaceAt, places-each}
 use Rattle.state_bytes_check.proofs.places_fit.Statement.{statement}

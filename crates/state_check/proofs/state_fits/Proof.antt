@@ -6,7 +6,7 @@ use Rattle.spec_model.specs.Check.{tableAccepted}
 use Rattle.table_record.specs.Store.{rawTable}
 use Rattle.table_check.proofs.Accepted.{accepted-limits}
 use Rattle.table_check_links.proofs.Steps.{refused, passed, ends, goes}
-use Rattle.state_check.specs.Parts.{sizesAccepted}
+use Rattle.state_check_records.specs.Parts.{sizesAccepted}
 use Rattle.state_check.proofs.Laws.{accepted-is, sizes-are}
 use Rattle.state_check.proofs.state_fits.Statement.{statement}
 use Rattle.state_check.proofs.state_fits.Tie as tie

@@ -1,0 +1,4 @@
+pub mod Count
+pub mod All
+pub mod Every
+pub mod Cases

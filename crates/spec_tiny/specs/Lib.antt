@@ -1,0 +1,4 @@
+pub mod Tiny
+pub mod Numbered
+pub mod Order
+pub mod Every
