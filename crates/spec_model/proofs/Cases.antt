@@ -1,5 +1,5 @@
 -- The proved cases (K), worked derivations, and demand 3 evaluated on lists. Everything here is computed from the definitions.
-use mathlib.Core.Path.{_≡_, refl}
+use mathlib.Core.Path.{_≡_, refl, ap}
 use mathlib.Core.Bool.{Bool, true, false, _&&_}
 use mathlib.Core.List.{List, [], _∷_, map}
 use mathlib.Core.Option.{none, some}
@@ -8,7 +8,7 @@ use lib.IntN.{pos, negsuc}
 use lib.ListN.{drop}
 use Rattle.spec_model.specs.Basics.{all}
 use Rattle.spec_model.specs.Table.{denied, optional, avail, unavail, sub, sup, closed, Ty, Table, noType, size, validSheet, signed, bare}
-use Rattle.spec_model.specs.Requests.{System, Request, move, pair, number, nothing, Outcome, got, refused, loaded, run}
+use Rattle.spec_model.specs.Requests.{System, Request, move, pair, number, nothing, Outcome, outcome, got, refused, loaded, serve, after, run}
 use Rattle.spec_model.specs.Chains.{permits, offered}
 use Rattle.spec_model.specs.Book.{Book, pageAt, enter}
 use Rattle.spec_model.specs.Claim.{follow, reached}
@@ -109,25 +109,33 @@ pub demand3-evaluated : AllSeen looks
 unfolding follow enter offered
 demand3-evaluated = (refl, (refl, (refl, tt)))
 
--- ---- The proved cases as a table: a request and what it comes to. Those on one sheet are served one after the other, the refused ones leaving the state as it was; beside them
--- how many types there are at the end.
+-- ---- The proved cases as a table: a request, what it comes to, and how many types there are then. Those on one sheet are served one after the other, the refused ones leaving
+-- the state as it was.
 pub record Row : Type 0 where
   pub request : Request
   pub gives : Outcome
+  pub types : ℕ
 
 pub record Case : Type 0 where
   pub table : Table
   pub rows : List Row
-  pub types : ℕ
 
-abbrev row : Request → Outcome → Row
-row q o = record { request = q; gives = o }
+unfoldable pub told : System → List Request → List (Outcome × ℕ)
+unfolding serve
+told s [] = []
+told s (q ∷ qs) = let a = serve s q in let s′ = after s a in (outcome a, size (s′ .table)) ∷ told s′ qs
 
-abbrev ended : List Outcome × System → List Outcome × ℕ
-ended x = (x .0, size (x .1 .table))
+-- what is told is what a run gives
+pub told-run : (s : System) → (qs : List Request) → map (λ (x : Outcome × ℕ). x .0) (told s qs) ≡ run s qs .0
+unfolding told run
+told-run s [] = refl
+told-run s (q ∷ qs) = ap (λ (os : List Outcome). outcome (serve s q) ∷ os) (told-run (after s (serve s q)) qs)
+
+abbrev row : ℕ → Request → Outcome → Row
+row n q o = record { request = q; gives = o; types = n }
 
 abbrev pub Holds : Case → Type 0
-Holds c = ended (run (loaded (c .table)) (map (λ (r : Row). r .request) (c .rows))) ≡ (map (λ (r : Row). r .gives) (c .rows), c .types)
+Holds c = told (loaded (c .table)) (map (λ (r : Row). r .request) (c .rows)) ≡ map (λ (r : Row). (r .gives, r .types)) (c .rows)
 
 abbrev pub AllHold : List Case → Type 0
 AllHold [] = Unit
@@ -139,63 +147,59 @@ provedCases =
       table = caseP;
       rows =
           -- K9, on the loaded sheet
-          row (new′ 0 2 2) (refused 7)
+          row 6 (new′ 0 2 2) (refused 7)
           -- K2, K3
-          ∷ row (new′ 0 1 4) (got (pair 0 0))
-          ∷ row (move′ 0 0 1 2) (got (pair 1 0))
+          ∷ row 6 (new′ 0 1 4) (got (pair 0 0))
+          ∷ row 6 (move′ 0 0 1 2) (got (pair 1 0))
           -- K10: erase is denied in type 2
-          ∷ row (call′ 1 1 2 []) (refused 14)
+          ∷ row 6 (call′ 1 1 2 []) (refused 14)
           -- K4, with which two types are derived
-          ∷ row (move′ 1 1 2 3) (got (pair 2 1))
-          -- K5, K6
-          ∷ row (move′ 1 1 2 5) (refused 8)
-          ∷ row (move′ 2 2 1 4) (refused 9)
-          -- K8: what was derived on the way is gone at the end
-          ∷ row (move′ 2 2 2 5) (refused 10)
+          ∷ row 8 (move′ 1 1 2 3) (got (pair 2 1))
+          -- K8: what was derived on the way is gone
+          ∷ row 8 (move′ 2 2 2 5) (refused 10)
           -- K11: mark is only optional in type 3
-          ∷ row (call′ 2 2 1 (pos 7 ∷ [])) (refused 14)
+          ∷ row 8 (call′ 2 2 1 (pos 7 ∷ [])) (refused 14)
+          -- K5, K6, K7
+          ∷ row 8 (move′ 1 1 2 5) (refused 8)
+          ∷ row 8 (move′ 2 2 1 4) (refused 9)
+          ∷ row 8 (move′ 2 2 0 4) (got (pair 3 0))
           -- further: a number answered through an adapter, one too large for w32 before it, and a negative subject
-          ∷ row (call′ 2 2 0 []) (got (pair 0 1))
-          ∷ row (answer′ 0 0 (some (pos 2147483648))) (refused 16)
-          ∷ row (answer′ 0 0 (some (negsuc 2147483647))) (got (number (negsuc 2147483647)))
-          ∷ row (move (negsuc 0) (pos 2) (pos 2) (pos 3)) (refused 5)
-          -- K7
-          ∷ row (move′ 2 2 0 4) (got (pair 3 0))
+          ∷ row 8 (call′ 2 2 0 []) (got (pair 0 1))
+          ∷ row 8 (answer′ 0 0 (some (pos 2147483648))) (refused 16)
+          ∷ row 8 (answer′ 0 0 (some (negsuc 2147483647))) (got (number (negsuc 2147483647)))
+          ∷ row 8 (move (negsuc 0) (pos 2) (pos 2) (pos 3)) (refused 5)
           ∷ [];
-      types = 8;
     }
     -- further: two adapters counted, an answer of nothing given twice, and unwrapping through both, by the owner alone
     ∷ record {
       table = twice;
       rows =
-          row (new′ 0 0 1) (got (pair 0 1))
-          ∷ row (move′ 0 0 1 2) (got (pair 1 1))
-          ∷ row (move′ 1 1 1 3) (got (pair 2 2))
-          ∷ row (call′ 1 2 0 []) (got (pair 0 2))
-          ∷ row (answer′ 0 0 none) (got nothing)
-          ∷ row (answer′ 0 0 none) (refused 17)
-          ∷ row (move′ 1 2 0 4) (got (pair 3 0))
-          ∷ row (move′ 1 2 1 4) (refused 9)
+          row 7 (new′ 0 0 1) (got (pair 0 1))
+          ∷ row 7 (move′ 0 0 1 2) (got (pair 1 1))
+          ∷ row 9 (move′ 1 1 1 3) (got (pair 2 2))
+          ∷ row 9 (call′ 1 2 0 []) (got (pair 0 2))
+          ∷ row 9 (answer′ 0 0 none) (got nothing)
+          ∷ row 9 (answer′ 0 0 none) (refused 17)
+          ∷ row 9 (move′ 1 2 0 4) (got (pair 3 0))
+          ∷ row 9 (move′ 1 2 1 4) (refused 9)
           ∷ [];
-      types = 9;
     }
     -- further: a reference answered through an adapter
     ∷ record {
       table = answering;
       rows =
-          row (new′ 0 0 1) (got (pair 0 0))
-          ∷ row (move′ 0 0 1 3) (got (pair 1 1))
-          ∷ row (call′ 1 1 0 []) (got (pair 0 1))
-          ∷ row (new′ 0 0 0) (got (pair 2 2))
-          ∷ row (answer′ 0 0 (some (pos 2))) (got (pair 3 3))
-          ∷ row (call′ 1 3 1 []) (refused 14)
+          row 5 (new′ 0 0 1) (got (pair 0 0))
+          ∷ row 9 (move′ 0 0 1 3) (got (pair 1 1))
+          ∷ row 9 (call′ 1 1 0 []) (got (pair 0 1))
+          ∷ row 9 (new′ 0 0 0) (got (pair 2 2))
+          ∷ row 11 (answer′ 0 0 (some (pos 2))) (got (pair 3 3))
+          ∷ row 11 (call′ 1 3 1 []) (refused 14)
           ∷ [];
-      types = 11;
     }
     ∷ []
 
 pub proved-cases : AllHold provedCases
-unfolding run
+unfolding told
 proved-cases = (refl, (refl, (refl, tt)))
 
 -- ---- Worked derivations: every derived type with its number, key and methods. They show the order (D17); 9 is used again in

@@ -20,7 +20,7 @@ pub two : String → String → String → List ℕ
 two own m n = sheet "methods=2" own (m ∷ n ∷ [])
 
 -- one method
-pub cases-one : map (λ i. text (tinyAt i)) (0 ∷ 1 ∷ 2 ∷ 3 ∷ 4 ∷ 5 ∷ 6 ∷ 9 ∷ 10 ∷ 11 ∷ 12 ∷ 13 ∷ [])
+pub cases-one : map (λ i. text (tinyAt i)) (0 ∷ 1 ∷ 2 ∷ 3 ∷ 4 ∷ 5 ∷ 6 ∷ 7 ∷ 8 ∷ 9 ∷ 10 ∷ 11 ∷ 12 ∷ 13 ∷ [])
     ≡ one "own=no" "m=denied"
     ∷ one "own=no" "m=unavail"
     ∷ one "own=no" "m=avail()-"
@@ -28,6 +28,8 @@ pub cases-one : map (λ i. text (tinyAt i)) (0 ∷ 1 ∷ 2 ∷ 3 ∷ 4 ∷ 5 ∷
     ∷ one "own=no" "m=avail(0)-"
     ∷ one "own=no" "m=avail(0)0"
     ∷ one "own=no" "m=optional()-"
+    ∷ one "own=no" "m=optional()0"
+    ∷ one "own=no" "m=optional(0)-"
     ∷ one "own=no" "m=optional(0)0"
     ∷ one "own=yes" "m=denied"
     ∷ one "own=yes" "m=unavail"

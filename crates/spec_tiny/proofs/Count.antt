@@ -21,10 +21,13 @@ pub count : length tinyTables ≡ tinyCount
 unfolding tinyTables
 count = refl
 
--- a number of each
-number-at : (f : Table → ℕ) (g : ℕ → ℕ) → map f tinyTables ≡ from tinyCount 0 g → (i : ℕ) → i < tinyCount → f (tinyAt i) ≡ g i
+-- what is known of them in their order, of each
+pub mapped-at : {A : Type 0} (f : Table → A) (xs : List A) (d : A) → map f tinyTables ≡ xs → (i : ℕ) → i < tinyCount → f (tinyAt i) ≡ getD xs i d
 unfolding tinyAt
-number-at f g e i l = sym (getD-map-in f tinyTables i (tinyTable false []) 0 (rw count l)) ∙ ap (λ (xs : List ℕ). getD xs i 0) e ∙ from-first g tinyCount i 0 l
+mapped-at {A} f xs d e i l = sym (getD-map-in f tinyTables i (tinyTable false []) d (rw count l)) ∙ ap (λ (ys : List A). getD ys i d) e
+
+number-at : (f : Table → ℕ) (g : ℕ → ℕ) → map f tinyTables ≡ from tinyCount 0 g → (i : ℕ) → i < tinyCount → f (tinyAt i) ≡ g i
+number-at f g e i l = mapped-at f _ 0 e i l ∙ from-first g tinyCount i 0 l
 
 all-valid : So (all validSheet tinyTables)
 unfolding tinyTables validSheet

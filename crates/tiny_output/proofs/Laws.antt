@@ -22,7 +22,7 @@ use Rattle.table_record.proofs.Laws.{put-types}
 use Rattle.spec_sheet.specs.Text.{text}
 use Rattle.spec_tiny.specs.Tiny.{tinyTable, tinyTables, tinyCount, tinyText}
 use Rattle.spec_tiny.specs.Numbered.{tinyAt}
-use Rattle.spec_tiny.proofs.Count.{count}
+use Rattle.spec_tiny.proofs.Count.{count, mapped-at}
 use Rattle.tiny_record.specs.Plan.{tinyCounts}
 
 -- ---- The table that is stored
@@ -54,8 +54,7 @@ all-short = refl
 
 at-number : {A : Type 0} (f g : Table → A) (d : A) → map f tinyTables ≡ map g tinyTables → (i : ℕ) → i < tinyCount → f (tinyAt i) ≡ g (tinyAt i)
 unfolding tinyAt
-at-number {A} f g d e i l = sym (getD-map-in f tinyTables i (tinyTable false []) d (rw count l)) ∙ ap (λ (xs : List A). getD xs i d) e
-    ∙ getD-map-in g tinyTables i (tinyTable false []) d (rw count l)
+at-number {A} f g d e i l = mapped-at f _ d e i l ∙ getD-map-in g tinyTables i (tinyTable false []) d (rw count l)
 
 first-type : (b b′ : List ℕ) (x : RawType) → length b ≡ typesSize → Put b 0 x b′ → getD (typesIn b′) 0 noRawType ≡ x
 unfolding typesIn

@@ -1,6 +1,6 @@
 -- The plans give the records of the tables of the list, in its order; and the code's records are those of the plans.
 use mathlib.Core.Path.{_≡_, refl, sym, ap, _∙_}
-use mathlib.Core.Bool.{Bool, true, false, _&&_, So}
+use mathlib.Core.Bool.{Bool, true, _&&_, So}
 use mathlib.Core.List.{List, [], _∷_, map}
 use Prim.Native.Nat.{ℕ, _<_, _≤_, _-_, _/_, _%_}
 use lib.Dec.{ltb}
@@ -11,12 +11,12 @@ use Rattle.spec_model.specs.Table.{Table, typeAt}
 use Rattle.spec_model.specs.Records.{typeRecord}
 use Rattle.spec_model.specs.Check.{RawMethod, RawType, noRawType}
 use Rattle.spec_model.proofs.Rules.{first, second}
-use Rattle.spec_model.proofs.Lists.{from-first, getD-map-in}
+use Rattle.spec_model.proofs.Lists.{from-first}
 use Rattle.table_record.specs.Store.{rawMethod, emptyMethod}
 use Rattle.table_record.specs.declared.Method.{Method}
-use Rattle.spec_tiny.specs.Tiny.{tinyTable, tinyTables, tinyCount}
+use Rattle.spec_tiny.specs.Tiny.{tinyTables, tinyCount}
 use Rattle.spec_tiny.specs.Numbered.{tinyAt}
-use Rattle.spec_tiny.proofs.Count.{count, methods-at}
+use Rattle.spec_tiny.proofs.Count.{count, mapped-at, methods-at}
 use Rattle.tiny_record.specs.declared.Plan.{Plan}
 use Rattle.tiny_record.specs.Plan.{bareRaw, signedRaw, choiceRaw, planBy, planOf, planRaw, tinyCounts}
 
@@ -24,14 +24,12 @@ use Rattle.tiny_record.specs.Plan.{bareRaw, signedRaw, choiceRaw, planBy
 abbrev recordOf : Table → RawType
 recordOf t = typeRecord (typeAt t 0)
 
-all-planned : from tinyCount 0 (λ i. planRaw (planOf i)) ≡ map recordOf tinyTables
+all-planned : map recordOf tinyTables ≡ from tinyCount 0 (λ i. planRaw (planOf i))
 unfolding from planOf tinyTables
 all-planned = refl
 
 pub plan-is : (i : ℕ) → i < tinyCount → planRaw (planOf i) ≡ typeRecord (typeAt (tinyAt i) 0)
-unfolding tinyAt
-plan-is i l = sym (from-first (λ k. planRaw (planOf k)) tinyCount i noRawType l) ∙ ap (λ (xs : List RawType). getD xs i noRawType) all-planned
-    ∙ getD-map-in recordOf tinyTables i (tinyTable false []) noRawType (rw count l)
+plan-is i l = sym (mapped-at recordOf _ noRawType all-planned i l ∙ from-first (λ k. planRaw (planOf k)) tinyCount i noRawType l)
 
 abbrev small : Plan → Bool
 small p = ltb (p .first) 10 && ltb (p .second) 10

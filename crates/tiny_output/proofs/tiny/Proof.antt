@@ -1,4 +1,5 @@
 -- How long they are is known (`text-size`): a shorter buffer is refused and stays, in any other they are written.
+use native.Mathlib.Omega.{arith}
 use Rattle.spec_tiny.specs.Tiny.{tinyText}
 use Rattle.spec_tiny.proofs.Count.{text-size}
 use Rattle.text_write.proofs.Written.{fits-is, refused-is}
@@ -7,7 +8,7 @@ use Rattle.tiny_output.proofs.tiny.Statement.{statement}
 use Rattle.tiny_output.proofs.tiny.Tie as tie
 
 returns : tie.Need-returns
-returns c = refused-is tinyText (c .before .before .args .buf .now) (rw text-size (c .if1 .taken))
+returns c = refused-is tinyText (c .before .before .args .buf .now) (rw text-size (omega (arith, c .if1 .taken)))
 
 empty-types-requires : tie.Need-empty-types-requires
 empty-types-requires c κs = search needs
