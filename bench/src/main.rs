@@ -14,10 +14,12 @@ mod scripts;
 mod search;
 mod served;
 mod sheets;
+mod tiny;
 
 use conformance::inputs::{with_48_types, worst};
 use conformance::{chains, compare, counts, Asked, Loaded, PAIRS_LENGTH};
 use measure::{head, ratio};
+use pilgonca::raw::{self, TINY_BYTES, TINY_SHEETS};
 use reference::raw::{RawTable, BROADER_LENGTH, TYPES_LENGTH};
 use reference::refusal::Refusal;
 use reference::relations::RELATIONS;
@@ -163,6 +165,23 @@ fn writing(name: &str, text: &[u8]) {
     assert!(length == text.len() && theirs == text && ours == text);
 }
 
+/// All tiny sheets, whose bytes have to be the same.
+fn tiny_sheets() {
+    let (mut theirs, mut ours, mut length) = ([0; TINY_BYTES], [1; TINY_BYTES], 0);
+    assert_eq!(raw::tiny(&mut theirs, &mut length), 0);
+    assert_eq!(tiny::write(&mut ours), Ok(length));
+    assert!(theirs == ours, "the tiny sheets differ");
+    ratio(
+        &format!("tiny, all {TINY_SHEETS} sheets"),
+        || {
+            black_box(raw::tiny(black_box(&mut theirs), &mut length));
+        },
+        || {
+            let _ = black_box(tiny::write(black_box(&mut ours)));
+        },
+    );
+}
+
 /// A sheet refused at its very end: the LF of the last line is missing.
 fn without_end(text: &[u8]) -> &[u8] {
     &text[..text.len() - 1]
@@ -218,7 +237,7 @@ fn derivations() {
     derivation("48 generated types", &random, most.expect("a pair"));
 }
 
-/// Reading, refusing and writing sheets.
+/// Reading, refusing and writing sheets, and the tiny ones.
 fn all_sheets(generated: &[u8]) {
     head("sheets");
     let example = include_bytes!("../../examples/types-48.sheet");
@@ -230,6 +249,7 @@ fn all_sheets(generated: &[u8]) {
         reading(&format!("{name} without its last LF"), without_end(text));
         writing(name, text);
     }
+    tiny_sheets();
 }
 
 /// Compare, the pair table and derivations on tables.
@@ -269,11 +289,12 @@ mod tests {
     #[test]
     fn sheets_and_tables_are_refused_alike() {
         let mut read = [0; 4];
-        for sheet in tiny_first::damaged_sheets(0..3000) {
-            read[same_reading(&sheet.of)] += 1;
+        let mut sheets = tiny_first::damaged_sheets(0..3000);
+        for tiny in sheets.by_ref().take(TINY_SHEETS) {
+            assert_eq!(same_reading(&tiny.of), 0, "{}", tiny.from);
         }
-        for sheet in reference::tiny::texts() {
-            assert_eq!(same_reading(&sheet), 0);
+        for sheet in sheets {
+            read[same_reading(&sheet.of)] += 1;
         }
         assert!(read.iter().all(|count| *count > 50), "{read:?}");
         let mut unfit = 0;

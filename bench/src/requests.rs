@@ -440,14 +440,6 @@ mod tests {
     #[test]
     fn is_the_reference() {
         let mut seen = Seen::default();
-        for one in tiny_first::crowded_states(0..2000) {
-            let found = on_handed_in(&Rust, &one.of, &mut seen);
-            assert_eq!(found, None, "{}", one.from);
-        }
-        for one in tiny_first::states(0..2000) {
-            let found = on_offers(&Rust, &one, &mut [0; 3]);
-            assert_eq!(found, None, "{}", one.from);
-        }
         let profiles = [Profile::Small, Profile::Medium, Profile::Full];
         for script in tiny_first::scripts(&profiles.map(|profile| (profile, 100))) {
             let found = on_loaded(&Rust, &script, &mut seen);
@@ -455,6 +447,14 @@ mod tests {
         }
         for script in tiny_first::scripts(&[(Profile::Medium, 100)]) {
             assert_eq!(watch(&Rust, &script), None, "{}", script.from);
+        }
+        for one in tiny_first::crowded_states(0..2000) {
+            let found = on_handed_in(&Rust, &one.of, &mut seen);
+            assert_eq!(found, None, "{}", one.from);
+        }
+        for one in tiny_first::states(0..2000) {
+            let found = on_offers(&Rust, &one, &mut [0; 3]);
+            assert_eq!(found, None, "{}", one.from);
         }
         for number in [2].into_iter().chain(5..=19) {
             assert!(seen.number(number) > 5, "{number}");

@@ -219,9 +219,9 @@ pub fn write(table: &RawTable, buffer: &mut [u8]) -> Result<usize, Refusal> {
 }
 
 /// Text that is written where there is room, and counted in any case.
-struct Text<'a> {
-    buffer: &'a mut [u8],
-    at: usize,
+pub struct Text<'a> {
+    pub buffer: &'a mut [u8],
+    pub at: usize,
 }
 
 impl Text<'_> {
@@ -247,7 +247,7 @@ impl Text<'_> {
     }
 }
 
-fn put_sheet(text: &mut Text, table: &RawTable) {
+pub fn put_sheet(text: &mut Text, table: &RawTable) {
     text.line(b"guide=", 1);
     text.line(b"subjects=", table.subjects as usize);
     text.line(b"methods=", table.methods as usize);

@@ -7,7 +7,7 @@ pub const ANSWER: usize = 156;
 pub const RUN: usize = 168;
 pub const OFFERS: usize = 8;
 pub const LOAD: usize = 20;
-pub const TINY: usize = 16;
+pub const TINY: usize = 20;
 /// On Case P.
 pub const SMALL_CALL: usize = 28;
 pub const SMALL_ANSWER: usize = 36;
@@ -18,54 +18,50 @@ pub const SCRIPT: usize = 240;
 pub const ALLOWED: usize = 8;
 
 /// Where the numbers stand: a file, and words of it, however they are broken into lines.
-pub fn pages() -> [(&'static str, String); 18] {
-    let (readme, guide) = ("README.md", "docs/GUIDE.md");
-    let measured = "docs/MEASURED.md";
+pub fn pages() -> impl Iterator<Item = (&'static str, String)> {
+    let guide = guide().map(|words| ("docs/GUIDE.md", words));
+    let measured = measured().map(|words| ("docs/MEASURED.md", words));
+    others().into_iter().chain(guide).chain(measured)
+}
+
+/// The rows of the guide's table.
+fn guide() -> [String; 8] {
     [
-        (readme, format!("deepest request takes {CALL} KB of stack")),
-        (
-            readme,
-            format!("the program `script` takes {SCRIPT} KB of stack"),
-        ),
-        (
-            "include/pilgonca.h",
-            format!("deepest request takes {CALL} KB, a run {RUN}; load {LOAD}, tiny {TINY}, offers {OFFERS}."),
-        ),
-        (
-            guide,
-            format!("| `pilgonca_new`, `_move` | {NEW}, {MOVE} KB |"),
-        ),
-        (
-            guide,
-            format!("| `pilgonca_call` | {CALL} KB; {SMALL_CALL} on Case P |"),
-        ),
-        (
-            guide,
-            format!("| `pilgonca_answer` | {ANSWER} KB; {SMALL_ANSWER} on Case P |"),
-        ),
-        (guide, format!("| `pilgonca_run` | {RUN} KB |")),
-        (guide, format!("| `pilgonca_offers` | {OFFERS} KB |")),
-        (guide, format!("| `pilgonca_load` | {LOAD} KB |")),
-        (guide, format!("| `pilgonca_tiny` | {TINY} KB |")),
-        (
-            guide,
-            format!("| `pilgonca_script` | {SCRIPT} KB in the program `script`"),
-        ),
-        (measured, format!("| new; move | {NEW}; {MOVE} KB |")),
-        (measured, format!("| call; answer | {CALL}; {ANSWER} KB |")),
-        (
-            measured,
-            format!("| {SMALL_CALL}; {SMALL_ANSWER} KB | | a run of all four | {RUN} KB |"),
-        ),
-        (measured, format!("| | {OFFERS} KB | {LOAD} KB |")),
-        (
-            "docs/pilgonca.3",
-            format!("deepest request takes {CALL} KB of stack"),
-        ),
+        format!("| `pilgonca_new`, `_move` | {NEW}, {MOVE} KB |"),
+        format!("| `pilgonca_call` | {CALL} KB; {SMALL_CALL} on Case P |"),
+        format!("| `pilgonca_answer` | {ANSWER} KB; {SMALL_ANSWER} on Case P |"),
+        format!("| `pilgonca_run` | {RUN} KB |"),
+        format!("| `pilgonca_offers` | {OFFERS} KB |"),
+        format!("| `pilgonca_load` | {LOAD} KB |"),
+        format!("| `pilgonca_tiny` | {TINY} KB |"),
+        format!("| `pilgonca_script` | {SCRIPT} KB in the program `script`"),
+    ]
+}
+
+/// What was measured: a table, and the tiny sheets behind it.
+fn measured() -> [String; 5] {
+    [
+        format!("| new; move | {NEW}; {MOVE} KB |"),
+        format!("| call; answer | {CALL}; {ANSWER} KB |"),
+        format!("| {SMALL_CALL}; {SMALL_ANSWER} KB | | a run of all four | {RUN} KB |"),
+        format!("| | {OFFERS} KB | {LOAD} KB |"),
+        format!("The tiny sheets (`pilgonca_tiny`) take {TINY} KB"),
+    ]
+}
+
+/// Pages that name few of them.
+fn others() -> [(&'static str, String); 6] {
+    let deepest = format!("deepest request takes {CALL} KB of stack");
+    let header = format!(
+        "deepest request takes {CALL} KB, a run {RUN}; load {LOAD}, tiny {TINY}, offers {OFFERS}."
+    );
+    let script = format!("the program `script` takes {SCRIPT} KB of stack");
+    [
+        ("README.md", deepest.clone()),
+        ("README.md", script),
+        ("include/pilgonca.h", header),
+        ("docs/pilgonca.3", deepest.clone()),
         ("docs/HOSTILE.md", format!("14 ms and {CALL} KB")),
-        (
-            "pilgonca/src/lib.rs",
-            format!("deepest request takes {CALL} KB of stack"),
-        ),
+        ("pilgonca/src/lib.rs", deepest),
     ]
 }

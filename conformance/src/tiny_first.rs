@@ -35,23 +35,20 @@ pub fn tables(shares: [Share; 4]) -> impl Iterator<Item = Input<Table>> {
     tiny(tiny::tables()).chain(shares.into_iter().flat_map(of_share))
 }
 
-/// Sheets with a few things bad, some of them with requests behind.
+/// The tiny sheets as they are, and sheets with a few things bad, some of them with requests behind.
 pub fn damaged_sheets(seeds: Range<u64>) -> impl Iterator<Item = Input<Vec<u8>>> {
     let damaged = |seed| Input::new("damaged", seed, inputs::damaged(seed));
-    tiny(generators::damaged_tiny(0)).chain(seeds.map(damaged))
+    tiny(generators::tiny_inputs(Profile::Damaged)).chain(seeds.map(damaged))
 }
 
-/// Scripts: the tiny sheets alone and then with requests, damaged where the first profile is; and so many of each profile.
+/// Scripts: what goes before those of the first profile, and so many of each.
 pub fn scripts(profiles: &[(Profile, u64)]) -> impl Iterator<Item = Input<Vec<u8>>> + '_ {
-    let first = match profiles {
-        [(Profile::Damaged, _), ..] => generators::damaged_tiny(0),
-        _ => [tiny::texts(), generators::on_tiny(0)].concat(),
-    };
+    let (first, _) = profiles[0];
     let of_profile = |(profile, seeds): &(Profile, u64)| {
         let profile = *profile;
         (0..*seeds).map(move |seed| Input::new(profile.name(), seed, generate(seed, profile)))
     };
-    tiny(first).chain(profiles.iter().flat_map(of_profile))
+    tiny(generators::tiny_inputs(first)).chain(profiles.iter().flat_map(of_profile))
 }
 
 /// States handed in.

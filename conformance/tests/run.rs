@@ -14,11 +14,11 @@ use reference::sheet;
 use reference::state::State;
 use reference::table::{Key, Kind};
 
-/// Lists of both kinds.
+/// Lists of both kinds, those on loaded sheets first.
 fn lists(handed_in: u64, sheets: &[(Profile, u64)]) -> impl Iterator<Item = List> {
     let of_sheets = tiny_first::scripts(sheets).filter_map(on_loaded);
     let handed_in = tiny_first::crowded_states(0..handed_in);
-    handed_in.map(on_handed_in).chain(of_sheets)
+    of_sheets.chain(handed_in.map(on_handed_in))
 }
 
 /// As many long ones as full ones.

@@ -143,6 +143,16 @@ pub struct Asked {
     pub calls: bool,
 }
 
+impl Asked {
+    fn of(words: &Words) -> Asked {
+        Asked {
+            subject: words.text("--subject"),
+            method: words.text("--method"),
+            calls: words.has("--calls"),
+        }
+    }
+}
+
 /// Where names come from.
 #[derive(Clone, Default, PartialEq, Eq, Debug)]
 pub enum NamesFrom {
@@ -370,11 +380,7 @@ fn command(name: &str, words: &Words, rest: &[OsString]) -> Result<Command, Stri
         },
         "audit" => Command::Audit {
             script: file("script or saved state")?,
-            asked: Asked {
-                subject: words.text("--subject"),
-                method: words.text("--method"),
-                calls: words.has("--calls"),
-            },
+            asked: Asked::of(words),
         },
         "powers" => Command::Powers(file("sheet")?),
         "diff" => diff(rest)?,

@@ -21,8 +21,8 @@
 //! writes them, into target/staticlib, where the package finds them. Elsewhere, as for a dependency by git: `tools/install PREFIX` in a clone, and
 //! `PILGONCA_LIB_DIR=PREFIX/lib` in the environment of cargo, an absolute path. Both need the toolchain `rt`, once.
 //!
-//! `Visit` and `script` are the feature `visits`, `tiny` and `tiny_sheets` the feature `tiny`. Both are on unless they are turned off: sheets alone need two static libraries
-//! of the six.
+//! `Visit` and `script` are the feature `visits`, `tiny` and `tiny_sheets` the feature `tiny`. Both are on unless they are turned off: sheets alone need two
+//! static libraries of the six.
 //!
 //! # Stack
 //!

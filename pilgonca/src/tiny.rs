@@ -16,8 +16,8 @@ pub fn tiny() -> Vec<u8> {
     text
 }
 
-/// The text of each tiny sheet: every sheet with one subject, one or two methods, no categories and one type, a ref type of which no method has more than one argument
-/// (P22 to P25). There are 130, and the core accepts each; they are the first inputs of a test of whatever takes sheets.
+/// The text of each tiny sheet: every sheet with one subject, one or two methods, no categories and one type, a ref type of which no method has more than
+/// one argument (P22 to P25). There are 130, and the core accepts each; they are the first inputs of a test of whatever takes sheets.
 ///
 /// ```
 /// use pilgonca::{Sheet, tiny_sheets};

@@ -133,8 +133,8 @@ fn a_prefix_has_these_files() {
     );
 }
 
-/// Every C program of examples/ compiles; one with its output beside it, as visit.out, prints that for the sheet of its name, or else for that of Case P, which tiny.c does
-/// not look at.
+/// Every C program of examples/ compiles; one with its output beside it, as visit.out, prints that for the sheet of its name, or else for that of Case P, which
+/// tiny.c does not look at.
 #[test]
 fn the_examples_compile_by_its_flags() {
     let files = std::fs::read_dir(root().join("examples")).expect("examples");

@@ -8,7 +8,7 @@ mod tiny;
 pub use lists::{any_request, request, requests};
 pub use plans::{Goal, Plan, Profile, BIG, FULL, LONG, MEDIUM, PROFILES, SMALL, TINY};
 pub use tables::table;
-pub use tiny::{damaged_tiny, on_tiny, tiny_first};
+pub use tiny::{on_tiny, tiny_first, tiny_inputs};
 
 use crate::damage::{damage, lengthen};
 use crate::random::Random;

@@ -32,42 +32,41 @@ fn document(schema: &Schema, words: &[&str]) -> Value {
     document
 }
 
+/// Every command that prints a document, on what is right and on what is not.
+const COMMANDS: [&[&str]; 28] = [
+    &["check", SHEET],
+    &["check", "examples/categories.sheet"],
+    &["check", "examples/types-48.sheet"],
+    &["check", DAMAGED],
+    &["check", "no/such/file"],
+    &["pairs", SHEET],
+    &["pairs", "examples/types-48.sheet"],
+    &["pairs", DAMAGED],
+    &["compare", SHEET, "reader", "marker"],
+    &["compare", SHEET, "marker", "reader"],
+    &["compare", SHEET, "0", "99"],
+    &["run", SCRIPT],
+    &["run", "examples/two-adapters.script"],
+    &["run", "examples/refused-01.script"],
+    &["run", "examples/refused-18.script"],
+    &["audit", SCRIPT],
+    &["audit", "examples/optional.state"],
+    &["audit", OPTIONAL, "--subject", "2", "--method", "1"],
+    &["audit", OPTIONAL, "--calls"],
+    &["audit", "examples/refused-01.script"],
+    &["audit", "examples/refused-01.script", "--calls"],
+    &["powers", SHEET],
+    &["powers", "examples/types-48.sheet"],
+    &["diff", SHEET, SHEET],
+    &["diff", "examples/guide.sheet", SHEET],
+    &["tiny"],
+    &["tiny", "129"],
+    &["tiny", "130"],
+];
+
 #[test]
 fn every_document_fits_the_schema() {
     let schema = schema();
-    let all: [&[&str]; 28] = [
-        &["check", SHEET],
-        &["check", "examples/categories.sheet"],
-        &["check", "examples/types-48.sheet"],
-        &["check", DAMAGED],
-        &["check", "no/such/file"],
-        &["pairs", SHEET],
-        &["pairs", "examples/types-48.sheet"],
-        &["pairs", DAMAGED],
-        &["compare", SHEET, "reader", "marker"],
-        &["compare", SHEET, "marker", "reader"],
-        &["compare", SHEET, "0", "99"],
-        &["run", SCRIPT],
-        &["run", "examples/two-adapters.script"],
-        &["run", "examples/refused-01.script"],
-        &["run", "examples/refused-18.script"],
-        &["audit", SCRIPT],
-        &["audit", "examples/optional.state"],
-        &["audit", OPTIONAL, "--subject", "2", "--method", "1"],
-        &["audit", OPTIONAL, "--calls"],
-        &["audit", "examples/refused-01.script"],
-        &["audit", "examples/refused-01.script", "--calls"],
-        &["powers", SHEET],
-        &["powers", "examples/types-48.sheet"],
-        &["diff", SHEET, SHEET],
-        &["diff", "examples/guide.sheet", SHEET],
-        &["tiny"],
-        &["tiny", "129"],
-        &["tiny", "130"],
-    ];
-    for words in all {
-        document(&schema, words);
-    }
     for (command, text) in tiny_in_turn() {
         with_file("tiny", &text, |path| {
             let document = document(&schema, &[command, path]);
@@ -82,6 +81,9 @@ fn every_document_fits_the_schema() {
             }
             document(&schema, &["diff", path, SHEET]);
         });
+    }
+    for words in COMMANDS {
+        document(&schema, words);
     }
 }
 

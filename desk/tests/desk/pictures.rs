@@ -88,6 +88,11 @@ fn scripts() -> impl Iterator<Item = Vec<u8>> {
 
 #[test]
 fn pictures_are_sound() {
+    for script in scripts() {
+        let picture = drawn_run("full", &script);
+        sound(&picture);
+        apart(&picture);
+    }
     sound(&drawn(&["pairs", "examples/types-48.sheet"]));
     sound(&drawn(&["run", SHEET]));
     let case_p = drawn(&["run", SCRIPT]);
@@ -95,11 +100,6 @@ fn pictures_are_sound() {
         (boxes(&case_p).len(), ways(&case_p).len()),
         (3 + 2 + 4, 3 + 1)
     );
-    for script in scripts() {
-        let picture = drawn_run("full", &script);
-        sound(&picture);
-        apart(&picture);
-    }
 }
 
 /// A row of a run's picture: its cells and their places by the tooltip, its words, and its chips, each with a class and the numbers of its methods.

@@ -10,46 +10,59 @@ use std::fs::File;
 use std::io::Write;
 use std::process::Stdio;
 
+/// Words that desk does not understand.
+const WRONG: [&[&str]; 35] = [
+    &["chek"],
+    &["check"],
+    &["check", "a", "b"],
+    &["compare", SHEET, "1"],
+    &["check", SHEET, "--svg", "x"],
+    &["run", SCRIPT, "--plain"],
+    &["pairs", SHEET, "--svg"],
+    &["pairs", SHEET, "--plan"],
+    &["check", SHEET, "--names"],
+    &["check", "--names", NAMES, "--names", NAMES, SHEET],
+    &["explain"],
+    &["audit"],
+    &["audit", SCRIPT, "--subject"],
+    &["audit", SCRIPT, "--method", "1", "--method", "2"],
+    &["run", SCRIPT, "--calls"],
+    &["powers", SHEET, SHEET],
+    &["diff", SHEET],
+    &["check", SHEET, "-x"],
+    &["check", SHEET, "--json=yes"],
+    &["check", SHEET, "--names", NAMES, "--no-names"],
+    &["check", SHEET, "--names", NAMES, "--names=x"],
+    &["explain", "8", "--json"],
+    &["fix", SHEET, "--json"],
+    &["check", SHEET, "--out", "x"],
+    &["pairs", SHEET, "--plain", "--json"],
+    &["pairs", SHEET, "--svg", "-", "--json"],
+    &["check", "--", SHEET, "--no-names"],
+    &["tiny", "1", "2"],
+    &["tiny", "--plain"],
+    &["tiny", "--names", NAMES],
+    &["tiny", "--list=1"],
+    &["tiny", "--list", "--json"],
+    &["tiny", "--out", "x", "--json"],
+    &["tiny", "--out", "x", "--list"],
+    &["check", SHEET, "--list"],
+];
+
+/// Words that ask for help, some of them among wrong ones.
+const HELP: [&[&str]; 7] = [
+    &[],
+    &["help"],
+    &["--help"],
+    &["-h"],
+    &["check", "--help"],
+    &["chek", "-h"],
+    &["pairs", SHEET, "--svg", "--help"],
+];
+
 #[test]
 fn wrong_words_are_told_apart_from_bad_input() {
-    let wrong: [&[&str]; 35] = [
-        &["chek"],
-        &["check"],
-        &["check", "a", "b"],
-        &["compare", SHEET, "1"],
-        &["check", SHEET, "--svg", "x"],
-        &["run", SCRIPT, "--plain"],
-        &["pairs", SHEET, "--svg"],
-        &["pairs", SHEET, "--plan"],
-        &["check", SHEET, "--names"],
-        &["check", "--names", NAMES, "--names", NAMES, SHEET],
-        &["explain"],
-        &["audit"],
-        &["audit", SCRIPT, "--subject"],
-        &["audit", SCRIPT, "--method", "1", "--method", "2"],
-        &["run", SCRIPT, "--calls"],
-        &["powers", SHEET, SHEET],
-        &["diff", SHEET],
-        &["check", SHEET, "-x"],
-        &["check", SHEET, "--json=yes"],
-        &["check", SHEET, "--names", NAMES, "--no-names"],
-        &["check", SHEET, "--names", NAMES, "--names=x"],
-        &["explain", "8", "--json"],
-        &["fix", SHEET, "--json"],
-        &["check", SHEET, "--out", "x"],
-        &["pairs", SHEET, "--plain", "--json"],
-        &["pairs", SHEET, "--svg", "-", "--json"],
-        &["check", "--", SHEET, "--no-names"],
-        &["tiny", "1", "2"],
-        &["tiny", "--plain"],
-        &["tiny", "--names", NAMES],
-        &["tiny", "--list=1"],
-        &["tiny", "--list", "--json"],
-        &["tiny", "--out", "x", "--json"],
-        &["tiny", "--out", "x", "--list"],
-        &["check", SHEET, "--list"],
-    ];
-    for words in wrong {
+    for words in WRONG {
         let (status, out, error) = run(words);
         assert_eq!((status, out.as_str()), (2, ""), "{words:?}");
         assert!(
@@ -61,16 +74,7 @@ fn wrong_words_are_told_apart_from_bad_input() {
             "{words:?}: {error}"
         );
     }
-    let help = [
-        &[][..],
-        &["help"],
-        &["--help"],
-        &["-h"],
-        &["check", "--help"],
-        &["chek", "-h"],
-        &["pairs", SHEET, "--svg", "--help"],
-    ];
-    for words in help {
+    for words in HELP {
         assert!(accepted(words).contains("desk explain N"), "{words:?}");
     }
 }
@@ -97,8 +101,8 @@ fn files_that_cannot_be_read_or_written() {
     }
 }
 
-#[test]
-fn any_bytes_get_an_answer() {
+/// Damaged sheets, and bytes that never were one.
+fn any_bytes() -> Vec<Vec<u8>> {
     let mut texts: Vec<Vec<u8>> = (0..40)
         .map(|seed| generate(seed, Profile::Damaged))
         .collect();
@@ -112,36 +116,44 @@ fn any_bytes_get_an_answer() {
     ];
     texts.extend(odd.map(<[u8]>::to_vec));
     texts.push([b"guide=", "3D".repeat(200_000).as_bytes()].concat());
+    texts
+}
+
+/// Every command that takes a file is answered, and says what is wrong where something is.
+fn is_answered(path: &str) {
+    let with_names = ["check", SHEET, "--names", path];
+    for words in [
+        &["check", path][..],
+        &["pairs", path],
+        &["fix", path],
+        &["run", path],
+        &["audit", path],
+        &["powers", path],
+        &with_names,
+    ] {
+        let (status, _, error) = run(words);
+        let is_fix = words[0] == "fix";
+        let message = error.lines().next().is_some_and(is_message);
+        assert_eq!(status == 1 || is_fix, message, "{words:?}: {error}");
+        assert!(
+            status < 2 && !error.contains("panicked"),
+            "{words:?}: {error}"
+        );
+    }
+    let (status, _, error) = run(&["compare", path, "0", "1"]);
+    let message = error.lines().next().is_some_and(is_message);
+    assert_eq!(message, status == 3, "{error}");
+}
+
+#[test]
+fn any_bytes_get_an_answer() {
     for (command, text) in tiny_in_turn() {
         with_file("any-tiny", &text, |path| {
             accepted(&[command, path]);
         });
     }
-    for text in texts {
-        with_file("any", &text, |path| {
-            let with_names = ["check", SHEET, "--names", path];
-            for words in [
-                &["check", path][..],
-                &["pairs", path],
-                &["fix", path],
-                &["run", path],
-                &["audit", path],
-                &["powers", path],
-                &with_names,
-            ] {
-                let (status, _, error) = run(words);
-                let is_fix = words[0] == "fix";
-                let message = error.lines().next().is_some_and(is_message);
-                assert_eq!(status == 1 || is_fix, message, "{words:?}: {error}");
-                assert!(
-                    status < 2 && !error.contains("panicked"),
-                    "{words:?}: {error}"
-                );
-            }
-            let (status, _, error) = run(&["compare", path, "0", "1"]);
-            let message = error.lines().next().is_some_and(is_message);
-            assert_eq!(message, status == 3, "{error}");
-        });
+    for text in any_bytes() {
+        with_file("any", &text, is_answered);
     }
 }
 

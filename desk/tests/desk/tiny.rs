@@ -43,14 +43,17 @@ fn they_are_written_to_a_file() {
     assert_eq!(accepted(&["tiny", "--out", "-"]).as_bytes(), printed());
 }
 
-/// A method as a line of the list has it.
-fn said(method: &MethodState) -> String {
-    let word = match method {
+fn word(method: &MethodState) -> &'static str {
+    match method {
         MethodState::Denied => "denied",
         MethodState::Unavail => "unavail",
         MethodState::Avail(_) => "avail",
         MethodState::Optional(_) => "optional",
-    };
+    }
+}
+
+/// A method as a line of the list has it.
+fn said(method: &MethodState) -> String {
     let signature = method.signature().map(|signature| {
         let argument = if signature.arguments.is_empty() {
             ""
@@ -60,7 +63,7 @@ fn said(method: &MethodState) -> String {
         let answer = if signature.answer.is_some() { "0" } else { "-" };
         format!("({argument}){answer}")
     });
-    word.to_string() + &signature.unwrap_or_default()
+    word(method).to_string() + &signature.unwrap_or_default()
 }
 
 /// The words of a line of the list for each sheet.
@@ -93,6 +96,22 @@ fn the_list_says_what_each_says() {
     }
 }
 
+/// A method as the document has it: its signature is null, or has the numbers of arguments and answer.
+fn documented(method: &MethodState) -> Value {
+    let object = |members: [(&str, Value); 2]| {
+        let members = members.map(|(name, value)| (name.to_string(), value));
+        Value::Object(members.into())
+    };
+    let number = |type_: &usize| Value::Number(*type_ as i64);
+    let signature = method.signature().map_or(Value::Null, |signature| {
+        let arguments = signature.arguments.iter().map(number).collect();
+        let answer = signature.answer.as_ref().map_or(Value::Null, number);
+        object([("arguments", Value::List(arguments)), ("answer", answer)])
+    });
+    let says = Value::Text(word(method).to_string());
+    object([("says", says), ("signature", signature)])
+}
+
 #[test]
 fn the_document_has_them() {
     let document = Value::read(&accepted(&["tiny", "--json"]));
@@ -107,13 +126,8 @@ fn the_document_has_them() {
             panic!("one type")
         };
         assert_eq!(only.get("own"), &Value::Bool(table.types[0].own));
-        let methods = only.get("methods").list();
-        assert_eq!(methods.len(), table.methods);
-        for (method, state) in methods.iter().zip(&table.types[0].methods) {
-            assert!(said(state).starts_with(method.get("says").text()));
-            let unsigned = state.signature().is_none();
-            assert_eq!(method.get("signature") == &Value::Null, unsigned);
-        }
+        let methods = table.types[0].methods.iter().map(documented);
+        assert_eq!(only.get("methods").list(), methods.collect::<Vec<_>>());
     }
     let one = Value::read(&accepted(&["tiny", "44", "--json"]));
     let one = one.get("result").get("sheets").list();

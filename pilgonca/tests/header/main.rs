@@ -205,58 +205,57 @@ fn packages_inherit_what_is_said_once() {
     }
 }
 
-/// The numbers of the header by the crate that has each, and those of this crate.
+/// Numbers of the header by the crate that has each, and those of this crate.
+const NUMBERS: [(&str, &str, usize); 17] = [
+    ("table_record", "SUBJECTS", raw::MAX_SUBJECTS),
+    ("table_record", "METHODS", raw::MAX_METHODS),
+    ("table_record", "ARGUMENTS", raw::MAX_ARGUMENTS),
+    ("table_record", "CATEGORIES", raw::MAX_CATEGORIES),
+    ("table_record", "SHEET_TYPES", raw::MAX_SHEET_TYPES),
+    ("table_record", "TYPES", raw::MAX_TYPES),
+    ("state_record", "CELLS", raw::MAX_CELLS),
+    ("state_record", "PLACES", raw::MAX_PLACES),
+    ("state_record", "CALLS", raw::MAX_CALLS),
+    ("table_record", "TYPE_BYTES", size_of::<raw::Types>()),
+    ("table_record", "LINK_BYTES", size_of::<raw::Links>()),
+    ("state_bytes", "CELL_BYTES", size_of::<raw::Cells>()),
+    ("state_bytes", "PLACE_BYTES", size_of::<raw::Places>()),
+    ("state_bytes", "CALL_BYTES", size_of::<raw::Calls>()),
+    (
+        "relation_compare",
+        "PAIR_BYTES",
+        size_of::<raw::PairTable>(),
+    ),
+    ("script_output", "INPUT_BYTES", raw::MAX_SCRIPT),
+    (
+        "script_output",
+        "PRINTED_BYTES",
+        raw::MAX_SCRIPT + raw::SCRIPT_LONGER,
+    ),
+];
+
+/// Those that the header calls otherwise than their crate does, by the header's word.
+const OTHERWISE: [(&str, &str, usize, &str); 2] = [
+    ("tiny_record", "SHEETS", raw::TINY_SHEETS, "TINY_SHEETS"),
+    (
+        "tiny_output",
+        "PRINTED_BYTES",
+        raw::TINY_BYTES,
+        "TINY_BYTES",
+    ),
+];
+
 #[test]
 fn every_number_is_the_sources() {
-    let sources = [
-        ("table_record", "SUBJECTS", raw::MAX_SUBJECTS),
-        ("table_record", "METHODS", raw::MAX_METHODS),
-        ("table_record", "ARGUMENTS", raw::MAX_ARGUMENTS),
-        ("table_record", "CATEGORIES", raw::MAX_CATEGORIES),
-        ("table_record", "SHEET_TYPES", raw::MAX_SHEET_TYPES),
-        ("table_record", "TYPES", raw::MAX_TYPES),
-        ("state_record", "CELLS", raw::MAX_CELLS),
-        ("state_record", "PLACES", raw::MAX_PLACES),
-        ("state_record", "CALLS", raw::MAX_CALLS),
-        ("table_record", "TYPE_BYTES", size_of::<raw::Types>()),
-        ("table_record", "LINK_BYTES", size_of::<raw::Links>()),
-        ("state_bytes", "CELL_BYTES", size_of::<raw::Cells>()),
-        ("state_bytes", "PLACE_BYTES", size_of::<raw::Places>()),
-        ("state_bytes", "CALL_BYTES", size_of::<raw::Calls>()),
-        (
-            "relation_compare",
-            "PAIR_BYTES",
-            size_of::<raw::PairTable>(),
-        ),
-        ("script_output", "INPUT_BYTES", raw::MAX_SCRIPT),
-        (
-            "script_output",
-            "PRINTED_BYTES",
-            raw::MAX_SCRIPT + raw::SCRIPT_LONGER,
-        ),
-    ];
     let mut numbers = header().numbers;
-    for (name, word, ours) in sources {
-        let found = numbers.remove(&format!("PILGONCA_{word}"));
-        assert_eq!(found, Some(constant(name, word)), "{word}");
-        assert_eq!(found, Some(ours), "{word}");
-    }
-    let words = numbers.remove("PILGONCA_ANSWER_WORDS");
-    assert_eq!(words, Some(constant("request_run", "WORDS")));
-    // the tiny sheets: their crates call it otherwise
-    for (name, word, ours, called) in [
-        ("tiny_record", "SHEETS", raw::TINY_SHEETS, "TINY_SHEETS"),
-        (
-            "tiny_output",
-            "PRINTED_BYTES",
-            raw::TINY_BYTES,
-            "TINY_BYTES",
-        ),
-    ] {
+    let alike = NUMBERS.map(|(name, word, ours)| (name, word, ours, word));
+    for (name, word, ours, called) in alike.into_iter().chain(OTHERWISE) {
         let found = numbers.remove(&format!("PILGONCA_{called}"));
         assert_eq!(found, Some(constant(name, word)), "{called}");
         assert_eq!(found, Some(ours), "{called}");
     }
+    let words = numbers.remove("PILGONCA_ANSWER_WORDS");
+    assert_eq!(words, Some(constant("request_run", "WORDS")));
     // the rest are lengths of arrays, which are held against the functions
     let lengths = ["STATE_COUNTS", "TABLE_COUNTS", "VALUES"].map(|word| format!("PILGONCA_{word}"));
     assert_eq!(numbers.into_keys().collect::<Vec<_>>(), lengths);
