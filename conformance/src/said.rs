@@ -1,16 +1,16 @@
 //! The stack that each function takes at most, in KB, as README, header, guide and the others say it. Tests hold what is measured to these.
 
-pub const NEW: usize = 136;
+pub const NEW: usize = 140;
 pub const MOVE: usize = 144;
-pub const CALL: usize = 160;
-pub const ANSWER: usize = 156;
-pub const RUN: usize = 168;
+pub const CALL: usize = 164;
+pub const ANSWER: usize = 160;
+pub const RUN: usize = 172;
 pub const OFFERS: usize = 8;
-pub const LOAD: usize = 20;
+pub const LOAD: usize = 24;
 pub const TINY: usize = 20;
 /// On Case P.
-pub const SMALL_CALL: usize = 28;
-pub const SMALL_ANSWER: usize = 36;
+pub const SMALL_CALL: usize = 32;
+pub const SMALL_ANSWER: usize = 40;
 /// The program `script`, as a whole.
 pub const SCRIPT: usize = 240;
 

@@ -26,7 +26,7 @@
 //!
 //! # Stack
 //!
-//! The deepest request takes 160 KB of stack (docs/MEASURED.md): the 2 MB that std gives a thread do.
+//! The deepest request takes 164 KB of stack (docs/MEASURED.md): the 2 MB that std gives a thread do.
 #![deny(missing_docs)]
 #![deny(unsafe_code)]
 
