@@ -38,7 +38,7 @@ fn the_first_screen_says_what_it_needs() {
         "x86-64 Linux",
         &state,
         "no heap",
-        "160 KB of stack",
+        "164 KB of stack",
         "45 KB of code",
         "125 KB",
         "no other processor yet",

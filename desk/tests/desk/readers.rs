@@ -62,7 +62,7 @@ fn the_first_screen_says_what_it_takes() {
     let (version, _) = version.split_once('"').expect("its end");
     for words in [
         &format!("cargo of Rust {version} or later"),
-        "`cc`, which cargo links with",
+        "`cc`, which cargo links with, and `ar`",
         "`rt --version` prints what toolchain.txt has",
         "pkg-config to find what is installed",
     ] {
