@@ -36,3 +36,5 @@ pub const ANSWERED_ALREADY: usize = 17;
 pub const CALLS_FULL: usize = 18;
 
 pub const LATER_LAYER: usize = 19;
+
+pub const UNFIT_TIMES: usize = 22;

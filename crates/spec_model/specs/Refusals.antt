@@ -57,3 +57,6 @@ callsFull = 18
 
 abbrev pub laterLayer : ℕ
 laterLayer = 19
+
+abbrev pub unfitTimes : ℕ
+unfitTimes = 22
