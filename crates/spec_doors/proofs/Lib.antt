@@ -1,0 +1,5 @@
+pub mod Rising
+pub mod Pass
+pub mod Exchange
+pub mod Held
+pub mod Cases
