@@ -3,7 +3,6 @@ use base_numbers::refusal;
 ghost use mathlib.Core.Path.{_≡_};
 ghost use mathlib.Core.Bool.{true};
 ghost use Prim.Native.Nat.{_≤_};
-ghost use lib.ListN.{length};
 ghost use Rattle.spec_doors.specs.Times.{maxTolerance, rising, timesFit};
 ghost use Rattle.spec_doors.specs.Held.{pairsOf, held};
 ghost use Rattle.doors_hold.specs.Result.{heldOf};
@@ -53,8 +52,7 @@ fn times_fit(xs: &[u64]) -> bool
 // The pass (V8). Times and tolerance are small enough to be added.
 fn count_pairs(marks: &[u64], arrivals: &[u64], within: u64) -> usize
     requires { ⌜ (rising 0 (now marks) ≡ true) × (rising 0 (now arrivals) ≡ true) × (within ≤ maxTolerance) ⌝ }
-    ensures is { λ r. ⌜ r ≡ pairsOf within (now (marks .entry)) (now (arrivals .entry)) ⌝ }
-    ensures few { λ r. ⌜ (r ≤ length (now (marks .entry))) × (r ≤ length (now (arrivals .entry))) ⌝ }
+    ensures { λ r. ⌜ r ≡ pairsOf within (now (marks .entry)) (now (arrivals .entry)) ⌝ }
 {
     let mut i: usize = 0;
     let mut j: usize = 0;

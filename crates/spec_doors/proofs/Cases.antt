@@ -56,10 +56,14 @@ pub proved-lists : results
 unfolding held
 proved-lists = refl
 
--- 1,024 entries and one more
-pub full : held (same 1024 9) (same 1024 9) 0 ≡ got 1024 0 0
+-- 1,024 entries, and one more
+pub many-marks : held (same 1024 9) (9 ∷ []) 0 ≡ got 1 1023 0
 unfolding held
-full = refl
+many-marks = refl
+
+pub many-arrivals : held (9 ∷ []) (same 1024 9) 0 ≡ got 1 0 1023
+unfolding held
+many-arrivals = refl
 
 pub too-many-marks : held (same 1025 9) [] 0 ≡ refuse 22
 unfolding held
