@@ -2,4 +2,5 @@ pub mod Rising
 pub mod Pass
 pub mod Exchange
 pub mod Held
+pub mod Forms
 pub mod Cases
