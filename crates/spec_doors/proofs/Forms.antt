@@ -71,7 +71,7 @@ unfolding timesLine
 times-form [] = tt
 times-form (b ∷ bs) = whole-form (decimals (length (b ∷ bs)) [] (b ∷ bs))
 
-abbrev OfForms : {A : Type 0} → Reading A → Type 0
+abbrev pub OfForms : {A : Type 0} → Reading A → Type 0
 OfForms (refused n at) = n ≡ form
 OfForms (got x at rs) = Unit {0}
 
@@ -96,3 +96,21 @@ pub input-form : (at : ℕ) (rs : List Row) → OfForms (inputLines at rs)
 unfolding inputLines
 input-form at rs = follow-form (line _ at rs) _ (line-form _ within-form at rs) λ w at rs. follow-form (line _ at rs) _ (line-form _ times-form at rs)
     λ ms at rs. follow-form (line _ at rs) _ (line-form _ times-form at rs) λ xs at rs. follow-form (endOfInput at rs) _ (end-form at rs) λ _ at rs. tt
+
+-- ---- What is accepted was read to its end.
+abbrev pub Ended : {A : Type 0} → Reading A → Type 0
+Ended (refused n at) = Unit {0}
+Ended (got x at rs) = rs ≡ []
+
+follow-ended : {A B : Type 0} (r : Reading A) (k : A → Reader B) → ((x : A) (at : ℕ) (rs : List Row) → r ≡ got x at rs → Ended (k x at rs)) → Ended (follow r k)
+follow-ended (refused n at) k f = tt
+follow-ended (got x at rs) k f = f x at rs refl
+
+nothing-behind : (x : Input) (at : ℕ) (rs : List Row) → Ended (follow (endOfInput at rs) λ _ at rs. got x at rs)
+nothing-behind x at [] = refl
+nothing-behind x at (r ∷ rs) = tt
+
+pub input-ended : (at : ℕ) (rs : List Row) → Ended (inputLines at rs)
+unfolding inputLines
+input-ended at rs = follow-ended (line _ at rs) _ λ w at rs _. follow-ended (line _ at rs) _ λ ms at rs _. follow-ended (line _ at rs) _ λ xs at rs _.
+    nothing-behind (record { within = w; marks = ms; arrivals = xs }) at rs

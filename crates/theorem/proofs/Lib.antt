@@ -9,3 +9,4 @@ pub mod OfStates
 pub mod OfBytes
 pub mod Scripted
 pub mod Listed
+pub mod Doors

@@ -3,3 +3,4 @@ pub mod OfStates
 pub mod OfBytes
 pub mod Scripted
 pub mod Listed
+pub mod Doors
