@@ -73,7 +73,10 @@ typedef char pilgonca_needs_a_size_t_of_64_bits[sizeof(size_t) == 8 ? 1 : -1];
 #define PILGONCA_TINY_SHEETS 130
 #define PILGONCA_TINY_BYTES 13659
 
-/* What a function returns; pilgonca_refusal_text has the words. The last section of docs/SPEC.md says where each is met, docs/GUIDE.md what to do. */
+/*
+ * What a function returns; pilgonca_refusal_text has the words. The last section of docs/SPEC.md says where each is met, docs/GUIDE.md what to do. Numbers
+ * rise, and some are left out.
+ */
 enum pilgonca_refusal {
     PILGONCA_OK = 0,
     PILGONCA_FORM = 1,
@@ -94,7 +97,8 @@ enum pilgonca_refusal {
     PILGONCA_TOO_WIDE = 16,
     PILGONCA_ANSWERED_ALREADY = 17,
     PILGONCA_CALLS_FULL = 18,
-    PILGONCA_LATER_LAYER = 19
+    PILGONCA_LATER_LAYER = 19,
+    PILGONCA_UNFIT_TIMES = 22
 };
 
 /* One line for people, without a full stop. It is compiled into the caller: the libraries have no texts. */
@@ -121,6 +125,7 @@ static inline const char *pilgonca_refusal_text(size_t number)
     case PILGONCA_ANSWERED_ALREADY: return "the call is answered already";
     case PILGONCA_CALLS_FULL: return "no call is free";
     case PILGONCA_LATER_LAYER: return "a value fails at a layer behind the first of the call";
+    case PILGONCA_UNFIT_TIMES: return "a list of times is too long, falls or leaves its range, or the tolerance is too large";
     default: return "there is no refusal with this number";
     }
 }

@@ -83,14 +83,16 @@ fn a_size_t_of_32_bits_is_refused() {
 fn c_has_the_words_of_the_refusals() {
     let source = file("words.c");
     let text = "#include \"pilgonca.h\"\n#include <stdio.h>\n\
-        int main(void) { for (size_t n = 0; n < 21; n++) puts(pilgonca_refusal_text(n)); return 0; }\n";
+        int main(void) { for (size_t n = 0; n < 100; n++) puts(pilgonca_refusal_text(n)); return 0; }\n";
     fs::write(&source, text).expect("a file");
     let output = Command::new(compiled(&source)).output().expect("runs");
     let said = String::from_utf8(output.stdout).expect("ASCII");
-    let words = Refusal::ALL.iter().map(Refusal::to_string);
-    let none = String::from("there is no refusal with this number");
-    let expected = [String::from("accepted")].into_iter().chain(words);
-    let expected: Vec<String> = expected.chain([none]).collect();
+    let words = |number: usize| match (number, Refusal::from_number(number)) {
+        (0, _) => String::from("accepted"),
+        (_, Some(refusal)) => refusal.to_string(),
+        (_, None) => String::from("there is no refusal with this number"),
+    };
+    let expected: Vec<String> = (0..100).map(words).collect();
     assert_eq!(said.lines().collect::<Vec<_>>(), expected);
 }
 
