@@ -73,6 +73,12 @@ typedef char pilgonca_needs_a_size_t_of_64_bits[sizeof(size_t) == 8 ? 1 : -1];
 #define PILGONCA_TINY_SHEETS 130
 #define PILGONCA_TINY_BYTES 13659
 
+/* The most times of a list, the last time there is and the largest tolerance, both in milliseconds (V1), and the counts of pilgonca_doors (V6). */
+#define PILGONCA_TIMES 1024
+#define PILGONCA_LAST_TIME 4294967295
+#define PILGONCA_TOLERANCE 60000
+#define PILGONCA_DOOR_COUNTS 3
+
 /*
  * What a function returns; pilgonca_refusal_text has the words. The last section of docs/SPEC.md says where each is met, docs/GUIDE.md what to do. Numbers
  * rise, and some are left out.
@@ -337,6 +343,23 @@ size_t pilgonca_tiny(
     uint8_t *buffer,
     size_t buffer_len,
     size_t *length);
+
+/* ---- marks and arrivals ---- */
+
+/*
+ * Marks against the arrivals of a door counter (V): two lists of times in milliseconds, neither of which falls. A mark and an arrival may be a pair if they
+ * differ by at most `within`, and each entry is in one pair at most. Stored are counts[0], the most pairs that there can be, counts[1], the marks beside
+ * them, and counts[2], the arrivals beside them. The lists are handed in anew each time, and nothing of them is kept: it has no state and no subject. They
+ * may be of any length and hold any numbers: more than PILGONCA_TIMES, a time above PILGONCA_LAST_TIME or below the one before it, and a tolerance above
+ * PILGONCA_TOLERANCE are refused (V3). 22.
+ */
+size_t pilgonca_doors(
+    const uint64_t *marks,
+    size_t marks_len,
+    const uint64_t *arrivals,
+    size_t arrivals_len,
+    uint64_t within,
+    size_t counts[PILGONCA_DOOR_COUNTS]);
 
 #ifdef __cplusplus
 }

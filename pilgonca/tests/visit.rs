@@ -1,5 +1,5 @@
-//! The headers and the examples in C compile without a warning with the system's C compiler; visit.c, route.c and tiny.c print what stands beside them, as
-//! examples/visit.out, and saved.c reads and writes the saved states that this package does.
+//! The headers and the examples in C compile without a warning with the system's C compiler; visit.c, route.c, tiny.c and doors.c print what stands beside
+//! them, as examples/visit.out, and saved.c reads and writes the saved states that this package does.
 
 use pilgonca::saved::checksum;
 use pilgonca::{raw, Refusal, Subject, Type, Visit, EXAMPLE};
@@ -139,16 +139,36 @@ fn the_c_example_of_four_arguments_prints_its_route() {
     }
 }
 
-/// Every tiny sheet from C: it takes no sheet, and says of what it was given that each is accepted.
-#[test]
-fn the_c_example_of_tiny_sheets_reads_them_all() {
-    let output = Command::new(compiled(&example("tiny.c"))).output();
+/// An example in C that takes no sheet prints what stands beside it, which is given back.
+fn prints_alone(name: &str) -> String {
+    let output = Command::new(compiled(&example(&format!("{name}.c")))).output();
     let output = output.expect("the program runs");
-    let expected = fs::read_to_string(example("tiny.out")).expect("what it prints");
+    let expected = fs::read_to_string(example(&format!("{name}.out"))).expect("what it prints");
     assert_eq!(String::from_utf8_lossy(&output.stdout), expected);
     assert!(output.status.success() && output.stderr.is_empty());
+    expected
+}
+
+/// Every tiny sheet from C: it says of what it was given that each is accepted.
+#[test]
+fn the_c_example_of_tiny_sheets_reads_them_all() {
     let count = format!("{} sheets, and each is accepted\n", raw::TINY_SHEETS);
-    assert!(expected.ends_with(&count));
+    assert!(prints_alone("tiny").ends_with(&count));
+}
+
+/// Marks against arrivals from C: counted by a narrow and a wide tolerance, refused for a list that falls and for a tolerance too large.
+#[test]
+fn the_c_example_of_marks_and_arrivals_counts_them() {
+    let said = prints_alone("doors");
+    for words in [
+        "within 1500 ms: pairs 3, unpaired marks 2, unpaired arrivals 1",
+        "within 60000 ms: pairs 4, unpaired marks 1, unpaired arrivals 0",
+        "3 marks, 4 arrivals, within 1500 ms: refused with 22",
+        "within 60001 ms: refused with 22",
+        "still 4, 1 and 0",
+    ] {
+        assert!(said.contains(words), "{words}");
+    }
 }
 
 /// A file of this test alone.
