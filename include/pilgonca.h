@@ -73,7 +73,16 @@ typedef char pilgonca_needs_a_size_t_of_64_bits[sizeof(size_t) == 8 ? 1 : -1];
 #define PILGONCA_TINY_SHEETS 130
 #define PILGONCA_TINY_BYTES 13659
 
-/* What a function returns; pilgonca_refusal_text has the words. The last section of docs/SPEC.md says where each is met, docs/GUIDE.md what to do. */
+/* The most times of a list, the last time there is and the largest tolerance, both in milliseconds (V1), and the counts of pilgonca_doors (V6). */
+#define PILGONCA_TIMES 1024
+#define PILGONCA_LAST_TIME 4294967295
+#define PILGONCA_TOLERANCE 60000
+#define PILGONCA_DOOR_COUNTS 3
+
+/*
+ * What a function returns; pilgonca_refusal_text has the words. The last section of docs/SPEC.md says where each is met, docs/GUIDE.md what to do. Numbers
+ * rise, and some are left out.
+ */
 enum pilgonca_refusal {
     PILGONCA_OK = 0,
     PILGONCA_FORM = 1,
@@ -94,7 +103,8 @@ enum pilgonca_refusal {
     PILGONCA_TOO_WIDE = 16,
     PILGONCA_ANSWERED_ALREADY = 17,
     PILGONCA_CALLS_FULL = 18,
-    PILGONCA_LATER_LAYER = 19
+    PILGONCA_LATER_LAYER = 19,
+    PILGONCA_UNFIT_TIMES = 22
 };
 
 /* One line for people, without a full stop. It is compiled into the caller: the libraries have no texts. */
@@ -121,6 +131,7 @@ static inline const char *pilgonca_refusal_text(size_t number)
     case PILGONCA_ANSWERED_ALREADY: return "the call is answered already";
     case PILGONCA_CALLS_FULL: return "no call is free";
     case PILGONCA_LATER_LAYER: return "a value fails at a layer behind the first of the call";
+    case PILGONCA_UNFIT_TIMES: return "a list of times is too long, falls or leaves its range, or the tolerance is too large";
     default: return "there is no refusal with this number";
     }
 }
@@ -332,6 +343,22 @@ size_t pilgonca_tiny(
     uint8_t *buffer,
     size_t buffer_len,
     size_t *length);
+
+/* ---- marks and arrivals ---- */
+
+/*
+ * Marks against the arrivals of a door counter (V): two lists of milliseconds, each in order. A pair is a mark and an arrival at most `within` apart, and no
+ * entry stands in two pairs. Stored are three counts (V6): counts[0] pairs, as many as there can be, counts[1] unpaired marks, counts[2] unpaired arrivals.
+ * Lists may be of any length and hold any numbers: one with more than PILGONCA_TIMES, with a time above PILGONCA_LAST_TIME or below the one before it, and a
+ * tolerance above PILGONCA_TOLERANCE are refused, and the counts stay as they were (V3). It has no state and no subject, and keeps nothing. 22.
+ */
+size_t pilgonca_doors(
+    const uint64_t *marks,
+    size_t marks_len,
+    const uint64_t *arrivals,
+    size_t arrivals_len,
+    uint64_t within,
+    size_t counts[PILGONCA_DOOR_COUNTS]);
 
 #ifdef __cplusplus
 }

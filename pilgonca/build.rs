@@ -1,6 +1,6 @@
 //! Links the core. Where PILGONCA_LIB_DIR names a directory that is its libpilgonca.a, which tools/install puts there. Else it is target/staticlib/libNAME.a
-//! of this repository for every crate of crates.txt whose name begins with `export_`, but for those of features that are off: `export_tiny` is of `tiny`, and
-//! all others but `export_sheet` and `export_table` are of `visits`. tools/libraries writes them (./test does that first).
+//! of this repository for every crate of crates.txt whose name begins with `export_`, but for those of features that are off: `export_tiny` is of `tiny`,
+//! `export_doors` of `doors`, and all others but `export_sheet` and `export_table` are of `visits`. tools/libraries writes them (./test does that first).
 //! What a library doesn't export is local to it, so functions that two of them hold don't clash. Packages that depend on this one need no build script.
 //! The tests that compile C find the files in PILGONCA_LIBRARIES.
 
@@ -48,6 +48,7 @@ fn is_on(name: &str) -> bool {
     let feature = match name {
         "export_sheet" | "export_table" => return true,
         "export_tiny" => "TINY",
+        "export_doors" => "DOORS",
         _ => "VISITS",
     };
     env::var_os(format!("CARGO_FEATURE_{feature}")).is_some()

@@ -21,8 +21,8 @@
 //! writes them, into target/staticlib, where the package finds them. Elsewhere, as for a dependency by git: `tools/install PREFIX` in a clone, and
 //! `PILGONCA_LIB_DIR=PREFIX/lib` in the environment of cargo, an absolute path. Both need the toolchain `rt`, once.
 //!
-//! `Visit` and `script` are the feature `visits`, `tiny` and `tiny_sheets` the feature `tiny`. Both are on unless they are turned off: sheets alone need two
-//! static libraries of the six.
+//! `Visit` and `script` are the feature `visits`, `tiny` and `tiny_sheets` the feature `tiny`, `doors` the feature `doors`. All are on unless they are turned
+//! off: sheets alone need two static libraries of the seven.
 //!
 //! # Stack
 //!
@@ -30,6 +30,8 @@
 #![deny(missing_docs)]
 #![deny(unsafe_code)]
 
+#[cfg(feature = "doors")]
+mod doors;
 mod numbers;
 pub mod raw;
 mod records;
@@ -42,6 +44,8 @@ mod tiny;
 #[cfg(feature = "visits")]
 mod visit;
 
+#[cfg(feature = "doors")]
+pub use doors::{doors, Doors};
 pub use numbers::{Call, Cell, Method, Place, Subject, Type};
 pub use records::{Key, Kind, MethodInfo, Representation, Signature, TypeInfo};
 pub use refusal::{Refusal, SheetRefused};

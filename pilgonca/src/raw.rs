@@ -8,6 +8,8 @@ mod functions;
 #[cfg(feature = "visits")]
 mod state;
 
+#[cfg(feature = "doors")]
+pub use functions::doors::doors;
 #[cfg(feature = "visits")]
 pub use functions::states::{answer, call, load, move_reference, new_object, offers, run, script};
 #[cfg(feature = "tiny")]
@@ -57,6 +59,20 @@ pub const TINY_SHEETS: usize = 130;
 /// The bytes of all tiny sheets (P25).
 #[cfg(feature = "tiny")]
 pub const TINY_BYTES: usize = 13_659;
+
+/// The most times of a list (V1).
+#[cfg(feature = "doors")]
+pub const MAX_TIMES: usize = 1024;
+/// The last time that there is, in milliseconds (V1).
+#[cfg(feature = "doors")]
+pub const LAST_TIME: u64 = 4_294_967_295;
+/// The largest tolerance, in milliseconds (V1).
+#[cfg(feature = "doors")]
+pub const MAX_TOLERANCE: u64 = 60_000;
+
+/// Pairs, unpaired marks and unpaired arrivals (V6).
+#[cfg(feature = "doors")]
+pub type DoorCounts = [usize; 3];
 
 /// The records of types (B1 to B10).
 pub type Types = [u8; MAX_TYPES * TYPE_RECORD];

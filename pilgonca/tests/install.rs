@@ -134,7 +134,7 @@ fn a_prefix_has_these_files() {
 }
 
 /// Every C program of examples/ compiles; one with its output beside it, as visit.out, prints that for the sheet of its name, or else for that of Case P, which
-/// tiny.c does not look at.
+/// tiny.c and doors.c do not look at.
 #[test]
 fn the_examples_compile_by_its_flags() {
     let files = std::fs::read_dir(root().join("examples")).expect("examples");
@@ -154,7 +154,7 @@ fn the_examples_compile_by_its_flags() {
             ran += 1;
         }
     }
-    assert_eq!(ran, 3);
+    assert_eq!(ran, 4);
 }
 
 /// pkg-config, where there is one, gives the flags that the tests here use.
@@ -223,7 +223,8 @@ fn the_code_is_as_small_as_said() {
     let table = "s.types, s.links, s.counts";
     let others = format!(
         "pilgonca_run({state}, v, n, v, n, &n); pilgonca_script(b, n, b, n, &n); pilgonca_compare({table}, 0, 1);\n\
-         pilgonca_read(b, n, {table}, &n); pilgonca_write(b, n, {table}, &n); pilgonca_pairs({table}, b); pilgonca_tiny(b, n, &n);\n"
+         pilgonca_read(b, n, {table}, &n); pilgonca_write(b, n, {table}, &n); pilgonca_pairs({table}, b); pilgonca_tiny(b, n, &n);\n\
+         {{ static uint64_t t[9]; pilgonca_doors(t, n, t, n, 0, s.counts); }}\n"
     );
     let none = measured("nothing", "(void)s; (void)v; (void)n; (void)b;\n");
     let some = measured("requests", &requests) - none;

@@ -1,8 +1,9 @@
-//! What the doc tests have no room for: the guide's sheet, the longest text, full states, references as answers, bytes that were kept.
+//! What the doc tests have no room for: the guide's sheet, the longest text, full states, references as answers, bytes that were kept, lists of times at
+//! their limits.
 
 use pilgonca::{
-    raw, Answered, Call, Cell, Held, Method, MethodInfo, Place, PlaceKind, Refusal, Sheet, Subject,
-    Type, Visit, EXAMPLE,
+    doors, raw, Answered, Call, Cell, Doors, Held, Method, MethodInfo, Place, PlaceKind, Refusal,
+    Sheet, Subject, Type, Visit, EXAMPLE,
 };
 use std::error::Error;
 use std::fmt::Write;
@@ -265,6 +266,62 @@ fn kept_bytes_come_back() {
     let mut damaged = visit.state().clone();
     damaged.counts[5] = usize::MAX;
     assert_eq!(Visit::from_state(damaged).err(), Some(Refusal::OutOfRange));
+}
+
+/// The longest lists, the last time and the largest tolerance are accepted.
+#[test]
+fn times_are_held_at_their_limits() {
+    let counted = |pairs, unpaired_marks, unpaired_arrivals| {
+        Ok(Doors {
+            pairs,
+            unpaired_marks,
+            unpaired_arrivals,
+        })
+    };
+    let (most, last, tolerance) = (raw::MAX_TIMES, raw::LAST_TIME, raw::MAX_TOLERANCE);
+    let ends = vec![last; most];
+    assert_eq!(doors(&ends, &ends, 0), counted(most, 0, 0));
+    assert_eq!(doors(&ends, &[], tolerance), counted(0, most, 0));
+    assert_eq!(doors(&[], &ends, tolerance), counted(0, 0, most));
+    assert_eq!(doors(&[], &[], 0), counted(0, 0, 0));
+    let early = vec![last - tolerance; most - 1];
+    assert_eq!(doors(&early, &ends, tolerance), counted(most - 1, 0, 1));
+    assert_eq!(doors(&ends, &early, tolerance), counted(most - 1, 1, 0));
+    assert_eq!(
+        doors(&early, &ends, tolerance - 1),
+        counted(0, most - 1, most)
+    );
+}
+
+/// One entry, one millisecond or one step down too many, in either list, is 22 and stores nothing (V3).
+#[test]
+fn unfit_times_store_nothing() {
+    let (most, last, tolerance) = (raw::MAX_TIMES, raw::LAST_TIME, raw::MAX_TOLERANCE);
+    let mut falls_last = vec![7; most];
+    falls_last[most - 1] = 6;
+    let unfit = [
+        vec![0; most + 1],
+        vec![0; 1 << 20],
+        vec![0, last + 1],
+        vec![u64::MAX; 2],
+        vec![1, 0],
+        falls_last,
+    ];
+    let refused = |marks: &[u64], arrivals: &[u64], within: u64| {
+        let mut counts = [usize::MAX, 1, 0];
+        assert_eq!(raw::doors(marks, arrivals, within, &mut counts), 22);
+        assert_eq!(counts, [usize::MAX, 1, 0]);
+        let found = doors(marks, arrivals, within);
+        assert_eq!(found, Err(Refusal::UnfitTimes));
+    };
+    for list in &unfit {
+        refused(list, &[1], 0);
+        refused(&[1], list, 0);
+        refused(list, list, tolerance);
+    }
+    for within in [tolerance + 1, u64::MAX] {
+        refused(&[], &[], within);
+    }
 }
 
 #[test]

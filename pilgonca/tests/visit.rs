@@ -1,5 +1,5 @@
-//! The headers and the examples in C compile without a warning with the system's C compiler; visit.c, route.c and tiny.c print what stands beside them, as
-//! examples/visit.out, and saved.c reads and writes the saved states that this package does.
+//! The headers and the examples in C compile without a warning with the system's C compiler; visit.c, route.c, tiny.c and doors.c print what stands beside
+//! them, as examples/visit.out, and saved.c reads and writes the saved states that this package does.
 
 use pilgonca::saved::checksum;
 use pilgonca::{raw, Refusal, Subject, Type, Visit, EXAMPLE};
@@ -83,14 +83,16 @@ fn a_size_t_of_32_bits_is_refused() {
 fn c_has_the_words_of_the_refusals() {
     let source = file("words.c");
     let text = "#include \"pilgonca.h\"\n#include <stdio.h>\n\
-        int main(void) { for (size_t n = 0; n < 21; n++) puts(pilgonca_refusal_text(n)); return 0; }\n";
+        int main(void) { for (size_t n = 0; n < 100; n++) puts(pilgonca_refusal_text(n)); return 0; }\n";
     fs::write(&source, text).expect("a file");
     let output = Command::new(compiled(&source)).output().expect("runs");
     let said = String::from_utf8(output.stdout).expect("ASCII");
-    let words = Refusal::ALL.iter().map(Refusal::to_string);
-    let none = String::from("there is no refusal with this number");
-    let expected = [String::from("accepted")].into_iter().chain(words);
-    let expected: Vec<String> = expected.chain([none]).collect();
+    let words = |number: usize| match (number, Refusal::from_number(number)) {
+        (0, _) => String::from("accepted"),
+        (_, Some(refusal)) => refusal.to_string(),
+        (_, None) => String::from("there is no refusal with this number"),
+    };
+    let expected: Vec<String> = (0..100).map(words).collect();
     assert_eq!(said.lines().collect::<Vec<_>>(), expected);
 }
 
@@ -137,16 +139,36 @@ fn the_c_example_of_four_arguments_prints_its_route() {
     }
 }
 
-/// Every tiny sheet from C: it takes no sheet, and says of what it was given that each is accepted.
-#[test]
-fn the_c_example_of_tiny_sheets_reads_them_all() {
-    let output = Command::new(compiled(&example("tiny.c"))).output();
+/// An example in C that takes no sheet prints what stands beside it, which is given back.
+fn prints_alone(name: &str) -> String {
+    let output = Command::new(compiled(&example(&format!("{name}.c")))).output();
     let output = output.expect("the program runs");
-    let expected = fs::read_to_string(example("tiny.out")).expect("what it prints");
+    let expected = fs::read_to_string(example(&format!("{name}.out"))).expect("what it prints");
     assert_eq!(String::from_utf8_lossy(&output.stdout), expected);
     assert!(output.status.success() && output.stderr.is_empty());
+    expected
+}
+
+/// Every tiny sheet from C: it says of what it was given that each is accepted.
+#[test]
+fn the_c_example_of_tiny_sheets_reads_them_all() {
     let count = format!("{} sheets, and each is accepted\n", raw::TINY_SHEETS);
-    assert!(expected.ends_with(&count));
+    assert!(prints_alone("tiny").ends_with(&count));
+}
+
+/// Marks against arrivals from C: counted by a narrow and a wide tolerance, refused for a list that falls and for a tolerance too large.
+#[test]
+fn the_c_example_of_marks_and_arrivals_counts_them() {
+    let said = prints_alone("doors");
+    for words in [
+        "within 1500 ms: pairs 3, unpaired marks 2, unpaired arrivals 1",
+        "within 60000 ms: pairs 4, unpaired marks 1, unpaired arrivals 0",
+        "3 marks, 4 arrivals, within 1500 ms: refused with 22",
+        "within 60001 ms: refused with 22",
+        "still 4, 1 and 0",
+    ] {
+        assert!(said.contains(words), "{words}");
+    }
 }
 
 /// A file of this test alone.

@@ -3,6 +3,8 @@
 //! no pointer. tests/header holds the declarations against the Rattle source.
 #![allow(unsafe_code)]
 
+#[cfg(feature = "doors")]
+pub mod doors;
 #[cfg(feature = "visits")]
 pub mod states;
 #[cfg(feature = "tiny")]

@@ -17,6 +17,7 @@ pub enum Passed {
 pub enum Width {
     U8,
     I64,
+    U64,
     Usize,
 }
 
@@ -34,6 +35,7 @@ fn width(word: &str) -> Width {
     match word.trim() {
         "u8" | "uint8_t" => Width::U8,
         "i64" | "int64_t" => Width::I64,
+        "u64" | "uint64_t" => Width::U64,
         "usize" | "size_t" => Width::Usize,
         other => panic!("{other:?} is no width"),
     }

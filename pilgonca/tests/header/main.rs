@@ -34,11 +34,15 @@ fn source(name: &str) -> String {
     rattle.map(|path| read(&path)).collect()
 }
 
-/// The value of a constant of a crate.
+/// The value of a constant of a crate, a count or a word without a sign.
 fn constant(name: &str, constant: &str) -> usize {
     let source = source(name);
-    let found = between(&source, &format!("const {constant}: usize = "), ";");
-    let (value, _) = found.unwrap_or_else(|| panic!("{name} has no {constant}"));
+    let mut found = ["usize", "u64"]
+        .iter()
+        .filter_map(|width| between(&source, &format!("const {constant}: {width} = "), ";"));
+    let (value, _) = found
+        .next()
+        .unwrap_or_else(|| panic!("{name} has no {constant}"));
     value_of(name, value)
 }
 
@@ -123,10 +127,12 @@ fn declared() -> Functions {
         "TableCounts" => Some(("usize", size_of::<raw::TableCounts>() / size_of::<usize>())),
         "StateCounts" => Some(("usize", size_of::<raw::StateCounts>() / size_of::<usize>())),
         "Values" => Some(("i64", size_of::<raw::Values>() / size_of::<i64>())),
+        "DoorCounts" => Some(("usize", size_of::<raw::DoorCounts>() / size_of::<usize>())),
         _ => None,
     };
     let texts = [
         include_str!("../../src/raw/functions.rs"),
+        include_str!("../../src/raw/functions/doors.rs"),
         include_str!("../../src/raw/functions/states.rs"),
         include_str!("../../src/raw/functions/tiny.rs"),
         include_str!("../../src/raw/functions/tools.rs"),
@@ -206,7 +212,7 @@ fn packages_inherit_what_is_said_once() {
 }
 
 /// Numbers of the header by the crate that has each, and those of this crate.
-const NUMBERS: [(&str, &str, usize); 17] = [
+const NUMBERS: [(&str, &str, usize); 20] = [
     ("table_record", "SUBJECTS", raw::MAX_SUBJECTS),
     ("table_record", "METHODS", raw::MAX_METHODS),
     ("table_record", "ARGUMENTS", raw::MAX_ARGUMENTS),
@@ -232,6 +238,9 @@ const NUMBERS: [(&str, &str, usize); 17] = [
         "PRINTED_BYTES",
         raw::MAX_SCRIPT + raw::SCRIPT_LONGER,
     ),
+    ("doors_hold", "TIMES", raw::MAX_TIMES),
+    ("doors_hold", "LAST_TIME", raw::LAST_TIME as usize),
+    ("doors_hold", "TOLERANCE", raw::MAX_TOLERANCE as usize),
 ];
 
 /// Those that the header calls otherwise than their crate does, by the header's word.
@@ -257,7 +266,8 @@ fn every_number_is_the_sources() {
     let words = numbers.remove("PILGONCA_ANSWER_WORDS");
     assert_eq!(words, Some(constant("request_run", "WORDS")));
     // the rest are lengths of arrays, which are held against the functions
-    let lengths = ["STATE_COUNTS", "TABLE_COUNTS", "VALUES"].map(|word| format!("PILGONCA_{word}"));
+    let lengths = ["DOOR_COUNTS", "STATE_COUNTS", "TABLE_COUNTS", "VALUES"];
+    let lengths = lengths.map(|word| format!("PILGONCA_{word}"));
     assert_eq!(numbers.into_keys().collect::<Vec<_>>(), lengths);
 }
 
