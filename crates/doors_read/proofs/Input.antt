@@ -1,20 +1,16 @@
--- The three lines put together: what is left to read behind each of them, and that no refusal is any other than that of the form.
+-- The three lines put together: what is left to read behind each of them. That no refusal is any other than that of the form is shown of the definition (`input-form`).
 use mathlib.Core.Path.{_≡_, refl, ap, sym, _∙_, subst}
-use mathlib.Core.Bool.{Bool, true, false}
 use mathlib.Core.List.{List, [], _∷_}
 use Prim.Native.Nat.{ℕ, _≤_, _<_}
 use native.Mathlib.Omega.{arith}
 use lib.ListN.{length, drop, length-drop}
-use borrow.Author.Tests.{le-leb}
-use Rattle.spec_model.specs.Basics.{Res, refuse, ok, try, need}
-use Rattle.spec_model.specs.Refusals.{form, outOfRange}
-use Rattle.spec_model.specs.Table.{between}
-use Rattle.spec_model.proofs.Rules.{both}
-use Rattle.spec_sheet.specs.Lines.{bytes, Row, row, cut, split, Reading, refused, got, Reader, pure, line, lineAt, follow, bind, endOfInput, starts, keyed}
-use Rattle.spec_sheet.specs.Numbers.{Scan, fail, took, whole, top, number}
+use Rattle.spec_model.specs.Refusals.{form}
+use Rattle.spec_sheet.specs.Lines.{bytes, Row, split, Reading, refused, Reader, pure, line, follow, bind, endOfInput}
+use Rattle.spec_sheet.specs.Numbers.{top}
 use Rattle.spec_sheet.specs.Sheet.{numberLine}
 use Rattle.spec_sheet.proofs.Lines.{unsplit, unsplit-split}
 use Rattle.spec_doors.specs.Input.{timesLine, Input, inputLines}
+use Rattle.spec_doors.proofs.Forms.{input-form}
 use Rattle.text_cursor.specs.declared.Cursor.{Cursor}
 use Rattle.text_read.specs.View.{readBy}
 use Rattle.text_read.specs.declared.Got.{Got}
@@ -23,41 +19,6 @@ use Rattle.text_read.proofs.Laws.{at-end}
 use Rattle.doors_read.specs.View.{Stored, Gives, LineRead, Whole}
 use Rattle.doors_read.specs.declared.Line.{Line}
 use Rattle.doors_read.specs.declared.Line.the-variants.{Wrong, Right}
-use Rattle.doors_read.proofs.Laws.{Fine, number-fine}
-
--- ---- The tolerance: every number that is read is in its range.
-abbrev key : List ℕ
-key = bytes "within="
-
-abbrev FormOnly : Res ℕ → Type 0
-FormOnly (refuse k) = k ≡ form
-FormOnly (ok n) = Unit {0}
-
-tolerance-form : (l : List ℕ) → FormOnly (numberLine key 0 top l)
-unfolding numberLine keyed
-tolerance-form l = keyed-form (starts key l)
-  where
-    number-form : (s : Scan ℕ) (size : ℕ) → Fine size s → FormOnly (try (whole s) λ n. need (between 0 top n) outOfRange λ _. ok n)
-    number-form fail size h = refl
-    number-form (took n []) size h = rw (both (le-leb 0 n (omega arith)) (le-leb n top (h .1))) tt
-    number-form (took n (b ∷ r)) size h = refl
-
-    keyed-form : (b : Bool) → FormOnly (try (need b form λ _. ok (drop (length key) l)) λ r. try (whole (number r)) λ n. need (between 0 top n) outOfRange λ _. ok n)
-    keyed-form true = let r = drop (length key) l in number-form (number r) (length r) (number-fine r)
-    keyed-form false = refl
-
-abbrev FormRead : Reading ℕ → Type 0
-FormRead (refused k at) = k ≡ form
-FormRead (got n at rs) = Unit {0}
-
-line-form : (at : ℕ) (rs : List Row) → FormRead (line (numberLine key 0 top) at rs)
-line-form at [] = refl
-line-form at (cut l ∷ rs) = refl
-line-form at (row l ∷ rs) = go (numberLine key 0 top l) (tolerance-form l)
-  where
-    go : (R : Res ℕ) → FormOnly R → FormRead (lineAt R at l rs)
-    go (refuse k) h = h
-    go (ok n) h = tt
 
 -- ---- What is left behind the arrivals, behind the marks and behind the tolerance.
 abbrev pub behindArrivals : ℕ → List ℕ → List ℕ → Reader Input
@@ -74,15 +35,15 @@ abbrev pub FormWrong : Reading Input → Type 0
 FormWrong R = (at : ℕ) × (R ≡ refused form at)
 
 module _ (s : List ℕ) (c : Cursor) (g : Got) (z : c .at ≡ 0)
-    (e : readBy (λ n. n) s (c .at) g ≡ line (numberLine key 0 top) (c .at) (split (drop (c .at) s))) where
+    (e : readBy (λ n. n) s (c .at) g ≡ line (numberLine (bytes "within=") 0 top) (c .at) (split (drop (c .at) s))) where
   first-line : inputLines 0 (split s) ≡ follow (readBy (λ n. n) s (c .at) g) behindTolerance
   unfolding inputLines
-  first-line = sym (ap (λ R. follow R behindTolerance) e ∙ ap (λ (a : ℕ). follow (line (numberLine key 0 top) a (split (drop a s))) behindTolerance) z)
+  first-line = sym (ap (λ R. follow R behindTolerance) e ∙ ap (λ (a : ℕ). follow (line (numberLine (bytes "within=") 0 top) a (split (drop a s))) behindTolerance) z)
 
   pub no-tolerance : (k : ℕ) → g ≡ Refused k → FormWrong (inputLines 0 (split s))
   no-tolerance k q =
-      let f : k ≡ form = subst FormRead (sym e ∙ ap (readBy (λ n. n) s (c .at)) q) (line-form (c .at) (split (drop (c .at) s))) in
-      (c .at, first-line ∙ ap (λ g. follow (readBy (λ n. n) s (c .at) g) behindTolerance) q ∙ ap (λ (n : ℕ). refused n (c .at)) f)
+      let r : inputLines 0 (split s) ≡ refused k (c .at) = first-line ∙ ap (λ g. follow (readBy (λ n. n) s (c .at) g) behindTolerance) q in
+      (c .at, r ∙ ap (λ (n : ℕ). refused n (c .at)) (rw r at (input-form 0 (split s))))
 
   pub tolerance : (w : ℕ) (d : Cursor) → g ≡ At w d → inputLines 0 (split s) ≡ behindTolerance w (d .at) (split (drop (d .at) s))
   tolerance w d q = first-line ∙ ap (λ g. follow (readBy (λ n. n) s (c .at) g) behindTolerance) q

@@ -11,40 +11,39 @@ use lib.Seq.{take-suc-set}
 use borrow.Author.Tests.{eq-eqb, ne-eqb}
 use Rattle.spec_model.specs.Basics.{refuse, ok}
 use Rattle.spec_model.specs.Refusals.{form}
-use Rattle.spec_sheet.specs.Numbers.{Scan, fail, took, whole, isDigit, top, limit, digits, number}
+use Rattle.spec_sheet.specs.Numbers.{Scan, fail, took, whole, isDigit, limit, digits, number}
 use Rattle.spec_doors.specs.Times.{maxTimes}
 use Rattle.spec_doors.specs.Input.{space, decimals, timesLine}
-use Rattle.spec_sheet.proofs.Numbers.{isDigit-high}
 use Rattle.text_read.proofs.Laws.{at-end, from-here}
 use Rattle.doors_read.specs.View.{Stores, Stored, Gives}
 
--- ---- A number takes a byte at least, and is at most `top`.
-abbrev pub Fine : ℕ → Scan ℕ → Type 0
-Fine n fail = Unit {0}
-Fine n (took x r) = (length r < n) × (x ≤ top)
+-- ---- A number takes a byte at least.
+abbrev Fewer : ℕ → Scan ℕ → Type 0
+Fewer n fail = Unit {0}
+Fewer n (took x r) = length r < n
 
-fine-more : (n : ℕ) (s : Scan ℕ) → Fine n s → Fine (suc n) s
-fine-more n fail h = tt
-fine-more n (took x r) h = (omega (arith, h .0), h .1)
+fewer-more : (n : ℕ) (s : Scan ℕ) → Fewer n s → Fewer (suc n) s
+fewer-more n fail h = tt
+fewer-more n (took x r) h = omega arith
 
-digits-fine : (a : ℕ) (l : List ℕ) → a ≤ top → Fine (suc (length l)) (digits a l)
+digits-fewer : (a : ℕ) (l : List ℕ) → Fewer (suc (length l)) (digits a l)
 unfolding digits
-digits-fine a [] h = (omega arith, h)
-digits-fine a (b ∷ bs) h = let n = limit (a * 10 + (b - 48)) in go (isDigit b) (digits n bs) (digits-fine n bs (omega arith))
+digits-fewer a [] = omega arith
+digits-fewer a (b ∷ bs) = let n = limit (a * 10 + (b - 48)) in go (isDigit b) (digits n bs) (digits-fewer n bs)
   where
-    go : (t : Bool) (s : Scan ℕ) → Fine (suc (length bs)) s → Fine (suc (suc (length bs))) (cond t s (took a (b ∷ bs)))
-    go true s k = fine-more (suc (length bs)) s k
-    go false s k = (omega arith, h)
+    go : (t : Bool) (s : Scan ℕ) → Fewer (suc (length bs)) s → Fewer (suc (suc (length bs))) (cond t s (took a (b ∷ bs)))
+    go true s h = fewer-more (suc (length bs)) s h
+    go false s h = omega arith
 
-pub number-fine : (l : List ℕ) → Fine (length l) (number l)
+number-fewer : (l : List ℕ) → Fewer (length l) (number l)
 unfolding number
-number-fine [] = tt
-number-fine (b ∷ bs) = go (eqb b 48) (isDigit b) refl
+number-fewer [] = tt
+number-fewer (b ∷ bs) = go (eqb b 48) (isDigit b)
   where
-    go : (s t : Bool) → isDigit b ≡ t → Fine (suc (length bs)) (cond s (took 0 bs) (cond t (digits (b - 48) bs) fail))
-    go true t e = (omega arith, omega arith)
-    go false true e = digits-fine (b - 48) bs (omega (arith, isDigit-high b e))
-    go false false e = tt
+    go : (s t : Bool) → Fewer (suc (length bs)) (cond s (took 0 bs) (cond t (digits (b - 48) bs) fail))
+    go true t = omega arith
+    go false true = digits-fewer (b - 48) bs
+    go false false = tt
 
 -- ---- A store.
 module _ (old : List ℕ) (i x : ℕ) (size : length old ≡ maxTimes) where
@@ -103,7 +102,7 @@ module _ (l items : List ℕ) (at n : ℕ) (p : Begun l items at n) where
 
   module _ (x next : ℕ) (q : Scanned l at x next) where
     pub onward : at < next
-    onward = let h : length (drop next l) < length (drop at l) = subst (Fine (length (drop at l))) (sym (q .is)) (number-fine (drop at l)) .0 in
+    onward = let h : length (drop next l) < length (drop at l) = subst (Fewer (length (drop at l))) (sym (q .is)) (number-fewer (drop at l)) in
         omega (arith, q .inside, length-drop next l, length-drop at l)
 
     -- the times with this one
