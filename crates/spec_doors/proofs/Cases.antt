@@ -31,7 +31,7 @@ results (c ∷ cs) = held (c .marks) (c .arrivals) (c .within) ∷ results cs
 
 pub proved-lists : results
     -- nothing; one side alone
-    ( against [] [] 0 ∷ against (5 ∷ []) [] 60000 ∷ against [] (5 ∷ 5 ∷ []) 0
+    (against [] [] 0 ∷ against (5 ∷ []) [] 60000 ∷ against [] (5 ∷ 5 ∷ []) 0
     -- the tolerance itself is near, on either side; one more is not
     ∷ against (10 ∷ []) (13 ∷ []) 3 ∷ against (13 ∷ []) (10 ∷ []) 3 ∷ against (10 ∷ []) (13 ∷ []) 2 ∷ against (13 ∷ []) (10 ∷ []) 2
     -- no entry is used twice
@@ -83,7 +83,7 @@ lines [] = []
 lines (s ∷ ss) = join (bytes s ∷ []) ∷ lines ss
 
 pub proved-inputs : printed
-    ( "within=1000\n0 500 500 2000 9000\n400 1500 2500 2500 20000\n" ∷ "within=0\n\n\n" ∷ "within=60000\n7\n\n" ∷ "within=60001\n\n\n" ∷ "within=0\n2 1\n\n"
+    ("within=1000\n0 500 500 2000 9000\n400 1500 2500 2500 20000\n" ∷ "within=0\n\n\n" ∷ "within=60000\n7\n\n" ∷ "within=60001\n\n\n" ∷ "within=0\n2 1\n\n"
     -- decimals of any length have the right form
     ∷ "within=99999999999999999999999\n\n\n" ∷ "within=0\n99999999999999999999999\n\n"
     -- Form comes first, wherever: a leading zero, a sign, no number, spaces in front, behind and two between, a comma, another key.
@@ -91,7 +91,7 @@ pub proved-inputs : printed
     -- a line missing, one without its LF, one too many
     ∷ "" ∷ "within=0\n" ∷ "within=0\n\n" ∷ "within=0\n\n5" ∷ "within=0\n\n\n\n" ∷ "within=0\n\n\n5" ∷ [])
     ≡ lines
-    ( "got=3 2 2" ∷ "got=0 0 0" ∷ "got=0 1 0" ∷ "no=22" ∷ "no=22"
+    ("got=3 2 2" ∷ "got=0 0 0" ∷ "got=0 1 0" ∷ "no=22" ∷ "no=22"
     ∷ "no=22" ∷ "no=22"
     ∷ "no=1" ∷ "no=1" ∷ "no=1" ∷ "no=1" ∷ "no=1" ∷ "no=1" ∷ "no=1" ∷ "no=1"
     ∷ "no=1" ∷ "no=1" ∷ "no=1" ∷ "no=1" ∷ "no=1" ∷ "no=1" ∷ [])

@@ -35,10 +35,11 @@ count-pairs-requires : tie.Need-count-pairs-requires
 count-pairs-requires c κs =
     let c2 = c .before .before in
     let c4 = c2 .before .before in
-    let a = c4 .before .before .before .args in
-    ( fit-rising (a .marks .now) (sym (accepts _ _ (c2 .before .times-fit .ensures) (c2 .if2 .left)))
-    , fit-rising (a .arrivals .now) (sym (accepts _ _ (c .before .times-fit2 .ensures) (c .if3 .left)))
-    , c4 .if1 .left)
+    let a = c4 .before .before .before .args in (
+      fit-rising (a .marks .now) (sym (accepts _ _ (c2 .before .times-fit .ensures) (c2 .if2 .left))),
+      fit-rising (a .arrivals .now) (sym (accepts _ _ (c .before .times-fit2 .ensures) (c .if3 .left))),
+      c4 .if1 .left,
+    )
 
 sub-t8 : tie.Need-sub-t8
 sub-t8 c =
