@@ -1,5 +1,4 @@
 -- The number and values of each case that marks held against arrivals come to (E4).
-use Prim.Native.Nat.{ℕ}
 use Rattle.spec_model.specs.Basics.{Res, refuse, ok}
 use Rattle.spec_doors.specs.Held.{Counts}
 use Rattle.doors_hold.specs.declared.Held.{Held}

@@ -19,14 +19,13 @@ use Rattle.relation_compare.specs.Comparing.{comparisonAt}
 use Rattle.relation_compare.specs.Pairs.{pairCode, pairTable}
 use Rattle.relation_compare.proofs.Laws.{pair-at}
 use Rattle.spec_sheet.specs.Lines.{bytes, join}
-use Rattle.spec_sheet.specs.Text.{numberText}
+use Rattle.spec_sheet.specs.Text.{numberText, spaced}
 use Rattle.spec_sheet.specs.Sheet.{malformed, read}
 use Rattle.sheet_read.specs.declared.Sheet.{Sheet}
 use Rattle.sheet_read.specs.View.{sheetFor}
 use Rattle.sheet_read.proofs.Accepted.{read-loaded, read-malformed, read-accepted}
 use Rattle.text_write.specs.Fill.{Filled}
 use Rattle.pairs_output.specs.Output.{maxInput, comparisonBits, pairLine, pairLines, resultLines, pairsOutput}
-use Rattle.pairs_write_lines.specs.Spaced.{spaced}
 use Rattle.pairs_write_lines.specs.Parts.{comparisonIn, codeLine, rowLines, codeLines}
 
 -- ---- the pairs

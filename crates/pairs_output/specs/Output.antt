@@ -10,9 +10,8 @@ use Rattle.spec_model.specs.Relations.{Comparison, bit, related}
 use Rattle.relation_compare.specs.Comparing.{comparisonAt}
 use Rattle.spec_sheet.specs.Lines.{bytes, join}
 use Rattle.spec_sheet.specs.Numbers.{decimalIn}
-use Rattle.spec_sheet.specs.Text.{numberText}
+use Rattle.spec_sheet.specs.Text.{numberText, spaced}
 pub use Rattle.spec_sheet.specs.Text.{maxInput}
-use Rattle.pairs_write_lines.specs.Spaced.{spaced}
 use Rattle.spec_sheet.specs.Sheet.{SheetResult, malformed, loaded, read}
 
 -- the parts of a comparison, 1 or 0, in the order in which they are printed

@@ -12,9 +12,8 @@ use Rattle.spec_model.specs.Table.{maxSheetTypes}
 use Rattle.table_record.proofs.Lists.{lt-or-ge, from-last}
 use Rattle.spec_sheet.specs.Lines.{bytes, join}
 use Rattle.spec_sheet.specs.Numbers.{decimal}
-use Rattle.spec_sheet.specs.Text.{numberText}
+use Rattle.spec_sheet.specs.Text.{numberText, spaces}
 use Rattle.spec_sheet.proofs.Numbers.{decimal-one, decimal-more}
-use Rattle.pairs_write_lines.specs.Spaced.{spaces}
 use Rattle.pairs_write_lines.specs.Parts.{comparisonIn, comparisonText, codeLine, rowLines, codeLines}
 
 abbrev word : ℕ → List ℕ

@@ -6,8 +6,7 @@ use lib.ListN.{getD}
 use Rattle.spec_model.specs.Basics.{from}
 use Rattle.spec_model.specs.Table.{maxSheetTypes}
 use Rattle.spec_sheet.specs.Numbers.{decimalIn}
-use Rattle.spec_sheet.specs.Text.{numberText}
-use Rattle.pairs_write_lines.specs.Spaced.{spaces, spaced}
+use Rattle.spec_sheet.specs.Text.{numberText, spaces, spaced}
 
 -- the four parts of the comparison in a pair's byte (B24)
 abbrev pub comparisonIn : ℕ → List ℕ

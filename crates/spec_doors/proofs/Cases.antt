@@ -1,6 +1,6 @@
 -- Computed cases: what each slip of the definitions would change.
 use mathlib.Core.Path.{_≡_, refl}
-use mathlib.Core.List.{List, [], _∷_, _++_}
+use mathlib.Core.List.{List, [], _∷_}
 use Prim.Native.Nat.{ℕ, zero, suc}
 use Prim.Native.String.{String}
 use Rattle.spec_model.specs.Basics.{Res, refuse, ok}

@@ -1,19 +1,18 @@
 -- What is computed is what V6 asks for, of every input (`held-is`), and nothing else is (`paired-one`).
 use mathlib.Core.Path.{_≡_, refl, ap, sym, subst, _∙_}
 use mathlib.Core.Logic.{_⊎_, inl, inr}
-use mathlib.Core.Bool.{Bool, true, false, So, false≢true, cond}
+use mathlib.Core.Bool.{Bool, true, false, false≢true}
 use mathlib.Core.List.{List}
 use Prim.Native.Nat.{ℕ, zero, suc, _+_, _-_, _≤_, _<_}
 use native.Mathlib.Omega.{arith}
 use lib.Dec.{ltb}
 use lib.ListN.{length}
 use borrow.Author.Tests.{ltb-true, ltb-false}
-use Rattle.spec_model.specs.Basics.{Res, refuse, ok, need}
+use Rattle.spec_model.specs.Basics.{Res, ok, need}
 use Rattle.spec_model.specs.Refusals.{unfitTimes}
-use Rattle.spec_model.proofs.Rules.{second}
-use Rattle.spec_doors.specs.Times.{rising, timesFit, allFit}
+use Rattle.spec_doors.specs.Times.{allFit}
 use Rattle.spec_doors.specs.Held.{Counts, pairsOf, counts, held}
-use Rattle.spec_doors.specs.Paired.{time, Fit, Pair, Pairing, Most, Counted, Paired, unfit, counted}
+use Rattle.spec_doors.specs.Paired.{time, Most, Counted, Paired, unfit, counted}
 use Rattle.spec_doors.proofs.Rising.{Ordered, ordered, marks-fit, arrivals-fit, all-fit, fit-all, fit-rising}
 use Rattle.spec_doors.proofs.Pass.{left, few-pairs, no-marks, no-arrivals, mark-early, arrival-early, paired}
 use Rattle.spec_doors.proofs.Exchange.{Passed, begin, end, skip-mark, skip-arrival, pair-both}

@@ -5,12 +5,13 @@ use Prim.Native.Nat.{ℕ, zero, suc}
 use Prim.Native.Char.{code}
 use lib.Dec.{eqb}
 use lib.ListN.{length}
-use Rattle.spec_model.specs.Basics.{Res, refuse, ok}
-use Rattle.spec_sheet.specs.Lines.{bytes, Reader, pure, line, bind, endOfInput, keyed}
+use Rattle.spec_model.specs.Basics.{Res, ok}
+use Rattle.spec_sheet.specs.Lines.{bytes, join, Reader, pure, line, bind, endOfInput, keyed}
 use Rattle.spec_sheet.specs.Numbers.{Scan, fail, took, bindScan, whole, top, number}
 use Rattle.spec_sheet.specs.Sheet.{numberLine}
+use Rattle.spec_sheet.specs.Text.{numberText, spaced}
 
--- the numbers xs at the end of the line, or what k makes of the bytes behind a space
+-- the numbers xs at the end of the line, or what k makes of the bytes behind a space; any other byte is a fault of form
 abbrev pub space : List ℕ → (List ℕ → Scan (List ℕ)) → List ℕ → Scan (List ℕ)
 space xs k [] = took xs []
 space xs k (b ∷ r) = cond (eqb b (code " ")) (k r) fail
@@ -37,3 +38,8 @@ unfoldable pub inputLines : Reader Input
 unfolding keyed number numberLine timesLine
 inputLines = bind (line (numberLine (bytes "within=") 0 top)) λ w. bind (line timesLine) λ ms. bind (line timesLine) λ xs. bind endOfInput λ _.
     pure (record { within = w; marks = ms; arrivals = xs })
+
+-- The text of an input. For one that fits it is the only text that is read as it (proofs/Exact).
+unfoldable pub inputText : Input → List ℕ
+unfolding numberText join
+inputText x = join (numberText (bytes "within=") (x .within) ∷ spaced (x .marks) ∷ spaced (x .arrivals) ∷ [])

@@ -6,7 +6,6 @@ use lib.Dec.{ltb}
 use lib.ListN.{length}
 use Rattle.spec_model.specs.Basics.{Res, refuse, ok}
 use Rattle.spec_sheet.specs.Lines.{bytes, split, join, Reading, refused, got}
-use Rattle.spec_sheet.specs.Numbers.{decimalIn}
 use Rattle.spec_sheet.specs.Text.{maxInput, numberText}
 use Rattle.spec_doors.specs.Held.{Counts, held}
 use Rattle.spec_doors.specs.Input.{Input, inputLines}

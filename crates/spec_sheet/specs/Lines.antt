@@ -59,7 +59,8 @@ line f at [] = refused form at
 line f at (cut l ∷ rs) = refused form at
 line f at (row l ∷ rs) = lineAt (f l) at l rs
 
--- The line that stands first, without its LF; empty where no LF ends one. Every line kind refuses an empty line with 1, so a missing line and a cut one are refused by the same reading.
+-- The line that stands first, without its LF; empty where no LF ends one. Every line kind of a sheet refuses an empty line with 1, so a missing line and a cut one
+-- are refused by the same reading.
 abbrev pub firstLine : List Row → List ℕ
 firstLine [] = []
 firstLine (cut l ∷ rs) = []

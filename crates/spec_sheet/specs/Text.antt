@@ -26,6 +26,15 @@ unfoldable pub numberText : List ℕ → ℕ → List ℕ
 unfolding decimalIn
 numberText key n = key ++ decimal n
 
+-- numbers, each behind a space; and with single spaces between (P17, P27)
+abbrev pub spaces : List ℕ → List ℕ
+spaces [] = []
+spaces (n ∷ r) = numberText (bytes " ") n ++ spaces r
+
+abbrev pub spaced : List ℕ → List ℕ
+spaced [] = []
+spaced (n ∷ r) = decimal n ++ spaces r
+
 -- the broader categories of one category (S24, W7)
 unfoldable pub underText : List ℕ → List ℕ
 unfolding decimalIn

@@ -7,8 +7,7 @@ use lib.Dec.{ltb}
 use lib.ListN.{length}
 use borrow.Author.Tests.{ltb-true, ltb-false}
 use Rattle.spec_model.specs.Basics.{Res}
-use Rattle.spec_model.specs.Refusals.{form}
-use Rattle.spec_sheet.specs.Lines.{bytes, Row, split, join, Reading, refused, got}
+use Rattle.spec_sheet.specs.Lines.{bytes, split, join, Reading, refused, got}
 use Rattle.spec_sheet.specs.Text.{maxInput, numberText}
 use Rattle.spec_doors.specs.Held.{Counts, held}
 use Rattle.spec_doors.specs.Paired.{Paired, unfit, counted}
@@ -16,9 +15,10 @@ use Rattle.spec_doors.specs.Input.{Input, inputLines}
 use Rattle.spec_doors.specs.Output.{heldText, heldIn, doorsOutput}
 use Rattle.spec_doors.proofs.Held.{held-is}
 use Rattle.spec_doors.proofs.Forms.{OfForms, input-form, Ended, input-ended}
+use Rattle.spec_doors.proofs.Exact.{input-exact}
 use Rattle.export_doors.specs.Result.{HeldIs}
 use Rattle.theorem.specs.Doors as doors
-use Rattle.theorem.specs.Doors.{ShownOfHolding, HeldBytes, refuses, counts, ShownOfHoldingBytes, ReadAs, Prints, long, malformed, Printed, ShownOfDoors}
+use Rattle.theorem.specs.Doors.{ShownOfHolding, HeldBytes, refuses, counts, ShownOfHoldingBytes, Prints, long, malformed, Printed, ShownOfDoors}
 
 pub shown-of-holding : ShownOfHolding
 shown-of-holding marks arrivals within r e = subst (Paired marks arrivals within) (sym e) (held-is marks arrivals within)
@@ -34,16 +34,15 @@ shown-of-holding-bytes marks arrivals within n old new h = handed-out marks arri
 
 -- ---- The program
 module _ (s : List ℕ) (short : length s ≤ maxInput) where
-  as-read : (x : Input) → ReadAs s x → (r : Res Counts) → Paired (x .marks) (x .arrivals) (x .within) r → Prints s (heldText r)
+  as-read : (x : Input) (at : ℕ) → inputLines 0 (split s) ≡ got x at [] → (r : Res Counts) → Paired (x .marks) (x .arrivals) (x .within) r → Prints s (heldText r)
   unfolding heldText numberText
-  as-read x a _ (unfit e) = doors.unfit x a e
-  as-read x a _ (counted {c} k) = doors.counted x c a k
+  as-read x at i _ (unfit e) = doors.unfit x at short i e
+  as-read x at i _ (counted {c} k) = doors.counted x c short (input-exact x (k .fit) s .0 (at, i)) k
 
   by-lines : (r : Reading Input) → inputLines 0 (split s) ≡ r → OfForms r → Ended r → Prints s (heldText (heldIn r))
   unfolding heldText numberText
   by-lines (refused n at) e f g = subst (λ k. Prints s (heldText (heldIn (refused k at)))) (sym f) (malformed at short (e ∙ ap (λ k. refused k at) f))
-  by-lines (got x at rs) e f g =
-      as-read x (record { short = short; at = at; is = e ∙ ap (got x at) g }) (held (x .marks) (x .arrivals) (x .within)) (held-is (x .marks) (x .arrivals) (x .within))
+  by-lines (got x at rs) e f g = as-read x at (e ∙ ap (got x at) g) (held (x .marks) (x .arrivals) (x .within)) (held-is (x .marks) (x .arrivals) (x .within))
 
 pub shown-of-doors : ShownOfDoors
 unfolding doorsOutput

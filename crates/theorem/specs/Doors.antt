@@ -10,7 +10,7 @@ use Rattle.spec_sheet.specs.Lines.{bytes, split, join, refused, got}
 use Rattle.spec_sheet.specs.Text.{maxInput, numberText}
 use Rattle.spec_doors.specs.Held.{Counts, held}
 use Rattle.spec_doors.specs.Paired.{Fit, Counted, Paired}
-use Rattle.spec_doors.specs.Input.{Input, inputLines}
+use Rattle.spec_doors.specs.Input.{Input, inputLines, inputText}
 use Rattle.spec_doors.specs.Output.{doorsOutput}
 use Rattle.doors_hold.specs.declared.Held.{Held}
 use Rattle.doors_hold.specs.Result.{heldOf}
@@ -28,17 +28,12 @@ abbrev pub ShownOfHoldingBytes : Type 0
 ShownOfHoldingBytes = (marks arrivals : List ℕ) (within n : ℕ) (old new : List ℕ) → HeldIs (held marks arrivals within) n old new → HeldBytes marks arrivals within old n new
 
 -- ---- The program: one line for any input
--- what the three lines are read as (P27)
-pub record ReadAs (s : List ℕ) (x : Input) : Type 0 where
-  pub short : length s ≤ maxInput
-  pub at : ℕ
-  pub is : inputLines 0 (split s) ≡ got x at []
-
+-- too long (P1); not of the form of P27; of that form, and unfit (V3); the text of lists and a tolerance that fit, whose counts are printed
 pub data Prints (s : List ℕ) : List ℕ → Type 0 where
   long : maxInput < length s → Prints s (bytes "no=2")
   malformed : (at : ℕ) → length s ≤ maxInput → inputLines 0 (split s) ≡ refused form at → Prints s (bytes "no=1")
-  unfit : (x : Input) → ReadAs s x → (Fit (x .marks) (x .arrivals) (x .within) → ⊥) → Prints s (bytes "no=22")
-  counted : (x : Input) (c : Counts) → ReadAs s x → Counted (x .marks) (x .arrivals) (x .within) c
+  unfit : (x : Input) (at : ℕ) → length s ≤ maxInput → inputLines 0 (split s) ≡ got x at [] → (Fit (x .marks) (x .arrivals) (x .within) → ⊥) → Prints s (bytes "no=22")
+  counted : (x : Input) (c : Counts) → length s ≤ maxInput → s ≡ inputText x → Counted (x .marks) (x .arrivals) (x .within) c
       → Prints s (numberText (bytes "got=") (c .pairs) ++ (numberText (bytes " ") (c .marks) ++ numberText (bytes " ") (c .arrivals)))
 
 -- the line that is printed, with its LF

@@ -1,5 +1,5 @@
 -- The invariant: the pairs of the whole lists are those made so far and those of what is left. Each turn passes a mark, an arrival or both.
-use mathlib.Core.Path.{_≡_, refl}
+use mathlib.Core.Path.{_≡_}
 use Prim.Native.Nat.{_≤_, _-_, _+_}
 use native.Mathlib.Omega.{arith}
 use lib.ListN.{length}
