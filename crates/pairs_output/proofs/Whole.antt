@@ -1,11 +1,10 @@
 -- What is written is the definition's: the pairs of an accepted sheet, whose table the relations can be asked of; and the three cases of the input.
 use mathlib.Core.Path.{_≡_, sym, ap, _∙_}
 use mathlib.Core.Bool.{Bool, true, false}
-use mathlib.Core.List.{List, [], _∷_, _++_, flatten, append-assoc}
+use mathlib.Core.List.{List, [], _∷_, flatten}
 use Prim.Native.Nat.{ℕ, _+_, _*_, _/_, _%_, _≤_, _<_}
 use native.Mathlib.Omega.{arith}
-use lib.ListN.{length, getD, take, drop}
-use lib.Seq.{take-append-seam, length-take-le}
+use lib.ListN.{length, getD}
 use borrow.Author.Tests.{lt-ltb, le-ltb}
 use Rattle.spec_model.specs.Basics.{from}
 use Rattle.spec_model.specs.Table.{Table, maxSheetTypes}
@@ -19,12 +18,11 @@ use Rattle.relation_compare.specs.Comparing.{comparisonAt}
 use Rattle.relation_compare.specs.Pairs.{pairCode, pairTable}
 use Rattle.relation_compare.proofs.Laws.{pair-at}
 use Rattle.spec_sheet.specs.Lines.{bytes, join}
-use Rattle.spec_sheet.specs.Text.{numberText, spaced}
+use Rattle.spec_sheet.specs.Text.{spaced}
 use Rattle.spec_sheet.specs.Sheet.{malformed, read}
 use Rattle.sheet_read.specs.declared.Sheet.{Sheet}
 use Rattle.sheet_read.specs.View.{sheetFor}
 use Rattle.sheet_read.proofs.Accepted.{read-loaded, read-malformed, read-accepted}
-use Rattle.text_write.specs.Fill.{Filled}
 use Rattle.pairs_output.specs.Output.{maxInput, comparisonBits, pairLine, pairLines, resultLines, pairsOutput}
 use Rattle.pairs_write_lines.specs.Parts.{comparisonIn, codeLine, rowLines, codeLines}
 
@@ -92,16 +90,3 @@ refused-prints bs x h z l = ap (λ a. join (resultLines a)) (sym (read-malformed
 pub long-prints : (bs : List ℕ) → maxInput < length bs → join (bytes "no=2" ∷ []) ≡ pairsOutput bs
 unfolding pairsOutput
 long-prints bs l = rw (lt-ltb maxInput (length bs) l)
-
--- ---- the text in front of a buffer that has room for it
-pub printed : {old new xs : List ℕ} {r : ℕ} → Filled old new xs r → r ≤ length old → (take r new ≡ xs) × ((r ≤ length new) × (r ≡ length (take r new)))
-printed {old} {new} {xs} {r} f l =
-    let e = f .said in
-    let s = f .size in
-    let k : r ≤ length new = omega arith in
-    (ap (λ z. take z new) e ∙ ap (take (length xs)) (f .text (omega arith)) ∙ take-append-seam xs (drop (length xs) old), (k, sym (length-take-le r new k)))
-
--- the line of a refused sheet
-pub refused-is : (n at : ℕ) → numberText (bytes "no=") n ++ join (numberText (bytes " at=") at ∷ []) ≡ (numberText (bytes "no=") n ++ numberText (bytes " at=") at) ++ 10 ∷ []
-unfolding join
-refused-is n at = sym (append-assoc (numberText (bytes "no=") n) (numberText (bytes " at=") at) (10 ∷ []))

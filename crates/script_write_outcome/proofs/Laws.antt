@@ -1,7 +1,7 @@
 -- The pieces that are written one behind the other are the text of the definition, case by case.
 use mathlib.Core.Path.{_≡_, refl, sym, ap, _∙_, subst}
 use mathlib.Core.Bool.{Bool, true, false, cond}
-use mathlib.Core.List.{[], _∷_, _++_, append-assoc}
+use mathlib.Core.List.{[], _∷_, _++_}
 use Prim.Native.Nat.{ℕ, zero, suc, _+_, _-_, _<_, _^_}
 use native.Mathlib.Nat.{zero-add}
 use native.Mathlib.Numerals.{add-one}
@@ -15,7 +15,7 @@ use Rattle.request_common.specs.declared.Outcome.the-variants.{Refused, Pair, N
 use Rattle.request_common.specs.Served.{outcomeOf}
 use borrow.Author.Tests.{ltb-true, lt-ltb}
 use Rattle.spec_model.specs.Requests.{pair, number, got}
-use Rattle.spec_sheet.specs.Lines.{bytes, join}
+use Rattle.spec_sheet.specs.Lines.{bytes}
 use Rattle.spec_sheet.specs.Numbers.{decimal}
 use Rattle.spec_sheet.specs.Text.{numberText}
 use Rattle.script_write_outcome.specs.Outcomes.{integerText, outcomeText}
@@ -53,10 +53,6 @@ integer-positive (pos k) n h e = ap decimal e
 integer-positive (negsuc k) n h e = let z : _≡_ {A = Bool} true false = h in let q : _≡_ {A = ℕ} 0 1 = cc in absurd (omega arith)
 
 -- ---- lines
-pub pair-is : (a b : ℕ) → numberText (bytes "got=") a ++ join (numberText (bytes " ") b ∷ []) ≡ outcomeText (got (pair a b)) ++ 10 ∷ []
-unfolding outcomeText join
-pair-is a b = sym (append-assoc (numberText (bytes "got=") a) (numberText (bytes " ") b) (10 ∷ []))
-
 pub number-is : (v w : ℤ) → w ≡ v → (bytes "got=" ++ integerText w) ++ 10 ∷ [] ≡ outcomeText (got (number v)) ++ 10 ∷ []
 unfolding outcomeText
 number-is v w e = ap (λ z. (bytes "got=" ++ integerText z) ++ 10 ∷ []) e

@@ -89,6 +89,12 @@ pub ended : {old new l : List ℕ} {r : ℕ} → Filled old new (l ++ 10 ∷ [])
 unfolding join
 ended f = record { filled = f }
 
+-- a piece of a line, and the line's end in the rest of the buffer
+pub line-rest : {old mid tl xs ys : List ℕ} {a b k : ℕ} → Filled old mid xs a → k ≡ min a (length mid)
+    → Lined (midOf k (length mid - k) mid) tl (ys ∷ []) b → Lined old (putMid k (length mid - k) mid tl) ((xs ++ ys) ∷ []) (a + b)
+unfolding join
+line-rest {xs = xs} {ys = ys} f e g = ended (fill-is (sym (append-assoc xs ys (10 ∷ []))) (fill-rest f e (g .filled)))
+
 -- lines, and lines in the rest of the buffer
 pub lines-rest : {old mid tl : List ℕ} {xs ys : List (List ℕ)} {a b k : ℕ} → Lined old mid xs a → k ≡ min a (length mid)
     → Lined (midOf k (length mid - k) mid) tl ys b → Lined old (putMid k (length mid - k) mid tl) (xs ++ ys) (a + b)
@@ -101,6 +107,14 @@ lines-none l = record { filled = fill-none l }
 -- the same lines, said otherwise
 pub lines-are : {old new : List ℕ} {xs ys : List (List ℕ)} {r : ℕ} → xs ≡ ys → Lined old new xs r → Lined old new ys r
 lines-are {old} {new} {r = r} e f = subst (λ z. Lined old new z r) e f
+
+-- the text in front of a buffer that has room for it, and what `&new[..r]` asks
+pub printed : {old new xs : List ℕ} {r : ℕ} → Filled old new xs r → r ≤ length old → (take r new ≡ xs) × ((r ≤ length new) × (r ≡ length (take r new)))
+printed {old} {new} {xs} {r} f l =
+    let e = f .said in
+    let s = f .size in
+    let k : r ≤ length new = omega arith in
+    (ap (λ z. take z new) e ∙ ap (take (length xs)) (f .text (omega arith)) ∙ take-append-seam xs (drop (length xs) old), (k, sym (length-take-le r new k)))
 
 -- A writer on an empty part of the buffer b counts, and leaves b as it is.
 pub counted : {b tl xs : List ℕ} {r : ℕ} → Filled [] tl xs r → tl ++ b ≡ b

@@ -1,7 +1,6 @@
--- A refusal's line: the number, and the offset in the rest of the buffer (`fill-rest`).
+-- A refusal's line: the number, and the offset in the rest of the buffer (`line-rest`).
 use Rattle.pairs_output.specs.Output.{resultLines}
-use Rattle.pairs_output.proofs.Whole.{refused-is}
-use Rattle.text_write.proofs.Laws.{fill-rest, fill-is, ended}
+use Rattle.text_write.proofs.Laws.{line-rest}
 use native.Mathlib.Omega.{arith}
 use borrow.Author.Needs.{needs}
 use Rattle.pairs_output.proofs.refused_line.Statement.{statement}
@@ -39,15 +38,10 @@ same-length c = search needs
 
 returns : tie.Need-returns
 unfolding resultLines
-returns c = (
-  ended
-      (fill-is
-      (refused-is (c .before .before .before .before .before .before .before .before .before .before .before .before .args .refusal)
-      (c .before .before .before .before .before .before .before .before .before .before .before .before .args .at))
-      (fill-rest (c .before .before .before .before .before .before .before .before .put-number .ensures .0) (c .before .before .before .before .before .least .ensures .0)
-      (c .before .before .write-number .ensures .0 .filled))),
-  omega (arith, c .before .before .before .before .before .before .before .before .put-number .ensures .1, c .before .before .write-number .ensures .1),
-)
+returns c =
+    let n = c .before .before .before .before .before .before .before .before .put-number .ensures in
+    let w = c .before .before .write-number .ensures in
+    (line-rest (n .0) (c .before .before .before .before .before .least .ensures .0) (w .0), omega (arith, n .1, w .1))
 
 pub refused-line-spec : {M : Type 1} → statement M
 refused-line-spec =

@@ -1,5 +1,5 @@
 -- The text stands in front of a buffer that has room for it, so its first bytes are the definition's output (`printed`).
-use Rattle.pairs_output.proofs.Whole.{printed}
+use Rattle.text_write.proofs.Laws.{printed}
 use native.Mathlib.Omega.{arith}
 use borrow.Author.Needs.{needs}
 use Rattle.pairs_output.proofs.report.Statement.{statement}

@@ -1,6 +1,6 @@
--- The line of two numbers: the second is written in the rest behind the first (`fill-rest`), and both together are its text (`pair-is`).
-use Rattle.script_write_outcome.proofs.Laws.{pair-is}
-use Rattle.text_write.proofs.Laws.{fill-rest, fill-is, ended}
+-- The line of two numbers: the second is written in the rest behind the first (`line-rest`).
+use Rattle.script_write_outcome.specs.Outcomes.{outcomeText}
+use Rattle.text_write.proofs.Laws.{line-rest}
 use native.Mathlib.Omega.{arith}
 use borrow.Author.Needs.{needs}
 use Rattle.script_write_outcome.proofs.write_pair.Statement.{statement}
@@ -37,13 +37,11 @@ same-length : tie.Need-same-length
 same-length c = search needs
 
 returns : tie.Need-returns
+unfolding outcomeText
 returns c =
-    let a = c .before .before .before .before .before .before .before .before .before .before .before .before .args in
-    let put-number = c .before .before .before .before .before .before .before .before .put-number .ensures in
-    let least = c .before .before .before .before .before .least .ensures .0 in
-    let write-number = c .before .before .write-number .ensures in
-    let f = fill-rest (put-number .0) least (write-number .0 .filled) in
-    (ended (fill-is (pair-is (a .first) (a .second)) f), omega (arith, put-number .1, write-number .1))
+    let n = c .before .before .before .before .before .before .before .before .put-number .ensures in
+    let w = c .before .before .write-number .ensures in
+    (line-rest (n .0) (c .before .before .before .before .before .least .ensures .0) (w .0), omega (arith, n .1, w .1))
 
 pub write-pair-spec : {M : Type 1} → statement M
 write-pair-spec =

@@ -1,0 +1,57 @@
+-- The second count stands in the rest behind the first (`line-rest`).
+use native.Mathlib.Omega.{arith}
+use borrow.Author.Needs.{needs}
+use Rattle.text_write.proofs.Laws.{line-rest}
+use Rattle.doors_output.proofs.write_unpaired.Statement.{statement}
+use Rattle.doors_output.proofs.write_unpaired.Tie as tie
+
+slice-aggregate-put-number : tie.Need-slice-aggregate-put-number
+slice-aggregate-put-number c = search needs
+
+put-number-requires : tie.Need-put-number-requires
+put-number-requires c κs = search needs
+
+least-requires : tie.Need-least-requires
+least-requires c κs = search needs
+
+sub-write-number : tie.Need-sub-write-number
+sub-write-number c = search needs
+
+part-write-number-start : tie.Need-part-write-number-start
+part-write-number-start c = search needs
+
+part-write-number-end : tie.Need-part-write-number-end
+part-write-number-end c = search needs
+
+slice-aggregate-write-number : tie.Need-slice-aggregate-write-number
+slice-aggregate-write-number c = search needs
+
+write-number-requires : tie.Need-write-number-requires
+write-number-requires c κs = search needs
+
+add-result : tie.Need-add-result
+add-result c = search needs
+
+same-length : tie.Need-same-length
+same-length c = search needs
+
+returns : tie.Need-returns
+returns c =
+    let n = c .before .before .before .before .before .before .before .before .put-number .ensures in
+    let w = c .before .before .write-number .ensures in (line-rest (n .0) (c .before .before .before .before .before .least .ensures .0) (w .0), omega (arith, n .1, w .1))
+
+pub write-unpaired-spec : {M : Type 1} → statement M
+write-unpaired-spec =
+    tie.close
+    (tie.spec
+    slice-aggregate-put-number
+    put-number-requires
+    least-requires
+    sub-write-number
+    part-write-number-start
+    part-write-number-end
+    slice-aggregate-write-number
+    write-number-requires
+    add-result
+    same-length
+    returns)
