@@ -3,7 +3,7 @@
 /// A refusal's number: one of these.
 pub type Refusal = u32;
 
-/// A line is not of the form that is due (S28, P11).
+/// A line is not of the form that is due (S28, P11, P28).
 pub const FORM: Refusal = 1;
 /// A number outside its range (S29), or something handed in that does not pass (H).
 pub const OUT_OF_RANGE: Refusal = 2;
@@ -42,3 +42,5 @@ pub const ANSWERED_ALREADY: Refusal = 17;
 pub const CALLS_FULL: Refusal = 18;
 /// What would be 8 or 10, at a layer past the first (C13).
 pub const LATER_LAYER: Refusal = 19;
+/// A list of times too long, with a time that falls or is too late, or too large a tolerance (V3).
+pub const UNFIT_TIMES: Refusal = 22;
