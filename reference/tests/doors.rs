@@ -2,6 +2,7 @@
 //! pairings, the order of refusals, the limits, and what the generated lists and inputs meet.
 
 use reference::doors::{self, held, reasons, Counts, Reason, MAX_TIME, MAX_TIMES, MAX_TOLERANCE};
+use reference::external::difference;
 use reference::generators::{doors_input, doors_lists, doors_text, Lists};
 use reference::matching::{largest, Graph};
 use reference::random::Random;
@@ -338,7 +339,7 @@ fn other_forms() {
     }
 }
 
-/// P1, S18: 32,768 bytes are an input like any other, one more is 2 whatever it holds.
+/// P1: 32,768 bytes are an input like any other, one more is 2 whatever it holds.
 #[test]
 fn the_longest_input() {
     let of_length = |length: usize| {
@@ -423,6 +424,32 @@ fn what_is_read_is_written_back() {
 fn has_no_long_number(read: &doors::Input) -> bool {
     let times = read.marks.iter().chain(&read.arrivals);
     times.chain([&read.within]).all(|number| *number < u64::MAX)
+}
+
+/// A program with a slip is shown by a small input, if the lists were long too.
+#[test]
+fn a_difference_comes_with_a_small_input() {
+    let same_place = |input: &[u8]| match doors::read(input) {
+        Ok(one) if doors::run(input).starts_with(b"got=") => {
+            let both = one.marks.iter().zip(&one.arrivals);
+            let near = both.filter(|(mark, arrival)| mark.abs_diff(**arrival) <= one.within);
+            let pairs = near.count();
+            format!(
+                "got={pairs} {} {}\n",
+                one.marks.len() - pairs,
+                one.arrivals.len() - pairs
+            )
+            .into_bytes()
+        }
+        _ => doors::run(input),
+    };
+    let find = |lists: &Lists| difference(&doors_text(lists), &same_place, &doors::run);
+    let long = (0..)
+        .map(doors_lists)
+        .filter(|(marks, _, _)| marks.len() > 500);
+    let found = long.take(20).find_map(|lists| find(&lists)).unwrap();
+    assert_ne!(found.theirs, found.ours);
+    assert!(found.input.len() < 100, "{found:?}");
 }
 
 #[test]

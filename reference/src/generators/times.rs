@@ -32,7 +32,7 @@ const RIGHT: [fn(&mut Random) -> Lists; 19] = [
 /// How many kinds there are: right ones, one for each reason of V3, and one of several reasons.
 const KINDS: usize = RIGHT.len() + REASONS.len() + 1;
 
-/// Lists of the kind that is the seed's turn: 27 seeds in a row have them all.
+/// Lists, each kind in its turn.
 pub fn doors_lists(seed: u64) -> Lists {
     let mut random = Random::new(seed ^ 0x00d0_0125_0000_0000);
     let kind = (seed % KINDS as u64) as usize;
