@@ -410,7 +410,7 @@ fn texts_say_what_lists_do() {
 fn what_is_read_is_written_back() {
     for seed in 0..1_000 {
         let input = doors_input(seed);
-        if let Some(read) = doors::parse(&input).filter(|read| has_no_long_number(read)) {
+        if let Some(read) = doors::parse(&input).filter(has_no_long_number) {
             assert_eq!(
                 doors_text(&(read.marks, read.arrivals, read.within)),
                 input,
