@@ -1,6 +1,7 @@
 //! The commands of the reference model.
 
 use reference::check;
+use reference::doors;
 use reference::dump;
 use reference::entry;
 use reference::generators::{self, Profile};
@@ -12,9 +13,9 @@ use reference::tiny;
 use std::io::{Read, Write};
 use std::process::ExitCode;
 
-const USAGE: &str = "usage: reference script|sheet|pairs|dump|account < input
+const USAGE: &str = "usage: reference script|sheet|pairs|dump|account|doors < input
        reference tiny
-       reference gen SEED small|medium|big|full|long|damaged
+       reference gen SEED small|medium|big|full|long|damaged|doors
        reference hostile SEED
        reference cover [SEEDS]
 ";
@@ -42,7 +43,9 @@ fn output(words: &[&str]) -> Option<Vec<u8>> {
         ["pairs"] => Some(pairs::run(&input())),
         ["dump"] => Some(dump::run(&input())),
         ["account"] => Some(dump::account(&input()).into_bytes()),
+        ["doors"] => Some(doors::run(&input())),
         ["tiny"] => Some(tiny::printed()),
+        ["gen", seed, "doors"] => Some(generators::doors_input(seed.parse().ok()?)),
         ["gen", seed, profile] => {
             let profile = Profile::of_name(profile)?;
             Some(generators::generate(seed.parse().ok()?, profile))
