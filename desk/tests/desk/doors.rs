@@ -193,65 +193,76 @@ fn a_column_is_chosen_by_name_or_number() {
     assert_eq!(times("10,20\n", &["--column=time"]), [(1, 10), (1, 20)]);
 }
 
-/// What is told where the words do not say which column is meant.
+const ASKS: &str = "--column says which column has the times, by its name or number";
+
+/// A text, the column that is asked for, and what is told: why, and the columns that there are.
+const COLUMNS: [(&str, Option<&str>, &str, &str); 10] = [
+    ("door,at\na,10\n", None, ASKS, "1 (door) and 2 (at)"),
+    (
+        "door,at\na,10\n",
+        Some("when"),
+        "no column is named \"when\"",
+        "1 (door) and 2 (at)",
+    ),
+    (
+        "door,at\na,10\n",
+        Some("3"),
+        "there is no column 3",
+        "1 (door) and 2 (at)",
+    ),
+    (
+        "door;at\na;10\n",
+        Some("0"),
+        "there is no column 0",
+        "1 (door) and 2 (at)",
+    ),
+    ("ms,time\n1,2\n", None, ASKS, "1 (ms) and 2 (time)"),
+    (
+        "a,a,\n1,2,3\n",
+        Some("a"),
+        "2 columns are named \"a\"",
+        "1 (a), 2 (a) and 3",
+    ),
+    ("A,a,b\n1,2,3\n", Some("B"), "", ""),
+    ("7,10\n8,20\n", None, ASKS, "1 (7) and 2 (10)"),
+    ("7;10\n", None, ASKS, "1 (7) and 2 (10)"),
+    (
+        "7,10\n8,20\n",
+        Some("at"),
+        "no column is named \"at\"",
+        "1 (7) and 2 (10)",
+    ),
+];
+
 #[test]
 fn an_unknown_column_is_told_with_those_there_are() {
-    let table = "door,at\na,10\n";
-    let both = "; line 1 has the columns 1 (door) and 2 (at)";
-    let asks = "--column says which column has the times, by its name or number";
-    for (text, column, why) in [
-        (table, None, format!("{asks}{both}")),
-        (
-            table,
-            Some("when"),
-            format!("no column is named \"when\"{both}"),
-        ),
-        (table, Some("3"), format!("there is no column 3{both}")),
-        (table, Some("0"), format!("there is no column 0{both}")),
-        (
-            "ms,time\n1,2\n",
-            None,
-            format!("{asks}; line 1 has the columns 1 (ms) and 2 (time)"),
-        ),
-        ("a,A,b\n1,2,3\n", Some("a"), String::new()),
-        (
-            "a,a,b\n1,2,3\n",
-            Some("a"),
-            "2 columns are named \"a\"; line 1 has the columns 1 (a), 2 (a) and 3 (b)".to_string(),
-        ),
-        (
-            "\n7,10\n8,20\n",
-            None,
-            format!("{asks}; line 2 has the columns 1 (7) and 2 (10)"),
-        ),
-        (
-            "7;10\n",
-            None,
-            format!("{asks}; line 1 has the columns 1 (7) and 2 (10)"),
-        ),
-        (
-            "7,10\n8,20\n",
-            Some("at"),
-            "no column is named \"at\"; line 1 has the columns 1 (7) and 2 (10)".to_string(),
-        ),
-        (
-            "7,10\n",
-            Some("2"),
-            "this may be a list of times, or a table with the times in column 2".to_string(),
-        ),
-    ] {
+    for (text, column, why, columns) in COLUMNS {
         with_file("columns", text.as_bytes(), |path| {
-            let column = column.map(|column: &str| format!("--column={column}"));
-            let more: Vec<&str> = column.iter().map(String::as_str).collect();
-            let words = words(path, "/dev/null", &[&["--within=0"], &more[..]].concat());
-            match why.is_empty() {
-                true => assert_eq!(run(&words).0, 1, "{text:?}"),
-                false => {
-                    let due = format!("desk: {path}: {why}");
-                    let error = failed(&words, 2);
-                    assert!(error.starts_with(&due), "{error}{due}");
-                }
+            let column = column.map(|column| format!("--column={column}"));
+            let mut words = words(path, "/dev/null", &["--within=0"]);
+            words.extend(column.as_deref());
+            if why.is_empty() {
+                no(&words);
+                return;
             }
+            let due = format!("desk: {path}: {why}; line 1 has the columns {columns}\n");
+            assert_eq!(failed(&words, 2), due);
+        });
+    }
+}
+
+/// One line of numbers is a list, unless a column of it is asked for by number: then it is not plain what it is.
+#[test]
+fn what_may_be_a_list_or_a_table_is_not_read() {
+    for text in ["7,10\n", "7,10\n8\n"] {
+        with_file("list-or-table", text.as_bytes(), |path| {
+            let words = words(path, "/dev/null", &["--within=0", "--column=2"]);
+            let why = "this may be a list of times, or a table with the times in column 2";
+            let error = failed(&words, 2);
+            assert!(
+                error.contains(&format!("{path}: {why}: put each time")),
+                "{error}"
+            );
         });
     }
 }
@@ -391,47 +402,44 @@ fn lines(count: usize) -> String {
     (0..count).map(|time| format!("{time}\n")).collect()
 }
 
+/// A list that the core refuses: the place and the reason are told, of marks and of arrivals alike.
+fn is_unfit(text: &str, line: usize, column: usize, wrong: &str) {
+    with_file("unfit", text.as_bytes(), |path| {
+        for (files, what) in [
+            ([path, "/dev/null"], "mark"),
+            (["/dev/null", path], "arrival"),
+        ] {
+            let error = failed(&words(files[0], files[1], &["--within=0"]), 3);
+            let due = format!("{path}:{line}:{column}: the list of {what}s is refused with 22\n");
+            assert!(error.starts_with(&due), "{error}");
+            let flat = error.replace("\n         ", " ");
+            let wrong = wrong.replace("ENTRY", what);
+            assert!(
+                flat.contains(&format!("\n  wrong: {wrong}\n  right: ")),
+                "{wrong}: {error}"
+            );
+        }
+    });
+}
+
 #[test]
 fn what_the_core_refuses_is_told_with_its_reason() {
     let falls = |time: u64, last: u64, index: usize, line: usize| {
-        format!("the time falls: {time} stands behind {last}, which is mark {index}, line {line}")
+        format!("the time falls: {time} stands behind {last}, which is ENTRY {index}, line {line}")
     };
-    let above = "the time is out of range: it is above 4294967295".to_string();
-    let long = |count: usize| {
-        format!("the list is too long: {count} marks, and from here on they are more than 1024")
-    };
-    for (text, line, column, wrong) in [
-        ("10\n30\n20\n5\n".to_string(), 3, 1, falls(20, 30, 1, 2)),
-        ("time,a\n\n7,b\n6,c\n".to_string(), 4, 1, falls(6, 7, 0, 3)),
-        ("10 20 19".to_string(), 1, 7, falls(19, 20, 1, 1)),
-        ("1\n4294967296\n".to_string(), 2, 1, above.clone()),
-        (
-            "a,ms\nx,18446744073709551616\ny,1\n".to_string(),
-            2,
-            3,
-            above.clone(),
-        ),
-        ("123456789012345678901234567890 5".to_string(), 1, 1, above),
-        (lines(1025), 1025, 1, long(1025)),
-        (format!("ms\n{}", lines(1030)), 1026, 1, long(1030)),
-    ] {
-        with_file("unfit", text.as_bytes(), |path| {
-            let error = failed(&words(path, "/dev/null", &["--within=0"]), 3);
-            let head = format!("{path}:{line}:{column}: the list of marks is refused with 22\n");
-            assert!(error.starts_with(&head), "{error}");
-            assert!(
-                error.replace("\n         ", " ").contains(&wrong),
-                "{wrong}: {error}"
-            );
-            let other = failed(&words("/dev/null", path, &["--within=0"]), 3);
-            let due = error
-                .replace("marks", "arrivals")
-                .replace("is mark ", "is arrival ");
-            assert_eq!(
-                other.replace("\n         ", " "),
-                due.replace("\n         ", " ")
-            );
-        });
+    is_unfit("10\n30\n20\n5\n", 3, 1, &falls(20, 30, 1, 2));
+    is_unfit("time,a\n\n7,b\n6,c\n", 4, 1, &falls(6, 7, 0, 3));
+    is_unfit("10 20 19", 1, 7, &falls(19, 20, 1, 1));
+    let above = "the time is out of range: it is above 4294967295";
+    is_unfit("1\n4294967296\n", 2, 1, above);
+    is_unfit("a,ms\nx,18446744073709551616\ny,1\n", 2, 3, above);
+    is_unfit("123456789012345678901234567890 5", 1, 1, above);
+    for count in [1025, 1030] {
+        let wrong = format!(
+            "the list is too long: {count} ENTRYs, and from here on they are more than 1024"
+        );
+        is_unfit(&lines(count), 1025, 1, &wrong);
+        is_unfit(&format!("ms\r\n{}", lines(count)), 1026, 1, &wrong);
     }
 }
 
