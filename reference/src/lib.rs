@@ -50,6 +50,11 @@ pub mod pairs;
 
 pub mod tiny;
 
+// V, P27 to P29
+pub mod matching;
+
+pub mod doors;
+
 // B
 pub mod raw;
 

@@ -1,6 +1,7 @@
 //! The commands of the reference model.
 
 use reference::check;
+use reference::doors;
 use reference::dump;
 use reference::entry;
 use reference::generators::{self, Profile};
@@ -12,7 +13,7 @@ use reference::tiny;
 use std::io::{Read, Write};
 use std::process::ExitCode;
 
-const USAGE: &str = "usage: reference script|sheet|pairs|dump|account < input
+const USAGE: &str = "usage: reference script|sheet|pairs|dump|account|doors < input
        reference tiny
        reference gen SEED small|medium|big|full|long|damaged
        reference hostile SEED
@@ -42,6 +43,7 @@ fn output(words: &[&str]) -> Option<Vec<u8>> {
         ["pairs"] => Some(pairs::run(&input())),
         ["dump"] => Some(dump::run(&input())),
         ["account"] => Some(dump::account(&input()).into_bytes()),
+        ["doors"] => Some(doors::run(&input())),
         ["tiny"] => Some(tiny::printed()),
         ["gen", seed, profile] => {
             let profile = Profile::of_name(profile)?;

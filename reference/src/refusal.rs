@@ -3,7 +3,7 @@
 /// A refusal's number: one of these.
 pub type Refusal = u32;
 
-/// A line is not of the form that is due (S28, P11).
+/// A line is not of the form that is due (S28, P11, P28).
 pub const FORM: Refusal = 1;
 /// A number outside its range (S29), or something handed in that does not pass (H).
 pub const OUT_OF_RANGE: Refusal = 2;
