@@ -8,11 +8,15 @@ pub const RUN: usize = 172;
 pub const OFFERS: usize = 8;
 pub const LOAD: usize = 24;
 pub const TINY: usize = 20;
+pub const DOORS: usize = 4;
 /// On Case P.
 pub const SMALL_CALL: usize = 32;
 pub const SMALL_ANSWER: usize = 40;
 /// The program `script`, as a whole.
 pub const SCRIPT: usize = 240;
+
+/// The program `doors`, as a whole.
+pub const DOORS_PROGRAM: usize = 100;
 
 /// What another machine may take beyond that.
 pub const ALLOWED: usize = 8;
