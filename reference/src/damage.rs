@@ -154,7 +154,7 @@ pub fn lines(text: &[u8]) -> Vec<&[u8]> {
 }
 
 /// Another byte, one byte more or one less.
-fn any_byte(random: &mut Random, text: &mut Vec<u8>) {
+pub fn any_byte(random: &mut Random, text: &mut Vec<u8>) {
     let byte = if random.chance(85) {
         *random.pick(BYTES)
     } else {

@@ -125,7 +125,7 @@ pub fn read(input: &[u8]) -> Result<Input, Refusal> {
 }
 
 /// The form of P27: three lines and nothing behind the LF of the last.
-fn parse(input: &[u8]) -> Option<Input> {
+pub fn parse(input: &[u8]) -> Option<Input> {
     let lines: Vec<&[u8]> = input
         .strip_suffix(b"\n")?
         .split(|byte| *byte == b'\n')

@@ -1,13 +1,17 @@
-//! Generated inputs: a sheet and a list of requests.
+//! Generated inputs: a sheet and a list of requests; marks and arrivals.
 
+mod doors;
 mod lists;
 mod plans;
 mod tables;
+mod times;
 mod tiny;
 
+pub use doors::{doors_input, doors_text};
 pub use lists::{any_request, request, requests};
 pub use plans::{Goal, Plan, Profile, BIG, FULL, LONG, MEDIUM, PROFILES, SMALL, TINY};
 pub use tables::table;
+pub use times::{doors_lists, Lists};
 pub use tiny::{on_tiny, tiny_first, tiny_inputs};
 
 use crate::damage::{damage, lengthen};

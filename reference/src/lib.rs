@@ -1,6 +1,7 @@
-//! An independent model of grant sheets, references and adapters, written from
-//! the paper (01) and its readings alone. Clear before fast. Comments cite the
-//! rules of docs/SPEC.md by letter and number.
+//! An independent model of grant sheets, references and adapters, and of marks
+//! held against a door counter, written from the papers (01, 02) and their
+//! readings alone. Clear before fast. Comments cite the rules of docs/SPEC.md by
+//! letter and number.
 //!
 //! A module imports only modules that stand above it here. (Blank lines keep
 //! rustfmt from sorting them.)

@@ -15,7 +15,7 @@ use std::process::ExitCode;
 
 const USAGE: &str = "usage: reference script|sheet|pairs|dump|account|doors < input
        reference tiny
-       reference gen SEED small|medium|big|full|long|damaged
+       reference gen SEED small|medium|big|full|long|damaged|doors
        reference hostile SEED
        reference cover [SEEDS]
 ";
@@ -45,6 +45,7 @@ fn output(words: &[&str]) -> Option<Vec<u8>> {
         ["account"] => Some(dump::account(&input()).into_bytes()),
         ["doors"] => Some(doors::run(&input())),
         ["tiny"] => Some(tiny::printed()),
+        ["gen", seed, "doors"] => Some(generators::doors_input(seed.parse().ok()?)),
         ["gen", seed, profile] => {
             let profile = Profile::of_name(profile)?;
             Some(generators::generate(seed.parse().ok()?, profile))

@@ -1,5 +1,11 @@
 //! What a set of generated inputs and handed-in states met.
 
+mod doors;
+mod slips;
+mod times;
+
+pub use doors::Doors;
+
 use crate::check::{self, Reason, REASONS};
 use crate::coverage::{self, Seen, OF_ARGUMENTS, OF_REQUESTS};
 use crate::damage::lines;
@@ -9,7 +15,9 @@ use crate::generators::{generate, on_tiny, PROFILES};
 use crate::hostile::{self, Hostile};
 use crate::random::Random;
 use crate::raw::RawTable;
-use crate::refusal::{Refusal, FORM, LATER_LAYER, OUT_OF_RANGE, SHORT_BUFFER, UNKNOWN_TYPE};
+use crate::refusal::{
+    Refusal, FORM, LATER_LAYER, OUT_OF_RANGE, SHORT_BUFFER, UNFIT_TIMES, UNKNOWN_TYPE,
+};
 use crate::requests::Request;
 use crate::script::{self, MAX_CALL_ARGUMENTS};
 use crate::sheet;
@@ -55,6 +63,8 @@ pub struct Report {
     pub compared: u64,
     pub compare_unknown: u64,
     pub compare_refused: u64,
+    /// Marks and arrivals.
+    pub doors: Doors,
 }
 
 /// Generates inputs and handed-in states, on tiny sheets first, and reports what they met.
@@ -74,6 +84,7 @@ pub fn collect(seeds: std::ops::Range<u64>) -> Report {
     for seed in seeds.start * 10..seeds.end * 10 {
         report.hostile(seed, &hostile::generate(seed));
     }
+    report.doors = Doors::collect(seeds.start * 4..seeds.end * 4);
     report
 }
 
@@ -170,7 +181,7 @@ impl Report {
             4 => self.short,
             _ => self.scripts.number(number) + self.requests.number(number),
         };
-        sheets + rest
+        sheets + rest + self.doors.number(number)
     }
 
     /// What ought to have been met and was not.
@@ -179,7 +190,8 @@ impl Report {
             .of_sheets()
             .into_iter()
             .chain(self.of_requests())
-            .chain(self.of_handed_in());
+            .chain(self.of_handed_in())
+            .chain(self.doors.due());
         let missing = met.filter(|(met, _)| !met).map(|(_, what)| what);
         missing.collect()
     }
@@ -263,8 +275,8 @@ impl Report {
             "demand 3: {} books, {} cells over all chains, broken {:?}\n",
             self.books, self.cells, self.broken
         ));
-        text.push_str("refusal numbers met, 1 to 19:");
-        for number in 1..=19 {
+        text.push_str("refusal numbers met:");
+        for number in (1..=LATER_LAYER).chain([UNFIT_TIMES]) {
             text.push_str(&format!(" {number}:{}", self.number(number)));
         }
         text.push_str("\n\nscripts\n");
@@ -297,6 +309,8 @@ impl Report {
             self.five_in_line, self.five_in_call, self.five_in_record
         ));
         text.push_str(&self.requests.text());
+        text.push('\n');
+        text.push_str(&self.doors.text());
         text.push_str(&format!("\nmissing: {:?}\n", self.missing()));
         text
     }

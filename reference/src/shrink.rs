@@ -91,18 +91,24 @@ fn drop_requests(parts: Parts, fails: &mut dyn FnMut(&[u8]) -> bool) -> Parts {
     best
 }
 
-/// For inputs that are not right in form: drops lines, then single bytes.
+/// For inputs that are no sheets: drops lines, then words, then single bytes.
 fn shrink_text(text: Vec<u8>, fails: &mut dyn FnMut(&[u8]) -> bool) -> Vec<u8> {
-    let lines: Vec<Vec<u8>> = text
-        .split_inclusive(|byte| *byte == b'\n')
-        .map(<[u8]>::to_vec)
-        .collect();
-    let lines = drop_chunks(lines, &mut |lines| fails(&lines.concat()));
-    let text = lines.concat();
-    if Parts::of(&text).is_some() || text.len() > 4000 {
+    let text = drop_pieces(&text, b"\n", fails);
+    if Parts::of(&text).is_some() {
+        return text;
+    }
+    let text = drop_pieces(&text, b" \n", fails);
+    if text.len() > 4000 {
         return text;
     }
     drop_chunks(text, &mut |text| fails(text))
+}
+
+/// Drops pieces of a text, each ended by one of these bytes.
+fn drop_pieces(text: &[u8], ends: &[u8], fails: &mut dyn FnMut(&[u8]) -> bool) -> Vec<u8> {
+    let pieces = text.split_inclusive(|byte| ends.contains(byte));
+    let pieces: Vec<Vec<u8>> = pieces.map(<[u8]>::to_vec).collect();
+    drop_chunks(pieces, &mut |pieces| fails(&pieces.concat())).concat()
 }
 
 #[cfg(test)]

@@ -1,8 +1,8 @@
 //! The commands, run as programs, against the library.
 
 use reference::external::{difference, run};
-use reference::generators::{generate, on_tiny, PROFILES};
-use reference::{dump, pairs, script, tiny};
+use reference::generators::{doors_input, generate, on_tiny, PROFILES};
+use reference::{doors, dump, pairs, script, tiny};
 use std::path::Path;
 
 fn command(arguments: &[&str], input: &[u8]) -> Vec<u8> {
@@ -34,6 +34,16 @@ fn commands_print_what_the_library_says() {
             let found = difference(input, &|input| command(&[name], input), &ours);
             assert_eq!(found, None);
         }
+    }
+}
+
+#[test]
+fn doors_prints_what_the_library_says() {
+    for seed in 0..116 {
+        let input = doors_input(seed);
+        let found = difference(&input, &|input| command(&["doors"], input), &doors::run);
+        assert_eq!(found, None, "{seed}");
+        assert_eq!(command(&["gen", &seed.to_string(), "doors"], b""), input);
     }
 }
 

@@ -64,8 +64,8 @@ fn demand_3_at_length() {
     demand_3(Profile::Long, 0..count / 200);
 }
 
-/// Each number 1 to 18 from sheets and scripts, 19 on handed-in states, each
-/// reason of 2, each situation.
+/// Each number 1 to 18 from sheets and scripts, 19 on handed-in states, 22 on
+/// lists of times, each reason of 2 and of 22, each situation.
 #[test]
 fn coverage_is_whole() {
     let report = report::collect(0..150);
