@@ -347,11 +347,10 @@ size_t pilgonca_tiny(
 /* ---- marks and arrivals ---- */
 
 /*
- * Marks against the arrivals of a door counter (V): two lists of times in milliseconds, neither of which falls. A mark and an arrival may be a pair if they
- * differ by at most `within`, and each entry is in one pair at most. Stored are counts[0], the most pairs that there can be, counts[1], the marks beside
- * them, and counts[2], the arrivals beside them. The lists are handed in anew each time, and nothing of them is kept: it has no state and no subject. They
- * may be of any length and hold any numbers: more than PILGONCA_TIMES, a time above PILGONCA_LAST_TIME or below the one before it, and a tolerance above
- * PILGONCA_TOLERANCE are refused (V3). 22.
+ * Marks against the arrivals of a door counter (V): two lists of milliseconds, each in order. A pair is a mark and an arrival at most `within` apart, and no
+ * entry stands in two pairs. Stored are three counts (V6): counts[0] pairs, as many as there can be, counts[1] unpaired marks, counts[2] unpaired arrivals.
+ * Lists may be of any length and hold any numbers: one with more than PILGONCA_TIMES, with a time above PILGONCA_LAST_TIME or below the one before it, and a
+ * tolerance above PILGONCA_TOLERANCE are refused, and the counts stay as they were (V3). It has no state and no subject, and keeps nothing. 22.
  */
 size_t pilgonca_doors(
     const uint64_t *marks,

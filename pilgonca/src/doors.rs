@@ -2,19 +2,19 @@
 
 use crate::{raw, Refusal};
 
-/// What marks and arrivals come to (V6). Which entries stay unpaired is not told: pairings of equally many pairs may leave different ones (V7).
+/// What marks and arrivals come to (V6). Which entries stay unpaired is not told, since two largest pairings may leave different ones (V7).
 #[derive(Clone, Copy, PartialEq, Eq, Debug)]
 pub struct Doors {
-    /// How many pairs a pairing can have at most.
+    /// The pairs of a largest pairing.
     pub pairs: usize,
-    /// The marks beside those.
+    /// The marks that it leaves.
     pub unpaired_marks: usize,
-    /// The arrivals beside those.
+    /// The arrivals that it leaves.
     pub unpaired_arrivals: usize,
 }
 
-/// Holds the times of marks against those of arrivals, in milliseconds: a mark and an arrival may be a pair if they differ by at most `within`, and each
-/// entry is in one pair at most (V).
+/// Holds marks against arrivals, two lists of milliseconds, each in order (V). A pair is a mark and an arrival at most `within` apart, and no entry stands
+/// in two pairs.
 ///
 /// ```
 /// use pilgonca::{doors, Doors};

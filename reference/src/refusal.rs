@@ -42,5 +42,5 @@ pub const ANSWERED_ALREADY: Refusal = 17;
 pub const CALLS_FULL: Refusal = 18;
 /// What would be 8 or 10, at a layer past the first (C13).
 pub const LATER_LAYER: Refusal = 19;
-/// A list of times that is too long, falls or leaves its range, or a tolerance too large (V3).
+/// A list of times too long, with a time that falls or is too late, or too large a tolerance (V3).
 pub const UNFIT_TIMES: Refusal = 22;
