@@ -1,5 +1,6 @@
 //! The words of the command line.
 
+use crate::doors::decimal;
 use crate::words::called;
 use std::ffi::{OsStr, OsString};
 use std::path::{Path, PathBuf};
@@ -30,6 +31,15 @@ desk: sheets and scripts at the desk; every answer is the proved core's
                               for tests; --out FILE writes them there
   desk tiny N                 the tiny sheet with this number, 0 to 129
       --list                  in words: what each of them says
+  desk doors MARKS ARRIVALS --within MS
+                              times of marks against those of a door counter:
+                              how many are pairs within so many milliseconds,
+                              and which are in none. Both files have times in
+                              milliseconds, as a list or as CSV
+      --column C              the column of CSV with the times, by its name or
+                              number; --marks-column, --arrivals-column for
+                              one of the files
+      --list                  every entry that is in no pair, not only twenty
   desk explain N              what the refusal with this number means
   desk help, -h, --help       this text
   desk --version, -V          the version
@@ -41,7 +51,7 @@ desk: sheets and scripts at the desk; every answer is the proved core's
                               it out
   --json                      one JSON document, as desk/schema/desk.json says:
                               of check, pairs, compare, run, audit, powers,
-                              diff, tiny
+                              diff, tiny, doors
   --svg FILE                  draws pairs, or the references at the end of run
 
 --names=FILE is --names FILE. Behind -- no word is an option. A file that is
@@ -52,8 +62,8 @@ Exit status: 0 yes or accepted, 1 no or refused, 2 words that desk does not
 understand, 3 what cannot be read or written. A run whose requests are refused
 ends with 0: these are its answers. Some commands answer by the status: compare
 (0 FROM can become TO, also where that has a condition), diff (0 the sheets say
-the same), audit with --subject, --method or --calls. There
-refused input is 3 too, so that no answer is taken for no.
+the same), doors (0 every mark is in a pair), audit with --subject, --method or
+--calls. There refused input is 3 too, so that no answer is taken for no.
 ";
 
 /// The help; where the program is called otherwise, it says so.
@@ -106,6 +116,7 @@ pub enum Command {
         list: bool,
         out: Option<PathBuf>,
     },
+    Doors(DoorsAsked),
     Explain(String),
 }
 
@@ -114,7 +125,7 @@ impl Command {
     pub fn asks(&self) -> bool {
         match self {
             Command::Audit { asked, .. } => *asked != Asked::default(),
-            Command::Diff { .. } | Command::Compare { .. } => true,
+            Command::Diff { .. } | Command::Compare { .. } | Command::Doors(_) => true,
             _ => false,
         }
     }
@@ -122,9 +133,11 @@ impl Command {
     /// The files that names may stand beside, the nearest first.
     pub fn files(&self) -> Vec<&Path> {
         match self {
-            Command::Help | Command::Version | Command::Explain(_) | Command::Tiny { .. } => {
-                Vec::new()
-            }
+            Command::Help
+            | Command::Version
+            | Command::Explain(_)
+            | Command::Tiny { .. }
+            | Command::Doors(_) => Vec::new(),
             Command::Check(file) | Command::Powers(file) => vec![file],
             Command::Fix { sheet, .. }
             | Command::Pairs { sheet, .. }
@@ -151,6 +164,49 @@ impl Asked {
             calls: words.has("--calls"),
         }
     }
+}
+
+/// Two files of times, and how they are to be held against each other.
+#[derive(Clone, PartialEq, Eq, Debug)]
+pub struct DoorsAsked {
+    /// The marks, and the arrivals.
+    pub files: [PathBuf; 2],
+    /// The column of each that has the times, by name or number, where that is asked for.
+    pub columns: [Option<String>; 2],
+    /// The tolerance; one past 64 bits counts as the largest, which the core refuses too.
+    pub within: u64,
+    /// Whether every unpaired entry is named.
+    pub list: bool,
+}
+
+impl DoorsAsked {
+    fn of(words: &Words, rest: &[OsString]) -> Result<DoorsAsked, String> {
+        let called = called();
+        let [marks, arrivals] = rest else {
+            return Err(format!(
+                "{called} doors takes two files, the marks first, and --within"
+            ));
+        };
+        if [marks, arrivals].iter().all(|file| *file == "-") {
+            return Err("only one of the two lists can be standard input".to_string());
+        }
+        let column = |name: &str| words.text(name).or_else(|| words.text("--column"));
+        Ok(DoorsAsked {
+            files: [marks, arrivals].map(PathBuf::from),
+            columns: ["--marks-column", "--arrivals-column"].map(column),
+            within: within(words.text("--within"))?,
+            list: words.has("--list"),
+        })
+    }
+}
+
+/// A tolerance as it is typed.
+fn within(word: Option<String>) -> Result<u64, String> {
+    let right = "milliseconds in digits alone, 0 to 60000, as --within 1000 for a second";
+    let Some(word) = word else {
+        return Err(format!("--within is missing: {right}"));
+    };
+    decimal(word.as_bytes()).ok_or_else(|| format!("--within takes {right}, and not {word:?}"))
 }
 
 /// Where names come from.
@@ -180,13 +236,15 @@ struct Choice {
 }
 
 const SHOWN: &[&str] = &[
-    "check", "pairs", "compare", "run", "audit", "powers", "diff", "tiny",
+    "check", "pairs", "compare", "run", "audit", "powers", "diff", "tiny", "doors",
 ];
 const NAMED: &[&str] = &[
     "check", "fix", "pairs", "compare", "run", "audit", "powers", "diff",
 ];
 
-const CHOICES: [Choice; 11] = [
+const A_COLUMN: &str = "the name or the number of a column";
+
+const CHOICES: [Choice; 15] = [
     Choice::new("--names", Some("a file"), NAMED),
     Choice::new("--no-names", None, NAMED),
     Choice::new("--json", None, SHOWN),
@@ -197,7 +255,11 @@ const CHOICES: [Choice; 11] = [
     Choice::new("--subject", Some("a number or a name"), &["audit"]),
     Choice::new("--method", Some("a number or a name"), &["audit"]),
     Choice::new("--calls", None, &["audit"]),
-    Choice::new("--list", None, &["tiny"]),
+    Choice::new("--list", None, &["tiny", "doors"]),
+    Choice::new("--within", Some("milliseconds"), &["doors"]),
+    Choice::new("--column", Some(A_COLUMN), &["doors"]),
+    Choice::new("--marks-column", Some(A_COLUMN), &["doors"]),
+    Choice::new("--arrivals-column", Some(A_COLUMN), &["doors"]),
 ];
 
 impl Choice {
@@ -389,6 +451,7 @@ fn command(name: &str, words: &Words, rest: &[OsString]) -> Result<Command, Stri
             list: words.has("--list"),
             out: words.file("--out"),
         },
+        "doors" => Command::Doors(DoorsAsked::of(words, rest)?),
         "explain" => Command::Explain(file("number")?.to_string_lossy().into_owned()),
         _ => return Err(format!("there is no command {name:?}")),
     })

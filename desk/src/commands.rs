@@ -11,7 +11,7 @@ use crate::paint::Paint;
 use crate::problem::Problem;
 use crate::relation::Compared;
 use crate::scripts::is_right;
-use crate::words::called;
+use crate::words::{called, ranges};
 use crate::{documents, matrix, pairs_picture, summary};
 use pilgonca::{Refusal, Sheet, SheetRefused, Type};
 use std::path::{Path, PathBuf};
@@ -162,6 +162,7 @@ fn answered(args: &Args, paints: Paints) -> Result<String, Stop> {
         Command::Powers(path) => desk.powers(path),
         Command::Diff { old, new } => desk.diff(old, new),
         Command::Tiny { number, list, out } => desk.tiny(number.as_deref(), *list, out.as_deref()),
+        Command::Doors(asked) => desk.doors(asked),
         Command::Explain(number) => desk.explain(number),
     }
 }
@@ -189,7 +190,7 @@ fn beside(command: &Command) -> Option<PathBuf> {
     found.map(|(_, names)| names)
 }
 
-/// What the commands share; desk run and desk audit are in `scripts`, desk powers, desk diff and desk tiny in modules of those names.
+/// What the commands share; desk run and desk audit are in `scripts`, desk powers, desk diff, desk tiny and desk doors in modules of those names.
 pub struct Desk {
     pub names: Names,
     pub paints: Paints,
@@ -266,9 +267,10 @@ impl Desk {
     fn explain(&self, number: &str) -> Result<String, Stop> {
         let found = number.parse().ok().and_then(Refusal::from_number);
         let refusal = found.ok_or_else(|| {
+            let all: Vec<i64> = Refusal::ALL.iter().map(|one| one.number().into()).collect();
             Stop::usage(format!(
-                "{number:?} is no refusal: they have the numbers 1 to {}",
-                Refusal::ALL.len()
+                "{number:?} is no refusal: they have the numbers {}",
+                ranges(&all)
             ))
         })?;
         Ok(explain(refusal, self.paints.out))

@@ -161,14 +161,14 @@ pub fn told(
     let how = paint.of(Tone::Bad, &format!("refused with {number}"));
     let words = format!("the sheet is {how} at byte {}", refused.offset);
     match diagnose(text, number, refused.offset, names) {
-        Some(found) => Problem::at(words, found.at(file, number, paint)),
+        Some(found) => Problem::at(words, found.at(file, Some(number), paint)),
         None => Problem::of(format!("{file}: {words}: {}", refused.refusal)),
     }
 }
 
 impl Diagnosis<'_> {
     /// The place in a file, with the line, a mark under what is wrong, and the words for it.
-    pub fn at(self, file: &str, refused: u8, paint: Paint) -> At {
+    pub fn at(self, file: &str, refused: Option<u8>, paint: Paint) -> At {
         let Flaw { mark, wrong } = self.flaw;
         let (text, below) = marked(self.line, &mark);
         let place = format!("line {}", self.line_number);

@@ -6,6 +6,7 @@ pub mod visits;
 use crate::args::Args;
 use crate::commands::Stop;
 use crate::described::signature;
+use crate::doors::Held;
 use crate::json::Json;
 use crate::names::{Kind, Names};
 use crate::problem::{At, Problem};
@@ -123,6 +124,43 @@ pub fn tiny(sheets: &[(usize, Vec<u8>)]) -> Result<Json, Stop> {
     };
     let sheets: Result<Vec<Json>, Stop> = sheets.iter().map(one).collect();
     Ok(Json::Object(vec![("sheets", Json::List(sheets?))]))
+}
+
+/// Two lists of times, held against each other.
+pub fn doors(held: &Held) -> Json {
+    let list = |index: usize| {
+        let list = &held.lists[index];
+        let unpaired = held.unpaired[index].iter().map(|one| {
+            let entry = &list.read.entries[one.number];
+            Json::Object(vec![
+                ("number", one.number.into()),
+                ("line", entry.line.into()),
+                ("time", Json::Number(entry.time as i64)),
+                ("near", one.near.into()),
+            ])
+        });
+        let column = list.read.column.as_ref().map(|column| {
+            let name = column.name.as_deref();
+            Json::Object(vec![
+                ("number", column.number.into()),
+                ("name", name.into()),
+            ])
+        });
+        Json::Object(vec![
+            ("file", list.file.as_str().into()),
+            ("column", column.into()),
+            ("times", list.read.entries.len().into()),
+            ("unpaired", Json::list(unpaired)),
+        ])
+    };
+    Json::Object(vec![
+        ("within", Json::Number(held.within as i64)),
+        ("pairs", held.counts.pairs.into()),
+        ("unpaired_marks", held.counts.unpaired_marks.into()),
+        ("unpaired_arrivals", held.counts.unpaired_arrivals.into()),
+        ("marks", list(0)),
+        ("arrivals", list(1)),
+    ])
 }
 
 /// Every pair of a sheet's types.

@@ -4,7 +4,7 @@ use std::fs::{self, File};
 use std::io::{self, Read};
 use std::path::Path;
 
-/// No sheet, script or list of names is longer by far; a device that never ends is not read on.
+/// No sheet, script, list of names or list of times that is accepted is longer by far; a device that never ends is not read on.
 const LONGEST: u64 = 1 << 20;
 
 /// The first bytes of a saved state. The crate `pilgonca` has them only with its feature `visits`.
@@ -37,7 +37,7 @@ pub fn read(path: &Path) -> Result<Vec<u8>, Unusable> {
     match all {
         Err(error) => Err(Unusable(format!("cannot read {}: {error}", name(path)))),
         Ok(bytes) if bytes.len() as u64 > LONGEST => Err(Unusable(format!(
-            "cannot read all of {}: it is longer than a megabyte, and no sheet or script is",
+            "cannot read all of {}: it is longer than a megabyte, and nothing that desk reads is",
             name(path)
         ))),
         Ok(bytes) => Ok(bytes),

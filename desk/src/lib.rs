@@ -8,6 +8,7 @@ pub mod diagnosis;
 #[cfg(feature = "visits")]
 mod diff;
 mod documents;
+mod doors;
 mod due;
 mod explain;
 mod fix;

@@ -19,8 +19,8 @@ pub struct At {
     /// From 1 on; the column in bytes.
     pub line: usize,
     pub column: usize,
-    /// The refusal's number.
-    pub refused: u8,
+    /// The refusal's number; none where it is desk that cannot read the file.
+    pub refused: Option<u8>,
     pub wrong: String,
     pub right: String,
     /// The line with a mark below it, and both.

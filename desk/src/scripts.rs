@@ -220,7 +220,7 @@ impl Desk {
         };
         let how = paint.of(Tone::Bad, "refused with 1");
         let words = format!("a line is {how}, and the run ends there");
-        let problem = Problem::at(words, found.at(&input::name(path), 1, paint));
+        let problem = Problem::at(words, found.at(&input::name(path), Some(1), paint));
         Stop::refused(hinted(problem, path, bytes))
     }
 }

@@ -34,7 +34,6 @@ pub fn listed(words: impl Iterator<Item = String>) -> String {
 }
 
 /// Numbers in ascending order, three or more in a row as such: `3, 5, 7 to 16`.
-#[cfg(feature = "visits")]
 pub fn ranges(numbers: &[i64]) -> String {
     let in_a_row = |one: &i64, next: &i64| *next == *one + 1;
     let words = numbers.chunk_by(in_a_row).map(|row| match row {
@@ -88,7 +87,6 @@ mod tests {
         );
     }
 
-    #[cfg(feature = "visits")]
     #[test]
     fn numbers_in_a_row() {
         let told = [&[][..], &[4], &[4, 5], &[3, 5, 7, 8, 9, 16], &[0, 1, 2]].map(ranges);

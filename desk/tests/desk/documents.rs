@@ -1,5 +1,6 @@
 //! What desk prints with --json: one document each, as desk/schema/desk.json says, and with the same answers as the core and the words.
 
+use crate::doors::{ARRIVALS, MARKS};
 use crate::files::{accepted, read, run, tiny_in_turn, with_file, NAMES, SCRIPT, SHEET};
 use crate::json::{Schema, Value};
 use pilgonca::{Sheet, Type};
@@ -33,7 +34,7 @@ fn document(schema: &Schema, words: &[&str]) -> Value {
 }
 
 /// Every command that prints a document, on what is right and on what is not.
-const COMMANDS: [&[&str]; 28] = [
+const COMMANDS: [&[&str]; 36] = [
     &["check", SHEET],
     &["check", "examples/categories.sheet"],
     &["check", "examples/types-48.sheet"],
@@ -62,6 +63,14 @@ const COMMANDS: [&[&str]; 28] = [
     &["tiny"],
     &["tiny", "129"],
     &["tiny", "130"],
+    &["doors", MARKS, ARRIVALS, "--within=1000"],
+    &["doors", ARRIVALS, MARKS, "--within=60000"],
+    &["doors", "/dev/null", "/dev/null", "--within=0"],
+    &["doors", MARKS, ARRIVALS, "--within=60001"],
+    &["doors", MARKS, ARRIVALS, "--within=5", "--column=1"],
+    &["doors", MARKS, ARRIVALS, "--within=5", "--column=module"],
+    &["doors", SHEET, ARRIVALS, "--within=5"],
+    &["doors", "examples/optional.state", ARRIVALS, "--within=5"],
 ];
 
 #[test]
@@ -134,6 +143,7 @@ fn the_schema_refuses_other_documents() {
         &["powers", SHEET],
         &["diff", "examples/guide.sheet", SHEET],
         &["tiny", "44"],
+        &["doors", MARKS, ARRIVALS, "--within=1000"],
     ] {
         let document = document(&schema, words);
         let others = spoilt(&document);
@@ -268,6 +278,16 @@ fn differences_and_refusals_are_told() {
     assert_eq!(at.get("file").text(), DAMAGED);
     let place = ["line", "column", "refused"].map(|name| at.get(name).number());
     assert_eq!(place, [23, 6, 1]);
+    // of lists of times the core refuses what desk can read
+    let refused = |column: &str| {
+        let words = ["doors", MARKS, ARRIVALS, "--within=5", column];
+        let document = document(&schema, &words);
+        assert_eq!(document.get("status").number(), 3);
+        let at = document.get("problem").get("at");
+        (at.get("line").number(), at.get("refused").clone())
+    };
+    assert_eq!(refused("--column=mark"), (4, Value::Number(22)));
+    assert_eq!(refused("--column=module"), (2, Value::Null));
     let unread = document(&schema, &["check", "no/such/file"]);
     assert_eq!(unread.get("status").number(), 3);
     assert_eq!(unread.get("result"), &Value::Null);

@@ -1,5 +1,6 @@
 //! Options as people's hands know them, names beside a sheet, places that editors jump to, and terminals.
 
+use crate::doors::{ARRIVALS, MARKS};
 use crate::files::{accepted, desk, failed, place, read, refused, run, told, with_file};
 use crate::files::{root, CALLED, NAMES, SCRIPT, SHEET};
 use crate::saved::STATE;
@@ -13,7 +14,8 @@ fn help_fits_a_terminal_and_says_what_there_is() {
         assert!(line.chars().count() <= 80, "{line}");
     }
     let commands = [
-        "check", "fix", "pairs", "compare", "run", "audit", "powers", "diff", "tiny", "explain",
+        "check", "fix", "pairs", "compare", "run", "audit", "powers", "diff", "tiny", "doors",
+        "explain",
     ];
     for command in commands {
         assert!(help.contains(&format!("  desk {command} ")), "{command}");
@@ -28,6 +30,9 @@ fn help_fits_a_terminal_and_says_what_there_is() {
         "--subject S --method M",
         "--calls",
         "--list",
+        "--within MS",
+        "--column C",
+        "--marks-column, --arrivals-column",
         "--version",
         "NO_COLOR",
         "0 yes or accepted, 1 no or refused, 2 words that desk does not\nunderstand, 3 what cannot be read or written",
@@ -55,7 +60,7 @@ fn messages_name_the_program_as_it_was_called() {
     let zero = "examples/refused-leading-zero.sheet";
     with_file("called", crlf.replace('\n', "\r\n").as_bytes(), |path| {
         let fix = format!("./run desk fix {path} prints what was meant");
-        let messages: [(&[&str], &str); 17] = [
+        let messages: [(&[&str], &str); 19] = [
             (&["chek"], "; ./run desk --help says what there is"),
             (&["check"], "./run desk check takes one sheet"),
             (&["fix"], "./run desk fix takes one sheet or script"),
@@ -67,6 +72,11 @@ fn messages_name_the_program_as_it_was_called() {
             (&["compare", SHEET], "./run desk compare takes a sheet"),
             (&["diff", SHEET], "./run desk diff takes two sheets"),
             (&["tiny", "1", "2"], "./run desk tiny takes the number"),
+            (&["doors", MARKS], "./run desk doors takes two files"),
+            (
+                &["doors", "examples/visit.doors", MARKS, "--within=5"],
+                "./run desk doors takes a file of marks and one of arrivals",
+            ),
             (&["run", SCRIPT, "--plain"], "is for ./run desk pairs"),
             (&["check", path], &fix),
             (&["fix", zero], "./run desk fix cannot mend that"),
@@ -218,6 +228,10 @@ fn statuses_are_told_apart() {
     failed(&["audit", SCRIPT, "--subject", "nobody"], 2);
     failed(&["compare", "no/such/file", "3", "2"], 3);
     failed(&["diff", SHEET, damaged], 3);
+    failed(&["doors", damaged, ARRIVALS, "--within=5"], 3);
+    failed(&["doors", MARKS, ARRIVALS, "--within=5 s"], 2);
+    failed(&["doors", MARKS, ARRIVALS, "--within=5", "--column=9"], 2);
+    failed(&["doors", MARKS, "no/such/file", "--within=5"], 3);
 }
 
 /// What desk prints on a terminal, with these words set in its environment.

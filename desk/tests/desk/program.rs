@@ -1,5 +1,6 @@
 //! The program itself: what it prints, its exit status, and that nothing makes it panic.
 
+use crate::doors::{ARRIVALS, MARKS};
 use crate::files::{
     accepted, desk, failed, is_message, no, read, refused, run, tiny_in_turn, told, with_file,
     NAMES, SCRIPT, SHEET,
@@ -11,7 +12,7 @@ use std::io::Write;
 use std::process::Stdio;
 
 /// Words that desk does not understand.
-const WRONG: [&[&str]; 35] = [
+const WRONG: [&[&str]; 46] = [
     &["chek"],
     &["check"],
     &["check", "a", "b"],
@@ -47,6 +48,19 @@ const WRONG: [&[&str]; 35] = [
     &["tiny", "--out", "x", "--json"],
     &["tiny", "--out", "x", "--list"],
     &["check", SHEET, "--list"],
+    &["doors", MARKS],
+    &["doors", MARKS, ARRIVALS],
+    &["doors", MARKS, ARRIVALS, ARRIVALS, "--within", "5"],
+    &["doors", MARKS, ARRIVALS, "--within"],
+    &["doors", MARKS, ARRIVALS, "--within", "5", "--within", "5"],
+    &["doors", MARKS, ARRIVALS, "--within", "5", "--column"],
+    &["doors", MARKS, ARRIVALS, "--within", "5", "--names", NAMES],
+    &[
+        "doors", MARKS, ARRIVALS, "--within", "5", "--list", "--json",
+    ],
+    &["doors", "-", "-", "--within", "5"],
+    &["check", SHEET, "--within", "5"],
+    &["diff", SHEET, SHEET, "--marks-column=1"],
 ];
 
 /// Words that ask for help, some of them among wrong ones.
@@ -89,6 +103,12 @@ fn files_that_cannot_be_read_or_written() {
         }
         failed(&[command, "/dev/zero"], 3);
         assert!(refused(&[command, "/dev/null"]).contains("the file ends here"));
+    }
+    for path in ["no/such/file", "examples", "/dev/zero"] {
+        for files in [[path, ARRIVALS], [MARKS, path]] {
+            let error = failed(&["doors", files[0], files[1], "--within=5"], 3);
+            assert!(error.contains(path), "{error}");
+        }
     }
     for words in [
         ["pairs", SHEET, "--svg"],
@@ -140,9 +160,16 @@ fn is_answered(path: &str) {
             "{words:?}: {error}"
         );
     }
-    let (status, _, error) = run(&["compare", path, "0", "1"]);
-    let message = error.lines().next().is_some_and(is_message);
-    assert_eq!(message, status == 3, "{error}");
+    for words in [
+        &["compare", path, "0", "1"][..],
+        &["doors", path, ARRIVALS, "--within=5", "--column=1"],
+        &["doors", MARKS, path, "--within=5"],
+    ] {
+        let (status, _, error) = run(words);
+        let message = error.lines().next().is_some_and(is_message);
+        assert_eq!(message, status > 1, "{words:?}: {error}");
+        assert!(!error.contains("panicked"), "{words:?}: {error}");
+    }
 }
 
 #[test]
@@ -230,6 +257,8 @@ fn no_colours_in_a_pipe() {
         &["diff", SHEET, "examples/guide.sheet"],
         &["run", "examples/refused-01.script"],
         &["tiny", "--list"],
+        &["doors", MARKS, ARRIVALS, "--within=1000"],
+        &["doors", SHEET, ARRIVALS, "--within=1000"],
     ] {
         let (_, out, error) = run(words);
         assert!(
@@ -299,7 +328,7 @@ fn the_matrix_and_a_comparison() {
 
 #[test]
 fn every_refusal_is_explained() {
-    for number in 1..=19 {
+    for number in (1..=19).chain([22]) {
         let text = accepted(&["explain", &number.to_string()]);
         assert!(text.starts_with(&format!("{number}: ")), "{text}");
         assert!(
@@ -307,8 +336,10 @@ fn every_refusal_is_explained() {
             "{text}"
         );
     }
-    for number in ["0", "20", "-1", "four", "99999999999999999999"] {
-        assert!(failed(&["explain", number], 2).contains("1 to 19"));
+    // 20 and 21 are not given
+    for number in ["0", "20", "21", "23", "-1", "four", "99999999999999999999"] {
+        let due = format!("desk: {number:?} is no refusal: they have the numbers 1 to 19, 22\n");
+        assert_eq!(failed(&["explain", number], 2), due);
     }
 }
 

@@ -25,11 +25,36 @@ fn quoted(text: &str) -> Vec<(String, String)> {
     found
 }
 
+fn text(bytes: &[u8]) -> String {
+    String::from_utf8(bytes.to_vec()).expect("UTF-8")
+}
+
+/// What the program `doors` prints for an input that it accepts (P27, P29).
+fn doors(input: &str) -> String {
+    let lines: Vec<&str> = input.lines().collect();
+    let [within, marks, arrivals] = lines[..] else {
+        panic!("three lines");
+    };
+    let times = |line: &str| -> Vec<u64> {
+        let words = line.split(' ');
+        words.map(|word| word.parse().expect("a time")).collect()
+    };
+    let within = within.strip_prefix("within=").map(times).expect("a word");
+    let counts = pilgonca::doors(&times(marks), &times(arrivals), within[0]);
+    let pilgonca::Doors {
+        pairs,
+        unpaired_marks,
+        unpaired_arrivals,
+    } = counts.expect("it is accepted");
+    format!("got={pairs} {unpaired_marks} {unpaired_arrivals}\n")
+}
+
 /// What a quoted command prints. `./run` alone is the program `script` on Case P.
 fn printed(command: &str) -> String {
     let words: Vec<&str> = command.split(' ').collect();
     match &words[..] {
-        ["./run"] => String::from_utf8(pilgonca::script(&read(SCRIPT))).expect("ASCII"),
+        ["./run"] => text(&pilgonca::script(&read(SCRIPT))),
+        ["./run", "doors", file] => doors(&text(&read(file))),
         ["./run", "desk", words @ ..] => {
             let mut command = desk(words);
             command.env(CALLED, "./run desk");
@@ -43,8 +68,7 @@ fn printed(command: &str) -> String {
 #[test]
 fn what_is_quoted_is_printed() {
     for (file, least) in [("README.md", 2), ("docs/GUIDE.md", 2)] {
-        let text = String::from_utf8(read(file)).expect("UTF-8");
-        let commands = quoted(&text);
+        let commands = quoted(&text(&read(file)));
         assert!(commands.len() >= least, "{file}: {}", commands.len());
         for (command, output) in commands {
             assert_eq!(

@@ -1,6 +1,7 @@
 //! The program without the feature `visits`: sheets alone, over the libraries of sheets alone. ./run builds no such program, but all of desk over stand-ins of
 //! the libraries that are not there yet (decision 85).
 
+use crate::doors::{ARRIVALS, MARKS};
 use crate::files::{program, root, run, told, NAMES, SCRIPT, SHEET};
 use std::path::PathBuf;
 use std::process::Command;
@@ -28,6 +29,8 @@ fn sheets_are_answered_alike_and_scripts_not_at_all() {
         &["tiny", "44"],
         &["tiny", "--list"],
         &["tiny", "--json"],
+        &["doors", MARKS, ARRIVALS, "--within=1000"],
+        &["doors", MARKS, ARRIVALS, "--within=1000", "--json"],
         &["help"],
     ] {
         assert_eq!(alone(words), run(words), "{words:?}");
