@@ -348,15 +348,30 @@ fn shown(text: &[u8]) -> String {
     String::from_utf8_lossy(text).into_owned()
 }
 
-/// The example, by a pipe and from a file as ./run does it.
 #[test]
 fn the_worked_example() {
     assert_eq!(on(WORKED), "got=3 2 2\n");
-    let path = Path::new(env!("CARGO_TARGET_TMPDIR")).join("doors-worked.txt");
-    std::fs::write(&path, WORKED).unwrap();
-    let mut command = plain(&built("doors"));
-    let output = command.stdin(File::open(&path).unwrap()).output().unwrap();
-    assert_eq!(of_output(output), b"got=3 2 2\n");
+}
+
+/// The examples that docs/GUIDE.md quotes print what it says, by a pipe and from a file as ./run does it.
+#[test]
+fn the_guide_is_right() {
+    let root = Path::new(env!("CARGO_MANIFEST_DIR")).join("..");
+    let guide = std::fs::read_to_string(root.join("docs/GUIDE.md")).expect("the guide");
+    let mut lines = guide.lines();
+    let mut quoted = 0;
+    while let Some(line) = lines.next() {
+        let Some(file) = line.strip_prefix("    $ ./run doors ") else {
+            continue;
+        };
+        let said = format!("{}\n", lines.next().expect("what it prints").trim());
+        assert_eq!(on(std::fs::read(root.join(file)).expect(file)), said);
+        let stdin = File::open(root.join(file)).expect(file);
+        let output = plain(&built("doors")).stdin(stdin).output();
+        assert_eq!(shown(&of_output(output.expect("it starts"))), said);
+        quoted += 1;
+    }
+    assert!(quoted > 0);
 }
 
 /// Inputs of the right form and of others (P27, P28).

@@ -1,31 +1,25 @@
 //! The proved programs where their standard input or output fails: nothing that looks like an answer, and a word on the error stream.
 
-use conformance::doors::typical;
 use conformance::process::{built, printed, run};
-use std::fs::{read_to_string, write, File, OpenOptions};
+use std::fs::{read, read_to_string, File, OpenOptions};
 use std::io::{Read, Seek, SeekFrom};
-use std::path::Path;
+use std::path::{Path, PathBuf};
 use std::process::{Command, Output, Stdio};
 
 /// Those that read, and all.
 const READERS: [&str; 3] = ["doors", "pairs", "script"];
 const PROGRAMS: [&str; 4] = ["doors", "pairs", "script", "tiny"];
 
-/// An input that the program answers: lists for `doors`, for the others Case P. `tiny` reads none.
-fn input(program: &str) -> Vec<u8> {
-    match program {
-        "doors" => typical(9).text(),
-        "pairs" => include_bytes!("../../examples/case-p.sheet").to_vec(),
-        _ => include_bytes!("../../examples/case-p.script").to_vec(),
-    }
-}
-
-/// The same as a file.
-fn input_file(program: &str) -> File {
-    let folder = Path::new(env!("CARGO_TARGET_TMPDIR"));
-    let path = folder.join(format!("streams-{program}"));
-    write(&path, input(program)).unwrap();
-    File::open(path).unwrap()
+/// An input that the program answers: for `doors` the lists of a visit, for the others Case P. `tiny` reads none.
+fn input(program: &str) -> PathBuf {
+    let name = match program {
+        "doors" => "visit.doors",
+        "pairs" => "case-p.sheet",
+        _ => "case-p.script",
+    };
+    Path::new(env!("CARGO_MANIFEST_DIR"))
+        .join("../examples")
+        .join(name)
 }
 
 /// Nothing was printed, and the error stream has this line alone. The exit status tells nothing (P20).
@@ -48,7 +42,7 @@ fn redirected(program: &str, how: &str) -> Output {
         .arg("-c")
         .arg(format!("exec \"$0\" {how}"))
         .arg(built(program));
-    run(command, &input(program))
+    run(command, &read(input(program)).unwrap())
 }
 
 #[test]
@@ -94,7 +88,9 @@ fn an_output_that_fails_is_told() {
     for program in PROGRAMS {
         let full = OpenOptions::new().write(true).open("/dev/full").unwrap();
         let mut command = Command::new(built(program));
-        command.stdin(input_file(program)).stdout(full);
+        command
+            .stdin(File::open(input(program)).unwrap())
+            .stdout(full);
         let child = command.stderr(Stdio::piped()).spawn().unwrap();
         let output = child.wait_with_output().unwrap();
         failed(&output, program, "write standard output");
