@@ -12,7 +12,7 @@ pub const MOST: usize = 1024;
 pub const LAST: u64 = 4_294_967_295;
 pub const WIDEST: u64 = 60_000;
 
-/// Times, marks or arrivals, too long, falling, outside their range, or a tolerance too large (V3).
+/// The refusal of a list that is too long, falls or leaves its range, and of a tolerance too large (V3).
 const UNFIT: usize = 22;
 
 /// What stands in the counts before.
