@@ -8,7 +8,7 @@ use std::io::Write;
 use std::process::Stdio;
 
 pub const MARKS: &str = "examples/marks.csv";
-pub const ARRIVALS: &str = "examples/arrivals.txt";
+pub const ARRIVALS: &str = "examples/arrivals.list";
 
 /// The words for two files, with a tolerance.
 fn words<'a>(marks: &'a str, arrivals: &'a str, more: &[&'a str]) -> Vec<&'a str> {
@@ -56,7 +56,7 @@ fn the_example_in_words() {
     let out = no(&words(MARKS, ARRIVALS, &["--within", "1000"]));
     for part in [
         "marks     6 times of examples/marks.csv, column 2 (time_ms)\n",
-        "arrivals  5 times of examples/arrivals.txt\n",
+        "arrivals  5 times of examples/arrivals.list\n",
         "within    1000 ms\n",
         "  pairs              4\n  unpaired marks     2\n  unpaired arrivals  1\n",
         "  mark 4  line 6  61200 ms  every arrival near it is in another pair\n",
