@@ -37,10 +37,8 @@ fn same(input: &str, steps: &[Step], from: &str) {
 /// A comment file has every request of its script, or all up to the one that ends it.
 #[test]
 fn examples_print_what_is_said() {
-    let (names, mut comments) = (examples("script"), examples("txt"));
-    // a list of times
-    assert!(comments.remove(&root().join("examples/arrivals")));
-    assert_eq!(names, comments);
+    let names = examples("script");
+    assert_eq!(names, examples("txt"));
     for name in &names {
         let from = name.display().to_string();
         let input = read(&name.with_extension("script"));
