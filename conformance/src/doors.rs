@@ -248,7 +248,14 @@ pub const INPUTS: &[(&str, &str)] = &[
     ("within=0\n4294967296\n\n", "no=22\n"),
     ("within=0\n1 0\n\n", "no=22\n"),
     ("within=0\n\n1 1 2 1\n", "no=22\n"),
-    // 2 to the 64th, and near it
+    // 2 to the 63rd and to the 64th, and near them
+    ("within=9223372036854775807\n\n\n", "no=22\n"),
+    ("within=9223372036854775808\n\n\n", "no=22\n"),
+    ("within=9223372036854775809\n\n\n", "no=22\n"),
+    ("within=9223372036854775810\n\n\n", "no=22\n"),
+    ("within=0\n9223372036854775808\n\n", "no=22\n"),
+    ("within=0\n\n9223372036854775809\n", "no=22\n"),
+    ("within=0\n9223372036854775810\n\n", "no=22\n"),
     ("within=18446744073709551616\n\n\n", "no=22\n"),
     ("within=0\n18446744073709551616\n\n", "no=22\n"),
     ("within=0\n0\n18446744073709551617\n", "no=22\n"),
