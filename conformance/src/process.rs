@@ -1,5 +1,6 @@
 //! Programs run with input on their standard input, on request in a limited stack.
 
+use crate::stream::{next_pieces, pieces};
 use std::io::Write;
 use std::path::{Path, PathBuf};
 use std::process::{Command, Output, Stdio};
@@ -76,6 +77,26 @@ pub fn feed(
 /// Runs a program to its end on an input.
 pub fn run(command: Command, input: &[u8]) -> Output {
     feed(command, |stdin| stdin.write_all(input))
+}
+
+/// What a program prints; a bad end, or a word on the error stream, is something else, so that it too differs from what is right.
+pub fn printed_or_said(output: Output) -> Vec<u8> {
+    if output.status.success() && output.stderr.is_empty() {
+        return output.stdout;
+    }
+    let message = String::from_utf8_lossy(&output.stderr);
+    format!("{}: {message}\n", output.status).into_bytes()
+}
+
+/// What a program prints for each of many inputs, its stack limited to that of a device. `starter` is small_stack, which is limited so itself and starts the
+/// program again and again: with a shell for each it takes three times as long.
+pub fn printed_each(starter: &Path, program: &Path, inputs: &[Vec<u8>]) -> Vec<Vec<u8>> {
+    let mut command = limited(starter);
+    command.arg("each").arg(program);
+    let outputs = printed(run(command, &pieces(inputs)));
+    let outputs: Vec<Vec<u8>> = next_pieces(&outputs).map(<[u8]>::to_vec).collect();
+    assert_eq!(outputs.len(), inputs.len());
+    outputs
 }
 
 /// What a program printed, having ended well.

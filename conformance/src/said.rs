@@ -8,11 +8,15 @@ pub const RUN: usize = 172;
 pub const OFFERS: usize = 8;
 pub const LOAD: usize = 24;
 pub const TINY: usize = 20;
+pub const DOORS: usize = 4;
 /// On Case P.
 pub const SMALL_CALL: usize = 32;
 pub const SMALL_ANSWER: usize = 40;
 /// The program `script`, as a whole.
 pub const SCRIPT: usize = 240;
+
+/// The program `doors`, as a whole.
+pub const DOORS_PROGRAM: usize = 100;
 
 /// What another machine may take beyond that.
 pub const ALLOWED: usize = 8;
@@ -25,7 +29,7 @@ pub fn pages() -> impl Iterator<Item = (&'static str, String)> {
 }
 
 /// The rows of the guide's table.
-fn guide() -> [String; 8] {
+fn guide() -> [String; 9] {
     [
         format!("| `pilgonca_new`, `_move` | {NEW}, {MOVE} KB |"),
         format!("| `pilgonca_call` | {CALL} KB; {SMALL_CALL} on Case P |"),
@@ -34,18 +38,21 @@ fn guide() -> [String; 8] {
         format!("| `pilgonca_offers` | {OFFERS} KB |"),
         format!("| `pilgonca_load` | {LOAD} KB |"),
         format!("| `pilgonca_tiny` | {TINY} KB |"),
+        format!("| `pilgonca_doors` | {DOORS} KB |"),
         format!("| `pilgonca_script` | {SCRIPT} KB in the program `script`"),
     ]
 }
 
-/// What was measured: a table, and the tiny sheets behind it.
-fn measured() -> [String; 5] {
+/// What was measured: a table, and behind it the tiny sheets, marks and arrivals, and the program for these.
+fn measured() -> [String; 7] {
     [
         format!("| new; move | {NEW}; {MOVE} KB |"),
         format!("| call; answer | {CALL}; {ANSWER} KB |"),
         format!("| {SMALL_CALL}; {SMALL_ANSWER} KB | | a run of all four | {RUN} KB |"),
         format!("| | {OFFERS} KB | {LOAD} KB |"),
         format!("The tiny sheets (`pilgonca_tiny`) take {TINY} KB"),
+        format!("Marks and arrivals (`pilgonca_doors`) take {DOORS} KB"),
+        format!("needs {DOORS_PROGRAM} KB on the longest lists"),
     ]
 }
 
@@ -53,7 +60,7 @@ fn measured() -> [String; 5] {
 fn others() -> [(&'static str, String); 6] {
     let deepest = format!("deepest request takes {CALL} KB of stack");
     let header = format!(
-        "deepest request takes {CALL} KB, a run {RUN}; load {LOAD}, tiny {TINY}, offers {OFFERS}."
+        "deepest request takes {CALL} KB, a run {RUN}; load {LOAD}, tiny {TINY}, offers {OFFERS}, doors {DOORS}."
     );
     let script = format!("the program `script` takes {SCRIPT} KB of stack");
     [

@@ -1,6 +1,6 @@
 //! Scripts: damage to them, what they meet, and the proved program beside the reference.
 
-use crate::process::{built, least_stack, limited_still, limited_to, run};
+use crate::process::{built, least_stack, limited_still, limited_to, printed_or_said, run};
 use crate::worst_scripts::{largest_sheet, layered, nested};
 use reference::coverage::Seen;
 use reference::damage;
@@ -52,12 +52,7 @@ pub fn stack() -> usize {
 
 /// What the proved program prints. A bad end is something else, so that it too is shown on a small input.
 pub fn proved(input: &[u8]) -> Vec<u8> {
-    let output = in_stack(stack(), input);
-    if output.status.success() && output.stderr.is_empty() {
-        return output.stdout;
-    }
-    let message = String::from_utf8_lossy(&output.stderr);
-    format!("{}: {message}\n", output.status).into_bytes()
+    printed_or_said(in_stack(stack(), input))
 }
 
 /// What was met by scripts that were answered alike.

@@ -1,4 +1,4 @@
-//! What small_stack reads and writes: numbers of eight bytes, low byte first, and states.
+//! What small_stack reads and writes: numbers of eight bytes, low byte first, pieces of any bytes, and states.
 
 use crate::served::{counts, set_counts};
 use crate::states::of_table;
@@ -14,6 +14,25 @@ pub fn next_number(input: &mut &[u8]) -> i64 {
     let (bytes, rest) = input.split_at(8);
     *input = rest;
     i64::from_le_bytes(bytes.try_into().expect("eight bytes"))
+}
+
+/// Pieces of any bytes, each behind its length.
+pub fn pieces(list: &[Vec<u8>]) -> Vec<u8> {
+    let one = |piece: &Vec<u8>| [&numbers(&[piece.len() as i64]), &piece[..]].concat();
+    list.iter().flat_map(one).collect()
+}
+
+/// The pieces again.
+pub fn next_pieces(mut input: &[u8]) -> impl Iterator<Item = &[u8]> {
+    std::iter::from_fn(move || {
+        if input.is_empty() {
+            return None;
+        }
+        let length = next_number(&mut input) as usize;
+        let (piece, rest) = input.split_at(length);
+        input = rest;
+        Some(piece)
+    })
 }
 
 fn arrays(state: &mut RawState) -> [&mut [u8]; 5] {

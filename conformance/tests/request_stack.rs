@@ -1,6 +1,7 @@
 //! The stack of every entry point on states, found by limits that shrink until a program of its own no longer comes to its end, and held to what the documents
 //! say; then each runs on a main thread of twice that, and its whole output is the reference's.
 
+use conformance::doors::{self, longest, MOST as MOST_TIMES};
 use conformance::inputs::largest;
 use conformance::process::{least_stack, limited_still, limited_to, run};
 use conformance::runs::{self, ANSWER};
@@ -135,6 +136,23 @@ fn tiny_sheets() -> Work {
     }
 }
 
+/// Lists as long as they may be, all of which pair.
+fn marks_and_arrivals() -> Work {
+    let bytes = to_bytes(&mut deep_state());
+    let lists = longest();
+    let entries = [&lists.marks[..], &lists.arrivals].concat();
+    let given = [lists.within, MOST_TIMES as u64].into_iter().chain(entries);
+    let given: Vec<i64> = given.map(|one| one as i64).collect();
+    assert_eq!(doors::ours(&lists), (0, [MOST_TIMES, 0, 0]));
+    Work {
+        name: "marks and arrivals, 1024 of each".to_string(),
+        word: "doors",
+        input: [bytes.clone(), numbers(&given)].concat(),
+        output: [numbers(&[0, MOST_TIMES as i64, 0, 0]), bytes].concat(),
+        said: said::DOORS,
+    }
+}
+
 /// The program itself, which calls nothing.
 fn nothing() -> Work {
     let bytes = to_bytes(&mut deep_state());
@@ -183,6 +201,7 @@ fn all() -> Vec<Work> {
         offers(),
         load(),
         tiny_sheets(),
+        marks_and_arrivals(),
     ];
     let deepest = nested.into_iter().chain(layers).chain(others);
     deepest.chain(small()).collect()

@@ -2,7 +2,7 @@
 
 use conformance::chains::{self, chain, nesting, MOST};
 use conformance::inputs::with_48_types;
-use conformance::process::{limited, plain, run};
+use conformance::process::{limited, plain, printed_each, run};
 use conformance::stream::numbers;
 use conformance::{counts, PAIRS_LENGTH};
 use reference::entry;
@@ -41,6 +41,21 @@ fn the_stack_is_limited() {
         !ended.status.success() && ended.stdout.is_empty(),
         "{ended:?}"
     );
+}
+
+/// It is in force too for what is started for each of many inputs, here a shell, and a bad end or a word on the error stream is told.
+#[test]
+fn the_stack_of_each_is_limited() {
+    let inputs = ["ulimit -s\n", "", "exit 3\n", "echo word >&2\n"].map(Vec::from);
+    let printed = printed_each(Path::new(PROGRAM), Path::new("/bin/sh"), &inputs);
+    let printed = printed.iter().map(|one| String::from_utf8_lossy(one));
+    let told = [
+        "256\n",
+        "",
+        "exit status: 3: \n",
+        "exit status: 0: word\n\n",
+    ];
+    assert!(printed.eq(told));
 }
 
 /// The program's derivation of a chain: answer, number, count, and the table that it leaves.

@@ -1,7 +1,8 @@
 //! The drivers of requests can fail: each deliberate fault of the reference is found, and so is a core that answers right and
 //! stores something wrong, or says wrongly what is offered. The scripts can too: programs that read or print something wrongly
-//! are found.
+//! are found. So are functions and programs that hold marks against arrivals in a wrong way.
 
+use conformance::doors::{limits, ours, Answer, Lists, INPUTS, LAST, MOST, UNSET, WIDEST};
 use conformance::requests::{on_handed_in, on_loaded, on_offers, watch, Core};
 use conformance::scripts::damaged;
 use conformance::tiny_first::{self, Input};
@@ -9,8 +10,9 @@ use faults::{named, Fault, ALL};
 use reference::chains::{offered, permits};
 use reference::check;
 use reference::coverage::Seen;
+use reference::doors;
 use reference::entry;
-use reference::generators::Profile;
+use reference::generators::{doors_input, Profile};
 use reference::hostile::Hostile;
 use reference::raw::RawState;
 use reference::refusal::{Refusal, OUT_OF_RANGE};
@@ -207,6 +209,276 @@ fn wrong_programs_are_found() {
         let mut scripts = tiny_first::scripts(&[(Profile::Damaged, 1000)]);
         let found = scripts.any(|script| differs(&script.of))
             || (0..2000).any(|seed| differs(&damaged(seed)));
+        assert!(found, "{name}");
+    }
+}
+
+/// A way to hold marks against arrivals: in order, where a test says which of the two is too early.
+fn in_order(lists: &Lists, too_early: impl Fn(u64, u64) -> [bool; 2]) -> Answer {
+    let [mut mark, mut arrival, mut pairs] = [0; 3];
+    let (marks, arrivals) = (&lists.marks, &lists.arrivals);
+    while mark < marks.len() && arrival < arrivals.len() {
+        let early = too_early(marks[mark], arrivals[arrival]);
+        pairs += usize::from(early == [false; 2]);
+        mark += usize::from(!early[1]);
+        arrival += usize::from(!early[0]);
+    }
+    (0, [pairs, marks.len() - pairs, arrivals.len() - pairs])
+}
+
+/// What V8 does, for lists that are right.
+fn right(lists: &Lists) -> Answer {
+    let within = lists.within;
+    in_order(lists, |mark, arrival| {
+        [mark + within < arrival, arrival + within < mark]
+    })
+}
+
+/// Each mark, in order, takes the free arrival that is nearest to it.
+fn nearest(lists: &Lists) -> Answer {
+    let mut free = lists.arrivals.clone();
+    let mut pairs = 0;
+    for mark in &lists.marks {
+        let best = (0..free.len()).min_by_key(|at| free[*at].abs_diff(*mark));
+        if let Some(best) = best.filter(|best| free[*best].abs_diff(*mark) <= lists.within) {
+            free.remove(best);
+            pairs += 1;
+        }
+    }
+    (0, [pairs, lists.marks.len() - pairs, free.len()])
+}
+
+/// A function that refuses as it should, and is wrong where it accepts.
+fn where_it_accepts(lists: &Lists, wrong: fn(&Lists) -> Answer) -> Answer {
+    match ours(lists) {
+        (0, _) => wrong(lists),
+        refused => refused,
+    }
+}
+
+/// A function that puts what is handed in right first, as far as it goes.
+fn changed(lists: &Lists, change: fn(&mut Lists)) -> Answer {
+    let mut lists = lists.clone();
+    change(&mut lists);
+    ours(&lists)
+}
+
+/// One that takes what is not in order as it comes.
+fn sorted(lists: &mut Lists) {
+    lists.marks.sort();
+    lists.arrivals.sort();
+}
+
+/// A function that holds marks against arrivals.
+type Holds = fn(&Lists) -> Answer;
+
+/// Each wrong function is found on lists of the gate.
+#[test]
+fn wrong_ways_to_pair_are_found() {
+    let ways: [(&str, Holds); 8] = [
+        ("just as far apart as the tolerance", |lists| {
+            in_order(lists, |mark, arrival| {
+                let far = mark.abs_diff(arrival) >= lists.within.max(1);
+                [far && mark < arrival, far && arrival < mark]
+            })
+        }),
+        ("an arrival before its mark", |lists| {
+            let within = lists.within;
+            in_order(lists, |mark, arrival| {
+                [mark + within < arrival, arrival < mark]
+            })
+        }),
+        ("a mark before its arrival", |lists| {
+            let within = lists.within;
+            in_order(lists, |mark, arrival| {
+                [mark < arrival, arrival + within < mark]
+            })
+        }),
+        ("the nearest first", nearest),
+        ("equal times are one", |lists| {
+            let mut once = lists.clone();
+            once.marks.dedup();
+            once.arrivals.dedup();
+            let (_, [pairs, ..]) = right(&once);
+            let left = [&lists.marks, &lists.arrivals].map(|list| list.len() - pairs);
+            (0, [pairs, left[0], left[1]])
+        }),
+        ("the last mark", |lists| {
+            let mut other = lists.clone();
+            let last = other.marks.pop();
+            let (code, [pairs, marks, arrivals]) = right(&other);
+            (code, [pairs, marks + usize::from(last.is_some()), arrivals])
+        }),
+        ("counts exchanged", |lists| {
+            let (code, [pairs, marks, arrivals]) = right(lists);
+            (code, [pairs, arrivals, marks])
+        }),
+        ("counts of the entries", |lists| {
+            let (code, [pairs, ..]) = right(lists);
+            (code, [pairs, lists.marks.len(), lists.arrivals.len()])
+        }),
+    ];
+    let differs = |seed: u64, way: Holds| {
+        let lists = Lists::generated(seed);
+        where_it_accepts(&lists, way) != ours(&lists)
+    };
+    for (name, way) in ways {
+        assert!((0..2000).any(|seed| differs(seed, way)), "{name}");
+    }
+    assert!(!(0..2000).any(|seed| differs(seed, right)));
+}
+
+/// Each function that takes what is unfit is found at a limit.
+#[test]
+fn wrong_limits_are_found() {
+    let ways: [(&str, Holds); 14] = [
+        ("1,025 entries", |lists| {
+            changed(lists, |lists| {
+                if lists.marks.len() == MOST + 1 {
+                    lists.marks.pop();
+                }
+            })
+        }),
+        ("many entries", |lists| {
+            changed(lists, |lists| lists.arrivals.truncate(MOST))
+        }),
+        ("1,023 entries", |lists| match lists.marks.len() {
+            MOST => (22, UNSET),
+            _ => ours(lists),
+        }),
+        ("times in 32 bits", |lists| {
+            changed(lists, |lists| {
+                for time in lists.marks.iter_mut().chain(&mut lists.arrivals) {
+                    *time &= LAST;
+                }
+            })
+        }),
+        ("a time above the last", |lists| {
+            changed(lists, |lists| {
+                for time in &mut lists.marks {
+                    *time = LAST.min(*time);
+                }
+            })
+        }),
+        ("the last time", |lists| {
+            if lists.arrivals.contains(&LAST) {
+                return (22, UNSET);
+            }
+            ours(lists)
+        }),
+        ("60,001", |lists| {
+            changed(lists, |lists| {
+                lists.within -= u64::from(lists.within == WIDEST + 1)
+            })
+        }),
+        ("a tolerance in 16 bits", |lists| {
+            changed(lists, |lists| {
+                if lists.within > WIDEST {
+                    lists.within &= 0xffff;
+                }
+            })
+        }),
+        ("60,000", |lists| match lists.within {
+            WIDEST => (22, UNSET),
+            _ => ours(lists),
+        }),
+        ("times that fall", |lists| changed(lists, sorted)),
+        ("the last step", |lists| {
+            changed(lists, |lists| {
+                if let [.., before, last] = &mut lists.marks[..] {
+                    *last = *last.max(before);
+                }
+            })
+        }),
+        ("the first step", |lists| {
+            changed(lists, |lists| {
+                if let [first, second, ..] = &mut lists.arrivals[..] {
+                    *second = *second.max(first);
+                }
+            })
+        }),
+        ("equal times", |lists| {
+            let twice = |list: &[u64]| list.windows(2).any(|two| two[0] == two[1]);
+            if twice(&lists.marks) {
+                return (22, UNSET);
+            }
+            ours(lists)
+        }),
+        ("counts where it refuses", |lists| match ours(lists) {
+            (0, counts) => (0, counts),
+            (code, _) => (code, [0; 3]),
+        }),
+    ];
+    for (name, way) in ways {
+        let found = limits().iter().any(|(lists, _)| way(lists) != ours(lists));
+        assert!(found, "{name}");
+    }
+}
+
+/// A program that reads these words as those.
+fn doors_reads(wrong: &'static str, right: &'static str) -> Program {
+    Box::new(move |input| {
+        let text = String::from_utf8_lossy(input).replace(wrong, right);
+        doors::run(text.as_bytes())
+    })
+}
+
+/// A program that looks at the tolerance before it looks at the form of the lists.
+fn tolerance_first(input: &[u8]) -> Vec<u8> {
+    let line = input.split(|byte| *byte == b'\n').next();
+    let alone = [line.unwrap_or_default(), b"\n\n\n"].concat();
+    match doors::run(&alone) {
+        unfit if unfit == b"no=22\n" => unfit,
+        _ => doors::run(input),
+    }
+}
+
+/// A program that leaves out what is behind three lines.
+fn three_lines(input: &[u8]) -> Vec<u8> {
+    let lines = input.split_inclusive(|byte| *byte == b'\n');
+    doors::run(&lines.take(3).collect::<Vec<_>>().concat())
+}
+
+/// A program that takes an empty line for malformed.
+fn no_empty_line(input: &[u8]) -> Vec<u8> {
+    if input.windows(2).any(|two| two == b"\n\n") {
+        return b"no=1\n".to_vec();
+    }
+    doors::run(input)
+}
+
+/// Each wrong program is found by an input of the gate.
+#[test]
+fn wrong_readers_of_lists_are_found() {
+    let programs: [(&str, Program); 14] = [
+        ("a leading zero", doors_reads("\n01", "\n1")),
+        ("00", doors_reads("=00", "=0")),
+        ("+1", doors_reads("+1", "1")),
+        ("-0", doors_reads("-0", "0")),
+        ("two spaces", doors_reads("  ", " ")),
+        ("a space at the end", doors_reads(" \n", "\n")),
+        ("a space in front", doors_reads("\n ", "\n")),
+        ("a CR at the end", doors_reads("\r\n", "\n")),
+        ("past 64 bits", doors_reads("18446744073709551616", "0")),
+        (
+            "no LF at the end",
+            Box::new(|input| {
+                let end: &[u8] = if input.ends_with(b"\n") { b"" } else { b"\n" };
+                doors::run(&[input, end].concat())
+            }),
+        ),
+        ("more than three lines", Box::new(three_lines)),
+        ("an empty line", Box::new(no_empty_line)),
+        ("the tolerance first", Box::new(tolerance_first)),
+        (
+            "reads too much",
+            Box::new(|input| doors::run(&input[..input.len().min(MAX_INPUT)])),
+        ),
+    ];
+    for (name, program) in programs {
+        let differs = |input: &[u8]| program(input) != doors::run(input);
+        let found = INPUTS.iter().any(|(input, _)| differs(input.as_bytes()))
+            || (0..3000).any(|seed| differs(&doors_input(seed)));
         assert!(found, "{name}");
     }
 }

@@ -7,18 +7,19 @@ use std::path::{Path, PathBuf};
 use std::process::{Command, Output, Stdio};
 
 /// Those that read, and all.
-const READERS: [&str; 2] = ["pairs", "script"];
-const PROGRAMS: [&str; 3] = ["pairs", "script", "tiny"];
+const READERS: [&str; 3] = ["doors", "pairs", "script"];
+const PROGRAMS: [&str; 4] = ["doors", "pairs", "script", "tiny"];
 
-/// An input that the program answers with some lines: Case P. `tiny` reads none.
+/// An input that the program answers: for `doors` the lists of a visit, for the others Case P. `tiny` reads none.
 fn input(program: &str) -> PathBuf {
-    let folder = Path::new(env!("CARGO_MANIFEST_DIR")).join("../examples");
-    let ending = if program == "pairs" {
-        "sheet"
-    } else {
-        "script"
+    let name = match program {
+        "doors" => "visit.doors",
+        "pairs" => "case-p.sheet",
+        _ => "case-p.script",
     };
-    folder.join("case-p").with_extension(ending)
+    Path::new(env!("CARGO_MANIFEST_DIR"))
+        .join("../examples")
+        .join(name)
 }
 
 /// Nothing was printed, and the error stream has this line alone. The exit status tells nothing (P20).

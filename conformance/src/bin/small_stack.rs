@@ -1,4 +1,4 @@
-//! small_stack WORK: calls the proved core from the main thread, whose stack tests/small_stack.rs limits. Standard input and
+//! small_stack WORK [FILE]: calls the proved core from the main thread, whose stack tests/small_stack.rs limits. Standard input and
 //! output are bytes, numbers of eight each, low byte first.
 //!
 //!   derive     in: counts, kind, T, S, links, types. out: answer, number, count of types, types
@@ -7,19 +7,22 @@
 //!   offers     in: a state, cell, chain. out: answer, whether it is offered, the state
 //!   load       in: a sheet. out: answer, offset, the state
 //!   tiny       in: a state. out: answer, length, the tiny sheets, the state
+//!   doors      in: a state, a tolerance, how many marks, the marks, the arrivals. out: answer, three counts, the state
 //!   nothing    in: a state. out: the state
 //!   sheet      in: a sheet. out: the answers of reading, pair table and writing, the pair table, the text written
+//!   each FILE  in: inputs, each behind its length. out: what that program prints for each, behind its length
 //!   overflow   goes through as much stack as the limit, and so must not come to its end
 
-use conformance::process::STACK;
+use conformance::process::{plain, printed_or_said, run, STACK};
 use conformance::runs::ANSWER;
 use conformance::served::{self, set_counts};
-use conformance::stream::{empty, next_number, next_state, numbers, to_bytes};
+use conformance::stream::{empty, next_number, next_pieces, next_state, numbers, pieces, to_bytes};
 use conformance::{counts, derive, pairs, read, write, Asked, Loaded, PAIRS_LENGTH};
 use pilgonca::raw::{self, TINY_BYTES};
 use reference::raw::{RawTable, BROADER_LENGTH, TYPES_LENGTH};
 use reference::script;
 use std::io::{Read, Write};
+use std::path::PathBuf;
 
 fn main() {
     let mut input = Vec::new();
@@ -31,8 +34,10 @@ fn main() {
         Some("offers") => offered(&input),
         Some("load") => loaded(&input),
         Some("tiny") => tiny(&input),
+        Some("doors") => doors(&input),
         Some("nothing") => to_bytes(&mut next_state(&mut &input[..])),
         Some("sheet") => sheet(&input),
+        Some("each") => each(&input),
         Some("overflow") => vec![deep(STACK)],
         other => panic!("{other:?} is no work"),
     };
@@ -120,6 +125,17 @@ fn tiny(mut input: &[u8]) -> Vec<u8> {
     [numbers, buffer, to_bytes(&mut state)].concat()
 }
 
+fn doors(mut input: &[u8]) -> Vec<u8> {
+    let mut state = next_state(&mut input);
+    let times: Vec<u64> = all_numbers(input).iter().map(|one| *one as u64).collect();
+    let (marks, arrivals) = times[2..].split_at(times[1] as usize);
+    let mut counts = [7; 3];
+    let code = raw::doors(marks, arrivals, times[0], &mut counts);
+    let [pairs, marks, arrivals] = counts;
+    let numbers = numbers(&[code, pairs, marks, arrivals].map(|one| one as i64));
+    [numbers, to_bytes(&mut state)].concat()
+}
+
 fn sheet(input: &[u8]) -> Vec<u8> {
     let mut loaded = Box::new(Loaded {
         types: [0; TYPES_LENGTH],
@@ -138,6 +154,12 @@ fn sheet(input: &[u8]) -> Vec<u8> {
     output.extend_from_slice(&out);
     output.extend_from_slice(&buffer[..length]);
     output
+}
+
+fn each(input: &[u8]) -> Vec<u8> {
+    let program = PathBuf::from(std::env::args_os().nth(2).expect("a program"));
+    let outputs = next_pieces(input).map(|input| printed_or_said(run(plain(&program), input)));
+    pieces(&outputs.collect::<Vec<_>>())
 }
 
 /// Frames of at least one KB each.
