@@ -2,8 +2,8 @@
 use base_numbers::least;
 use base_numbers::refusal;
 use doors_hold::Held;
+use doors_hold::TIMES;
 use doors_read::Read;
-use doors_read::TIMES;
 use text_write::put_number;
 use text_write::write_number;
 use text_write::write_word;

@@ -6,17 +6,13 @@ ghost use Rattle.spec_sheet.specs.Lines.{split, line};
 ghost use Rattle.spec_doors.specs.Times.{maxTimes};
 ghost use Rattle.spec_doors.specs.Input.{timesLine, inputLines};
 ghost use Rattle.doors_read.specs.View.{Stores, TimesRead, LineRead, InputRead};
+use doors_hold::TIMES;
 use text_cursor::Cursor;
 use text_cursor::between;
 use text_cursor::next_line;
 use text_read::Got;
+use text_read::LIMIT;
 use text_read::Number;
-
-// How many times a list has room for: as many as may be handed in (V1).
-pub const TIMES: usize = 1024;
-
-// No number that is read is above this one (S2), so that a tolerance of any size has the right form.
-const ANY: usize = 9223372036854775809;
 
 // A line of times: its form is wrong, or how many there are, stored or not.
 pub enum Counted {
@@ -96,13 +92,13 @@ pub fn next_times(s: &[u8], c: Cursor, items: &mut [u64; TIMES]) -> Line
     }
 }
 
-// The three lines, and nothing behind them (P27).
+// The three lines, and nothing behind them (P27). No number that is read is above the limit (S2), so that a tolerance of any size has the right form.
 pub fn read_input(s: &[u8], marks: &mut [u64; TIMES], arrivals: &mut [u64; TIMES]) -> Read
     requires { ⌜ (length (now marks) ≡ maxTimes) × (length (now arrivals) ≡ maxTimes) ⌝ }
     ensures is { λ r. ⌜ InputRead (inputLines 0 (split (now (s .entry)))) (now (marks .exit)) (now (arrivals .exit)) r ⌝ }
     ensures sizes { λ r. ⌜ (length (now (marks .exit)) ≡ maxTimes) × (length (now (arrivals .exit)) ≡ maxTimes) ⌝ }
 {
-    let g = text_read::next_number(s, Cursor::start(), b"within=", 0, ANY);
+    let g = text_read::next_number(s, Cursor::start(), b"within=", 0, LIMIT);
     let Got::At(w, c) = g else {
         return Read::Wrong;
     };

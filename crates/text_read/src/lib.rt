@@ -48,7 +48,7 @@ pub enum Got {
 }
 
 // A larger number counts as this one, so that digits of any length are read without overflow (S2).
-const LIMIT: usize = 9223372036854775809;
+pub const LIMIT: usize = 9223372036854775809;
 
 // Ten times this number and nine more is the limit.
 const TENTH: usize = 922337203685477580;
