@@ -6,7 +6,7 @@ use Prim.Native.Nat.{ℕ, zero, suc, _+_, _-_, _*_, _≤_, _<_}
 use native.Mathlib.Omega.{arith}
 use native.Mathlib.Numerals.{add-one}
 use lib.Dec.{eqb}
-use lib.ListN.{length, drop, getD, set, length-drop, length-append, length-set}
+use lib.ListN.{length, take, drop, getD, set, length-drop, length-append, length-set}
 use lib.Seq.{take-suc-set}
 use borrow.Author.Tests.{eq-eqb, ne-eqb}
 use Rattle.spec_model.specs.Basics.{refuse, ok}
@@ -15,7 +15,7 @@ use Rattle.spec_sheet.specs.Numbers.{Scan, fail, took, whole, isDigit, limit, d
 use Rattle.spec_doors.specs.Times.{maxTimes}
 use Rattle.spec_doors.specs.Input.{space, decimals, timesLine}
 use Rattle.text_read.proofs.Laws.{at-end, from-here}
-use Rattle.doors_read.specs.View.{Stores, Stored, Gives}
+use Rattle.doors_read.specs.View.{Stored, Gives}
 
 -- ---- A number takes a byte at least.
 abbrev Fewer : ℕ → Scan ℕ → Type 0
@@ -46,12 +46,12 @@ number-fewer (b ∷ bs) = go (eqb b 48) (isDigit b)
     go false false = tt
 
 -- ---- A store.
-module _ (old : List ℕ) (i x : ℕ) (size : length old ≡ maxTimes) where
-  pub stores : i < maxTimes → Stores old i x (set old i x)
-  stores h = record { size = length-set old i x ∙ size; last = λ _. rw (add-one i) (take-suc-set old i x (omega arith)) }
+module _ (old : List ℕ) (i x : ℕ) (new : List ℕ) (k : new ≡ set old i x) (size : length old ≡ maxTimes) where
+  pub same-size : length new ≡ maxTimes
+  same-size = ap length k ∙ length-set old i x ∙ size
 
-  pub no-room : maxTimes ≤ i → Stores old i x old
-  no-room h = record { size = size; last = λ k. absurd (omega arith) }
+  one-more : i < maxTimes → take (i + 1) new ≡ take i old ++ x ∷ []
+  one-more h = ap (take (i + 1)) k ∙ rw (add-one i) (take-suc-set old i x (omega arith))
 
 -- ---- Where the loop stands: n times are read, and the rest begins at `at`.
 pub record Begun (l items : List ℕ) (at n : ℕ) : Type 0 where
@@ -124,11 +124,11 @@ module _ (l items : List ℕ) (at n : ℕ) (p : Begun l items at n) where
     no-space h f = here h ∙ rw (ne-eqb (getD l next 0) 32 f)
 
     -- the number is stored
-    module _ (new : List ℕ) (k : Stores items n x new) where
+    module _ (new : List ℕ) (k : new ≡ set items n x) where
       more : Stored all new (n + 1)
       more = record {
         count = simp length-append (omega (arith, p .stored .count));
-        there = λ h. k .last (omega arith) ∙ ap (λ ys. ys ++ x ∷ []) (p .stored .there (omega arith));
+        there = λ h. one-more items n x new k (p .size) (omega arith) ∙ ap (λ ys. ys ++ x ∷ []) (p .stored .there (omega arith));
       }
 
       pub last : next ≡ length l → Gives (timesLine l) ok new (n + 1)
@@ -138,7 +138,7 @@ module _ (l items : List ℕ) (at n : ℕ) (p : Begun l items at n) where
       again h f = record {
         inside = omega arith;
         few = omega (arith, p .few, onward);
-        size = k .size;
+        size = same-size items n x new k (p .size);
         times = all;
         stored = more;
         left = p .left - 1;

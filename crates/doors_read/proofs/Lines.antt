@@ -12,8 +12,8 @@ use Rattle.text_cursor.specs.View.{LineAt, past}
 use Rattle.text_cursor.specs.declared.Cursor.{Cursor}
 use Rattle.text_cursor.proofs.Laws.{past-rest}
 use Rattle.doors_read.specs.View.{Gives, TimesRead, LineRead}
-use Rattle.doors_read.specs.declared.Counted.{Counted}
-use Rattle.doors_read.specs.declared.Counted.the-variants.{Wrong, Right}
+use Rattle.doors_read.specs.declared.TimesLine.{TimesLine}
+use Rattle.doors_read.specs.declared.TimesLine.the-variants.{Wrong, Right}
 use Rattle.doors_read.specs.declared.Line.the-variants.{Right as Rightˡ}
 
 module _ (s : List ℕ) (at : ℕ) (d : Cursor) (p : d .at ≡ past at (split (drop at s))) where
@@ -43,7 +43,7 @@ module _ (s : List ℕ) (at : ℕ) (d : Cursor) (p : d .at ≡ past at (split (d
         go (cut m ∷ rs) e = let q : d .at ≡ at = p ∙ ap (past at) e in absurd (omega arith)
         go (row m ∷ rs) e = by m rs e (timesLine m) ∙ ap (λ z. passed (timesLine z)) (sym (h .is ∙ ap firstLine e))
 
-    module _ (items : List ℕ) (k : Counted) (t : TimesRead (timesLine l) items k) where
+    module _ (items : List ℕ) (k : TimesLine) (t : TimesRead (timesLine l) items k) where
       pub wrong-line : k ≡ Wrong → line timesLine at (split (drop at s)) ≡ refused form at
       wrong-line e = line-is ∙ ap passed (subst (TimesRead (timesLine l) items) e t)
 

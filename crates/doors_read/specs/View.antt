@@ -1,24 +1,19 @@
 -- What the results of reading the input of `doors` say, in the words of crate `spec_doors` (P27, P28).
 use mathlib.Core.Path.{_≡_}
-use mathlib.Core.List.{List, [], _∷_, _++_}
-use Prim.Native.Nat.{ℕ, _+_, _≤_, _<_}
+use mathlib.Core.List.{List, []}
+use Prim.Native.Nat.{ℕ, _≤_}
 use lib.ListN.{length, take, drop}
 use Rattle.spec_model.specs.Basics.{Res, refuse, ok}
 use Rattle.spec_model.specs.Refusals.{form}
 use Rattle.spec_sheet.specs.Lines.{split, Reading, refused, got}
 use Rattle.spec_doors.specs.Times.{maxTimes}
 use Rattle.spec_doors.specs.Input.{Input}
-use Rattle.doors_read.specs.declared.Counted.{Counted}
-use Rattle.doors_read.specs.declared.Counted.the-variants.{Wrong as Wrongᶜ, Right as Rightᶜ}
+use Rattle.doors_read.specs.declared.TimesLine.{TimesLine}
+use Rattle.doors_read.specs.declared.TimesLine.the-variants.{Wrong as Wrongᶜ, Right as Rightᶜ}
 use Rattle.doors_read.specs.declared.Line.{Line}
 use Rattle.doors_read.specs.declared.Line.the-variants.{Wrong as Wrongˡ, Right as Rightˡ}
 use Rattle.doors_read.specs.declared.Read.{Read}
 use Rattle.doors_read.specs.declared.Read.the-variants.{Wrong as Wrongʳ, Right as Rightʳ}
-
--- x is stored behind the first i items, where there is room.
-pub record Stores (old : List ℕ) (i x : ℕ) (new : List ℕ) : Type 0 where
-  pub size : length new ≡ maxTimes
-  pub last : i < maxTimes → take (i + 1) new ≡ take i old ++ x ∷ []
 
 -- The times are n, and they are the first n items where there is room for them.
 pub record Stored (times items : List ℕ) (n : ℕ) : Type 0 where
@@ -32,7 +27,7 @@ pub record Gives {A : Type 0} (R : A) (give : List ℕ → A) (items : List ℕ)
   pub stored : Stored times items n
 
 -- the result of a line
-abbrev pub TimesRead : Res (List ℕ) → List ℕ → Counted → Type 0
+abbrev pub TimesRead : Res (List ℕ) → List ℕ → TimesLine → Type 0
 TimesRead R items Wrongᶜ = R ≡ refuse form
 TimesRead R items (Rightᶜ n) = Gives R ok items n
 

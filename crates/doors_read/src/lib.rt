@@ -1,11 +1,11 @@
 // The input of the program `doors` (P27, P28): the tolerance, a line of marks and a line of arrivals. Contracts say what is read in the words of crate
 // `spec_doors` (specs/View.antt). Whatever is refused here is a fault of form.
 ghost use mathlib.Core.Path.{_≡_};
-ghost use lib.ListN.{length, drop};
+ghost use lib.ListN.{length, set, drop};
 ghost use Rattle.spec_sheet.specs.Lines.{split, line};
 ghost use Rattle.spec_doors.specs.Times.{maxTimes};
 ghost use Rattle.spec_doors.specs.Input.{timesLine, inputLines};
-ghost use Rattle.doors_read.specs.View.{Stores, TimesRead, LineRead, InputRead};
+ghost use Rattle.doors_read.specs.View.{TimesRead, LineRead, InputRead};
 use doors_hold::TIMES;
 use text_cursor::Cursor;
 use text_cursor::between;
@@ -14,8 +14,8 @@ use text_read::Got;
 use text_read::LIMIT;
 use text_read::Number;
 
-// A line of times: its form is wrong, or how many there are, stored or not.
-pub enum Counted {
+// A line of times as it was read: its form is wrong, or how many there are, stored or not.
+pub enum TimesLine {
     Wrong,
     Right(usize),
 }
@@ -36,10 +36,10 @@ pub enum Read {
     },
 }
 
-// Time i of a list, where there is room.
+// Time i of a list; where there is no room for it, nothing is stored.
 fn store(items: &mut [u64; TIMES], i: usize, x: u64)
     requires { ⌜ length (now items) ≡ maxTimes ⌝ }
-    ensures { λ _. ⌜ Stores (now (items .entry)) i x (now (items .exit)) ⌝ }
+    ensures { λ _. ⌜ now (items .exit) ≡ set (now (items .entry)) i x ⌝ }
 {
     if i < TIMES {
         items[i] = x;
@@ -47,28 +47,28 @@ fn store(items: &mut [u64; TIMES], i: usize, x: u64)
 }
 
 // A line of times (P27). Those that there is no room for are counted: that they are too many is for V3 to say (P28).
-pub fn read_times(l: &[u8], items: &mut [u64; TIMES]) -> Counted
+pub fn read_times(l: &[u8], items: &mut [u64; TIMES]) -> TimesLine
     requires { ⌜ length (now items) ≡ maxTimes ⌝ }
     ensures is { λ r. ⌜ TimesRead (timesLine (now (l .entry))) (now (items .exit)) r ⌝ }
     ensures size { λ r. ⌜ length (now (items .exit)) ≡ maxTimes ⌝ }
 {
     if l.len() == 0 {
-        return Counted::Right(0);
+        return TimesLine::Right(0);
     }
     let mut at: usize = 0;
     let mut n: usize = 0;
     loop {
         let t = text_read::number_at(l, at);
         let Number::Right(x, next) = t else {
-            return Counted::Wrong;
+            return TimesLine::Wrong;
         };
         store(items, n, x as u64);
         n += 1;
         if next == l.len() {
-            return Counted::Right(n);
+            return TimesLine::Right(n);
         }
         if l[next] != b' ' {
-            return Counted::Wrong;
+            return TimesLine::Wrong;
         }
         at = next + 1;
     }
@@ -87,8 +87,8 @@ pub fn next_times(s: &[u8], c: Cursor, items: &mut [u64; TIMES]) -> Line
     let l = between(s, c, d);
     let t = read_times(l, items);
     match t {
-        Counted::Wrong => Line::Wrong,
-        Counted::Right(n) => Line::Right(n, d),
+        TimesLine::Wrong => Line::Wrong,
+        TimesLine::Right(n) => Line::Right(n, d),
     }
 }
 

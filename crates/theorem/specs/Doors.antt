@@ -1,5 +1,6 @@
 -- The theorem of marks against the door counter (V, P27 to P29): what comes of any two lists and any tolerance, through the entry point (crate doors_hold, `hold`):
--- `ShownOfHolding`; through the C function: `ShownOfHoldingBytes`; and what the program `doors` prints for any bytes (crate doors_output, `report`): `ShownOfDoors`.
+-- `ShownOfHolding`; through the C function: `ShownOfHoldingBytes`; and what the program `doors` prints for any bytes (crate doors_output, `report`): `ShownOfDoors`, and
+-- `OneOutput`: nothing else would do.
 -- The code comes in by its contracts alone. `Fit` and `Counted` (crate spec_doors) say what may be handed in and what the counts are. Proof: proofs/Doors.
 use mathlib.Core.Path.{_≡_}
 use mathlib.Core.List.{List, [], _∷_, _++_}
@@ -44,3 +45,7 @@ pub record Printed (s out : List ℕ) : Type 0 where
 
 abbrev pub ShownOfDoors : Type 0
 ShownOfDoors = (s out : List ℕ) → out ≡ doorsOutput s → Printed s out
+
+-- and no other bytes are such an output
+abbrev pub OneOutput : Type 0
+OneOutput = (s out other : List ℕ) → Printed s out → Printed s other → out ≡ other

@@ -5,7 +5,7 @@ use native.Mathlib.Omega.{arith}
 use lib.ListN.{length}
 use borrow.Author.Needs.{needs}
 use Rattle.text_read.proofs.Laws.{number-scan-wrong, number-scan-right, right-within}
-use Rattle.doors_read.proofs.Laws.{Begun, Scanned, empty-line, begin, no-number, onward, no-space, last, again}
+use Rattle.doors_read.proofs.Laws.{same-size, Begun, Scanned, empty-line, begin, no-number, onward, no-space, last, again}
 use Rattle.doors_read.proofs.read_times.Statement.{statement}
 use Rattle.doors_read.proofs.read_times.Tie as tie
 
@@ -70,7 +70,7 @@ add-n c = let p = turn c .loop .inv in omega (arith, p .few, p .inside)
 returns-3 : tie.Need-returns-3 Inv-loop μ-loop
 returns-3 c =
     let b = c .before in
-    (last _ _ _ _ (turn b .loop .inv) _ _ (read b) _ (b .store .ensures) (c .if2 .taken), b .store .ensures .size)
+    (last _ _ _ _ (turn b .loop .inv) _ _ (read b) _ (b .store .ensures) (c .if2 .taken), same-size (turn b .loop .items) (turn b .loop .n) (time b) _ (b .store .ensures) (turn b .loop .inv .size))
 
 shared-slice-read-if3 : tie.Need-shared-slice-read-if3 Inv-loop μ-loop
 shared-slice-read-if3 c = short (c .before)
@@ -79,7 +79,7 @@ returns-4 : tie.Need-returns-4 Inv-loop μ-loop
 returns-4 c =
     let e = c .before .before in
     let b = e .before in
-    (no-space _ _ _ _ (turn b .loop .inv) _ _ (read b) (short e) (c .if3 .taken), b .store .ensures .size)
+    (no-space _ _ _ _ (turn b .loop .inv) _ _ (read b) (short e) (c .if3 .taken), same-size (turn b .loop .items) (turn b .loop .n) (time b) _ (b .store .ensures) (turn b .loop .inv .size))
 
 add-at : tie.Need-add-at Inv-loop μ-loop
 add-at c = omega (arith, short (c .before .before))
