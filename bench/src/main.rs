@@ -1,7 +1,8 @@
 //! cargo run --profile speed -p bench: the proved core against safe Rust of the same algorithm, in one run.
 //! Prints tables of times and ratios (proved time over Rust time): below 1 the proved core is faster. A ratio is the median of seven, both
 //! sides in turn. There are two, to safe Rust that works on a copy and to safe Rust in place (`measure::in_place`); one of the first above 1
-//! is marked. Sheets are read and written in one way only, and marks held against arrivals, so that there the two are the same measured twice.
+//! is marked. Sheets are read and written in one way only, and marks are held against arrivals in one: there the two columns are the same
+//! measured twice.
 //! With the argument `requests`, `scripts`, `sheets`, `tables` or `doors` it measures these alone.
 
 mod doors;

@@ -272,144 +272,148 @@ fn sorted(lists: &mut Lists) {
 /// A function that holds marks against arrivals.
 type Holds = fn(&Lists) -> Answer;
 
+/// Wrong where they accept: what each gets wrong, or takes no notice of.
+const WRONG_WAYS: [(&str, Holds); 8] = [
+    ("just as far apart as the tolerance", |lists| {
+        in_order(lists, |mark, arrival| {
+            let far = mark.abs_diff(arrival) >= lists.within.max(1);
+            [far && mark < arrival, far && arrival < mark]
+        })
+    }),
+    ("an arrival before its mark", |lists| {
+        let within = lists.within;
+        in_order(lists, |mark, arrival| {
+            [mark + within < arrival, arrival < mark]
+        })
+    }),
+    ("a mark before its arrival", |lists| {
+        let within = lists.within;
+        in_order(lists, |mark, arrival| {
+            [mark < arrival, arrival + within < mark]
+        })
+    }),
+    ("the nearest first", nearest),
+    ("equal times are one", |lists| {
+        let mut once = lists.clone();
+        once.marks.dedup();
+        once.arrivals.dedup();
+        let (_, [pairs, ..]) = right(&once);
+        let left = [&lists.marks, &lists.arrivals].map(|list| list.len() - pairs);
+        (0, [pairs, left[0], left[1]])
+    }),
+    ("the last mark", |lists| {
+        let mut other = lists.clone();
+        let last = other.marks.pop();
+        let (code, [pairs, marks, arrivals]) = right(&other);
+        (code, [pairs, marks + usize::from(last.is_some()), arrivals])
+    }),
+    ("counts exchanged", |lists| {
+        let (code, [pairs, marks, arrivals]) = right(lists);
+        (code, [pairs, arrivals, marks])
+    }),
+    ("counts of the entries", |lists| {
+        let (code, [pairs, ..]) = right(lists);
+        (code, [pairs, lists.marks.len(), lists.arrivals.len()])
+    }),
+];
+
 /// Each wrong function is found on lists of the gate.
 #[test]
 fn wrong_ways_to_pair_are_found() {
-    let ways: [(&str, Holds); 8] = [
-        ("just as far apart as the tolerance", |lists| {
-            in_order(lists, |mark, arrival| {
-                let far = mark.abs_diff(arrival) >= lists.within.max(1);
-                [far && mark < arrival, far && arrival < mark]
-            })
-        }),
-        ("an arrival before its mark", |lists| {
-            let within = lists.within;
-            in_order(lists, |mark, arrival| {
-                [mark + within < arrival, arrival < mark]
-            })
-        }),
-        ("a mark before its arrival", |lists| {
-            let within = lists.within;
-            in_order(lists, |mark, arrival| {
-                [mark < arrival, arrival + within < mark]
-            })
-        }),
-        ("the nearest first", nearest),
-        ("equal times are one", |lists| {
-            let mut once = lists.clone();
-            once.marks.dedup();
-            once.arrivals.dedup();
-            let (_, [pairs, ..]) = right(&once);
-            let left = [&lists.marks, &lists.arrivals].map(|list| list.len() - pairs);
-            (0, [pairs, left[0], left[1]])
-        }),
-        ("the last mark", |lists| {
-            let mut other = lists.clone();
-            let last = other.marks.pop();
-            let (code, [pairs, marks, arrivals]) = right(&other);
-            (code, [pairs, marks + usize::from(last.is_some()), arrivals])
-        }),
-        ("counts exchanged", |lists| {
-            let (code, [pairs, marks, arrivals]) = right(lists);
-            (code, [pairs, arrivals, marks])
-        }),
-        ("counts of the entries", |lists| {
-            let (code, [pairs, ..]) = right(lists);
-            (code, [pairs, lists.marks.len(), lists.arrivals.len()])
-        }),
-    ];
     let differs = |seed: u64, way: Holds| {
         let lists = Lists::generated(seed);
         where_it_accepts(&lists, way) != ours(&lists)
     };
-    for (name, way) in ways {
+    for (name, way) in WRONG_WAYS {
         assert!((0..2000).any(|seed| differs(seed, way)), "{name}");
     }
     assert!(!(0..2000).any(|seed| differs(seed, right)));
 }
 
+/// Wrong at a limit of V3, or where they refuse.
+const WRONG_LIMITS: [(&str, Holds); 14] = [
+    ("1,025 entries", |lists| {
+        changed(lists, |lists| {
+            if lists.marks.len() == MOST + 1 {
+                lists.marks.pop();
+            }
+        })
+    }),
+    ("many entries", |lists| {
+        changed(lists, |lists| lists.arrivals.truncate(MOST))
+    }),
+    ("1,023 entries", |lists| match lists.marks.len() {
+        MOST => (22, UNSET),
+        _ => ours(lists),
+    }),
+    ("times in 32 bits", |lists| {
+        changed(lists, |lists| {
+            for time in lists.marks.iter_mut().chain(&mut lists.arrivals) {
+                *time &= LAST;
+            }
+        })
+    }),
+    ("a time above the last", |lists| {
+        changed(lists, |lists| {
+            for time in &mut lists.marks {
+                *time = LAST.min(*time);
+            }
+        })
+    }),
+    ("the last time", |lists| {
+        if lists.arrivals.contains(&LAST) {
+            return (22, UNSET);
+        }
+        ours(lists)
+    }),
+    ("60,001", |lists| {
+        changed(lists, |lists| {
+            lists.within -= u64::from(lists.within == WIDEST + 1)
+        })
+    }),
+    ("a tolerance in 16 bits", |lists| {
+        changed(lists, |lists| {
+            if lists.within > WIDEST {
+                lists.within &= 0xffff;
+            }
+        })
+    }),
+    ("60,000", |lists| match lists.within {
+        WIDEST => (22, UNSET),
+        _ => ours(lists),
+    }),
+    ("times that fall", |lists| changed(lists, sorted)),
+    ("the last step", |lists| {
+        changed(lists, |lists| {
+            if let [.., before, last] = &mut lists.marks[..] {
+                *last = *last.max(before);
+            }
+        })
+    }),
+    ("the first step", |lists| {
+        changed(lists, |lists| {
+            if let [first, second, ..] = &mut lists.arrivals[..] {
+                *second = *second.max(first);
+            }
+        })
+    }),
+    ("equal times", |lists| {
+        let twice = |list: &[u64]| list.windows(2).any(|two| two[0] == two[1]);
+        if twice(&lists.marks) {
+            return (22, UNSET);
+        }
+        ours(lists)
+    }),
+    ("counts where it refuses", |lists| match ours(lists) {
+        (0, counts) => (0, counts),
+        (code, _) => (code, [0; 3]),
+    }),
+];
+
 /// Each function that takes what is unfit is found at a limit.
 #[test]
 fn wrong_limits_are_found() {
-    let ways: [(&str, Holds); 14] = [
-        ("1,025 entries", |lists| {
-            changed(lists, |lists| {
-                if lists.marks.len() == MOST + 1 {
-                    lists.marks.pop();
-                }
-            })
-        }),
-        ("many entries", |lists| {
-            changed(lists, |lists| lists.arrivals.truncate(MOST))
-        }),
-        ("1,023 entries", |lists| match lists.marks.len() {
-            MOST => (22, UNSET),
-            _ => ours(lists),
-        }),
-        ("times in 32 bits", |lists| {
-            changed(lists, |lists| {
-                for time in lists.marks.iter_mut().chain(&mut lists.arrivals) {
-                    *time &= LAST;
-                }
-            })
-        }),
-        ("a time above the last", |lists| {
-            changed(lists, |lists| {
-                for time in &mut lists.marks {
-                    *time = LAST.min(*time);
-                }
-            })
-        }),
-        ("the last time", |lists| {
-            if lists.arrivals.contains(&LAST) {
-                return (22, UNSET);
-            }
-            ours(lists)
-        }),
-        ("60,001", |lists| {
-            changed(lists, |lists| {
-                lists.within -= u64::from(lists.within == WIDEST + 1)
-            })
-        }),
-        ("a tolerance in 16 bits", |lists| {
-            changed(lists, |lists| {
-                if lists.within > WIDEST {
-                    lists.within &= 0xffff;
-                }
-            })
-        }),
-        ("60,000", |lists| match lists.within {
-            WIDEST => (22, UNSET),
-            _ => ours(lists),
-        }),
-        ("times that fall", |lists| changed(lists, sorted)),
-        ("the last step", |lists| {
-            changed(lists, |lists| {
-                if let [.., before, last] = &mut lists.marks[..] {
-                    *last = *last.max(before);
-                }
-            })
-        }),
-        ("the first step", |lists| {
-            changed(lists, |lists| {
-                if let [first, second, ..] = &mut lists.arrivals[..] {
-                    *second = *second.max(first);
-                }
-            })
-        }),
-        ("equal times", |lists| {
-            let twice = |list: &[u64]| list.windows(2).any(|two| two[0] == two[1]);
-            if twice(&lists.marks) {
-                return (22, UNSET);
-            }
-            ours(lists)
-        }),
-        ("counts where it refuses", |lists| match ours(lists) {
-            (0, counts) => (0, counts),
-            (code, _) => (code, [0; 3]),
-        }),
-    ];
-    for (name, way) in ways {
+    for (name, way) in WRONG_LIMITS {
         let found = limits().iter().any(|(lists, _)| way(lists) != ours(lists));
         assert!(found, "{name}");
     }

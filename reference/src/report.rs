@@ -280,18 +280,31 @@ impl Report {
             text.push_str(&format!(" {number}:{}", self.number(number)));
         }
         text.push_str("\n\nscripts\n");
-        text.push_str(&format!(
+        text.push_str(&self.text_of_scripts());
+        text.push('\n');
+        text.push_str(&self.text_of_handed_in());
+        text.push('\n');
+        text.push_str(&self.doors.text());
+        text.push_str(&format!("\nmissing: {:?}\n", self.missing()));
+        text
+    }
+
+    fn text_of_scripts(&self) -> String {
+        let mut text = format!(
             "sheets refused {:?}, too long {}, malformed do= {}\n",
             self.sheets, self.too_long, self.malformed
-        ));
+        );
         for ((number, kind), count) in &self.lines {
             text.push_str(&format!("  {number} at {kind}: {count}\n"));
         }
-        text.push_str(&self.scripts.text());
-        text.push_str(&format!(
-            "\nhanded in: {} states, {} right\n",
+        text + &self.scripts.text()
+    }
+
+    fn text_of_handed_in(&self) -> String {
+        let mut text = format!(
+            "handed in: {} states, {} right\n",
             self.handed_in, self.right
-        ));
+        );
         text.push_str(&format!(
             "sheet write: done {}, 4 {}, 2 {}; compare: answered {}, 7 {}, 2 {}\n",
             self.written,
@@ -308,11 +321,7 @@ impl Report {
             "  five arguments: m= lines {}, do= lines {}, type records {}\n",
             self.five_in_line, self.five_in_call, self.five_in_record
         ));
-        text.push_str(&self.requests.text());
-        text.push('\n');
-        text.push_str(&self.doors.text());
-        text.push_str(&format!("\nmissing: {:?}\n", self.missing()));
-        text
+        text + &self.requests.text()
     }
 }
 

@@ -206,6 +206,82 @@ fn one_pass_finds_as_many() {
     assert!(found.iter().all(|count| *count > 10), "{found:?}");
 }
 
+/// The gaps longer than the tolerance in both lists taken together (V4): the last time before each, and the next.
+fn gaps((marks, arrivals, within): &Lists) -> Vec<[u64; 2]> {
+    let mut all = [&marks[..], arrivals].concat();
+    all.sort_unstable();
+    let gaps = all.windows(2).filter(|two| two[1] - two[0] > *within);
+    gaps.map(|two| [two[0], two[1]]).collect()
+}
+
+/// Both lists up to a time, and behind it.
+fn cut((marks, arrivals, within): &Lists, last: u64) -> [Lists; 2] {
+    let at = |times: &[u64]| times.partition_point(|time| *time <= last);
+    let (marks, arrivals) = (marks.split_at(at(marks)), arrivals.split_at(at(arrivals)));
+    [(marks.0, arrivals.0), (marks.1, arrivals.1)]
+        .map(|(marks, arrivals)| (marks.to_vec(), arrivals.to_vec(), *within))
+}
+
+/// The counts of the parts of lists, added up.
+fn in_parts(lists: &Lists, last: u64) -> [usize; 3] {
+    let [one, other] =
+        cut(lists, last).map(|(marks, arrivals, within)| counts(&marks, &arrivals, within));
+    [0, 1, 2].map(|at| one[at] + other[at])
+}
+
+/// V4, V6: no pair goes over a gap longer than the tolerance, so lists may be cut there: in gaps of 1 ms more too, and
+/// with pairs on both sides. Elsewhere they may not.
+#[test]
+fn lists_may_be_cut_in_gaps() {
+    let mut random = Random::new(4);
+    let tiny = (0..6_000).map(|_| tiny_lists(&mut random));
+    let [mut cuts, mut barely, mut with_pairs, mut differ] = [0; 4];
+    for lists in (0..600).map(doors_lists).chain(tiny) {
+        let (marks, arrivals, within) = &lists;
+        if !reasons(marks, arrivals, *within).is_empty() {
+            continue;
+        }
+        let due = counts(marks, arrivals, *within);
+        for [last, next] in gaps(&lists).into_iter().step_by(7).take(9) {
+            assert_eq!(in_parts(&lists, last), due, "{lists:?} {last}");
+            cuts += 1;
+            barely += usize::from(next - last == within + 1);
+            with_pairs += usize::from(cut(&lists, last).iter().all(has_pairs));
+        }
+        let middle = marks.get(marks.len() / 2).copied().unwrap_or(0);
+        differ += usize::from(in_parts(&lists, middle) != due);
+    }
+    let found = [cuts, barely, with_pairs, differ];
+    assert!(found.iter().all(|count| *count > 500), "{found:?}");
+}
+
+fn has_pairs((marks, arrivals, within): &Lists) -> bool {
+    counts(marks, arrivals, *within)[0] > 0
+}
+
+/// V4, V6: a larger tolerance never gives fewer pairs, up to the largest; often it gives more.
+#[test]
+fn a_larger_tolerance_gives_no_fewer_pairs() {
+    let mut random = Random::new(5);
+    let tiny = (0..2_000).map(|_| tiny_lists(&mut random));
+    let (mut same, mut more) = (0, 0);
+    for (marks, arrivals, within) in (0..300).map(doors_lists).chain(tiny) {
+        if !reasons(&marks, &arrivals, within).is_empty() {
+            continue;
+        }
+        let larger = [1, 2, 5, 1_000, MAX_TOLERANCE].map(|by| (within + by).min(MAX_TOLERANCE));
+        let mut before = counts(&marks, &arrivals, within)[0];
+        for larger in larger {
+            let pairs = counts(&marks, &arrivals, larger)[0];
+            assert!(pairs >= before, "{marks:?} {arrivals:?} {within} {larger}");
+            same += usize::from(pairs == before);
+            more += usize::from(pairs > before);
+            before = pairs;
+        }
+    }
+    assert!(same > 500 && more > 500, "{same} {more}");
+}
+
 /// V3: lists that are refused, and for which reasons.
 fn refused(marks: &[u64], arrivals: &[u64], within: u64, due: &[Reason]) {
     assert_eq!(reasons(marks, arrivals, within), due);
@@ -270,62 +346,68 @@ fn decimals_of_any_length() {
 }
 
 /// P27, P28: what is not of the form.
+const OTHER_FORMS: [&str; 49] = [
+    "",
+    "\n",
+    "\n\n\n",
+    "within=5",
+    "within=5\n",
+    "within=5\n1\n",
+    "within=5\n1\n2",
+    "within=5\n1\n2\n\n",
+    "within=5\n1\n2\n3\n",
+    "within=5\n1\n2\n3",
+    "within=5\n1\n2\n ",
+    "\nwithin=5\n1\n2\n",
+    "within=5\n\n1\n2\n",
+    "within=\n1\n2\n",
+    "within\n1\n2\n",
+    "5\n1\n2\n",
+    "Within=5\n1\n2\n",
+    " within=5\n1\n2\n",
+    "within= 5\n1\n2\n",
+    "within=5 \n1\n2\n",
+    "within=5 5\n1\n2\n",
+    "within==5\n1\n2\n",
+    "within=05\n1\n2\n",
+    "within=00\n1\n2\n",
+    "within=+5\n1\n2\n",
+    "within=-0\n1\n2\n",
+    "within=5\r\n1\n2\n",
+    "within=5\r\n1\r\n2\r\n",
+    "within=5\n1\r\n2\n",
+    "within=5\n 1\n2\n",
+    "within=5\n1 \n2\n",
+    "within=5\n1  2\n2\n",
+    "within=5\n \n2\n",
+    "within=5\n\n \n",
+    "within=5\n1\t2\n2\n",
+    "within=5\n1,2\n2\n",
+    "within=5\n1, 2\n2\n",
+    "within=5\n01\n2\n",
+    "within=5\n1 -2\n2\n",
+    "within=5\n+1\n2\n",
+    "within=5\n1\nx\n",
+    "within=5\n1\n0x2\n",
+    "within=5\n1\n2.0\n",
+    "within=5\n1\n1e3\n",
+    "within=5\n1\n2\0\n",
+    "within=5\n1\n\u{663}\n",
+    "1\nwithin=5\n2\n",
+    "within=5\nmarks=1\n2\n",
+    "within=5\n1\n2\u{85}",
+];
+
 #[test]
 fn other_forms() {
-    let wrong = [
-        "",
-        "\n",
-        "\n\n\n",
-        "within=5",
-        "within=5\n",
-        "within=5\n1\n",
-        "within=5\n1\n2",
-        "within=5\n1\n2\n\n",
-        "within=5\n1\n2\n3\n",
-        "within=5\n1\n2\n3",
-        "within=5\n1\n2\n ",
-        "\nwithin=5\n1\n2\n",
-        "within=5\n\n1\n2\n",
-        "within=\n1\n2\n",
-        "within\n1\n2\n",
-        "5\n1\n2\n",
-        "Within=5\n1\n2\n",
-        " within=5\n1\n2\n",
-        "within= 5\n1\n2\n",
-        "within=5 \n1\n2\n",
-        "within=5 5\n1\n2\n",
-        "within==5\n1\n2\n",
-        "within=05\n1\n2\n",
-        "within=00\n1\n2\n",
-        "within=+5\n1\n2\n",
-        "within=-0\n1\n2\n",
-        "within=5\r\n1\n2\n",
-        "within=5\r\n1\r\n2\r\n",
-        "within=5\n1\r\n2\n",
-        "within=5\n 1\n2\n",
-        "within=5\n1 \n2\n",
-        "within=5\n1  2\n2\n",
-        "within=5\n \n2\n",
-        "within=5\n\n \n",
-        "within=5\n1\t2\n2\n",
-        "within=5\n1,2\n2\n",
-        "within=5\n1, 2\n2\n",
-        "within=5\n01\n2\n",
-        "within=5\n1 -2\n2\n",
-        "within=5\n+1\n2\n",
-        "within=5\n1\nx\n",
-        "within=5\n1\n0x2\n",
-        "within=5\n1\n2.0\n",
-        "within=5\n1\n1e3\n",
-        "within=5\n1\n2\0\n",
-        "within=5\n1\n\u{663}\n",
-        "1\nwithin=5\n2\n",
-        "within=5\nmarks=1\n2\n",
-        "within=5\n1\n2\u{85}",
-    ];
-    for input in wrong {
+    for input in OTHER_FORMS {
         assert_eq!(printed(input), "no=1\n", "{input:?}");
     }
+}
+
+/// P27: each byte behind a number, and between two.
+#[test]
+fn every_byte_that_is_no_digit() {
     for byte in (0..=255).filter(|byte: &u8| !byte.is_ascii_digit()) {
         let input = [b"within=5\n1", &[byte][..], b"\n2\n"].concat();
         assert_eq!(doors::run(&input), b"no=1\n", "{byte}");
@@ -408,6 +490,7 @@ fn texts_say_what_lists_do() {
 /// An input that is of the form is the text of what it is read as (S21), so that no other text is.
 #[test]
 fn what_is_read_is_written_back() {
+    let mut count = 0;
     for seed in 0..1_000 {
         let input = doors_input(seed);
         if let Some(read) = doors::parse(&input).filter(has_no_long_number) {
@@ -416,8 +499,10 @@ fn what_is_read_is_written_back() {
                 input,
                 "{seed}"
             );
+            count += 1;
         }
     }
+    assert!(count > 400, "{count}");
 }
 
 /// A number too large for a word is not kept (S2).

@@ -61,13 +61,10 @@ impl Times {
         if !is_list(&rows, first) {
             return of_table(&rows.rows, first, wanted);
         }
-        if let (Some(number), true) = (wanted.and_then(number), first.len() > 1) {
-            return Err(Unread::Column(format!(
-                "this may be a list of times, or a table with the times in column {number}: put each time of a list on a line of its own"
-            )));
-        }
+        let entries = of_list(&rows.rows)?;
+        is_plain(&rows.rows, first, wanted)?;
         Ok(Times {
-            entries: of_list(&rows.rows)?,
+            entries,
             column: None,
         })
     }
@@ -92,6 +89,30 @@ fn of_list(rows: &[Row]) -> Result<Vec<Entry>, Fault> {
     words
         .map(|(word, bytes, line)| entry(word, bytes, line))
         .collect()
+}
+
+/// Whether numbers are a list and can be no table: columns may have blanks between them too, so words count here, and not cells.
+fn is_plain(rows: &[Row], first: &Row, wanted: Option<&str>) -> Result<(), Unread> {
+    let numbers = |row: &Row| row.iter().flat_map(words).count();
+    let count = numbers(first);
+    if count > 1 && rows.len() > 1 && rows.iter().all(|row| numbers(row) == count) {
+        return Err(Unread::Fault(Fault {
+            bytes: place(first),
+            wrong: format!("each line has {count} numbers: this may be a list of times, or a table with blanks between its columns"),
+            right: "each time of a list on a line of its own, or commas between the cells of a table".to_string(),
+        }));
+    }
+    match wanted.and_then(number) {
+        Some(number) if first.len().max(count) > 1 => Err(Unread::Column(format!(
+            "this may be a list of times, or a table with the times in column {number}: put each time of a list on a line of its own"
+        ))),
+        _ => Ok(()),
+    }
+}
+
+/// The bytes from the first cell of a row to its last.
+fn place(row: &Row) -> Range<usize> {
+    row[0].bytes.start..row[row.len() - 1].bytes.end
 }
 
 /// What stands between blanks in a cell, with its place; what is quoted is one word.
@@ -127,18 +148,16 @@ fn of_table(rows: &[Row], first: &Row, wanted: Option<&str>) -> Result<Times, Un
 
 /// The time in a column of a row. A row with more or fewer cells than the first may have them in other columns.
 fn at(row: &Row, index: usize, first: &Row) -> Result<Entry, Fault> {
-    match (&row[..], row.get(index)) {
-        (cells, Some(cell)) if cells.len() == first.len() => {
-            entry(&cell.text, cell.bytes.clone(), cell.line)
-        }
-        (cells, _) => {
+    match row.get(index) {
+        Some(cell) if row.len() == first.len() => entry(&cell.text, cell.bytes.clone(), cell.line),
+        _ => {
             let due = plural(first.len(), "cell");
             let line = first[0].line;
             Err(Fault {
-                bytes: cells[0].bytes.start..cells[cells.len() - 1].bytes.end,
+                bytes: place(row),
                 wrong: format!(
                     "the line has {}, and line {line} has {}",
-                    plural(cells.len(), "cell"),
+                    plural(row.len(), "cell"),
                     first.len()
                 ),
                 right: format!("{due}; one with a separator in it stands between quotes"),

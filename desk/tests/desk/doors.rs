@@ -251,10 +251,23 @@ fn an_unknown_column_is_told_with_those_there_are() {
     }
 }
 
-/// One line of numbers is a list, unless a column of it is asked for by number: then it is not plain what it is.
+/// Lines with equally many numbers, and blanks or more commas in some: --column does not make them a table.
+const EQUALLY_MANY: [(&str, usize); 9] = [
+    ("0 100\n100 200\n200 300\n", 2),
+    ("0\t100\n150\t200\n", 2),
+    ("7 10\n8 20\n", 2),
+    ("7 \t10\r\n\r\n 8 20 \r\n", 2),
+    ("7 10,\n8 20", 2),
+    ("7,10\n8 20\n", 2),
+    ("7 10\n8,20\n", 2),
+    ("7,10,\n8,20\n", 2),
+    ("1 2 3\n4,5 6\n", 3),
+];
+
+/// One line of numbers is a list, and so are several that have not equally many, unless a column is asked for by number: then it is not plain what it is.
 #[test]
 fn what_may_be_a_list_or_a_table_is_not_read() {
-    for text in ["7,10\n", "7,10\n8\n"] {
+    for text in ["7,10\n", "7,10\n8\n", "7 10\n", "7\t10\n8\n", "7,\n8\n"] {
         with_file("list-or-table", text.as_bytes(), |path| {
             let words = words(path, "/dev/null", &["--within=0", "--column=2"]);
             let why = "this may be a list of times, or a table with the times in column 2";
@@ -264,6 +277,21 @@ fn what_may_be_a_list_or_a_table_is_not_read() {
                 "{error}"
             );
         });
+    }
+    for (text, count) in EQUALLY_MANY {
+        with_file("equally-many", text.as_bytes(), |path| {
+            for more in [&[][..], &["--column=2"], &["--column=time"]] {
+                let words = words(path, "/dev/null", &[&["--within=0"], more].concat());
+                let error = failed(&words, 3);
+                let wrong = format!("\n  wrong: each line has {count} numbers: this may be a list of times, or a table");
+                assert!(error.starts_with(&format!("{path}:1:1: ")), "{error}");
+                assert!(error.contains(&wrong), "{text:?}: {error}");
+            }
+        });
+    }
+    let three = [(1, 7), (1, 8), (2, 9)];
+    for text in ["7 8\n9\n", "7\t8\n9", "7,8\n9\n", "7, 8,\r\n9,\r\n"] {
+        assert_eq!(times(text, &[]), three, "{text:?}");
     }
 }
 

@@ -1,5 +1,7 @@
-//! Marks and arrivals by another way than the core's pass: the most pairs by augmenting paths, in whatever order the entries are.
+//! Marks and arrivals by another way than the core's pass: the most pairs by the reference's matching, in whatever order the entries are, and by it whether an
+//! entry can be in a pair.
 
+use reference::doors;
 use reference::random::Random;
 
 #[derive(Clone, Debug)]
@@ -10,43 +12,15 @@ pub struct Lists {
 }
 
 /// Whether two entries may be a pair (V4).
-pub fn near(one: u64, other: u64, within: u64) -> bool {
+fn near(one: u64, other: u64, within: u64) -> bool {
     one.abs_diff(other) <= within
 }
 
-/// How many pairs a pairing has at most.
+/// How many pairs a pairing has at most (V6).
 pub fn most_pairs(lists: &Lists) -> usize {
-    let mut mark_of = vec![None; lists.arrivals.len()];
-    let marks = 0..lists.marks.len();
-    marks
-        .filter(|mark| {
-            joins(
-                *mark,
-                lists,
-                &mut mark_of,
-                &mut vec![false; lists.arrivals.len()],
-            )
-        })
-        .count()
-}
-
-/// Gives the mark an arrival; marks that have theirs may take another for it.
-fn joins(mark: usize, lists: &Lists, mark_of: &mut [Option<usize>], seen: &mut [bool]) -> bool {
-    for arrival in 0..lists.arrivals.len() {
-        if seen[arrival] || !near(lists.marks[mark], lists.arrivals[arrival], lists.within) {
-            continue;
-        }
-        seen[arrival] = true;
-        let free = match mark_of[arrival] {
-            None => true,
-            Some(other) => joins(other, lists, mark_of, seen),
-        };
-        if free {
-            mark_of[arrival] = Some(mark);
-            return true;
-        }
-    }
-    false
+    doors::most_pairs(&lists.marks, &lists.arrivals, |mark, arrival| {
+        near(mark, arrival, lists.within)
+    })
 }
 
 /// Whether some pairing of the most pairs has this entry: with one that is near it taken away, the rest has one pair less.
@@ -111,21 +85,4 @@ impl Lists {
             within: self.within,
         }
     }
-}
-
-/// A pairing of a few entries, worked out by hand.
-#[test]
-fn the_most_pairs_of_small_lists() {
-    let most = |marks: &[u64], arrivals: &[u64], within| {
-        most_pairs(&Lists {
-            marks: marks.to_vec(),
-            arrivals: arrivals.to_vec(),
-            within,
-        })
-    };
-    assert_eq!(most(&[], &[1], 5), 0);
-    assert_eq!(most(&[1, 2], &[1], 5), 1);
-    // the first mark must leave the nearer arrival to the second
-    assert_eq!(most(&[5, 9], &[3, 7], 2), 2);
-    assert_eq!(most(&[5, 5, 5], &[4, 6, 7], 1), 2);
 }
