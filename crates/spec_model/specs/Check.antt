@@ -12,10 +12,10 @@ use Rattle.spec_model.specs.Table.{State, denied, optional, avail, unava
 use Rattle.spec_model.specs.Table.{maxArguments, between, tableFits, signed, maxBroader}
 use Rattle.spec_model.specs.Relations.{Comparison, compare}
 use Rattle.spec_model.specs.Crossing.{Place, object, adapter, maxPlaces}
-use Rattle.spec_model.specs.Requests.{Cell, Call, System, maxCells, maxCalls, noCell}
+use Rattle.spec_model.specs.Requests.{Cell, Call, System, maxCells, maxCallsEach, maxCalls, madeBy, noCell}
 use Rattle.spec_model.specs.Refusals.{outOfRange}
 
--- A state: every number names something, and what cells, objects and adapters must be besides (H9 to H11).
+-- A state: every number names something, what cells, objects and adapters must be besides, and nobody made too many calls (H9 to H11, H17).
 abbrev pub cellFits : System → Cell → Bool
 cellFits s c = ltb (c .holder) (s .table .subjects) && (ltb (c .place) (length (s .places)) && (ltb (c .type) (s .table .sheet) && isRef (typeAt (s .table) (c .type) .rep)))
 
@@ -26,10 +26,13 @@ placeFits s p (adapter b c) = ltb b p && (ltb c (size (s .table)) && isRef (type
 abbrev pub callFits : System → Call → Bool
 callFits s c = ltb (c .caller) (s .table .subjects) && (ltb (c .cell) (length (s .cells)) && ltb (c .method) (s .table .methods))
 
+abbrev pub callersFit : System → Bool
+callersFit s = all (λ k. leb (madeBy k (s .calls)) maxCallsEach) (from (s .table .subjects) 0 (λ k. k))
+
 unfoldable pub systemFits : System → Bool
 unfolding tableFits
 systemFits s = tableFits (s .table) && (leb (length (s .cells)) maxCells && (leb (length (s .places)) maxPlaces && (leb (length (s .calls)) maxCalls
-    && (all (cellFits s) (s .cells) && (every (placeFits s) 0 (s .places) && all (callFits s) (s .calls))))))
+    && (all (cellFits s) (s .cells) && (every (placeFits s) 0 (s .places) && (all (callFits s) (s .calls) && callersFit s))))))
 
 -- The records as they are handed in. A method's `answer` is 0 for none, else the type's number plus 1.
 pub record RawMethod : Type 0 where

@@ -12,3 +12,4 @@ pub mod Handed
 pub mod Chains
 pub mod Book
 pub mod Claim
+pub mod Callers

@@ -32,12 +32,20 @@ pub record System : Type 0 where
   pub places : List Place
   pub calls : List Call
 
--- the most of each (Q7, Q9; places: Crossing)
+-- the most of each (Q7, Q9; places: Crossing): 32 calls for each of 16 subjects are 512
 abbrev pub maxCells : ℕ
 maxCells = 256
 
+abbrev pub maxCallsEach : ℕ
+maxCallsEach = 32
+
 abbrev pub maxCalls : ℕ
-maxCalls = 256
+maxCalls = 512
+
+-- how many of the calls subject k made (Q9)
+abbrev pub madeBy : ℕ → List Call → ℕ
+madeBy k [] = 0
+madeBy k (c ∷ cs) = cond (eqb k (c .caller)) (suc (madeBy k cs)) (madeBy k cs)
 
 -- the state of a loaded sheet (Q10)
 abbrev pub loaded : Table → System
@@ -194,7 +202,7 @@ callRequest s subject k m vs =
     need (names m (s .table .methods) && isAvail (methodAt (s .table) (c .type) (named m) .state)) notCallable λ _.
     let xs = methodAt (s .table) (c .type) (named m) .args in
     need (argumentsHeld s subject xs vs) wrongValues λ _.
-    need (ltb (length (s .calls)) maxCalls) callsFull λ _.
+    need (ltb (madeBy (named subject) (s .calls)) maxCallsEach) callsFull λ _.
     try (sendArguments s (baseOwner (s .places) (c .place)) (callLayers s c) (named m) 0 xs vs) λ x.
     ok (withCall x (record { caller = named subject; cell = named k; method = named m; answered = false }), pair (length (s .calls)) (adapterCount (s .places) (c .place)))
 

@@ -1,0 +1,74 @@
+-- Rules L28 to L31: how many calls a subject has made, by the requests and whether each was accepted, and what follows for 18. Statements over lists, as Demand3 is (Claim).
+use mathlib.Core.Path.{_≡_}
+use mathlib.Core.Logic.{_↔_}
+use mathlib.Core.Bool.{Bool, true, false, not, _&&_, _||_, So, cond}
+use mathlib.Core.List.{List, [], _∷_}
+use Prim.Native.Nat.{ℕ, suc}
+use lib.Dec.{eqb}
+use lib.IntN.{ℤ, pos}
+use Rattle.spec_model.specs.Basics.{names, named}
+use Rattle.spec_model.specs.Table.{Table, methodAt, isAvail, validSheet}
+use Rattle.spec_model.specs.Requests.{System, loaded, Request, new, move, call, answer, Outcome, got, refused, outcome, cellAt, held, argumentsHeld, maxCallsEach, madeBy, serve, run}
+use Rattle.spec_model.specs.Refusals.{unknownSubject, notHeld, notCallable, wrongValues, callsFull}
+
+-- ---- All that is told of a visit: the requests in order, and for each whether it was accepted (L1)
+abbrev pub Log : Type 0
+Log = List (Request × Bool)
+
+abbrev pub taken : Outcome → Bool
+taken (refused n) = false
+taken (got x) = true
+
+abbrev pub seen : List Request → List Outcome → Log
+seen [] os = []
+seen (q ∷ qs) [] = []
+seen (q ∷ qs) (o ∷ os) = (q, taken o) ∷ seen qs os
+
+-- a call of subject k
+abbrev pub calledBy : ℕ → Request → Bool
+calledBy k (new subject class to) = false
+calledBy k (move subject cell receiver to) = false
+calledBy k (call subject cell m vs) = eqb k (named subject)
+calledBy k (answer subject j v) = false
+
+-- its accepted calls
+abbrev pub acceptedCalls : ℕ → Log → ℕ
+acceptedCalls k [] = 0
+acceptedCalls k (x ∷ l) = cond (calledBy k (x .0) && x .1) (suc (acceptedCalls k l)) (acceptedCalls k l)
+
+-- ---- The tests of a call that come before 18 (C1 to C5), and the numbers that they refuse with
+abbrev pub passesTests : System → ℤ → ℤ → ℤ → List ℤ → Bool
+passesTests s subject k m vs = let x = methodAt (s .table) (cellAt s (named k) .type) (named m) in
+    names subject (s .table .subjects) && (held s subject k && ((names m (s .table .methods) && isAvail (x .state)) && argumentsHeld s subject (x .args) vs))
+
+abbrev pub refusedBefore : Outcome → Bool
+refusedBefore (refused e) = eqb e unknownSubject || (eqb e notHeld || (eqb e notCallable || eqb e wrongValues))
+refusedBefore (got x) = false
+
+-- what the list leaves, and what the caller saw of it
+abbrev pub ranTo : Table → List Request → System
+ranTo t qs = run (loaded t) qs .1
+
+abbrev pub sawOf : Table → List Request → Log
+sawOf t qs = seen qs (run (loaded t) qs .0)
+
+-- ---- From a loaded sheet, any list of requests
+-- the records of a caller are as many as its accepted calls (L28)
+abbrev pub CallsCounted : Type 0
+CallsCounted = (t : Table) → So (validSheet t) → (qs : List Request) (k : ℕ) → madeBy k (ranTo t qs .calls) ≡ acceptedCalls k (sawOf t qs)
+
+-- A call that passes the tests before 18 meets 18 exactly if its caller's accepted calls are 32 (L29).
+abbrev pub CallsLimited : Type 0
+CallsLimited = (t : Table) → So (validSheet t) → (qs : List Request) (subject k m : ℤ) (vs : List ℤ) → So (passesTests (ranTo t qs) subject k m vs)
+    → (outcome (serve (ranTo t qs) (call subject k m vs)) ≡ refused callsFull) ↔ (acceptedCalls (named subject) (sawOf t qs) ≡ maxCallsEach)
+
+-- Two lists from one sheet, in which subject n has equally many accepted calls, whatever the others asked: its calls behind them that pass the tests before 18 meet 18 both or
+-- neither (L30). The two calls may differ.
+abbrev pub CallsApart : Type 0
+CallsApart = (t : Table) → So (validSheet t) → (ps qs : List Request) (n : ℕ) → acceptedCalls n (sawOf t ps) ≡ acceptedCalls n (sawOf t qs)
+    → (k m : ℤ) (vs : List ℤ) → So (passesTests (ranTo t ps) (pos n) k m vs) → (k′ m′ : ℤ) (vs′ : List ℤ) → So (passesTests (ranTo t qs) (pos n) k′ m′ vs′)
+    → (outcome (serve (ranTo t ps) (call (pos n) k m vs)) ≡ refused callsFull) ↔ (outcome (serve (ranTo t qs) (call (pos n) k′ m′ vs′)) ≡ refused callsFull)
+
+-- Whether a call passed them is seen by its outcome, in any state: no later test has one of these numbers (L31).
+abbrev pub TestsSeen : Type 0
+TestsSeen = (s : System) (subject k m : ℤ) (vs : List ℤ) → passesTests s subject k m vs ≡ not (refusedBefore (outcome (serve s (call subject k m vs))))
