@@ -79,97 +79,97 @@ pub calls-counted : CallsCounted
 calls-counted t h qs k = omega (arith, run-made qs (loaded t) k)
 
 -- ---- L31: a value on its way is refused with none of the numbers of the tests before it, 18 among them
-abbrev Later : ℕ → Type 0
-Later e = (refusedBefore (refused e) ≡ false) × (eqb e callsFull ≡ false)
+abbrev OnWay : ℕ → Type 0
+OnWay e = (refusedBefore (refused e) ≡ false) × (eqb e callsFull ≡ false)
 
-abbrev LaterOnly : {A : Type 0} → Res A → Type 0
-LaterOnly m = IfRefused m Later
+abbrev MetOnWay : {A : Type 0} → Res A → Type 0
+MetOnWay m = IfRefused m OnWay
 
-later-try : {A B : Type 0} (m : Res A) (k : A → Res B) → LaterOnly m → ((a : A) → LaterOnly (k a)) → LaterOnly (try m k)
-later-try m k h f = refused-try Later (λ _. Unit {0}) m k h (whatever m) λ a _. f a
+way-try : {A B : Type 0} (m : Res A) (k : A → Res B) → MetOnWay m → ((a : A) → MetOnWay (k a)) → MetOnWay (try m k)
+way-try m k h f = refused-try OnWay (λ _. Unit {0}) m k h (whatever m) λ a _. f a
 
-later-if : {A : Type 0} (b : Bool) (x y : Res A) → LaterOnly x → LaterOnly y → LaterOnly {A = A} (elim b [ true ↦ x | false ↦ y ])
-later-if true x y h k = h
-later-if false x y h k = k
+way-if : {A : Type 0} (b : Bool) (x y : Res A) → MetOnWay x → MetOnWay y → MetOnWay {A = A} (elim b [ true ↦ x | false ↦ y ])
+way-if true x y h k = h
+way-if false x y h k = k
 
-derived-later : (t : Table) (d : Kind) (l r : ℕ) → LaterOnly (derived t d l r)
+derived-way : (t : Table) (d : Kind) (l r : ℕ) → MetOnWay (derived t d l r)
 unfolding derived
-derived-later t d l r = go (derive maxTypes t d l r)
+derived-way t d l r = go (derive maxTypes t d l r)
   where
-    go : (o : Option (Table × ℕ)) → LaterOnly {A = Table × ℕ} (elim o [ none ↦ refuse typesFull | some p ↦ ok p ])
+    go : (o : Option (Table × ℕ)) → MetOnWay {A = Table × ℕ} (elim o [ none ↦ refuse typesFull | some p ↦ ok p ])
     go none = (refl, refl)
     go (some p) = tt
 
-adapt-later : (t : Table) (ps : List Place) (to r p : ℕ) → LaterOnly (adapt t ps to r p)
+adapt-way : (t : Table) (ps : List Place) (to r p : ℕ) → MetOnWay (adapt t ps to r p)
 unfolding adapt
-adapt-later t ps to r p = let v = placeType (placeAt ps p) in
-    later-if (related conforms t r v) _ _ tt
-    (refused-need Later (related strict t r v) notStrict _ (refl, refl)
-    (later-try (derived t closed r v) _ (derived-later t closed r v) λ x. refused-need Later (ltb (length ps) maxPlaces) placesFull _ (refl, refl) tt))
+adapt-way t ps to r p = let v = placeType (placeAt ps p) in
+    way-if (related conforms t r v) _ _ tt
+    (refused-need OnWay (related strict t r v) notStrict _ (refl, refl)
+    (way-try (derived t closed r v) _ (derived-way t closed r v) λ x. refused-need OnWay (ltb (length ps) maxPlaces) placesFull _ (refl, refl) tt))
 
-cross-later : (f : Reference) (to r : ℕ) → LaterOnly (cross f to r)
+cross-way : (f : Reference) (to r : ℕ) → MetOnWay (cross f to r)
 unfolding cross
-cross-later f to r = let t = f .table in
-    later-if (typeAt t to .own) _ _
-    (refused-need Later (related free t to (f .type)) unrelated _ (refl, refl)
-    (refused-need Later (eqb r (baseOwner (f .places) (f .place))) notOwner _ (refl, refl) (adapt-later t (f .places) to to (baseOf (f .places) (f .place)))))
-    (refused-need Later (related loose t to (f .type)) unrelated _ (refl, refl)
-    (later-if (related subtype t to (f .type)) _ _ tt
-    (later-try (derived t sub to (f .type)) _ (derived-later t sub to (f .type)) λ x. adapt-later (x .0) (f .places) to (x .1) (f .place))))
+cross-way f to r = let t = f .table in
+    way-if (typeAt t to .own) _ _
+    (refused-need OnWay (related free t to (f .type)) unrelated _ (refl, refl)
+    (refused-need OnWay (eqb r (baseOwner (f .places) (f .place))) notOwner _ (refl, refl) (adapt-way t (f .places) to to (baseOf (f .places) (f .place)))))
+    (refused-need OnWay (related loose t to (f .type)) unrelated _ (refl, refl)
+    (way-if (related subtype t to (f .type)) _ _ tt
+    (way-try (derived t sub to (f .type)) _ (derived-way t sub to (f .type)) λ x. adapt-way (x .0) (f .places) to (x .1) (f .place))))
 
-layer-later : (first : Bool) (e : ℕ) → Later e → Later (atLayer first e)
-layer-later true e h = h
-layer-later false e h = go (eqb e unrelated || eqb e notStrict)
+layer-way : (first : Bool) (e : ℕ) → OnWay e → OnWay (atLayer first e)
+layer-way true e h = h
+layer-way false e h = go (eqb e unrelated || eqb e notStrict)
   where
-    go : (b : Bool) → Later (cond b laterLayer e)
+    go : (b : Bool) → OnWay (cond b laterLayer e)
     go true = (refl, refl)
     go false = h
 
-renumber-later : {A : Type 0} (first : Bool) (m : Res A) → LaterOnly m → LaterOnly (renumber first m)
-renumber-later first (refuse e) h = layer-later first e h
-renumber-later first (ok a) h = tt
+renumber-way : {A : Type 0} (first : Bool) (m : Res A) → MetOnWay m → MetOnWay (renumber first m)
+renumber-way first (refuse e) h = layer-way first e h
+renumber-way first (ok a) h = tt
 
-layers-later : (first : Bool) (f : Reference) (r : ℕ) (ts : List (Option ℕ)) → LaterOnly (crossLayers first f r ts)
+layers-way : (first : Bool) (f : Reference) (r : ℕ) (ts : List (Option ℕ)) → MetOnWay (crossLayers first f r ts)
 unfolding crossLayers
-layers-later first f r [] = tt
-layers-later first f r (none ∷ ts) = layer-later first unrelated (refl, refl)
-layers-later first f r (some t ∷ ts) = later-try (renumber first (cross f t r)) _ (renumber-later first (cross f t r) (cross-later f t r)) λ g. layers-later false g r ts
+layers-way first f r [] = tt
+layers-way first f r (none ∷ ts) = layer-way first unrelated (refl, refl)
+layers-way first f r (some t ∷ ts) = way-try (renumber first (cross f t r)) _ (renumber-way first (cross f t r) (cross-way f t r)) λ g. layers-way false g r ts
 
-pass-later : (first : Bool) (t : Table) (v : ℤ) (ts : List (Option ℕ)) → LaterOnly (passLayers first t v ts)
+pass-way : (first : Bool) (t : Table) (v : ℤ) (ts : List (Option ℕ)) → MetOnWay (passLayers first t v ts)
 unfolding passLayers
-pass-later first t v [] = tt
-pass-later first t v (none ∷ ts) = layer-later first unrelated (refl, refl)
-pass-later first t v (some a ∷ ts) = go (typeAt t a .rep) (pass-later false t v ts)
+pass-way first t v [] = tt
+pass-way first t v (none ∷ ts) = layer-way first unrelated (refl, refl)
+pass-way first t v (some a ∷ ts) = go (typeAt t a .rep) (pass-way false t v ts)
   where
-    go : (r : Rep) → LaterOnly (passLayers false t v ts) → LaterOnly {A = Unit {0}} (elim r [
+    go : (r : Rep) → MetOnWay (passLayers false t v ts) → MetOnWay {A = Unit {0}} (elim r [
       | ref ↦ refuse (atLayer first unrelated)
       | w32 ↦ need (within 2147483648 v) tooWide λ _. passLayers false t v ts
       | w64 ↦ passLayers false t v ts
     ])
-    go ref h = layer-later first unrelated (refl, refl)
-    go w32 h = refused-need Later (within 2147483648 v) tooWide _ (refl, refl) h
+    go ref h = layer-way first unrelated (refl, refl)
+    go w32 h = refused-need OnWay (within 2147483648 v) tooWide _ (refl, refl) h
     go w64 h = h
 
-send-later : (s : System) (r k : ℕ) (ts : List (Option ℕ)) → LaterOnly (send s r k ts)
+send-way : (s : System) (r k : ℕ) (ts : List (Option ℕ)) → MetOnWay (send s r k ts)
 unfolding send addCell
-send-later s r k ts = later-try (crossLayers true (leaving s k) r ts) _ (layers-later true (leaving s k) r ts) λ f.
-    refused-need Later (ltb (length (s .cells)) maxCells) cellsFull _ (refl, refl) tt
+send-way s r k ts = way-try (crossLayers true (leaving s k) r ts) _ (layers-way true (leaving s k) r ts) λ f.
+    refused-need OnWay (ltb (length (s .cells)) maxCells) cellsFull _ (refl, refl) tt
 
-arguments-later : (s : System) (r : ℕ) (ls : List ℕ) (m i : ℕ) (xs : List ℕ) (vs : List ℤ) → LaterOnly (sendArguments s r ls m i xs vs)
+arguments-way : (s : System) (r : ℕ) (ls : List ℕ) (m i : ℕ) (xs : List ℕ) (vs : List ℤ) → MetOnWay (sendArguments s r ls m i xs vs)
 unfolding sendArguments
-arguments-later s r ls m i [] vs = tt
-arguments-later s r ls m i (a ∷ xs) [] = tt
-arguments-later s r ls m i (a ∷ xs) (v ∷ vs) = let ts = map (argumentAt (s .table) m i) ls in
-    later-if (isRef (typeAt (s .table) a .rep)) _ _
-    (later-try (send s r (named v) ts) _ (send-later s r (named v) ts) λ x. arguments-later (x .0) r ls m (suc i) xs vs)
-    (later-try (passLayers true (s .table) v ts) _ (pass-later true (s .table) v ts) λ _. arguments-later s r ls m (suc i) xs vs)
+arguments-way s r ls m i [] vs = tt
+arguments-way s r ls m i (a ∷ xs) [] = tt
+arguments-way s r ls m i (a ∷ xs) (v ∷ vs) = let ts = map (argumentAt (s .table) m i) ls in
+    way-if (isRef (typeAt (s .table) a .rep)) _ _
+    (way-try (send s r (named v) ts) _ (send-way s r (named v) ts) λ x. arguments-way (x .0) r ls m (suc i) xs vs)
+    (way-try (passLayers true (s .table) v ts) _ (pass-way true (s .table) v ts) λ _. arguments-way s r ls m (suc i) xs vs)
 
 -- ---- L29, L31: the tests of a call in their order, and what its outcome says of them
 -- a, b, c and d are the tests before 18, e is the one of 18, m what becomes of the arguments
 abbrev Tested : Bool → Bool → Bool → Bool → Bool → Res System → (System → System × Result) → Outcome
 Tested a b c d e m f = outcome (need a unknownSubject λ _. need b notHeld λ _. need c notCallable λ _. need d wrongValues λ _. need e callsFull λ _. try m λ x. ok (f x))
 
-seen-tests : (a b c d e : Bool) (m : Res System) (f : System → System × Result) → LaterOnly m → (a && (b && (c && d))) ≡ not (refusedBefore (Tested a b c d e m f))
+seen-tests : (a b c d e : Bool) (m : Res System) (f : System → System × Result) → MetOnWay m → (a && (b && (c && d))) ≡ not (refusedBefore (Tested a b c d e m f))
 seen-tests false b c d e m f h = refl
 seen-tests true false c d e m f h = refl
 seen-tests true true false d e m f h = refl
@@ -183,9 +183,9 @@ unfolding serve callRequest
 tests-seen s subject k m vs = let c = cellAt s (named k) in let x = methodAt (s .table) (c .type) (named m) in
     seen-tests (names subject (s .table .subjects)) (held s subject k) (names m (s .table .methods) && isAvail (x .state)) (argumentsHeld s subject (x .args) vs)
     (ltb (madeBy (named subject) (s .calls)) maxCallsEach) (sendArguments s (baseOwner (s .places) (c .place)) (callLayers s c) (named m) 0 (x .args) vs) _
-    (arguments-later s (baseOwner (s .places) (c .place)) (callLayers s c) (named m) 0 (x .args) vs)
+    (arguments-way s (baseOwner (s .places) (c .place)) (callLayers s c) (named m) 0 (x .args) vs)
 
-seen-limit : (a b c d e : Bool) (m : Res System) (f : System → System × Result) → LaterOnly m → So (a && (b && (c && d))) → (Tested a b c d e m f ≡ refused callsFull) ↔ (e ≡ false)
+seen-limit : (a b c d e : Bool) (m : Res System) (f : System → System × Result) → MetOnWay m → So (a && (b && (c && d))) → (Tested a b c d e m f ≡ refused callsFull) ↔ (e ≡ false)
 seen-limit false b c d e m f h p = never p
 seen-limit true false c d e m f h p = never p
 seen-limit true true false d e m f h p = never p
@@ -213,7 +213,7 @@ limit-seen s subject k m vs p = let c = cellAt s (named k) in let x = methodAt (
     let w = seen-limit (names subject (s .table .subjects)) (held s subject k) (names m (s .table .methods) && isAvail (x .state)) (argumentsHeld s subject (x .args) vs)
     (ltb (madeBy (named subject) (s .calls)) maxCallsEach) (sendArguments s (baseOwner (s .places) (c .place)) (callLayers s c) (named m) 0 (x .args) vs)
     (λ x. (withCall x (record { caller = named subject; cell = named k; method = named m; answered = false }), pair (length (s .calls)) (adapterCount (s .places) (c .place))))
-    (arguments-later s (baseOwner (s .places) (c .place)) (callLayers s c) (named m) 0 (x .args) vs) p in
+    (arguments-way s (baseOwner (s .places) (c .place)) (callLayers s c) (named m) 0 (x .args) vs) p in
     let v = full-is (madeBy (named subject) (s .calls)) in
     (λ q. v .0 (w .0 q), λ l. w .1 (v .1 l))
 
