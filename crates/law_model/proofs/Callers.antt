@@ -17,10 +17,10 @@ use Rattle.spec_model.proofs.Lists.{length-from, from-first, all-from}
 use Rattle.law_model.proofs.Fitting.{all-at}
 
 -- ---- one more call counts one for its caller and nothing for anybody else
-abbrev bumped : Bool → ℕ → ℕ
+abbrev pub bumped : Bool → ℕ → ℕ
 bumped b n = cond b (suc n) n
 
-bumped-plus : (b : Bool) (x y n : ℕ) → n ≡ x + y → bumped b n ≡ bumped b x + y
+pub bumped-plus : (b : Bool) (x y n : ℕ) → n ≡ x + y → bumped b n ≡ bumped b x + y
 bumped-plus true x y n e = omega arith
 bumped-plus false x y n e = e
 

@@ -21,8 +21,8 @@ use Rattle.law_model.proofs.Deriving.{IfSome}
 use Rattle.law_model.proofs.Good.{Sound, counted-of, sheet-within, derive-sound}
 use Rattle.law_model.proofs.Steps.{IfOk}
 use Rattle.law_model.proofs.Fitting.{all-at, every-at, table-fitting, fitting-sound}
-use Rattle.law_model.proofs.Callers.{callers-fit}
-use Rattle.law_model.proofs.Within.{CallIn, PlaceIn, SystemIn, layers-below, serve-in}
+use Rattle.law_model.proofs.Callers.{calls-few, callers-fit}
+use Rattle.law_model.proofs.Within.{CallIn, calling, PlaceIn, SystemIn, layers-below, serve-in}
 
 -- ---- what 11 makes of a derivation
 pub derived-of : (Q : Table × ℕ → Type 0) (t : Table) (d : Kind) (l r : ℕ) → IfSome (derive maxTypes t d l r) Q → IfOk (derived t d l r) Q
@@ -50,6 +50,10 @@ Bounded = SystemIn Sound (λ t i. Unit {0}) (λ t i h. tt) (λ t u i g l h. tt) 
 
 pub bounded-kept : (s : System) → Bounded s → (q : Request) → Bounded (after s (serve s q))
 bounded-kept s h q = serve-in Sound (λ t i. Unit {0}) (λ t i h. tt) (λ t u i g l h. tt) (λ t g. sheet-within t (g .counts)) (λ t g. g .sheetSigs) (λ t g. g .sigs) sound-derives s h q
+
+-- of the calls of all subjects there are no more than there is room for
+pub bounded-calls : (s : System) → Bounded s → length (s .calls) ≤ maxCalls
+bounded-calls s h = calls-few (calling s (h .calls)) (counted-of (s .table) (h .table .counts) .subjects)
 
 -- the types of a place and of what is behind it are in the table
 pub bounded-layers : (s : System) → Bounded s → (f p : ℕ) → p < length (s .places) → AllBelow (size (s .table)) (layers f (s .places) p)
