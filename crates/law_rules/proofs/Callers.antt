@@ -10,23 +10,24 @@ use lib.Dec.{eqb, ltb}
 use lib.IntN.{ℤ, pos}
 use lib.ListN.{length}
 use Rattle.spec_model.specs.Basics.{Res, refuse, ok, try, need, names, named}
-use Rattle.spec_model.specs.Table.{Rep, ref, w32, w64, Kind, sub, closed, Table, maxTypes, typeAt, methodAt, argumentAt, isRef, isAvail, validSheet}
+use Rattle.spec_model.specs.Table.{Rep, ref, w32, w64, Kind, sub, closed, Table, maxTypes, typeAt, methodAt, argumentAt, isRef, isAvail, isClass, validSheet}
 use Rattle.spec_model.specs.Relations.{subtype, conforms, strict, loose, free, related}
 use Rattle.spec_model.specs.Restriction.{derive, derived}
 use Rattle.spec_model.specs.Crossing.{Place, placeType, placeAt, baseOf, baseOwner, Reference, adapt, cross, maxPlaces}
 use Rattle.spec_model.specs.Requests.{Call, System, loaded, Request, new, move, call, answer, Result, pair, Outcome, got, refused, outcome, cellAt, held, leaving, addCell, maxCells}
 use Rattle.spec_model.specs.Requests.{maxCallsEach, madeBy, adapterCount, callLayers, atLayer, renumber, crossLayers, within, passLayers, send, argumentsHeld, sendArguments, withCall, callRequest}
-use Rattle.spec_model.specs.Requests.{serve, after, run}
-use Rattle.spec_model.specs.Refusals.{unknownSubject, notHeld, unrelated, notOwner, notStrict, typesFull, placesFull, cellsFull, notCallable, wrongValues, tooWide, callsFull, laterLayer}
+use Rattle.spec_model.specs.Requests.{number, callAt, isSheetRef, newRequest, moveRequest, withAnswer, dueFor, answersMet, give, answerRequest, serve, after, run}
+use Rattle.spec_model.specs.Refusals.{unknownSubject, notHeld, unknownType, unrelated, notOwner, notStrict, typesFull, placesFull, cellsFull, notCallable, wrongValues, tooWide, answeredAlready, callsFull, laterLayer}
 use Rattle.spec_model.specs.Claim.{accepted, follow}
-use Rattle.spec_model.specs.Callers.{Transcript, taken, seen, calledBy, acceptedCalls, passesTests, refusedBefore, ranTo, sawOf, CallsCounted, CallsLimited, CallsApart, TestsSeen}
-use Rattle.spec_model.proofs.Tests.{eqb-no, ltb-so, ltb-no}
-use Rattle.spec_model.proofs.Rules.{never}
+use Rattle.spec_model.specs.Callers.{Transcript, taken, seen, calledBy, acceptedCalls, passesTests, refusedBefore, ranTo, sawOf, CallsCounted, CallsLimited, CallsApart, TestsSeen, FullMet}
+use Rattle.spec_model.proofs.Tests.{eqb-no, ltb-so, ltb-no, leb-so, so-leb}
+use Rattle.spec_model.proofs.Rules.{never, both, first, second}
 use Rattle.law_model.proofs.Steps.{IfOk, whatever}
 use Rattle.law_model.proofs.Callers.{bumped-plus, made-append, made-answered}
 use Rattle.law_model.proofs.Checked.{Bounded, bounded-kept, fits-bounded}
 use Rattle.law_model.proofs.Reached.{reached-fits}
 use Rattle.law_rules.proofs.Layers.{IfRefused, refused-need, refused-try}
+use Rattle.law_rules.proofs.Refusals.{entering}
 use Rattle.law_rules.proofs.Made.{Makes, serve-makes}
 
 -- ---- L28: one request, a list of them
@@ -216,6 +217,69 @@ limit-seen s subject k m vs p = let c = cellAt s (named k) in let x = methodAt (
     (arguments-way s (baseOwner (s .places) (c .place)) (callLayers s c) (named m) 0 (x .args) vs) p in
     let v = full-is (madeBy (named subject) (s .calls)) in
     (λ q. v .0 (w .0 q), λ l. w .1 (v .1 l))
+
+-- ---- L31: no other request meets 18, and a call only so
+abbrev NotFull : {A : Type 0} → Res A → Type 0
+NotFull m = IfRefused m (λ e. eqb e callsFull ≡ false)
+
+way-not-full : {A : Type 0} (m : Res A) → MetOnWay m → NotFull m
+way-not-full (refuse e) h = h .1
+way-not-full (ok a) h = tt
+
+full-need : {A : Type 0} (b : Bool) (e : ℕ) (k : Unit {0} → Res A) → eqb e callsFull ≡ false → NotFull (k tt) → NotFull (need b e k)
+full-need b e k = refused-need (λ e. eqb e callsFull ≡ false) b e k
+
+full-try : {A B : Type 0} (m : Res A) (k : A → Res B) → MetOnWay m → ((a : A) → NotFull (k a)) → NotFull (try m k)
+full-try m k h f = refused-try (λ e. eqb e callsFull ≡ false) (λ _. Unit {0}) m k (way-not-full m h) (whatever m) λ a _. f a
+
+cell-not-full : (s : System) (r : ℕ) (f : Reference) → NotFull (addCell s r f)
+unfolding addCell
+cell-not-full s r f = full-need (ltb (length (s .cells)) maxCells) cellsFull _ refl tt
+
+give-not-full : (s : System) (subject : ℤ) (j : ℕ) (due : Option ℕ) (v : Option ℤ) → NotFull (give s subject j due v)
+unfolding give
+give-not-full s subject j none none = tt
+give-not-full s subject j none (some v) = refl
+give-not-full s subject j (some a) none = refl
+give-not-full s subject j (some a) (some v) = go (isRef (typeAt (s .table) a .rep))
+  where
+    go : (b : Bool) → NotFull {A = System × Result} (elim b [
+      | true ↦ need (held s subject v) wrongValues λ _. try (send s (callAt s j .caller) (named v) (answersMet s j)) λ x. ok (withAnswer (x .0) j, x .1)
+      | false ↦ try (passLayers true (s .table) v (answersMet s j)) λ _. ok (withAnswer s j, number v)
+    ])
+    go true = full-need (held s subject v) wrongValues _ refl
+        (full-try (send s (callAt s j .caller) (named v) (answersMet s j)) _ (send-way s (callAt s j .caller) (named v) (answersMet s j)) λ x. tt)
+    go false = full-try (passLayers true (s .table) v (answersMet s j)) _ (pass-way true (s .table) v (answersMet s j)) λ _. tt
+
+not-met : (m : Res (System × Result)) → NotFull m → outcome m ≡ refused callsFull → ⊥
+not-met (refuse e) h q = eqb-no h (ap number-of q)
+  where
+    number-of : Outcome → ℕ
+    number-of (refused e) = e
+    number-of (got x) = 0
+not-met (ok x) h q = let z : _≡_ {A = ℕ} 0 1 = cc in omega arith
+
+pub full-met : FullMet
+unfolding serve newRequest moveRequest answerRequest
+full-met s (new subject class to) = (λ q. absurd (not-met (newRequest s subject class to) (
+    full-need (names subject (s .table .subjects)) unknownSubject _ refl
+    (full-need (names class (s .table .sheet) && isClass (typeAt (s .table) (named class))) unknownType _ refl
+    (full-need (isSheetRef (s .table) to) unknownType _ refl
+    (full-need (ltb (length (s .places)) maxPlaces) placesFull _ refl
+    (full-try (cross (entering s subject class) (named to) (named subject)) _ (cross-way (entering s subject class) (named to) (named subject)) λ f. cell-not-full s (named subject) f))))) q), λ z. never z)
+full-met s (move subject k receiver to) = (λ q. absurd (not-met (moveRequest s subject k receiver to) (
+    full-need (names subject (s .table .subjects) && names receiver (s .table .subjects)) unknownSubject _ refl
+    (full-need (held s subject k) notHeld _ refl
+    (full-need (isSheetRef (s .table) to) unknownType _ refl
+    (full-try (cross (leaving s (named k)) (named to) (named receiver)) _ (cross-way (leaving s (named k)) (named to) (named receiver)) λ f. cell-not-full s (named receiver) f)))) q), λ z. never z)
+full-met s (call subject k m vs) = (
+  λ q. let p : So (passesTests s subject k m vs) = tests-seen s subject k m vs ∙ ap (λ o. not (refusedBefore o)) q in both p (so-leb (limit-seen s subject k m vs p .0 q)),
+  λ z. let p = first (passesTests s subject k m vs) _ z in limit-seen s subject k m vs p .1 (leb-so (second (passesTests s subject k m vs) _ z)),
+)
+full-met s (answer subject j v) = (λ q. absurd (not-met (answerRequest s subject j v) (
+    full-need (names subject (s .table .subjects)) unknownSubject _ refl
+    (full-need (names j (length (s .calls)) && eqb (named subject) (baseOwner (s .places) (cellAt s (callAt s (named j) .cell) .place))) notHeld _ refl
+    (full-need (not (callAt s (named j) .answered)) answeredAlready _ refl (give-not-full s subject (named j) (dueFor s (named j)) v)))) q), λ z. never z)
 
 -- ---- L29, L30: from a loaded sheet nobody has made more than 32
 run-bounded : (qs : List Request) (s : System) → Bounded s → Bounded (run s qs .1)
