@@ -34,6 +34,7 @@ use Rattle.state_record.specs.Whole.{Whole as State}
 use Rattle.state_record.specs.View.{cellOf, callOf, cellsIn, placesIn, callsIn, callAdded, systemIn, withTypes}
 use Rattle.state_record.specs.Sound.{CallIn, MayCall, Sound}
 use Rattle.state_record.proofs.Laws.{calls-length, system-is, means-counted}
+use Rattle.state_record.proofs.Kept.{few-added}
 use Rattle.request_common.specs.declared.Outcome.{Outcome}
 use Rattle.request_common.specs.declared.Outcome.the-variants.{Pair}
 use Rattle.request_common.specs.Served.{Done as Served}

@@ -7,7 +7,10 @@ use native.Mathlib.Omega.{arith}
 use lib.ListN.{getD}
 use Rattle.spec_model.specs.Check.{tableAccepted, systemAccepted}
 use Rattle.spec_model.specs.Crossing.{maxPlaces}
+use Rattle.spec_model.specs.Basics.{from}
 use Rattle.spec_model.specs.Requests.{maxCells, maxCalls}
+use Rattle.spec_model.specs.Requests.{Call as Callᵐ}
+use Rattle.spec_model.proofs.Lists.{from-same}
 use Rattle.spec_model.proofs.Rules.{never}
 use Rattle.law_handed.proofs.Counted.{accepted-same}
 use Rattle.table_record.specs.declared.Counts.{Counts}
@@ -16,9 +19,9 @@ use Rattle.table_check_links.specs.Parts.{eachFrom}
 use Rattle.state_record.specs.declared.Cell.{Cell}
 use Rattle.state_record.specs.declared.PlaceRec.{PlaceRec}
 use Rattle.state_record.specs.declared.Call.{Call}
-use Rattle.state_record.specs.View.{cellOf, placeOf, callOf, blankCell, blankPlace, blankCall, rawState}
+use Rattle.state_record.specs.View.{cellOf, placeOf, callOf, blankCell, blankPlace, blankCall, callsIn, rawState}
 use Rattle.state_check_records.specs.Parts.{cellAccepted, placeAccepted, callAccepted, sizesAccepted}
-use Rattle.state_check.specs.Parts.{cellsAccepted, placesAccepted, callsAccepted}
+use Rattle.state_check.specs.Parts.{cellsAccepted, placesAccepted, callsAccepted, callersAccepted}
 use Rattle.state_check.proofs.Laws.{accepted-is}
 use Rattle.state_bytes.specs.Flat.{Flat, countsIn, cellCount, placeCount, callCount, rawFlat}
 use Rattle.state_bytes.specs.Records.{cellFrom, placeFrom, callFrom, cellsFrom, placesFrom, callsFrom, stateFrom}
@@ -61,13 +64,22 @@ pub calls-each : (c : Counts) (cells : ℕ) (b : List ℕ) (n : ℕ) → n ≤ m
 unfolding callsAccepted callsFrom
 calls-each c cells b n few = read-each {A = Call} (λ k x. callAccepted c cells (callOf x)) (callsFrom b n .list) blankCall (callFrom b) n (λ k p. call-found b n k p (omega arith))
 
+-- the calls that are counted by subject
+abbrev pub Called : List ℕ → ℕ → Callᵐ
+Called b j = callOf (callFrom b j)
+
+pub calls-are : (b : List ℕ) (n : ℕ) → n ≤ maxCalls → callsIn (callsFrom b n) ≡ from n 0 (Called b)
+unfolding callsIn callsFrom
+calls-are b n few = from-same (λ k. callOf (getD (callsFrom b n .list) k blankCall)) (Called b) n 0 (λ j p q. ap callOf (call-found b n j (omega arith) (omega arith)))
+
 -- The parts of the check, in the order of the code; c are the counts that were read.
 module _ (f : Flat) where
   abbrev parts : Counts → Bool
   parts c = let n = f .counts in let rs = typesIn (f .types) in
       sizesAccepted (cellCount n) (placeCount n) (callCount n) && (tableAccepted (rawTable (f .types) (f .links) c)
       && (cellsAccepted rs c (placeCount n) (cellsFrom (f .cells) (cellCount n))
-      && (placesAccepted rs c (placesFrom (f .places) (placeCount n)) && callsAccepted c (cellCount n) (callsFrom (f .calls) (callCount n)))))
+      && (placesAccepted rs c (placesFrom (f .places) (placeCount n))
+      && (callsAccepted c (cellCount n) (callsFrom (f .calls) (callCount n)) && callersAccepted (c .subjects) (callsIn (callsFrom (f .calls) (callCount n)))))))
 
   pub bytes-are : (c : Counts) → c ≡ countsIn (f .counts) → systemAccepted (rawState (stateFrom f)) ≡ parts c
   unfolding cellsFrom placesFrom callsFrom

@@ -1,19 +1,21 @@
-// The check of a state that is handed in (H1 to H11), in its bytes: what crate `state_check` says of the records that stand there, for a caller who makes none
+// The check of a state that is handed in (H1 to H11, H17), in its bytes: what crate `state_check` says of the records that stand there, for a caller who makes none
 // of them (offers). One record at a time is read and tested.
 ghost use mathlib.Core.Path.{_≡_};
-ghost use Prim.Native.Nat.{_≤_};
+ghost use Prim.Native.Nat.{ℕ, _≤_};
 ghost use Rattle.spec_model.specs.Check.{systemAccepted};
 ghost use Rattle.spec_model.specs.Crossing.{maxPlaces};
 ghost use Rattle.spec_model.specs.Requests.{maxCells, maxCalls};
+ghost use Rattle.spec_model.specs.Table.{maxSubjects};
 ghost use Rattle.table_record.specs.Limits.{Limits};
 ghost use Rattle.table_record.specs.Store.{typesIn};
-ghost use Rattle.state_record.specs.View.{rawState};
+ghost use Rattle.state_record.specs.View.{callsIn, rawState};
 ghost use Rattle.state_bytes.specs.Flat.{flat, rawFlat};
 ghost use Rattle.state_bytes.specs.Records.{cellsFrom, placesFrom, callsFrom, stateFrom};
-ghost use Rattle.state_check.specs.Parts.{cellsAccepted, placesAccepted, callsAccepted};
+ghost use Rattle.state_check.specs.Parts.{cellsAccepted, placesAccepted, callsAccepted, callersAccepted, CallersBelow};
 use state_bytes::CALL_BYTES;
 use state_bytes::CELL_BYTES;
 use state_bytes::PLACE_BYTES;
+use state_record::State;
 use table_record::Counts;
 use table_record::LINK_BYTES;
 use table_record::TYPE_BYTES;
@@ -72,6 +74,26 @@ fn calls_fit(c: Counts, cells: usize, b: &[u8; CALL_BYTES], n: usize) -> bool
     true
 }
 
+// Nobody made more than 32 of the calls (H17), whose callers are known: they are counted by subject.
+fn callers_fit(b: &[u8; CALL_BYTES], n: usize) -> bool
+    requires { ⌜ (n ≤ maxCalls) × CallersBelow maxSubjects (callsIn (callsFrom (now b) n)) ⌝ }
+    ensures { λ r. ⌜ ((subjects : ℕ) → subjects ≤ maxSubjects → CallersBelow subjects (callsIn (callsFrom (now (b .entry)) n))
+        → r ≡ callersAccepted subjects (callsIn (callsFrom (now (b .entry)) n))) ⌝ }
+{
+    let mut made = [0usize; Counts::SUBJECTS];
+    let mut j: usize = 0;
+    while j < n {
+        let x = state_bytes::call_from(b, j);
+        let k = base_numbers::wide(x.caller);
+        if State::CALLS_EACH <= made[k] {
+            return false;
+        }
+        made[k] += 1;
+        j += 1;
+    }
+    true
+}
+
 // Counts, table and records, where every code names something.
 fn records_fit(
     types: &[u8; TYPE_BYTES],
@@ -103,7 +125,10 @@ fn records_fit(
     if !places_fit(types, c, places, pn) {
         return false;
     }
-    calls_fit(c, cn, calls, jn)
+    if !calls_fit(c, cn, calls, jn) {
+        return false;
+    }
+    callers_fit(calls, jn)
 }
 
 // Whether a state that is handed in is taken.

@@ -21,12 +21,12 @@ with-calls-requires : tie.Need-with-calls-requires
 with-calls-requires c κs = search needs
 
 returns : tie.Need-returns
-returns c = λ b h cell method.
+returns c = λ b h may cell method.
     let c2 = c .before .before in
     let c5 = c2 .before .before .before in
     let a = c5 .args in
     let q = c .before .add in
-    rw (c .with-calls .ensures) (call-added (whole b (a .s)) h (c5 .pre .0) (a .who) (a .k) (a .m) (a .adapters) cell method _
+    rw (c .with-calls .ensures) (call-added (whole b (a .s)) h (a .who) may (a .k) (a .m) (a .adapters) cell method _
     (call-eq _ _ _ (a .who) (a .k) (a .m) (c2 .before .before .narrow .ensures) (c2 .before .narrow2 .ensures) (c2 .narrow3 .ensures))
     (q .result) (q .ensures .0) (q .ensures .1))
 

@@ -3,6 +3,7 @@ use mir.Facts.{toZ-ofZ}
 use mathlib.Core.Path.{ap}
 use borrow.Author.Needs.{needs}
 use Rattle.state_record.specs.Whole.{whole}
+use Rattle.state_record.proofs.Kept.{sound-room}
 use Rattle.request_common.specs.Served.{done}
 use Rattle.request_common.proofs.Laws.{refuses, step-as}
 use Rattle.request_call.proofs.Calling.{call-byte}
@@ -31,14 +32,14 @@ returns-2 c = let f = c .before .before .before .before .before .before .before 
 
 add-call-requires : tie.Need-add-call-requires
 add-call-requires c κs = let a = c .before .before .before .before .before .args in let q = c .before .before .before .plan-call in let low = q .ensures .fits (c .before .if1 .left) in
-    let b = call-byte (whole (a .types .now) (a .s)) (c .before .before .before .before .before .pre) (low .0) (q .result .who) (q .result .cell) (q .result .method) 0 (low .2) (low .3) in
-    (low .0, low .1, b .0, b .1)
+    let b = call-byte (whole (a .types .now) (a .s)) (c .before .before .before .before .before .pre) (q .result .who) (low .0) (q .result .cell) (q .result .method) 0 (low .2) (low .3) in
+    (sound-room _ (c .before .before .before .before .before .pre) (q .result .who) (low .0), low .1, b .0, b .1)
 
 returns-3 : tie.Need-returns-3
 returns-3 c = let a = c .before .before .before .before .before .before .args in let f = c .before .before .before .before .before .before .fits in let p = rw
     (toZ-ofZ (f .subject), toZ-ofZ (f .cell), toZ-ofZ (f .method)) at (c .before .before .before .before .plan-call .ensures) in
     let low = p .fits (c .before .before .if1 .left) in
-    step-as (p .adds (c .before .before .if1 .left) (c .before .if2 .left)) (c .add-call .ensures (a .types .now) (c .before .before .before .before .before .before .pre) (low .2) (low .3))
+    step-as (p .adds (c .before .before .if1 .left) (c .before .if2 .left)) (c .add-call .ensures (a .types .now) (c .before .before .before .before .before .before .pre) (low .0) (low .2) (low .3))
 
 pub call-step-spec : {M : Type 1} → statement M
 call-step-spec =

@@ -4,6 +4,7 @@ use native.Mathlib.Omega.{arith}
 use borrow.Author.Tests.{not-true, not-false}
 use borrow.Author.Needs.{needs}
 use Rattle.state_record.specs.Whole.{whole}
+use Rattle.state_record.proofs.Kept.{sound-room}
 use Rattle.request_common.specs.Served.{done}
 use Rattle.state_places.specs.Behind.{layersIn}
 use Rattle.crossing_targets.specs.Targets.{callLayersIn}
@@ -88,9 +89,9 @@ add-call-requires c κs =
     (call-layers-met s (h .0) (a .k) (h .3) (y .result) (y .ensures .1 (h .3)) (z .result) (z .ensures .0) (layersIn (l .result)) (callLayersIn (w .result)) (l .ensures .are) (w .ensures .0))
     (done (c .before .before .before .before .send-arguments .last .0) (c .before .before .before .before .send-arguments .result))
     (c .before .before .before .before .send-arguments .ensures) (h .1) (h .2) (h .3) (h .4) in
-    let b = call-byte (whole (c .before .before .before .before .send-arguments .last .0) (c .before .before .before .before .send-arguments .result .state)) (g .0) (g .1) (a .who)
-    (a .k) (a .m) 0 (g .3) (g .4) in
-    (g .1, g .2, b .0, b .1)
+    let b = call-byte (whole (c .before .before .before .before .send-arguments .last .0) (c .before .before .before .before .send-arguments .result .state)) (g .0) (a .who)
+    (g .1) (a .k) (a .m) 0 (g .3) (g .4) in
+    (sound-room _ (g .0) (a .who) (g .1), g .2, b .0, b .1)
 
 returns-2 : tie.Need-returns-2
 returns-2 c =
@@ -116,7 +117,7 @@ returns-2 c =
     (c .before .before .before .before .before .send-arguments .ensures)
     (sym (c .before .before .before .accepted .ensures) ∙ not-false (c .before .before .before .accepted .result) (c .before .before .if1 .left))
     (c .before .adapters-of .result) (c .before .adapters-of .ensures) (done (c .before .before .before .before .before .send-arguments .last .0) (c .add-call .result))
-    (c .add-call .ensures (c .before .before .before .before .before .send-arguments .last .0) (g .0) (g .3) (g .4))
+    (c .add-call .ensures (c .before .before .before .before .before .send-arguments .last .0) (g .0) (g .1) (g .3) (g .4))
 
 pub call-through-spec : {M : Type 1} → statement M
 call-through-spec =
