@@ -19,7 +19,7 @@ use Rattle.spec_model.specs.Requests.{maxCallsEach, madeBy, adapterCount, callL
 use Rattle.spec_model.specs.Requests.{serve, after, run}
 use Rattle.spec_model.specs.Refusals.{unknownSubject, notHeld, unrelated, notOwner, notStrict, typesFull, placesFull, cellsFull, notCallable, wrongValues, tooWide, callsFull, laterLayer}
 use Rattle.spec_model.specs.Claim.{accepted, follow}
-use Rattle.spec_model.specs.Callers.{Log, taken, seen, calledBy, acceptedCalls, passesTests, refusedBefore, ranTo, sawOf, CallsCounted, CallsLimited, CallsApart, TestsSeen}
+use Rattle.spec_model.specs.Callers.{Transcript, taken, seen, calledBy, acceptedCalls, passesTests, refusedBefore, ranTo, sawOf, CallsCounted, CallsLimited, CallsApart, TestsSeen}
 use Rattle.spec_model.proofs.Tests.{eqb-no, ltb-so, ltb-no}
 use Rattle.spec_model.proofs.Rules.{never}
 use Rattle.law_model.proofs.Steps.{IfOk, whatever}
@@ -58,7 +58,7 @@ taken-is : (m : Res (System × Result)) → taken (outcome m) ≡ accepted m
 taken-is (refuse e) = refl
 taken-is (ok x) = refl
 
--- an entry of the log, and those behind it
+-- an entry of the transcript, and those behind it
 entry-plus : (b : Bool) (n m a : ℕ) → m ≡ n + cond b 1 0 → m + a ≡ n + cond b (suc a) a
 entry-plus true n m a e = omega (arith, e)
 entry-plus false n m a e = omega (arith, e)
@@ -71,7 +71,7 @@ run-made (q ∷ qs) s k =
     let e : madeBy k (after s a .calls) ≡ madeBy k (s .calls) + cond (calledBy k q && taken (outcome a)) 1 0 = rw (taken-is a) (serve-made s q k) in
     run-made qs (after s a) k ∙ entry-plus (calledBy k q && taken (outcome a)) (madeBy k (s .calls)) (madeBy k (after s a .calls)) (acceptedCalls k (seen qs (run (after s a) qs .0))) e
 
-pub accepted-append : (k : ℕ) (l m : Log) → acceptedCalls k (l ++ m) ≡ acceptedCalls k l + acceptedCalls k m
+pub accepted-append : (k : ℕ) (l m : Transcript) → acceptedCalls k (l ++ m) ≡ acceptedCalls k l + acceptedCalls k m
 accepted-append k [] m = omega arith
 accepted-append k (x ∷ l) m = bumped-plus (calledBy k (x .0) && x .1) (acceptedCalls k l) (acceptedCalls k m) (acceptedCalls k (l ++ m)) (accepted-append k l m)
 
