@@ -1,6 +1,6 @@
 -- Rules L28 to L31: the calls of a subject are counted by its accepted calls, and 18 says that they are 32, whatever the others asked (spec_model Callers).
 use mathlib.Core.Path.{_≡_, refl, ap, sym, _∙_}
-use mathlib.Core.Logic.{_↔_}
+use mathlib.Core.Logic.{_↔_, _≢_}
 use mathlib.Core.Bool.{Bool, true, false, not, _&&_, _||_, So, cond}
 use mathlib.Core.List.{List, [], _∷_, _++_, map}
 use mathlib.Core.Option.{Option, none, some}
@@ -10,24 +10,26 @@ use lib.Dec.{eqb, ltb}
 use lib.IntN.{ℤ, pos}
 use lib.ListN.{length}
 use Rattle.spec_model.specs.Basics.{Res, refuse, ok, try, need, names, named}
-use Rattle.spec_model.specs.Table.{Rep, ref, w32, w64, Kind, sub, closed, Table, maxTypes, typeAt, methodAt, argumentAt, isRef, isAvail, validSheet}
+use Rattle.spec_model.specs.Table.{Rep, ref, w32, w64, Kind, sub, closed, Table, maxTypes, typeAt, methodAt, argumentAt, isRef, isAvail, isClass, validSheet}
 use Rattle.spec_model.specs.Relations.{subtype, conforms, strict, loose, free, related}
 use Rattle.spec_model.specs.Restriction.{derive, derived}
 use Rattle.spec_model.specs.Crossing.{Place, placeType, placeAt, baseOf, baseOwner, Reference, adapt, cross, maxPlaces}
-use Rattle.spec_model.specs.Requests.{Call, System, loaded, Request, new, move, call, answer, Result, pair, Outcome, got, refused, outcome, cellAt, held, leaving, addCell, maxCells}
+use Rattle.spec_model.specs.Requests.{Call, System, loaded, Request, new, move, call, answer, Result, pair, number, Outcome, got, refused, outcome, cellAt, callAt, held, leaving, addCell, maxCells}
 use Rattle.spec_model.specs.Requests.{maxCallsEach, madeBy, adapterCount, callLayers, atLayer, renumber, crossLayers, within, passLayers, send, argumentsHeld, sendArguments, withCall, callRequest}
-use Rattle.spec_model.specs.Requests.{serve, after, run}
-use Rattle.spec_model.specs.Refusals.{unknownSubject, notHeld, unrelated, notOwner, notStrict, typesFull, placesFull, cellsFull, notCallable, wrongValues, tooWide, callsFull, laterLayer}
+use Rattle.spec_model.specs.Requests.{isSheetRef, newRequest, moveRequest, withAnswer, dueFor, answersMet, give, answerRequest, serve, after, run}
+use Rattle.spec_model.specs.Refusals.{unknownSubject, notHeld, unknownType, unrelated, notOwner, notStrict, typesFull, placesFull, cellsFull, notCallable, wrongValues, tooWide}
+use Rattle.spec_model.specs.Refusals.{answeredAlready, callsFull, laterLayer}
 use Rattle.spec_model.specs.Claim.{accepted, follow}
-use Rattle.spec_model.specs.Callers.{Transcript, taken, seen, calledBy, acceptedCalls, passesTests, refusedBefore, ranTo, sawOf, CallsCounted, CallsLimited, CallsApart, TestsSeen}
-use Rattle.spec_model.proofs.Tests.{eqb-no, ltb-so, ltb-no}
-use Rattle.spec_model.proofs.Rules.{never}
+use Rattle.spec_model.specs.Callers.{Transcript, taken, seen, calledBy, acceptedCalls, passesTests, refusedBefore, ranTo, sawOf, CallsCounted, CallsLimited, CallsApart, TestsSeen, FullMet}
+use Rattle.spec_model.proofs.Tests.{eqb-no, ltb-so, ltb-no, leb-so, so-leb}
+use Rattle.spec_model.proofs.Rules.{never, both, first, second}
 use Rattle.law_model.proofs.Steps.{IfOk, whatever}
 use Rattle.law_model.proofs.Callers.{bumped-plus, made-append, made-answered}
 use Rattle.law_model.proofs.Checked.{Bounded, bounded-kept, fits-bounded}
 use Rattle.law_model.proofs.Reached.{reached-fits}
-use Rattle.law_rules.proofs.Layers.{IfRefused, refused-need, refused-try}
+use Rattle.law_rules.proofs.Layers.{IfRefused, refused-need, refused-try, refused-map}
 use Rattle.law_rules.proofs.Made.{Makes, serve-makes}
+use Rattle.law_rules.proofs.Refusals.{entering}
 
 -- ---- L28: one request, a list of them
 -- a call counts where it was accepted
@@ -185,18 +187,19 @@ tests-seen s subject k m vs = let c = cellAt s (named k) in let x = methodAt (s 
     (ltb (madeBy (named subject) (s .calls)) maxCallsEach) (sendArguments s (baseOwner (s .places) (c .place)) (callLayers s c) (named m) 0 (x .args) vs) _
     (arguments-way s (baseOwner (s .places) (c .place)) (callLayers s c) (named m) 0 (x .args) vs)
 
+-- the number of a refusal; 0 is none
+abbrev numberOf : Outcome → ℕ
+numberOf (refused e) = e
+numberOf (got x) = 0
+
 seen-limit : (a b c d e : Bool) (m : Res System) (f : System → System × Result) → MetOnWay m → So (a && (b && (c && d))) → (Tested a b c d e m f ≡ refused callsFull) ↔ (e ≡ false)
 seen-limit false b c d e m f h p = never p
 seen-limit true false c d e m f h p = never p
 seen-limit true true false d e m f h p = never p
 seen-limit true true true false e m f h p = never p
 seen-limit true true true true false m f h p = (λ _. refl, λ _. refl)
-seen-limit true true true true true (refuse n) f h p = (λ q. absurd (eqb-no (h .1) (ap number-of q)), λ z. never (sym z))
-  where
-    number-of : Outcome → ℕ
-    number-of (refused e) = e
-    number-of (got x) = 0
-seen-limit true true true true true (ok x) f h p = (λ q. let z : _≡_ {A = ℕ} 0 1 = cc in absurd (omega arith), λ z. never (sym z))
+seen-limit true true true true true (refuse n) f h p = (λ q. absurd (eqb-no (h .1) (ap numberOf q)), λ z. never (sym z))
+seen-limit true true true true true (ok x) f h p = (λ q. let z : 0 ≡ callsFull = ap numberOf q in absurd (omega (arith, z)), λ z. never (sym z))
 
 full-is : (n : ℕ) → (ltb n maxCallsEach ≡ false) ↔ (maxCallsEach ≤ n)
 full-is n = (ltb-no, λ l. go (ltb n maxCallsEach) refl l)
@@ -216,6 +219,79 @@ limit-seen s subject k m vs p = let c = cellAt s (named k) in let x = methodAt (
     (arguments-way s (baseOwner (s .places) (c .place)) (callLayers s c) (named m) 0 (x .args) vs) p in
     let v = full-is (madeBy (named subject) (s .calls)) in
     (λ q. v .0 (w .0 q), λ l. w .1 (v .1 l))
+
+-- ---- L31: no other request gives 18
+abbrev NotFull : ℕ → Type 0
+NotFull e = eqb e callsFull ≡ false
+
+not-full : {A : Type 0} (m : Res A) → MetOnWay m → IfRefused m NotFull
+not-full m h = refused-map OnWay NotFull (λ e w. w .1) m h
+
+arrived-not-full : (s : System) (r : ℕ) (m : Res Reference) → MetOnWay m → IfRefused (try m λ f. addCell s r f) NotFull
+unfolding addCell
+arrived-not-full s r m h = not-full (try m λ f. addCell s r f) (way-try m _ h λ f. refused-need OnWay (ltb (length (s .cells)) maxCells) cellsFull _ (refl, refl) tt)
+
+given-not-full : {A : Type 0} (m : Res A) (f : A → System × Result) → MetOnWay m → IfRefused (try m λ x. ok (f x)) NotFull
+given-not-full (refuse e) f h = h .1
+given-not-full (ok x) f h = tt
+
+give-not-full : (s : System) (subject : ℤ) (j : ℕ) (due : Option ℕ) (v : Option ℤ) → IfRefused (give s subject j due v) NotFull
+unfolding give
+give-not-full s subject j none none = tt
+give-not-full s subject j none (some v) = refl
+give-not-full s subject j (some a) none = refl
+give-not-full s subject j (some a) (some v) = go (isRef (typeAt (s .table) a .rep))
+  where
+    ts : List (Option ℕ)
+    ts = answersMet s j
+
+    go : (b : Bool) → IfRefused {A = System × Result} (elim b [
+      | true ↦ need (held s subject v) wrongValues λ _. try (send s (callAt s j .caller) (named v) ts) λ x. ok (withAnswer (x .0) j, x .1)
+      | false ↦ try (passLayers true (s .table) v ts) λ _. ok (withAnswer s j, number v)
+    ]) NotFull
+    go true = refused-need NotFull (held s subject v) wrongValues _ refl
+        (given-not-full (send s (callAt s j .caller) (named v) ts) (λ x. (withAnswer (x .0) j, x .1)) (send-way s (callAt s j .caller) (named v) ts))
+    go false = given-not-full (passLayers true (s .table) v ts) (λ _. (withAnswer s j, number v)) (pass-way true (s .table) v ts)
+
+new-not-full : (s : System) (subject class to : ℤ) → IfRefused (newRequest s subject class to) NotFull
+unfolding newRequest
+new-not-full s subject class to = let f = entering s subject class in
+    refused-need NotFull (names subject (s .table .subjects)) unknownSubject _ refl
+    (refused-need NotFull (names class (s .table .sheet) && isClass (typeAt (s .table) (named class))) unknownType _ refl
+    (refused-need NotFull (isSheetRef (s .table) to) unknownType _ refl
+    (refused-need NotFull (ltb (length (s .places)) maxPlaces) placesFull _ refl
+    (arrived-not-full s (named subject) (cross f (named to) (named subject)) (cross-way f (named to) (named subject))))))
+
+move-not-full : (s : System) (subject k receiver to : ℤ) → IfRefused (moveRequest s subject k receiver to) NotFull
+unfolding moveRequest
+move-not-full s subject k receiver to = let f = leaving s (named k) in
+    refused-need NotFull (names subject (s .table .subjects) && names receiver (s .table .subjects)) unknownSubject _ refl
+    (refused-need NotFull (held s subject k) notHeld _ refl
+    (refused-need NotFull (isSheetRef (s .table) to) unknownType _ refl
+    (arrived-not-full s (named receiver) (cross f (named to) (named receiver)) (cross-way f (named to) (named receiver)))))
+
+answer-not-full : (s : System) (subject j : ℤ) (v : Option ℤ) → IfRefused (answerRequest s subject j v) NotFull
+unfolding answerRequest
+answer-not-full s subject j v =
+    refused-need NotFull (names subject (s .table .subjects)) unknownSubject _ refl
+    (refused-need NotFull (names j (length (s .calls)) && eqb (named subject) (baseOwner (s .places) (cellAt s (callAt s (named j) .cell) .place))) notHeld _ refl
+    (refused-need NotFull (not (callAt s (named j) .answered)) answeredAlready _ refl (give-not-full s subject (named j) (dueFor s (named j)) v)))
+
+-- a refusal that is not 18, or none, is another outcome
+other-outcome : (m : Res (System × Result)) → IfRefused m NotFull → outcome m ≢ refused callsFull
+other-outcome (refuse e) h q = eqb-no h (ap numberOf q)
+other-outcome (ok x) h q = let z : 0 ≡ callsFull = ap numberOf q in omega (arith, z)
+
+pub full-met : FullMet
+unfolding serve
+full-met s (new subject class to) = (λ q. absurd (other-outcome (newRequest s subject class to) (new-not-full s subject class to) q), λ z. never z)
+full-met s (move subject k receiver to) = (λ q. absurd (other-outcome (moveRequest s subject k receiver to) (move-not-full s subject k receiver to) q), λ z. never z)
+full-met s (call subject k m vs) =
+    let passed = passesTests s subject k m vs in (
+      λ q. let p : So passed = tests-seen s subject k m vs ∙ ap (λ o. not (refusedBefore o)) q in both p (so-leb (limit-seen s subject k m vs p .0 q)),
+      λ z. limit-seen s subject k m vs (first passed _ z) .1 (leb-so (second passed _ z)),
+    )
+full-met s (answer subject j v) = (λ q. absurd (other-outcome (answerRequest s subject j v) (answer-not-full s subject j v) q), λ z. never z)
 
 -- ---- L29, L30: from a loaded sheet nobody has made more than 32
 run-bounded : (qs : List Request) (s : System) → Bounded s → Bounded (run s qs .1)
