@@ -1,6 +1,6 @@
 -- Rules L28 to L31: the calls of a subject are counted by its accepted calls, and 18 says that they are 32, whatever the others asked (spec_model Callers).
 use mathlib.Core.Path.{_≡_, refl, ap, sym, _∙_}
-use mathlib.Core.Logic.{_↔_, _≢_}
+use mathlib.Core.Logic.{_↔_}
 use mathlib.Core.Bool.{Bool, true, false, not, _&&_, _||_, So, cond}
 use mathlib.Core.List.{List, [], _∷_, _++_, map}
 use mathlib.Core.Option.{Option, none, some}
@@ -14,9 +14,9 @@ use Rattle.spec_model.specs.Table.{Rep, ref, w32, w64, Kind, sub, closed, Table
 use Rattle.spec_model.specs.Relations.{subtype, conforms, strict, loose, free, related}
 use Rattle.spec_model.specs.Restriction.{derive, derived}
 use Rattle.spec_model.specs.Crossing.{Place, placeType, placeAt, baseOf, baseOwner, Reference, adapt, cross, maxPlaces}
-use Rattle.spec_model.specs.Requests.{Call, System, loaded, Request, new, move, call, answer, Result, pair, number, Outcome, got, refused, outcome, cellAt, callAt, held, leaving, addCell, maxCells}
+use Rattle.spec_model.specs.Requests.{Call, System, loaded, Request, new, move, call, answer, Result, pair, Outcome, got, refused, outcome, cellAt, held, leaving, addCell, maxCells}
 use Rattle.spec_model.specs.Requests.{maxCallsEach, madeBy, adapterCount, callLayers, atLayer, renumber, crossLayers, within, passLayers, send, argumentsHeld, sendArguments, withCall, callRequest}
-use Rattle.spec_model.specs.Requests.{isSheetRef, newRequest, moveRequest, withAnswer, dueFor, answersMet, give, answerRequest, serve, after, run}
+use Rattle.spec_model.specs.Requests.{number, callAt, isSheetRef, newRequest, moveRequest, withAnswer, dueFor, answersMet, give, answerRequest, serve, after, run}
 use Rattle.spec_model.specs.Refusals.{unknownSubject, notHeld, unknownType, unrelated, notOwner, notStrict, typesFull, placesFull, cellsFull, notCallable, wrongValues, tooWide}
 use Rattle.spec_model.specs.Refusals.{answeredAlready, callsFull, laterLayer}
 use Rattle.spec_model.specs.Claim.{accepted, follow}
@@ -27,9 +27,9 @@ use Rattle.law_model.proofs.Steps.{IfOk, whatever}
 use Rattle.law_model.proofs.Callers.{bumped-plus, made-append, made-answered}
 use Rattle.law_model.proofs.Checked.{Bounded, bounded-kept, fits-bounded}
 use Rattle.law_model.proofs.Reached.{reached-fits}
-use Rattle.law_rules.proofs.Layers.{IfRefused, refused-need, refused-try, refused-map}
-use Rattle.law_rules.proofs.Made.{Makes, serve-makes}
+use Rattle.law_rules.proofs.Layers.{IfRefused, refused-need, refused-try}
 use Rattle.law_rules.proofs.Refusals.{entering}
+use Rattle.law_rules.proofs.Made.{Makes, serve-makes}
 
 -- ---- L28: one request, a list of them
 -- a call counts where it was accepted
@@ -220,78 +220,73 @@ limit-seen s subject k m vs p = let c = cellAt s (named k) in let x = methodAt (
     let v = full-is (madeBy (named subject) (s .calls)) in
     (λ q. v .0 (w .0 q), λ l. w .1 (v .1 l))
 
--- ---- L31: no other request gives 18
-abbrev NotFull : ℕ → Type 0
-NotFull e = eqb e callsFull ≡ false
+-- ---- L31: no other request meets 18, and a call only so
+abbrev NotFull : {A : Type 0} → Res A → Type 0
+NotFull m = IfRefused m (λ e. eqb e callsFull ≡ false)
 
-not-full : {A : Type 0} (m : Res A) → MetOnWay m → IfRefused m NotFull
-not-full m h = refused-map OnWay NotFull (λ e w. w .1) m h
+way-not-full : {A : Type 0} (m : Res A) → MetOnWay m → NotFull m
+way-not-full (refuse e) h = h .1
+way-not-full (ok a) h = tt
 
-arrived-not-full : (s : System) (r : ℕ) (m : Res Reference) → MetOnWay m → IfRefused (try m λ f. addCell s r f) NotFull
+full-need : {A : Type 0} (b : Bool) (e : ℕ) (k : Unit {0} → Res A) → eqb e callsFull ≡ false → NotFull (k tt) → NotFull (need b e k)
+full-need b e k = refused-need (λ e. eqb e callsFull ≡ false) b e k
+
+full-try : {A B : Type 0} (m : Res A) (k : A → Res B) → MetOnWay m → ((a : A) → NotFull (k a)) → NotFull (try m k)
+full-try m k h f = refused-try (λ e. eqb e callsFull ≡ false) (λ _. Unit {0}) m k (way-not-full m h) (whatever m) λ a _. f a
+
+arrived-not-full : (s : System) (r : ℕ) (f : Reference) (to : ℕ) → NotFull (try (cross f to r) λ g. addCell s r g)
 unfolding addCell
-arrived-not-full s r m h = not-full (try m λ f. addCell s r f) (way-try m _ h λ f. refused-need OnWay (ltb (length (s .cells)) maxCells) cellsFull _ (refl, refl) tt)
+arrived-not-full s r f to = full-try (cross f to r) _ (cross-way f to r) λ g. full-need (ltb (length (s .cells)) maxCells) cellsFull _ refl tt
 
-given-not-full : {A : Type 0} (m : Res A) (f : A → System × Result) → MetOnWay m → IfRefused (try m λ x. ok (f x)) NotFull
-given-not-full (refuse e) f h = h .1
-given-not-full (ok x) f h = tt
-
-give-not-full : (s : System) (subject : ℤ) (j : ℕ) (due : Option ℕ) (v : Option ℤ) → IfRefused (give s subject j due v) NotFull
+give-not-full : (s : System) (subject : ℤ) (j : ℕ) (due : Option ℕ) (v : Option ℤ) → NotFull (give s subject j due v)
 unfolding give
 give-not-full s subject j none none = tt
 give-not-full s subject j none (some v) = refl
 give-not-full s subject j (some a) none = refl
 give-not-full s subject j (some a) (some v) = go (isRef (typeAt (s .table) a .rep))
   where
-    ts : List (Option ℕ)
-    ts = answersMet s j
+    go : (b : Bool) → NotFull {A = System × Result} (elim b [
+      | true ↦ need (held s subject v) wrongValues λ _. try (send s (callAt s j .caller) (named v) (answersMet s j)) λ x. ok (withAnswer (x .0) j, x .1)
+      | false ↦ try (passLayers true (s .table) v (answersMet s j)) λ _. ok (withAnswer s j, number v)
+    ])
+    go true = full-need (held s subject v) wrongValues _ refl
+        (full-try (send s (callAt s j .caller) (named v) (answersMet s j)) _ (send-way s (callAt s j .caller) (named v) (answersMet s j)) λ x. tt)
+    go false = full-try (passLayers true (s .table) v (answersMet s j)) _ (pass-way true (s .table) v (answersMet s j)) λ _. tt
 
-    go : (b : Bool) → IfRefused {A = System × Result} (elim b [
-      | true ↦ need (held s subject v) wrongValues λ _. try (send s (callAt s j .caller) (named v) ts) λ x. ok (withAnswer (x .0) j, x .1)
-      | false ↦ try (passLayers true (s .table) v ts) λ _. ok (withAnswer s j, number v)
-    ]) NotFull
-    go true = refused-need NotFull (held s subject v) wrongValues _ refl
-        (given-not-full (send s (callAt s j .caller) (named v) ts) (λ x. (withAnswer (x .0) j, x .1)) (send-way s (callAt s j .caller) (named v) ts))
-    go false = given-not-full (passLayers true (s .table) v ts) (λ _. (withAnswer s j, number v)) (pass-way true (s .table) v ts)
-
-new-not-full : (s : System) (subject class to : ℤ) → IfRefused (newRequest s subject class to) NotFull
-unfolding newRequest
-new-not-full s subject class to = let f = entering s subject class in
-    refused-need NotFull (names subject (s .table .subjects)) unknownSubject _ refl
-    (refused-need NotFull (names class (s .table .sheet) && isClass (typeAt (s .table) (named class))) unknownType _ refl
-    (refused-need NotFull (isSheetRef (s .table) to) unknownType _ refl
-    (refused-need NotFull (ltb (length (s .places)) maxPlaces) placesFull _ refl
-    (arrived-not-full s (named subject) (cross f (named to) (named subject)) (cross-way f (named to) (named subject))))))
-
-move-not-full : (s : System) (subject k receiver to : ℤ) → IfRefused (moveRequest s subject k receiver to) NotFull
-unfolding moveRequest
-move-not-full s subject k receiver to = let f = leaving s (named k) in
-    refused-need NotFull (names subject (s .table .subjects) && names receiver (s .table .subjects)) unknownSubject _ refl
-    (refused-need NotFull (held s subject k) notHeld _ refl
-    (refused-need NotFull (isSheetRef (s .table) to) unknownType _ refl
-    (arrived-not-full s (named receiver) (cross f (named to) (named receiver)) (cross-way f (named to) (named receiver)))))
-
-answer-not-full : (s : System) (subject j : ℤ) (v : Option ℤ) → IfRefused (answerRequest s subject j v) NotFull
-unfolding answerRequest
-answer-not-full s subject j v =
-    refused-need NotFull (names subject (s .table .subjects)) unknownSubject _ refl
-    (refused-need NotFull (names j (length (s .calls)) && eqb (named subject) (baseOwner (s .places) (cellAt s (callAt s (named j) .cell) .place))) notHeld _ refl
-    (refused-need NotFull (not (callAt s (named j) .answered)) answeredAlready _ refl (give-not-full s subject (named j) (dueFor s (named j)) v)))
-
--- a refusal that is not 18, or none, is another outcome
-other-outcome : (m : Res (System × Result)) → IfRefused m NotFull → outcome m ≢ refused callsFull
-other-outcome (refuse e) h q = eqb-no h (ap numberOf q)
-other-outcome (ok x) h q = let z : 0 ≡ callsFull = ap numberOf q in omega (arith, z)
+not-met : (m : Res (System × Result)) → NotFull m → outcome m ≡ refused callsFull → ⊥
+not-met (refuse e) h q = eqb-no h (ap numberOf q)
+not-met (ok x) h q = let z : 0 ≡ callsFull = ap numberOf q in omega (arith, z)
 
 pub full-met : FullMet
-unfolding serve
-full-met s (new subject class to) = (λ q. absurd (other-outcome (newRequest s subject class to) (new-not-full s subject class to) q), λ z. never z)
-full-met s (move subject k receiver to) = (λ q. absurd (other-outcome (moveRequest s subject k receiver to) (move-not-full s subject k receiver to) q), λ z. never z)
-full-met s (call subject k m vs) =
-    let passed = passesTests s subject k m vs in (
-      λ q. let p : So passed = tests-seen s subject k m vs ∙ ap (λ o. not (refusedBefore o)) q in both p (so-leb (limit-seen s subject k m vs p .0 q)),
-      λ z. limit-seen s subject k m vs (first passed _ z) .1 (leb-so (second passed _ z)),
-    )
-full-met s (answer subject j v) = (λ q. absurd (other-outcome (answerRequest s subject j v) (answer-not-full s subject j v) q), λ z. never z)
+unfolding serve newRequest moveRequest answerRequest
+full-met s (new subject class to) = (
+  λ q. absurd (not-met (newRequest s subject class to) (
+      full-need (names subject (s .table .subjects)) unknownSubject _ refl
+      (full-need (names class (s .table .sheet) && isClass (typeAt (s .table) (named class))) unknownType _ refl
+      (full-need (isSheetRef (s .table) to) unknownType _ refl
+      (full-need (ltb (length (s .places)) maxPlaces) placesFull _ refl
+      (arrived-not-full s (named subject) (entering s subject class) (named to)))))) q),
+  λ z. never z,
+)
+full-met s (move subject k receiver to) = (
+  λ q. absurd (not-met (moveRequest s subject k receiver to) (
+      full-need (names subject (s .table .subjects) && names receiver (s .table .subjects)) unknownSubject _ refl
+      (full-need (held s subject k) notHeld _ refl
+      (full-need (isSheetRef (s .table) to) unknownType _ refl
+      (arrived-not-full s (named receiver) (leaving s (named k)) (named to))))) q),
+  λ z. never z,
+)
+full-met s (call subject k m vs) = (
+  λ q. let p : So (passesTests s subject k m vs) = tests-seen s subject k m vs ∙ ap (λ o. not (refusedBefore o)) q in both p (so-leb (limit-seen s subject k m vs p .0 q)),
+  λ z. let p = first (passesTests s subject k m vs) _ z in limit-seen s subject k m vs p .1 (leb-so (second (passesTests s subject k m vs) _ z)),
+)
+full-met s (answer subject j v) = (
+  λ q. absurd (not-met (answerRequest s subject j v) (
+      full-need (names subject (s .table .subjects)) unknownSubject _ refl
+      (full-need (names j (length (s .calls)) && eqb (named subject) (baseOwner (s .places) (cellAt s (callAt s (named j) .cell) .place))) notHeld _ refl
+      (full-need (not (callAt s (named j) .answered)) answeredAlready _ refl (give-not-full s subject (named j) (dueFor s (named j)) v)))) q),
+  λ z. never z,
+)
 
 -- ---- L29, L30: from a loaded sheet nobody has made more than 32
 run-bounded : (qs : List Request) (s : System) → Bounded s → Bounded (run s qs .1)

@@ -67,7 +67,7 @@ late b e (inl q) = inl q
 late b e (inr (inl q)) = inr (inr q)
 late b e (inr (inr q)) = inr (inr q)
 
-pub refused-map : {A : Type 0} (P Q : ℕ → Type 0) → ((e : ℕ) → P e → Q e) → (m : Res A) → IfRefused m P → IfRefused m Q
+refused-map : {A : Type 0} (P Q : ℕ → Type 0) → ((e : ℕ) → P e → Q e) → (m : Res A) → IfRefused m P → IfRefused m Q
 refused-map P Q f (refuse e) h = f e h
 refused-map P Q f (ok a) h = tt
 
