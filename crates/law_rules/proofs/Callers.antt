@@ -17,7 +17,8 @@ use Rattle.spec_model.specs.Crossing.{Place, placeType, placeAt, baseOf, baseOw
 use Rattle.spec_model.specs.Requests.{Call, System, loaded, Request, new, move, call, answer, Result, pair, Outcome, got, refused, outcome, cellAt, held, leaving, addCell, maxCells}
 use Rattle.spec_model.specs.Requests.{maxCallsEach, madeBy, adapterCount, callLayers, atLayer, renumber, crossLayers, within, passLayers, send, argumentsHeld, sendArguments, withCall, callRequest}
 use Rattle.spec_model.specs.Requests.{number, callAt, isSheetRef, newRequest, moveRequest, withAnswer, dueFor, answersMet, give, answerRequest, serve, after, run}
-use Rattle.spec_model.specs.Refusals.{unknownSubject, notHeld, unknownType, unrelated, notOwner, notStrict, typesFull, placesFull, cellsFull, notCallable, wrongValues, tooWide, answeredAlready, callsFull, laterLayer}
+use Rattle.spec_model.specs.Refusals.{unknownSubject, notHeld, unknownType, unrelated, notOwner, notStrict, typesFull, placesFull, cellsFull, notCallable, wrongValues, tooWide}
+use Rattle.spec_model.specs.Refusals.{answeredAlready, callsFull, laterLayer}
 use Rattle.spec_model.specs.Claim.{accepted, follow}
 use Rattle.spec_model.specs.Callers.{Transcript, taken, seen, calledBy, acceptedCalls, passesTests, refusedBefore, ranTo, sawOf, CallsCounted, CallsLimited, CallsApart, TestsSeen, FullMet}
 use Rattle.spec_model.proofs.Tests.{eqb-no, ltb-so, ltb-no, leb-so, so-leb}
@@ -186,18 +187,19 @@ tests-seen s subject k m vs = let c = cellAt s (named k) in let x = methodAt (s 
     (ltb (madeBy (named subject) (s .calls)) maxCallsEach) (sendArguments s (baseOwner (s .places) (c .place)) (callLayers s c) (named m) 0 (x .args) vs) _
     (arguments-way s (baseOwner (s .places) (c .place)) (callLayers s c) (named m) 0 (x .args) vs)
 
+-- the number of a refusal; 0 is none
+abbrev numberOf : Outcome → ℕ
+numberOf (refused e) = e
+numberOf (got x) = 0
+
 seen-limit : (a b c d e : Bool) (m : Res System) (f : System → System × Result) → MetOnWay m → So (a && (b && (c && d))) → (Tested a b c d e m f ≡ refused callsFull) ↔ (e ≡ false)
 seen-limit false b c d e m f h p = never p
 seen-limit true false c d e m f h p = never p
 seen-limit true true false d e m f h p = never p
 seen-limit true true true false e m f h p = never p
 seen-limit true true true true false m f h p = (λ _. refl, λ _. refl)
-seen-limit true true true true true (refuse n) f h p = (λ q. absurd (eqb-no (h .1) (ap number-of q)), λ z. never (sym z))
-  where
-    number-of : Outcome → ℕ
-    number-of (refused e) = e
-    number-of (got x) = 0
-seen-limit true true true true true (ok x) f h p = (λ q. let z : _≡_ {A = ℕ} 0 1 = cc in absurd (omega arith), λ z. never (sym z))
+seen-limit true true true true true (refuse n) f h p = (λ q. absurd (eqb-no (h .1) (ap numberOf q)), λ z. never (sym z))
+seen-limit true true true true true (ok x) f h p = (λ q. let z : 0 ≡ callsFull = ap numberOf q in absurd (omega (arith, z)), λ z. never (sym z))
 
 full-is : (n : ℕ) → (ltb n maxCallsEach ≡ false) ↔ (maxCallsEach ≤ n)
 full-is n = (ltb-no, λ l. go (ltb n maxCallsEach) refl l)
@@ -232,9 +234,9 @@ full-need b e k = refused-need (λ e. eqb e callsFull ≡ false) b e k
 full-try : {A B : Type 0} (m : Res A) (k : A → Res B) → MetOnWay m → ((a : A) → NotFull (k a)) → NotFull (try m k)
 full-try m k h f = refused-try (λ e. eqb e callsFull ≡ false) (λ _. Unit {0}) m k (way-not-full m h) (whatever m) λ a _. f a
 
-cell-not-full : (s : System) (r : ℕ) (f : Reference) → NotFull (addCell s r f)
+arrived-not-full : (s : System) (r : ℕ) (f : Reference) (to : ℕ) → NotFull (try (cross f to r) λ g. addCell s r g)
 unfolding addCell
-cell-not-full s r f = full-need (ltb (length (s .cells)) maxCells) cellsFull _ refl tt
+arrived-not-full s r f to = full-try (cross f to r) _ (cross-way f to r) λ g. full-need (ltb (length (s .cells)) maxCells) cellsFull _ refl tt
 
 give-not-full : (s : System) (subject : ℤ) (j : ℕ) (due : Option ℕ) (v : Option ℤ) → NotFull (give s subject j due v)
 unfolding give
@@ -252,34 +254,39 @@ give-not-full s subject j (some a) (some v) = go (isRef (typeAt (s .table) a .re
     go false = full-try (passLayers true (s .table) v (answersMet s j)) _ (pass-way true (s .table) v (answersMet s j)) λ _. tt
 
 not-met : (m : Res (System × Result)) → NotFull m → outcome m ≡ refused callsFull → ⊥
-not-met (refuse e) h q = eqb-no h (ap number-of q)
-  where
-    number-of : Outcome → ℕ
-    number-of (refused e) = e
-    number-of (got x) = 0
-not-met (ok x) h q = let z : _≡_ {A = ℕ} 0 1 = cc in omega arith
+not-met (refuse e) h q = eqb-no h (ap numberOf q)
+not-met (ok x) h q = let z : 0 ≡ callsFull = ap numberOf q in omega (arith, z)
 
 pub full-met : FullMet
 unfolding serve newRequest moveRequest answerRequest
-full-met s (new subject class to) = (λ q. absurd (not-met (newRequest s subject class to) (
-    full-need (names subject (s .table .subjects)) unknownSubject _ refl
-    (full-need (names class (s .table .sheet) && isClass (typeAt (s .table) (named class))) unknownType _ refl
-    (full-need (isSheetRef (s .table) to) unknownType _ refl
-    (full-need (ltb (length (s .places)) maxPlaces) placesFull _ refl
-    (full-try (cross (entering s subject class) (named to) (named subject)) _ (cross-way (entering s subject class) (named to) (named subject)) λ f. cell-not-full s (named subject) f))))) q), λ z. never z)
-full-met s (move subject k receiver to) = (λ q. absurd (not-met (moveRequest s subject k receiver to) (
-    full-need (names subject (s .table .subjects) && names receiver (s .table .subjects)) unknownSubject _ refl
-    (full-need (held s subject k) notHeld _ refl
-    (full-need (isSheetRef (s .table) to) unknownType _ refl
-    (full-try (cross (leaving s (named k)) (named to) (named receiver)) _ (cross-way (leaving s (named k)) (named to) (named receiver)) λ f. cell-not-full s (named receiver) f)))) q), λ z. never z)
+full-met s (new subject class to) = (
+  λ q. absurd (not-met (newRequest s subject class to) (
+      full-need (names subject (s .table .subjects)) unknownSubject _ refl
+      (full-need (names class (s .table .sheet) && isClass (typeAt (s .table) (named class))) unknownType _ refl
+      (full-need (isSheetRef (s .table) to) unknownType _ refl
+      (full-need (ltb (length (s .places)) maxPlaces) placesFull _ refl
+      (arrived-not-full s (named subject) (entering s subject class) (named to)))))) q),
+  λ z. never z,
+)
+full-met s (move subject k receiver to) = (
+  λ q. absurd (not-met (moveRequest s subject k receiver to) (
+      full-need (names subject (s .table .subjects) && names receiver (s .table .subjects)) unknownSubject _ refl
+      (full-need (held s subject k) notHeld _ refl
+      (full-need (isSheetRef (s .table) to) unknownType _ refl
+      (arrived-not-full s (named receiver) (leaving s (named k)) (named to))))) q),
+  λ z. never z,
+)
 full-met s (call subject k m vs) = (
   λ q. let p : So (passesTests s subject k m vs) = tests-seen s subject k m vs ∙ ap (λ o. not (refusedBefore o)) q in both p (so-leb (limit-seen s subject k m vs p .0 q)),
   λ z. let p = first (passesTests s subject k m vs) _ z in limit-seen s subject k m vs p .1 (leb-so (second (passesTests s subject k m vs) _ z)),
 )
-full-met s (answer subject j v) = (λ q. absurd (not-met (answerRequest s subject j v) (
-    full-need (names subject (s .table .subjects)) unknownSubject _ refl
-    (full-need (names j (length (s .calls)) && eqb (named subject) (baseOwner (s .places) (cellAt s (callAt s (named j) .cell) .place))) notHeld _ refl
-    (full-need (not (callAt s (named j) .answered)) answeredAlready _ refl (give-not-full s subject (named j) (dueFor s (named j)) v)))) q), λ z. never z)
+full-met s (answer subject j v) = (
+  λ q. absurd (not-met (answerRequest s subject j v) (
+      full-need (names subject (s .table .subjects)) unknownSubject _ refl
+      (full-need (names j (length (s .calls)) && eqb (named subject) (baseOwner (s .places) (cellAt s (callAt s (named j) .cell) .place))) notHeld _ refl
+      (full-need (not (callAt s (named j) .answered)) answeredAlready _ refl (give-not-full s subject (named j) (dueFor s (named j)) v)))) q),
+  λ z. never z,
+)
 
 -- ---- L29, L30: from a loaded sheet nobody has made more than 32
 run-bounded : (qs : List Request) (s : System) → Bounded s → Bounded (run s qs .1)

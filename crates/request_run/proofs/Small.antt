@@ -12,6 +12,7 @@ use Rattle.state_record.specs.Whole.{Whole as State}
 use Rattle.state_record.specs.View.{cellsIn, systemIn}
 use Rattle.state_record.specs.Sound.{Sound}
 use Rattle.state_record.proofs.Laws.{means-counted}
+use Rattle.state_record.proofs.Kept.{sound-few}
 use Rattle.request_common.specs.declared.Outcome.{Outcome}
 use Rattle.request_common.specs.declared.Outcome.the-variants.{Refused, Pair, Number, Nothing}
 use Rattle.request_common.specs.Served.{Done as Served}
@@ -39,6 +40,7 @@ step-small s q r h w = go (r .outcome) (subst (Small (λ (x : System × Result).
         (omega (arith, l, w .sound .cellCount), omega (arith, p, e, w .sound .descending .count))
     go (Pair a b) (inr k) =
         let n : length (systemIn s .places) ≡ s .places .count = means-counted s .places in
-        (omega (arith, k .0), omega (arith, n, k .1, h .descending .count))
+        let m : length (systemIn s .calls) ≡ s .calls .count = means-counted s .calls in
+        (omega (arith, m, k .0, sound-few s h), omega (arith, n, k .1, h .descending .count))
     go (Number v) k = tt
     go Nothing k = tt

@@ -10,7 +10,7 @@ use lib.ListN.{replicate, length}
 use Rattle.spec_model.specs.Table.{avail, Table, noType, signed, bare}
 use Rattle.spec_model.specs.Crossing.{object}
 use Rattle.spec_model.specs.Requests.{Call, System, Request, Outcome, got, refused, pair, nothing, run}
-use Rattle.spec_model.specs.Check.{RawSystem, systemAccepted}
+use Rattle.spec_model.specs.Check.{RawSystem}
 use Rattle.spec_model.specs.Handed.{rawLoaded, storedFrom, serveHanded}
 use Rattle.spec_model.proofs.Codes.{rawTableOf}
 use Rattle.spec_model.proofs.CasesWords.{type, sheetOf, cell, stateFrom, new′, move′, call′, answer′}
