@@ -1,7 +1,7 @@
 -- The counts that the loops keep of each subject's calls: those of the calls seen so far, and what they come to at the end (H17).
 use mathlib.Core.Path.{_≡_, refl, ap, sym, subst, _∙_}
 use mathlib.Core.Bool.{Bool, true, false, So, cond}
-use mathlib.Core.List.{List, [], _∷_, _++_}
+use mathlib.Core.List.{List}
 use Prim.Native.Nat.{ℕ, zero, suc, _+_, _-_, _≤_, _<_}
 use native.Mathlib.Numerals.{add-one}
 use native.Mathlib.Omega.{arith}
@@ -15,9 +15,8 @@ use Rattle.spec_model.specs.Table.{maxSubjects}
 use Rattle.spec_model.specs.Requests.{Call as Callᵐ, noCall, maxCallsEach, madeBy}
 use Rattle.spec_model.proofs.Tests.{leb-so, so-leb}
 use Rattle.spec_model.proofs.Lists.{all-from, from-first, length-from}
-use Rattle.law_model.proofs.Callers.{made-append, made-one}
 use Rattle.law_model.proofs.Fitting.{all-at}
-use Rattle.table_record.proofs.Lists.{from-last}
+use Rattle.state_record.proofs.Kept.{made-last}
 use Rattle.state_check.specs.Parts.{callersAccepted, CallersBelow}
 
 -- the first j of the calls f 0, f 1, .. are counted, by subject
@@ -36,9 +35,6 @@ module _ (f : ℕ → Callᵐ) where
   }
 
   -- one call more
-  last-made : (k j : ℕ) → madeBy k (from (suc j) 0 f) ≡ madeBy k (from j 0 f) + cond (eqb k (f j .caller)) 1 0
-  last-made k j = ap (madeBy k) (from-last f j 0) ∙ made-append k (from j 0 f) (f (0 + j) ∷ []) ∙ ap (λ (i : ℕ). madeBy k (from j 0 f) + cond (eqb k (f i .caller)) 1 0) (omega arith)
-
   pub tally-more : (j : ℕ) (made : List ℕ) → Tallied f j made → (c : ℕ) → c ≡ f j .caller → c < maxSubjects → getD made c 0 < maxCallsEach → Tallied f (j + 1) (set made c (getD made c 0 + 1))
   tally-more j made t c is low room = subst (λ (i : ℕ). Tallied f i (set made c (getD made c 0 + 1))) (sym (add-one j)) (record {
     counts = λ k l. at k l (ℕ-discrete k c) .0;
@@ -50,19 +46,19 @@ module _ (f : ℕ → Callᵐ) where
       at k l (yes e) =
           let s : getD (set made c (getD made c 0 + 1)) k 0 ≡ getD made c 0 + 1 = ap (λ (i : ℕ). getD (set made c (getD made c 0 + 1)) i 0) e
           ∙ getD-set-same made c (getD made c 0 + 1) 0 (omega (arith, low, t .long)) in
-          let m : madeBy k (from (suc j) 0 f) ≡ madeBy k (from j 0 f) + 1 = last-made k j ∙ ap (λ (b : Bool). madeBy k (from j 0 f) + cond b 1 0) (eq-eqb k (f j .caller) (e ∙ is)) in
+          let m : madeBy k (from (suc j) 0 f) ≡ madeBy k (from j 0 f) + 1 = made-last f k j ∙ ap (λ (b : Bool). madeBy k (from j 0 f) + cond b 1 0) (eq-eqb k (f j .caller) (e ∙ is)) in
           let o : getD made c 0 ≡ madeBy k (from j 0 f) = t .counts c low ∙ ap (λ (i : ℕ). madeBy i (from j 0 f)) (sym e) in
           (omega (arith, s, m, o), omega (arith, s, room))
       at k l (no e) =
           let s = getD-set-other made c k (getD made c 0 + 1) 0 e in
-          let m : madeBy k (from (suc j) 0 f) ≡ madeBy k (from j 0 f) + 0 = last-made k j ∙ ap (λ (b : Bool). madeBy k (from j 0 f) + cond b 1 0) (ne-eqb k (f j .caller) (λ z. e (z ∙ sym is))) in
+          let m : madeBy k (from (suc j) 0 f) ≡ madeBy k (from j 0 f) + 0 = made-last f k j ∙ ap (λ (b : Bool). madeBy k (from j 0 f) + cond b 1 0) (ne-eqb k (f j .caller) (λ z. e (z ∙ sym is))) in
           (omega (arith, s, m, t .counts k l), omega (arith, s, t .few k l))
 
   -- counts only rise
   made-rises : (k j d : ℕ) → madeBy k (from j 0 f) ≤ madeBy k (from (d + j) 0 f)
   made-rises k j zero = let e : j ≡ 0 + j = omega arith in subst (λ (n : ℕ). madeBy k (from j 0 f) ≤ madeBy k (from n 0 f)) e (omega arith)
   made-rises k j (suc d) = let e : suc (d + j) ≡ suc d + j = omega arith in
-      subst (λ (n : ℕ). madeBy k (from j 0 f) ≤ madeBy k (from n 0 f)) e (omega (arith, last-made k (d + j), made-rises k j d))
+      subst (λ (n : ℕ). madeBy k (from j 0 f) ≤ madeBy k (from n 0 f)) e (omega (arith, made-last f k (d + j), made-rises k j d))
 
   -- a caller that has made all of its calls, and one more call of it
   pub tally-over : (n j : ℕ) (made : List ℕ) → Tallied f j made → j < n → (c : ℕ) → c ≡ f j .caller → (subjects : ℕ) → c < subjects → subjects ≤ maxSubjects → maxCallsEach ≤ getD made c 0
@@ -71,7 +67,7 @@ module _ (f : ℕ → Callᵐ) where
     where
       more : maxCallsEach < madeBy c (from n 0 f)
       more =
-          let e = last-made c j ∙ ap (λ (b : Bool). madeBy c (from j 0 f) + cond b 1 0) (eq-eqb c (f j .caller) is) in
+          let e = made-last f c j ∙ ap (λ (b : Bool). madeBy c (from j 0 f) + cond b 1 0) (eq-eqb c (f j .caller) is) in
           let r = subst (λ (i : ℕ). madeBy c (from (suc j) 0 f) ≤ madeBy c (from i 0 f)) (let z : (n - suc j) + suc j ≡ n = omega arith in z) (made-rises c (suc j) (n - suc j)) in
           omega (arith, e, r, t .counts c (omega arith), full)
 

@@ -1,21 +1,23 @@
 -- What the steps keep: one record more leaves a state sound, where the record's numbers are below their counts.
-use mathlib.Core.Path.{_≡_, refl, sym, subst}
-use mathlib.Core.Bool.{true, false}
+use mathlib.Core.Path.{_≡_, refl, ap, sym, subst, _∙_}
+use mathlib.Core.Bool.{true, false, cond}
 use mathlib.Core.List.{List, [], _∷_, _++_}
-use Prim.Native.Nat.{ℕ, _+_, _≤_, _<_}
+use Prim.Native.Nat.{ℕ, suc, _+_, _≤_, _<_}
 use native.Mathlib.Nat.{not-suc-le-zero}
 use native.Mathlib.Omega.{arith}
 use native.Mathlib.Decide.{decLt}
+use lib.Dec.{eqb}
 use lib.ListN.{length, getD, set, List·getD-append}
 use lib.Seq.{getD-at}
 use Rattle.spec_model.specs.Crossing.{Place as Placeᵐ, noPlace, placeAt, placeType, maxPlaces}
 use Rattle.spec_model.specs.Basics.{from}
 use Rattle.spec_model.specs.Requests.{noCall, flagged, maxCallsEach, maxCalls, madeBy}
 use Rattle.spec_model.specs.Requests.{Call as Callᵐ}
-use Rattle.law_model.proofs.Callers.{Calling, calls-few, calls-room, calling-more, calling-answered}
+use Rattle.law_model.proofs.Callers.{made-append, Calling, calls-few, calls-room, calling-more, calling-answered}
 use Rattle.table_record.specs.declared.Counts.{Counts}
 use Rattle.table_record.specs.Limits.{Checked}
 use Rattle.table_record.specs.Layout.{typesSize}
+use Rattle.table_record.proofs.Lists.{from-last}
 use Rattle.state_record.specs.declared.Places.{Places}
 use Rattle.state_record.specs.Whole.{Whole, whole}
 use Rattle.state_record.specs.View.{placesIn, callsIn, isObject, behindOf, noCalls, stateLoaded, withTypes}
@@ -72,6 +74,10 @@ sound-types s b long h = record {
   cells = λ k l. let x = h .cells k l in record { type = x .type; place = x .place };
   calls = record { each = λ j l. let x = h .calls .each j l in record { caller = x .caller; cell = x .cell; method = x .method }; few = h .calls .few };
 }
+
+-- one call more in a list of them
+pub made-last : (f : ℕ → Callᵐ) (k j : ℕ) → madeBy k (from (suc j) 0 f) ≡ madeBy k (from j 0 f) + cond (eqb k (f j .caller)) 1 0
+made-last f k j = ap (madeBy k) (from-last f j 0) ∙ made-append k (from j 0 f) (f (0 + j) ∷ []) ∙ ap (λ (i : ℕ). madeBy k (from j 0 f) + cond (eqb k (f i .caller)) 1 0) (omega arith)
 
 -- Callers are known and each has few calls, so that there is room for who has fewer (Q9).
 module _ (s : Whole) (h : Sound s) where

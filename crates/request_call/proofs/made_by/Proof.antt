@@ -1,52 +1,74 @@
+-- The invariant: the calls so far are counted, as the model counts them.
+use mathlib.Core.Path.{_≡_, refl, ap, sym, _∙_}
+use mathlib.Core.Logic.{⊎-elim}
+use mathlib.Core.Bool.{Bool, cond}
+use Prim.Native.Nat.{ℕ, suc, _+_, _-_, _≤_}
+use native.Mathlib.Numerals.{add-one}
 use native.Mathlib.Omega.{arith}
 use borrow.Author.Needs.{needs}
+use borrow.Author.Tests.{eq-eqb, ne-eqb}
+use lib.ListN.{getD}
+use Rattle.spec_model.specs.Basics.{from}
+use Rattle.spec_model.specs.Requests.{madeBy}
+use Rattle.spec_model.specs.Requests.{Call as Callᵐ}
+use Rattle.state_record.specs.declared.Calls.{Calls}
+use Rattle.state_record.specs.View.{callOf, blankCall, callsIn}
+use Rattle.state_record.proofs.Kept.{made-last}
 use Rattle.request_call.proofs.made_by.Statement.{statement}
 use Rattle.request_call.proofs.made_by.Tie as tie
-use Rattle.request_call.proofs.made_by.Reads as reads
-use Rattle.request_call.proofs.made_by.Lts as lts
-use Rattle.base_numbers.proofs.wide.Reads as wide-reads
+
+abbrev called : Calls → ℕ → Callᵐ
+called js j = callOf (getD (js .list) j blankCall)
+
+are : (js : Calls) → callsIn js ≡ from (js .count) 0 (called js)
+unfolding callsIn
+are js = refl
+
+ends : (j n : ℕ) → j ≤ n → n ≤ j → j ≡ n
+ends j n l z = omega arith
+
+next : (j : ℕ) (f : ℕ → ℕ) → f (j + 1) ≡ f (suc j)
+next j f = ap f (add-one j)
 
 abbrev Inv-loop : tie.InvT-loop
-Inv-loop who js n made₀ j₀ made j = ?
+Inv-loop who js n made₀ j₀ made j = (j ≤ n) × (n ≡ js .count) × (made ≤ j) × (made ≡ madeBy who (from j 0 (called js)))
 
 abbrev μ-loop : tie.MeasureT-loop
-μ-loop who js n made₀ j₀ made j = ?
+μ-loop who js n made₀ j₀ made j = n - j
 
--- src/lib.rt:92:5
 loop-holds : tie.Need-loop-holds Inv-loop μ-loop
-loop-holds c = search needs
+unfolding from
+loop-holds c = (omega arith, refl, omega arith, refl)
 
--- src/lib.rt:93:17
 mul-wide : tie.Need-mul-wide Inv-loop μ-loop
 mul-wide c = search needs
 
--- src/lib.rt:93:17
 element-copy-out-wide : tie.Need-element-copy-out-wide Inv-loop μ-loop
 element-copy-out-wide c = search needs
 
--- src/lib.rt:93:12
 wide-requires : tie.Need-wide-requires Inv-loop μ-loop
 wide-requires c κs = search needs
 
--- src/lib.rt:94:13
 add-made : tie.Need-add-made Inv-loop μ-loop
 add-made c = search needs
 
--- src/lib.rt:96:9
 add-j : tie.Need-add-j Inv-loop μ-loop
 add-j c = search needs
 
--- src/lib.rt:92:5
 loop-less : tie.Need-loop-less Inv-loop μ-loop
 loop-less c = search needs
 
--- src/lib.rt:92:5
 loop-again : tie.Need-loop-again Inv-loop μ-loop
-loop-again c = search needs
+loop-again c = let a = c .before .before .before .before .args in let l = c .before .before .before .loop in let x = c .before .wide .ensures .0 in
+    let m = made-last (called (a .t1)) (a .who) (l .j) in let k = next (l .j) (λ (n : ℕ). madeBy (a .who) (from n 0 (called (a .t1)))) in
+    let count : Bool → ℕ = λ b. madeBy (a .who) (from (l .j) 0 (called (a .t1))) + cond b 1 0 in ⊎-elim
+    (λ w. let e = m ∙ ap count (eq-eqb (a .who) _ (sym (w .0 .taken) ∙ x)) in (omega arith, refl, omega (arith, l .inv .2, w .1), omega (arith, l .inv .3, w .1, e, k)))
+    (λ w. let e = m ∙ ap count (ne-eqb (a .who) _ (λ z. w .0 .left (x ∙ sym z))) in (omega arith, refl, omega (arith, l .inv .2, w .1), omega (arith, l .inv .3, w .1, e, k)))
+    (c .if1 .came)
 
--- src/lib.rt:85:1
 returns : tie.Need-returns Inv-loop μ-loop
-returns c = search needs
+returns c = let js = c .before .before .args .t1 in let l = c .before .loop in
+    l .inv .3 ∙ ap (λ (n : ℕ). madeBy (c .before .before .args .who) (from n 0 (called js))) (ends (l .j) (js .count) (l .inv .0) (c .loop-test .left)) ∙ sym (ap (madeBy (c .before .before .args .who)) (are js))
 
 pub made-by-spec : {M : Type 1} → statement M
 made-by-spec =
