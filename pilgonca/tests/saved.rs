@@ -111,8 +111,8 @@ fn the_guide_has_the_bytes() {
 fn the_longest_is_as_long_as_is_said() {
     let mut state = one().state().clone();
     state.counts = [16, 1, 31, 48, 128, 256, 128, 512];
-    let calls = state.calls.chunks_mut(4).zip(0..);
-    calls.for_each(|(call, number)| call[0] = number % 16);
+    let calls = state.calls.chunks_mut(4).zip((0..16).cycle());
+    calls.for_each(|(call, caller)| call[0] = caller);
     state
         .links
         .chunks_mut(3)
