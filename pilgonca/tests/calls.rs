@@ -278,6 +278,30 @@ fn as_many_calls_as_there_can_be_are_accepted_and_one_more_is_not() {
     }
 }
 
+/// A call is its caller's, also in a state where another holds the cell (H16).
+#[test]
+fn the_caller_counts_and_not_who_holds_the_cell() {
+    let through = |cell: u8, callers: Vec<u8>| {
+        let mut state = handed(callers);
+        let records = state.calls.chunks_exact_mut(CALL_RECORD);
+        records.for_each(|record| record[1] = cell);
+        state
+    };
+    let (caller, holder) = (Subject(5), Subject(6));
+    let mut visit = Visit::from_state(through(6, vec![5; 32])).expect("32 of one");
+    assert_eq!(read(&mut visit, caller), FULL);
+    assert_eq!(reads(&mut visit, holder), 32);
+    let mut visit = Visit::from_state(through(6, in_turn().take(480).collect())).expect("sound");
+    assert_eq!(reads(&mut visit, holder), 2);
+    assert_eq!(reads(&mut visit, caller), 2);
+    assert!(Visit::from_state(through(6, in_rows().collect())).is_ok());
+    // cells of every subject, called through by one
+    let mut state = through(0, vec![5; 33]);
+    let records = state.calls.chunks_exact_mut(CALL_RECORD).zip(in_turn());
+    records.for_each(|(record, cell)| record[1] = cell);
+    refused_by_all(&state);
+}
+
 /// What stands behind the count is nobody's call.
 #[test]
 fn what_is_behind_the_count_is_not_counted() {
