@@ -1,5 +1,5 @@
--- The numbers of an answer are small: a refusal is one of the rules', and not 0; a cell is one of the state that is left, with its place; a call is one of 256, and of adapters
--- there are no more than places.
+-- The numbers of an answer are small: a refusal is one of the rules', and not 0; a cell is one of the state that is left, with its place; a call has the count of calls before it,
+-- and of adapters there are no more than places.
 use mathlib.Core.Path.{_≡_, refl, ap, subst}
 use mathlib.Core.Logic.{_⊎_, inl, inr}
 use mathlib.Core.Bool.{Bool, true, false, So, not, _&&_, _||_, cond}
@@ -18,10 +18,9 @@ use Rattle.spec_model.specs.Restriction.{derive, derived}
 use Rattle.spec_model.specs.Crossing.{Place, object, adapter, placeAt, placeType, baseOf, baseOwner, maxPlaces, Reference, adapt, cross}
 use Rattle.spec_model.specs.Requests.{Cell, System, Request, new, move, call, answer, Result, pair, number, nothing, Outcome, got, refused, noCell, held, isSheetRef, addCell, newRequest}
 use Rattle.spec_model.specs.Requests.{moveRequest, layers, atLayer, renumber, crossLayers, within, passLayers, send, argumentsHeld, sendArguments, callRequest, withAnswer, give, answerRequest}
-use Rattle.spec_model.specs.Requests.{serve, leaving, cellAt, callAt, callLayers, maxCells, maxCalls}
+use Rattle.spec_model.specs.Requests.{serve, leaving, cellAt, callAt, callLayers, maxCells, maxCallsEach, madeBy}
 use Rattle.spec_model.specs.Check.{RawSystem, systemOf, systemAccepted}
 use Rattle.spec_model.specs.Handed.{handBack, serveHanded}
-use Rattle.spec_model.proofs.Tests.{ltb-so}
 use Rattle.spec_model.specs.Refusals.{outOfRange, unknownSubject, notHeld, unknownType, unrelated, notOwner, notStrict, typesFull, placesFull, cellsFull, notCallable, wrongValues, tooWide}
 use Rattle.spec_model.specs.Refusals.{answeredAlready, callsFull, laterLayer}
 
@@ -109,9 +108,9 @@ small-pass first t v (some a ∷ ts) = go (typeAt t a .rep) (small-pass false t 
     go w64 h = h
 
 -- ---- The numbers given.
--- a cell of the state that is left, with its place; or a call, with adapters of the state that there was
+-- a cell of the state that is left, with its place; or the next call of the state that there was, with adapters of it
 abbrev pub Named : System → System → Result → Type 0
-Named s s′ (pair a b) = ((a < length (s′ .cells)) × (cellAt s′ a .place ≡ b)) ⊎ ((a < maxCalls) × (b ≤ length (s .places)))
+Named s s′ (pair a b) = ((a < length (s′ .cells)) × (cellAt s′ a .place ≡ b)) ⊎ ((a ≡ length (s .calls)) × (b ≤ length (s .places)))
 Named s s′ (number v) = Unit {0}
 Named s s′ nothing = Unit {0}
 
@@ -182,11 +181,11 @@ module _ (s : System) where
       small-need (Q s) (held s subject k) notHeld _ (omega arith, omega arith) λ _.
       small-need (Q s) (names m (s .table .methods) && isAvail (methodAt (s .table) (c .type) (named m) .state)) notCallable _ (omega arith, omega arith) λ _.
       small-need (Q s) (argumentsHeld s subject xs vs) wrongValues _ (omega arith, omega arith) λ _.
-      small-need (Q s) (ltb (length (s .calls)) maxCalls) callsFull _ (omega arith, omega arith) λ room.
+      small-need (Q s) (ltb (madeBy (named subject) (s .calls)) maxCallsEach) callsFull _ (omega arith, omega arith) λ _.
       small-try any (Q s) (sendArguments s (baseOwner (s .places) (c .place)) (callLayers s c) (named m) 0 xs vs) _
       (small-arguments s s (baseOwner (s .places) (c .place)) (callLayers s c) (named m) 0 xs vs) λ x _.
       let few = layers-few (length (s .places)) (s .places) (c .place) in
-      inr (ltb-so room, omega (arith, few))
+      inr (refl, omega (arith, few))
 
   small-give : (subject : ℤ) (j : ℕ) (due : Option ℕ) (v : Option ℤ) → Small (Q s) (give s subject j due v)
   unfolding give

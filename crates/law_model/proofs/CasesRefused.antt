@@ -75,8 +75,8 @@ refusals =
       cells = cell 1 0 0 ∷ [];
       places = [];
     }
-    -- 18: call 255 is the last (C7)
-    ∷ record { state = full 1 1 255; requests = call′ 0 0 0 [] ∷ call′ 0 0 0 [] ∷ []; gives = got (pair 255 0) ∷ refused 18 ∷ []; cells = []; places = [] }
+    -- 18: a subject's call 32 is its last (C7)
+    ∷ record { state = full 1 1 31; requests = call′ 0 0 0 [] ∷ call′ 0 0 0 [] ∷ []; gives = got (pair 31 0) ∷ refused 18 ∷ []; cells = []; places = [] }
     ∷ []
 
 pub refusals-worked : AllWork refusals

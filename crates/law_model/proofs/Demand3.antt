@@ -15,9 +15,9 @@ use Rattle.spec_model.specs.Basics.{Res, refuse, ok, try, need, _⇒_, all, nam
 use Rattle.spec_model.specs.Table.{Method, Table, noMethod, size, typeAt, methodAt, argumentAt, answerAt, isRef, permit, isAvail, isSettled, isClass}
 use Rattle.spec_model.specs.Relations.{conforms}
 use Rattle.spec_model.specs.Crossing.{Place, object, noPlace, maxPlaces, baseOf, baseOwner, Reference, cross}
-use Rattle.spec_model.specs.Requests.{Cell, Call, System, maxCells, maxCalls, loaded, Request, new, move, call, answer, Result, pair, number, noCell, noCall, cellAt, callAt, isSheetRef, held}
+use Rattle.spec_model.specs.Requests.{Cell, Call, System, maxCells, maxCallsEach, loaded, Request, new, move, call, answer, Result, pair, number, noCell, noCall, cellAt, callAt, isSheetRef, held}
 use Rattle.spec_model.specs.Requests.{leaving, withCell, addCell, newRequest, moveRequest, adapterCount, callLayers, crossLayers, passLayers, send, argumentsHeld, sendArguments, withCall}
-use Rattle.spec_model.specs.Requests.{callRequest, flagged, withAnswer, give, answerRequest, serve, after}
+use Rattle.spec_model.specs.Requests.{madeBy, callRequest, flagged, withAnswer, give, answerRequest, serve, after}
 use Rattle.spec_model.specs.Chains.{permits, offered}
 use Rattle.spec_model.specs.Book.{Page, Note, Book, lastType, emptyPage, pageCross, pageCrossAll, addPage, pageLayers, copyPage, copyArguments, addNote, copyAnswer, enter}
 use Rattle.spec_model.specs.Claim.{accepted, feed, follow, reached, noteOf, Claim}
@@ -278,7 +278,7 @@ module _ (s : System) (gs : List Page) (j : Joined s gs) where
       ok-need _ (held s subject k) notHeld _ λ h.
       ok-need _ (names m (s .table .methods) && isAvail (methodAt (s .table) (cellAt s (named k) .type) (named m) .state)) notCallable _ λ _.
       ok-need _ (argumentsHeld s subject (methodAt (s .table) (cellAt s (named k) .type) (named m) .args) vs) wrongValues _ λ a.
-      ok-need _ (ltb (length (s .calls)) maxCalls) callsFull _ λ _. go (held-in s subject k h) a
+      ok-need _ (ltb (madeBy (named subject) (s .calls)) maxCallsEach) callsFull _ λ _. go (held-in s subject k h) a
     where
       t : Table
       t = s .table

@@ -121,6 +121,7 @@ method-unowned t c d x y z (here e s n) p q = go (permit (z .state)) refl
 
 -- what counts within their limits say
 pub record Counted (t : Table) : Type 0 where
+  pub subjects : t .subjects ≤ maxSubjects
   pub methods : t .methods ≤ maxMethods
   pub cats : length (t .cats) ≤ maxCategories
   pub sheet : t .sheet ≤ size t
@@ -133,7 +134,13 @@ counted-of t c =
     let a₃ = leb (length (t .cats)) maxCategories in
     let a₄ = between 1 maxSheetTypes (t .sheet) in
     let a₅ = leb (t .sheet) (size t) in let c₂ = second a₁ _ c in let c₃ = second a₂ _ c₂ in let c₅ = second a₄ _ (second a₃ _ c₃) in
-    record { methods = leb-so (second (leb 1 (t .methods)) _ (first a₂ _ c₂)); cats = leb-so (first a₃ _ c₃); sheet = leb-so (first a₅ _ c₅); types = leb-so (second a₅ _ c₅) }
+    record {
+      subjects = leb-so (second (leb 1 (t .subjects)) _ (first a₁ _ c));
+      methods = leb-so (second (leb 1 (t .methods)) _ (first a₂ _ c₂));
+      cats = leb-so (first a₃ _ c₃);
+      sheet = leb-so (first a₅ _ c₅);
+      types = leb-so (second a₅ _ c₅);
+    }
 
 -- the sheet's types are types of the table
 pub sheet-within : (t : Table) → So (countsFit t) → t .sheet ≤ size t

@@ -15,7 +15,7 @@ use Rattle.spec_model.specs.Table.{Rep, ref, w32, w64, Kind, sub, closed, Table
 use Rattle.spec_model.specs.Relations.{conforms, strict, loose, free, subtype, related}
 use Rattle.spec_model.specs.Restriction.{derive, derived}
 use Rattle.spec_model.specs.Crossing.{Place, adapter, maxPlaces, placeType, placeAt, baseOf, baseOwner, Reference, adapt, cross}
-use Rattle.spec_model.specs.Requests.{System, maxCells, maxCalls, Result, number, cellAt, callAt, held, leaving, addCell, callLayers, atLayer, renumber}
+use Rattle.spec_model.specs.Requests.{System, maxCells, maxCallsEach, madeBy, Result, number, cellAt, callAt, held, leaving, addCell, callLayers, atLayer, renumber}
 use Rattle.spec_model.specs.Requests.{crossLayers, within, passLayers, send, argumentsHeld, sendArguments, callRequest, withAnswer, give, answerRequest}
 use Rattle.spec_model.specs.Check.{systemFits}
 use Rattle.spec_model.proofs.Rules.{never}
@@ -220,7 +220,7 @@ module _ (s : System) (fits : So (systemFits s)) where
       no-need _ (names m (s .table .methods) && isAvail (methodAt (s .table) (c .type) (named m) .state)) notCallable _ refl λ _.
       let xs = methodAt (s .table) (c .type) (named m) .args in
       no-need _ (argumentsHeld s subject xs vs) wrongValues _ refl λ _.
-      no-need _ (ltb (length (s .calls)) maxCalls) callsFull _ refl λ _.
+      no-need _ (ltb (madeBy (named subject) (s .calls)) maxCallsEach) callsFull _ refl λ _.
       no-try (λ _. Unit {0}) _ (sendArguments s (baseOwner (s .places) (c .place)) (callLayers s c) (named m) 0 xs vs) _
       (arguments-no (s .table) (fitting-sigs (s .table) t) (fitting-unowned (s .table) t) (named m) (baseOwner (s .places) (c .place)) (callLayers s c)
       (call-layers-in (named k) (held-in s subject k h)) xs vs 0 s (grown-refl (s .table)))

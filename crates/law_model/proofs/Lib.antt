@@ -10,6 +10,7 @@ pub mod Trails
 pub mod Demand3
 pub mod Fitting
 pub mod Sheets
+pub mod Callers
 pub mod Within
 pub mod Checked
 pub mod Reached

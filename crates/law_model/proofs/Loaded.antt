@@ -20,6 +20,7 @@ use Rattle.spec_model.proofs.Rules.{both, first, second}
 use Rattle.spec_model.proofs.Lists.{is-from, from-shift, getD-map-in, all-from, every-from}
 use Rattle.law_model.proofs.Good.{counted-of}
 use Rattle.law_model.proofs.Fitting.{TableFitting, all-at, every-at, fitting-short}
+use Rattle.law_model.proofs.Callers.{calling-none, fit-callers}
 use Rattle.law_model.proofs.Checked.{fitting-system}
 use Rattle.law_model.proofs.Reached.{unsigned}
 use Rattle.law_model.proofs.Records.{links-back, Shaped, type-back, type-codes}
@@ -95,4 +96,5 @@ loaded-accepted r h = both (first (codesFit r) _ h) (both refl (fitting-system (
   cells = refl;
   places = refl;
   calls = refl;
+  callers = fit-callers (r .subjects) [] (calling-none (r .subjects));
 })))

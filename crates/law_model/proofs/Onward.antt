@@ -15,9 +15,9 @@ use Rattle.spec_model.specs.Table.{Kind, sub, closed, Table, maxTypes, typeAt, 
 use Rattle.spec_model.specs.Relations.{conforms, strict, loose, free, subtype, related}
 use Rattle.spec_model.specs.Restriction.{derived}
 use Rattle.spec_model.specs.Crossing.{Place, object, adapter, noPlace, maxPlaces, placeType, placeAt, baseOf, baseOwner, Reference, adapt, cross}
-use Rattle.spec_model.specs.Requests.{Call, System, maxCells, maxCalls, Request, new, move, call, answer, Result, number, noCell, noCall, cellAt, callAt, isSheetRef, held, leaving, addCell}
+use Rattle.spec_model.specs.Requests.{Call, System, maxCells, maxCallsEach, Request, new, move, call, answer, Result, number, noCell, noCall, cellAt, callAt, isSheetRef, held, leaving, addCell}
 use Rattle.spec_model.specs.Requests.{newRequest, moveRequest, callLayers, renumber, crossLayers, passLayers, send, argumentsHeld, sendArguments, withCall, callRequest, flagged, withAnswer, give}
-use Rattle.spec_model.specs.Requests.{answerRequest, serve}
+use Rattle.spec_model.specs.Requests.{madeBy, answerRequest, serve}
 use Rattle.spec_model.proofs.Lists.{Prefix, prefix-refl, prefix-trans, prefix-add}
 use Rattle.spec_model.proofs.Growth.{Grown, grown-refl, grown-trans}
 use Rattle.spec_model.specs.Refusals.{unknownSubject, notHeld, unknownType, unrelated, notOwner, notStrict, placesFull, cellsFull, notCallable, wrongValues}
@@ -202,7 +202,7 @@ serve-onward s (call subject k m vs) =
     ok-need _ (names m (s .table .methods) && isAvail (methodAt (s .table) (c .type) (named m) .state)) notCallable _ λ _.
     let xs = methodAt (s .table) (c .type) (named m) .args in
     ok-need _ (argumentsHeld s subject xs vs) wrongValues _ λ _.
-    ok-need _ (ltb (length (s .calls)) maxCalls) callsFull _ λ _.
+    ok-need _ (ltb (madeBy (named subject) (s .calls)) maxCallsEach) callsFull _ λ _.
     ok-try _ _ (sendArguments s (baseOwner (s .places) (c .place)) (callLayers s c) (named m) 0 xs vs) _
     (arguments-onward (baseOwner (s .places) (c .place)) (callLayers s c) (named m) xs vs 0 s) λ x w.
     onward-trans w (call-added x _)

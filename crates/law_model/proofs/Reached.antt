@@ -10,7 +10,7 @@ use lib.Dec.{eqb, ltb, leb}
 use lib.ListN.{length}
 use Rattle.spec_model.specs.Basics.{every, _⇒_, all, unlessMissing, AllBelow}
 use Rattle.spec_model.specs.Table.{linksFit, Kind, sub, sup, closed, Key, Method, Table, noMethod, noType, maxTypes, maxArguments, size, typeAt, methodAt, isRef, permit, standsIn, isNil, isNone}
-use Rattle.spec_model.specs.Table.{signatureFits, keyFits, signatureBound, typeFits, tableFits, validSheet}
+use Rattle.spec_model.specs.Table.{maxSubjects, signatureFits, keyFits, signatureBound, typeFits, tableFits, validSheet}
 use Rattle.spec_model.specs.Relations.{free, related}
 use Rattle.spec_model.specs.Restriction.{mainSide, derive, derived}
 use Rattle.spec_model.specs.Crossing.{Place, object, adapter, noPlace, placeAt}
@@ -25,11 +25,12 @@ use Rattle.spec_model.proofs.Derived.{AnswerBelow, Known, itself, ofNumber, mad
 use Rattle.spec_model.proofs.Growth.{Grown, grown-refl, grown-trans, method-same}
 use Rattle.law_model.proofs.Unowned.{AllUnowned, AnswerUnowned}
 use Rattle.law_model.proofs.Deriving.{IfSome}
-use Rattle.law_model.proofs.Good.{Good, Derived, grown-counts, grown-sheetSigs, derive-good}
+use Rattle.law_model.proofs.Good.{Good, Derived, counted-of, grown-counts, grown-sheetSigs, derive-good}
 use Rattle.law_model.proofs.Steps.{IfOk}
 use Rattle.law_model.proofs.Fitting.{TableFitting, all-at, at-all, at-every, signature-below, fitting-sound, nil-is, none-is}
 use Rattle.law_model.proofs.Sheets.{sheet-fitting, sheet-good}
-use Rattle.law_model.proofs.Within.{PlaceIn, SystemIn, serve-in}
+use Rattle.law_model.proofs.Callers.{calls-few, fit-callers}
+use Rattle.law_model.proofs.Within.{calling, PlaceIn, SystemIn, serve-in}
 use Rattle.law_model.proofs.Checked.{derived-of, fitting-system}
 
 -- ---- a table that has grown from a valid sheet by derivations fits
@@ -194,16 +195,20 @@ module _ (t₀ : Table) (valid : So (validSheet t₀)) where
   place-fits s p (object c o) h = both (so-ltb (h .0)) (both (so-ltb (h .1)) (h .2))
   place-fits s p (adapter b c) h = both (so-ltb (h .0)) (both (so-ltb (h .1)) (h .2))
 
+  subjects-few : (s : System) → Inside s → s .table .subjects ≤ maxSubjects
+  subjects-few s h = let c = counted-of t₀ (sheet-fitting t₀ valid .0 .counts) in rw (h .table .1 .subjects) (c .subjects)
+
   inside-fits : (s : System) → Inside s → So (systemFits s)
   inside-fits s h = fitting-system s (record {
     table = grown-fits t₀ (s .table) valid (h .table .0) (h .table .1);
     cellCount = h .cellCount;
     placeCount = h .places .count;
-    callCount = h .callCount;
+    callCount = calls-few (calling s (h .calls)) (subjects-few s h);
     cells = at-all (cellFits s) noCell (s .cells) (λ k l. let c = h .cells k l in both (so-ltb (c .holder)) (both (so-ltb (c .place)) (both (so-ltb (c .sheet)) (c .isref))));
     places =
         at-every (placeFits s) noPlace 0 (s .places) (λ p l. subst (λ n. So (placeFits s n (placeAt (s .places) p))) (omega arith) (place-fits s p (placeAt (s .places) p) (h .places .each p l)));
-    calls = at-all (callFits s) noCall (s .calls) (λ j l. let c = h .calls j l in both (so-ltb (c .caller)) (both (so-ltb (c .cell)) (so-ltb (c .method))));
+    calls = at-all (callFits s) noCall (s .calls) (λ j l. let c = h .calls .each j l in both (so-ltb (c .caller)) (both (so-ltb (c .cell)) (so-ltb (c .method))));
+    callers = fit-callers (s .table .subjects) (s .calls) (calling s (h .calls));
   })
 
   inside-start : Inside (loaded t₀)
@@ -211,9 +216,8 @@ module _ (t₀ : Table) (valid : So (validSheet t₀)) where
     table = (sheet-good t₀ valid, grown-refl t₀);
     places = record { count = omega arith; each = λ p l. absurd (omega arith) };
     cellCount = omega arith;
-    callCount = omega arith;
     cells = λ k l. absurd (omega arith);
-    calls = λ j l. absurd (omega arith);
+    calls = record { each = λ j l. absurd (omega arith); few = λ k. omega arith };
   }
 
 -- Q19: every state reached from a loaded sheet passes the check.

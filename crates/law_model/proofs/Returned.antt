@@ -89,9 +89,8 @@ start-added s h = let b = fits-bounded s h in record {
   table = record { sound = b .table; grown = grown-refl (s .table); each = λ i l k. absurd (omega arith) };
   places = record { count = b .places .count; each = b .places .each };
   cellCount = b .cellCount;
-  callCount = b .callCount;
   cells = λ k l. let c = b .cells k l in record { holder = c .holder; place = c .place; sheet = c .sheet; isref = c .isref };
-  calls = λ j l. let c = b .calls j l in record { caller = c .caller; cell = c .cell; method = c .method };
+  calls = b .calls;
 }
 
 pub request-adds : (s : System) → So (systemFits s) → (q : Request) → Added (s .table) (after s (serve s q) .table)

@@ -16,9 +16,9 @@ use Rattle.spec_model.specs.Table.{Kind, sub, closed, Table, noMethod, size, ty
 use Rattle.spec_model.specs.Relations.{conforms, strict, loose, free, subtype, related}
 use Rattle.spec_model.specs.Restriction.{mainSide, derived}
 use Rattle.spec_model.specs.Crossing.{Place, object, adapter, noPlace, maxPlaces, placeType, ownerOf, placeAt, base, baseOf, baseOwner, Reference, adapt, cross}
-use Rattle.spec_model.specs.Requests.{Cell, Call, System, maxCells, maxCalls, Request, new, move, call, answer, Result, pair, number, noCell, noCall, cellAt, callAt, isSheetRef, held, leaving}
+use Rattle.spec_model.specs.Requests.{Cell, Call, System, maxCells, maxCallsEach, Request, new, move, call, answer, Result, pair, number, noCell, noCall, cellAt, callAt, isSheetRef, held, leaving}
 use Rattle.spec_model.specs.Requests.{withCell, addCell, newRequest, moveRequest, layers, layersOf, adapterCount, callLayers, renumber, crossLayers, passLayers, send, argumentsHeld, sendArguments}
-use Rattle.spec_model.specs.Requests.{withCall, callRequest, flagged, withAnswer, give, answerRequest, serve, after}
+use Rattle.spec_model.specs.Requests.{madeBy, withCall, callRequest, flagged, withAnswer, give, answerRequest, serve, after}
 use Rattle.spec_model.proofs.Tests.{ltb-so}
 use Rattle.spec_model.proofs.Rules.{first, second}
 use Rattle.spec_model.proofs.Derived.{AnswerBelow, SignaturesIn}
@@ -31,12 +31,26 @@ use Rattle.law_model.proofs.Completes.{all-below-more}
 use Rattle.law_model.proofs.Steps.{IfOk, ok-try, ok-map, ok-need, whatever}
 use Rattle.law_model.proofs.Trails.{ok-renumber}
 use Rattle.law_model.proofs.Demand3.{names-below, held-in, Held, arguments-in, held-more}
+use Rattle.law_model.proofs.Callers.{made-answered, Calling, calling-more}
 
 -- a list has a last entry, and it is below n
 abbrev LastBelow : ℕ → List (Option ℕ) → Type 0
 LastBelow n [] = ⊥
 LastBelow n (x ∷ []) = AnswerBelow n x
 LastBelow n (x ∷ y ∷ ts) = LastBelow n (y ∷ ts)
+
+-- the calls of a state: each has a caller, a cell and a method, and nobody made more than its own count
+pub record CallIn (s : System) (c : Call) : Type 0 where
+  pub caller : c .caller < s .table .subjects
+  pub cell : c .cell < length (s .cells)
+  pub method : c .method < s .table .methods
+
+pub record CallsIn (s : System) : Type 0 where
+  pub each : (j : ℕ) → j < length (s .calls) → CallIn s (callAt s j)
+  pub few : (k : ℕ) → madeBy k (s .calls) ≤ maxCallsEach
+
+pub calling : (s : System) → CallsIn s → Calling (s .table .subjects) (s .calls)
+calling s h = record { callers = λ j l. h .each j l .caller; few = h .few }
 
 -- TP is what is known of the table, RF what is known of a type that is to stand in an adapter.
 module _ (TP : Table → Type 0) (RF : Table → ℕ → Type 0)
@@ -237,18 +251,12 @@ module _ (TP : Table → Type 0) (RF : Table → ℕ → Type 0)
     pub sheet : c .type < s .table .sheet
     pub isref : So (isRef (typeAt (s .table) (c .type) .rep))
 
-  pub record CallIn (s : System) (c : Call) : Type 0 where
-    pub caller : c .caller < s .table .subjects
-    pub cell : c .cell < length (s .cells)
-    pub method : c .method < s .table .methods
-
   pub record SystemIn (s : System) : Type 0 where
     pub table : TP (s .table)
     pub places : PlacesIn (s .table) (s .places)
     pub cellCount : length (s .cells) ≤ maxCells
-    pub callCount : length (s .calls) ≤ maxCalls
     pub cells : (k : ℕ) → k < length (s .cells) → CellIn s (cellAt s k)
-    pub calls : (j : ℕ) → j < length (s .calls) → CallIn s (callAt s j)
+    pub calls : CallsIn s
 
   system-reference : (s : System) → SystemIn s → (k : ℕ) → k < length (s .cells) → ReferenceIn (leaving s k)
   system-reference s h k l = let c = h .cells k l in record { table = h .table; places = h .places; place = c .place; isref = c .isref }
@@ -287,9 +295,8 @@ module _ (TP : Table → Type 0) (RF : Table → ℕ → Type 0)
           table = w .within .table;
           places = w .within .places;
           cellCount = omega (arith, long);
-          callCount = h .callCount;
           cells = λ k i. go g k (decLt k (length (s .cells))) (omega (arith, long));
-          calls = λ j i. call-grow s (withCell s r f) g (omega (arith, long)) (callAt s j) (h .calls j i);
+          calls = record { each = λ j i. call-grow s (withCell s r f) g (omega (arith, long)) (callAt s j) (h .calls .each j i); few = h .calls .few };
         };
       }
     where
@@ -462,15 +469,14 @@ module _ (TP : Table → Type 0) (RF : Table → ℕ → Type 0)
           last = argument-last s h k l m;
         }
 
-  with-call-in : (x : System) → SystemIn x → length (x .calls) < maxCalls → (c : Call) → CallIn x c → SystemIn (withCall x c)
-  with-call-in x h room c k =
+  with-call-in : (x : System) → SystemIn x → (c : Call) → madeBy (c .caller) (x .calls) < maxCallsEach → CallIn x c → SystemIn (withCall x c)
+  with-call-in x h c room k =
       record {
         table = h .table;
         places = h .places;
         cellCount = h .cellCount;
-        callCount = omega (arith, long);
         cells = λ i l. same-cell (h .cells i l);
-        calls = λ j l. go j (decLt j (length (x .calls))) (omega (arith, long));
+        calls = record { each = λ j l. go j (decLt j (length (x .calls))) (omega (arith, long)); few = calling-more (calling x (h .calls)) c (k .caller) room .few };
       }
     where
       long : length (x .calls ++ (c ∷ [])) ≡ suc (length (x .calls))
@@ -483,7 +489,7 @@ module _ (TP : Table → Type 0) (RF : Table → ℕ → Type 0)
       same-call d = record { caller = d .caller; cell = d .cell; method = d .method }
 
       go : (j : ℕ) → Dec (j < length (x .calls)) → j < suc (length (x .calls)) → CallIn (withCall x c) (getD (x .calls ++ (c ∷ [])) j noCall)
-      go j (yes l) u = rw (List·getD-append (x .calls) (c ∷ []) noCall j l) (same-call (h .calls j l))
+      go j (yes l) u = rw (List·getD-append (x .calls) (c ∷ []) noCall j l) (same-call (h .calls .each j l))
       go j (no l) u = rw (getD-at (x .calls) c [] noCall j (omega arith)) (same-call k)
 
   with-answer-in : (x : System) → SystemIn x → (i : ℕ) → i < length (x .calls) → SystemIn (withAnswer x i)
@@ -491,9 +497,8 @@ module _ (TP : Table → Type 0) (RF : Table → ℕ → Type 0)
     table = h .table;
     places = h .places;
     cellCount = h .cellCount;
-    callCount = omega (arith, long, h .callCount);
     cells = λ k l. let d = h .cells k l in record { holder = d .holder; place = d .place; sheet = d .sheet; isref = d .isref };
-    calls = λ j l. go j (ℕ-discrete j i) (omega (arith, long));
+    calls = record { each = λ j l. go j (ℕ-discrete j i) (omega (arith, long)); few = λ n. rw (made-answered n (x .calls) i true) (h .calls .few n) };
   }
     where
       c : Call
@@ -503,8 +508,8 @@ module _ (TP : Table → Type 0) (RF : Table → ℕ → Type 0)
       long = length-set (x .calls) i c
 
       go : (j : ℕ) → Dec (j ≡ i) → j < length (x .calls) → CallIn (withAnswer x i) (getD (set (x .calls) i c) j noCall)
-      go j (yes e) l = rw (e, getD-set-same (x .calls) i c noCall iIn) (let d = h .calls i iIn in record { caller = d .caller; cell = d .cell; method = d .method })
-      go j (no e) l = rw (getD-set-other (x .calls) i j c noCall e) (let d = h .calls j l in record { caller = d .caller; cell = d .cell; method = d .method })
+      go j (yes e) l = rw (e, getD-set-same (x .calls) i c noCall iIn) (let d = h .calls .each i iIn in record { caller = d .caller; cell = d .cell; method = d .method })
+      go j (no e) l = rw (getD-set-other (x .calls) i j c noCall e) (let d = h .calls .each j l in record { caller = d .caller; cell = d .cell; method = d .method })
 
   module _ (s : System) (h : SystemIn s) where
     call-in : (subject k m : ℤ) (vs : List ℤ) → IfOk (callRequest s subject k m vs) (λ x. SystemIn (x .0))
@@ -514,8 +519,8 @@ module _ (TP : Table → Type 0) (RF : Table → ℕ → Type 0)
         ok-need _ (held s subject k) notHeld _ λ c.
         ok-need _ (names m (s .table .methods) && isAvail (methodAt (s .table) (cellAt s (named k) .type) (named m) .state)) notCallable _ λ d.
         ok-need _ (argumentsHeld s subject (methodAt (s .table) (cellAt s (named k) .type) (named m) .args) vs) wrongValues _ λ e.
-        ok-need _ (ltb (length (s .calls)) maxCalls) callsFull _ λ room. go (names-below subject _ a) (held-in s subject k c) (names-below m _ (first (names m (s .table .methods)) _ d))
-        e (ltb-so room)
+        ok-need _ (ltb (madeBy (named subject) (s .calls)) maxCallsEach) callsFull _ λ room.
+        go (names-below subject _ a) (held-in s subject k c) (names-below m _ (first (names m (s .table .methods)) _ d)) e (ltb-so room)
       where
         ty : ℕ
         ty = cellAt s (named k) .type
@@ -532,13 +537,13 @@ module _ (TP : Table → Type 0) (RF : Table → ℕ → Type 0)
         c : Call
         c = record { caller = named subject; cell = named k; method = named m; answered = false }
 
-        go : named subject < s .table .subjects → named k < length (s .cells) → named m < s .table .methods → So (argumentsHeld s subject xs vs) → length (s .calls) < maxCalls
+        go : named subject < s .table .subjects → named k < length (s .cells) → named m < s .table .methods → So (argumentsHeld s subject xs vs) → madeBy (named subject) (s .calls) < maxCallsEach
             → IfOk {A = System × Result} (try (sendArguments s r ls (named m) 0 xs vs) λ x. ok (withCall x c, pair (length (s .calls)) (adapterCount (s .places) (cellAt s (named k) .place))))
             (λ x. SystemIn (x .0))
         go a l d e room = ok-try (Left s) _ (sendArguments s r ls (named m) 0 xs vs) _
             (sendArguments-in r ls (named m) xs vs 0 s h (owner-of s h (named k) l) (call-layers-in s h (named k) (named m) l) (sigs-in (s .table) (h .table) ty (named m) .0)
             (arguments-in s subject xs vs e)) λ x w.
-            with-call-in x (w .within) (subst (λ cs. length cs < maxCalls) (sym (w .calls)) room) c
+            with-call-in x (w .within) c (subst (λ cs. madeBy (named subject) cs < maxCallsEach) (sym (w .calls)) room)
             (record { caller = rw (w .grow .subjects) a; cell = omega (arith, w .more); method = rw (w .grow .methods) d })
 
     give-in : (subject : ℤ) (i : ℕ) (due : Option ℕ) (v : Option ℤ) → i < length (s .calls) → IfOk (give s subject i due v) (λ x. SystemIn (x .0))
@@ -558,7 +563,7 @@ module _ (TP : Table → Type 0) (RF : Table → ℕ → Type 0)
           | true ↦ need (held s subject v) wrongValues λ _. try (send s (callAt s i .caller) (named v) ts) λ x. ok (withAnswer (x .0) i, x .1)
           | false ↦ try (passLayers true (s .table) v ts) λ _. ok (withAnswer s i, number v)
         ]) (λ x. SystemIn (x .0))
-        go true = ok-need _ (held s subject v) wrongValues _ λ e. let c = h .calls i l in
+        go true = ok-need _ (held s subject v) wrongValues _ λ e. let c = h .calls .each i l in
             ok-try (λ x. Left s (x .0)) _ (send s (callAt s i .caller) (named v) ts) _
             (send-in s h (callAt s i .caller) (c .caller) (named v) (held-in s subject v e) ts (answer-last s h k (c .cell) (callAt s i .method))
             (answer-all s h k (c .cell) (callAt s i .method))) λ x w.

@@ -12,7 +12,8 @@ use lib.ListN.{length, getElem?}
 use Rattle.spec_model.specs.Basics.{Res, ok, try, names, named, AllBelow}
 use Rattle.spec_model.specs.Table.{Table, size, typeAt, methodAt, argumentAt, isRef, isAvail}
 use Rattle.spec_model.specs.Crossing.{Place, object, adapter, noPlace, placeType, placeAt, base, baseOf, baseOwner}
-use Rattle.spec_model.specs.Requests.{Cell, System, maxCalls, Result, pair, cellAt, held, adapterCount, layers, callLayers, passLayers, send, argumentsHeld, sendArguments, withCall, callRequest}
+use Rattle.spec_model.specs.Requests.{Cell, System, maxCallsEach, madeBy, Result, pair, cellAt, held, adapterCount, layers, callLayers, passLayers, send, argumentsHeld, sendArguments, withCall}
+use Rattle.spec_model.specs.Requests.{callRequest}
 use Rattle.spec_model.specs.Check.{placeFits, systemFits}
 use Rattle.spec_model.proofs.Tests.{ltb-so}
 use Rattle.spec_model.proofs.Rules.{first, second}
@@ -131,7 +132,7 @@ module _ (s : System) (fits : So (systemFits s)) where
   arguments-arrive subject k m vs =
       ok-need _ (names subject (t .subjects)) unknownSubject _ λ _. ok-need _ (held s subject k) notHeld _ λ h.
       ok-need _ (names m (t .methods) && isAvail (methodAt t (c .type) (named m) .state)) notCallable _ λ _.
-      ok-need _ (argumentsHeld s subject xs vs) wrongValues _ λ _. ok-need _ (ltb (length (s .calls)) maxCalls) callsFull _ λ _. go (held-in s subject k h)
+      ok-need _ (argumentsHeld s subject xs vs) wrongValues _ λ _. ok-need _ (ltb (madeBy (named subject) (s .calls)) maxCallsEach) callsFull _ λ _. go (held-in s subject k h)
     where
       t : Table
       t = s .table

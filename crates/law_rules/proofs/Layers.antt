@@ -21,11 +21,11 @@ abbrev pub IfRefused : {A : Type 0} → Res A → (ℕ → Type 0) → Type 0
 IfRefused (refuse e) P = P e
 IfRefused (ok a) P = Unit
 
-refused-need : {A : Type 0} (P : ℕ → Type 0) (b : Bool) (e : ℕ) (k : Unit {0} → Res A) → P e → IfRefused (k tt) P → IfRefused (need b e k) P
+pub refused-need : {A : Type 0} (P : ℕ → Type 0) (b : Bool) (e : ℕ) (k : Unit {0} → Res A) → P e → IfRefused (k tt) P → IfRefused (need b e k) P
 refused-need P true e k h f = f
 refused-need P false e k h f = h
 
-refused-try : {A B : Type 0} (P : ℕ → Type 0) (Q : A → Type 0) (m : Res A) (k : A → Res B) → IfRefused m P → IfOk m Q → ((a : A) → Q a → IfRefused (k a) P) → IfRefused (try m k) P
+pub refused-try : {A B : Type 0} (P : ℕ → Type 0) (Q : A → Type 0) (m : Res A) (k : A → Res B) → IfRefused m P → IfOk m Q → ((a : A) → Q a → IfRefused (k a) P) → IfRefused (try m k) P
 refused-try P Q (refuse e) k h q f = h
 refused-try P Q (ok a) k h q f = f a q
 

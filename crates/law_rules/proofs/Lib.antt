@@ -8,6 +8,7 @@ pub mod Made
 pub mod Arguments
 pub mod Refusals
 pub mod Layers
+pub mod Callers
 pub mod Readers
 pub mod Sheets
 pub mod CasesFour

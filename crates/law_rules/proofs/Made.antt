@@ -12,7 +12,7 @@ use lib.Seq.{getD-append-seam}
 use Rattle.spec_model.specs.Basics.{ok, try, need, names, named}
 use Rattle.spec_model.specs.Table.{typeAt, methodAt, argumentAt, answerAt, isRef, isAvail, isClass}
 use Rattle.spec_model.specs.Crossing.{Place, object, noPlace, maxPlaces, placeAt, baseOwner, Reference, cross}
-use Rattle.spec_model.specs.Requests.{Call, System, maxCells, maxCalls, Request, new, move, call, answer, Result, pair, number, noCall, cellAt, callAt, isSheetRef, held, leaving, addCell}
+use Rattle.spec_model.specs.Requests.{Call, System, maxCells, maxCallsEach, madeBy, Request, new, move, call, answer, Result, pair, number, noCall, cellAt, callAt, isSheetRef, held, leaving, addCell}
 use Rattle.spec_model.specs.Requests.{newRequest, moveRequest, adapterCount, layersOf, callLayers, passLayers, send, argumentsHeld, sendArguments, callRequest, flagged, withAnswer, give}
 use Rattle.spec_model.specs.Requests.{dueFor, answerRequest, serve}
 use Rattle.spec_model.specs.Refusals.{unknownSubject, notHeld, unknownType, placesFull, cellsFull, notCallable, wrongValues, answeredAlready, callsFull}
@@ -118,7 +118,7 @@ serve-makes s (call subject k m vs) =
     ok-need _ (names m (s .table .methods) && isAvail (methodAt (s .table) (c .type) (named m) .state)) notCallable _ λ _.
     let xs = methodAt (s .table) (c .type) (named m) .args in
     ok-need _ (argumentsHeld s subject xs vs) wrongValues _ λ _.
-    ok-need _ (ltb (length (s .calls)) maxCalls) callsFull _ λ _.
+    ok-need _ (ltb (madeBy (named subject) (s .calls)) maxCallsEach) callsFull _ λ _.
     ok-try _ _ (sendArguments s (baseOwner (s .places) (c .place)) (callLayers s c) (named m) 0 xs vs) _
     (arguments-calls (baseOwner (s .places) (c .place)) (callLayers s c) (named m) xs vs 0 s) λ x w.
     let n : Call = record { caller = named subject; cell = named k; method = named m; answered = false } in (ap (λ cs. cs ++ (n ∷ [])) w, refl)

@@ -14,7 +14,7 @@ use Rattle.spec_model.specs.Relations.{subtype, conforms, strict, loose, free, 
 use Rattle.spec_model.specs.Restriction.{derive, derived}
 use Rattle.spec_model.specs.Crossing.{Place, object, adapter, placeType, placeAt, baseOf, baseOwner, Reference, adapt, cross, maxPlaces}
 use Rattle.spec_model.specs.Requests.{System, Result, pair, number, cellAt, callAt, isSheetRef, held, leaving, withCell, addCell, newRequest, moveRequest, callLayers, crossLayers, passLayers, send}
-use Rattle.spec_model.specs.Requests.{argumentsHeld, sendArguments, callRequest, withAnswer, dueFor, answersMet, give, answerRequest, maxCells, maxCalls}
+use Rattle.spec_model.specs.Requests.{argumentsHeld, sendArguments, callRequest, withAnswer, dueFor, answersMet, give, answerRequest, maxCells, maxCallsEach, madeBy}
 use Rattle.spec_model.specs.Refusals.{unknownSubject, notHeld, unknownType, unrelated, notOwner, notStrict, typesFull, placesFull, cellsFull, notCallable}
 use Rattle.spec_model.specs.Refusals.{wrongValues, answeredAlready, callsFull}
 
@@ -178,11 +178,12 @@ pub call-refusal : (s : System) (subject k m : ℤ) (vs : List ℤ) → let c = 
     ∷ unless (held s subject k) notHeld
     ∷ unless (names m (s .table .methods) && isAvail (methodAt (s .table) (c .type) (named m) .state)) notCallable
     ∷ unless (argumentsHeld s subject xs vs) wrongValues
-    ∷ unless (ltb (length (s .calls)) maxCalls) callsFull
+    ∷ unless (ltb (madeBy (named subject) (s .calls)) maxCallsEach) callsFull
     ∷ refusal (sendArguments s (baseOwner (s .places) (c .place)) (callLayers s c) (named m) 0 xs vs) ∷ [])
 unfolding callRequest
 call-refusal s subject k m vs = let c = cellAt s (named k) in let x = methodAt (s .table) (c .type) (named m) in
-    go (names subject (s .table .subjects)) (held s subject k) (names m (s .table .methods) && isAvail (x .state)) (argumentsHeld s subject (x .args) vs) (ltb (length (s .calls)) maxCalls)
+    go (names subject (s .table .subjects)) (held s subject k) (names m (s .table .methods) && isAvail (x .state)) (argumentsHeld s subject (x .args) vs)
+    (ltb (madeBy (named subject) (s .calls)) maxCallsEach)
     (sendArguments s (baseOwner (s .places) (c .place)) (callLayers s c) (named m) 0 (x .args) vs) _
   where
     go : (a b c d e : Bool) (m : Res System) (f : System → System × Result)

@@ -15,7 +15,7 @@ use Rattle.spec_model.specs.Basics.{Res, refuse, ok, try, need, names, named}
 use Rattle.spec_model.specs.Table.{Table, typeAt, answerAt, isRef}
 use Rattle.spec_model.specs.Crossing.{baseOwner}
 use Rattle.spec_model.specs.Crossing.{Place as Placeᵐ}
-use Rattle.spec_model.specs.Requests.{System, Result, pair, number, nothing, got, noCell, noCall, cellAt, callAt, held, layersOf, passLayers, send, withCalls, flagged, withAnswer}
+use Rattle.spec_model.specs.Requests.{System, Result, pair, number, nothing, got, noCell, noCall, cellAt, callAt, held, layersOf, passLayers, send, withCalls, flagged, withAnswer, maxCallsEach, madeBy}
 use Rattle.spec_model.specs.Requests.{dueFor, answersMet, give, answerRequest}
 use Rattle.spec_model.specs.Requests.{Cell as Cellᵐ, Call as Callᵐ}
 use Rattle.spec_model.specs.Check.{answerOf}
@@ -35,6 +35,7 @@ use Rattle.state_record.specs.Whole.{Whole as State}
 use Rattle.state_record.specs.View.{cellOf, callOf, cellsIn, placesIn, callsIn, callAnswered, systemIn}
 use Rattle.state_record.specs.Sound.{CallIn, Sound}
 use Rattle.state_record.proofs.Laws.{calls-length, means-counted}
+use Rattle.state_record.proofs.Kept.{few-answered}
 use Rattle.crossing_targets.specs.Targets.{passedOf}
 use Rattle.request_common.specs.declared.Outcome.{Outcome}
 use Rattle.request_common.specs.declared.Outcome.the-variants.{Refused, Pair, Number, Nothing}
@@ -67,22 +68,25 @@ module _ (s : State) (h : Sound s) (j : ℕ) (low : j < s .calls .count) (calls 
 
       go : Dec (i ≡ j) → CallIn s (getD (set (callsIn (s .calls)) j new) i noCall)
       go (yes q) =
-          let y = h .calls j low in
+          let y = h .calls .each j low in
           subst (λ (n : ℕ). CallIn s (getD (set (callsIn (s .calls)) j new) n noCall)) (sym q)
-          (subst (CallIn s) (sym (getD-set-same (callsIn (s .calls)) j new noCall (omega (arith, low, counted)))) (record { cell = y .cell; method = y .method }))
-      go (no q) = subst (CallIn s) (sym (getD-set-other (callsIn (s .calls)) j i new noCall q)) (h .calls i (omega (arith, l, same)))
+          (subst (CallIn s) (sym (getD-set-same (callsIn (s .calls)) j new noCall (omega (arith, low, counted)))) (record { caller = y .caller; cell = y .cell; method = y .method }))
+      go (no q) = subst (CallIn s) (sym (getD-set-other (callsIn (s .calls)) j i new noCall q)) (h .calls .each i (omega (arith, l, same)))
+
+  few : (k : ℕ) → madeBy k (callsIn calls) ≤ maxCallsEach
+  few k = subst (λ (x : List Callᵐ). madeBy k x ≤ maxCallsEach) (sym are) (few-answered s h j k)
 
   pub answered-step : (a : Outcome) → isAccepted a ≡ true → (x : Result) → outcomeOf a ≡ got x
       → Step s (ok (withAnswer (systemIn s) j, x)) (record { outcome = a; state = callsLeft s calls })
   answered-step a k x z = step-as
       (ap (λ (xs : List Callᵐ). ok (withCalls (systemIn s) (set xs j (flagged (getD xs j noCall) true)), x)) (calls-are s)
       ∙ ap (λ (xs : List Callᵐ). ok (withCalls (systemIn s) xs, x)) (sym are))
-      (calls-step s h calls (omega (arith, same, h .callCount)) each a x z k)
+      (calls-step s h calls each few a x z k)
 
 -- ---- The call and its cell, as they are read.
 module _ (s : State) (h : Sound s) (j : ℕ) (low : j < s .calls .count) (x : Call) (is : callOf x ≡ getD (callsIn (s .calls)) j noCall) (k : ℕ) (at : k ≡ x .cell) where
   pub cell-low : k < s .cells .count
-  cell-low = subst (λ (n : ℕ). n < s .cells .count) (sym (at ∙ ap (λ (y : Callᵐ). y .cell) is)) (h .calls j low .cell)
+  cell-low = subst (λ (n : ℕ). n < s .cells .count) (sym (at ∙ ap (λ (y : Callᵐ). y .cell) is)) (h .calls .each j low .cell)
 
   pub called : (c : Cell) → cellOf c ≡ getD (cellsIn (s .cells)) k noCell → Called s j x c
   called c e = record {
@@ -90,7 +94,7 @@ module _ (s : State) (h : Sound s) (j : ℕ) (low : j < s .calls .count) (x : Ca
     call = here;
     cell = e ∙ ap (λ (n : ℕ). getD (cellsIn (s .cells)) n noCell) (at ∙ ap (λ (y : Callᵐ). y .cell) here)
         ∙ ap (λ (xs : List Cellᵐ). getD xs (callAt (systemIn s) j .cell) noCell) (sym (cells-are s));
-    method = subst (λ (y : Callᵐ). y .method < s .counts .methods) (sym is) (h .calls j low .method);
+    method = subst (λ (y : Callᵐ). y .method < s .counts .methods) (sym is) (h .calls .each j low .method);
     ty = subst (λ (y : Cellᵐ). y .type < s .counts .types) (sym e) (h .cells k cell-low .type);
     place = subst (λ (y : Cellᵐ). y .place < s .places .count) (sym e) (h .cells k cell-low .place);
   }

@@ -16,7 +16,8 @@ use Rattle.spec_model.specs.Table.{Table, methodAt, isAvail, permit, signed}
 use Rattle.spec_model.specs.Table.{Method as Methodᵐ}
 use Rattle.spec_model.specs.Crossing.{baseOwner}
 use Rattle.spec_model.specs.Check.{stateOf, answerOf, methodOf, tableOf}
-use Rattle.spec_model.specs.Requests.{System, Result, pair, noCell, noCall, cellAt, held, argumentsHeld, sendArguments, callLayers, layersOf, adapterCount, maxCalls, withCalls, withCall, callRequest}
+use Rattle.spec_model.specs.Requests.{System, Result, pair, noCell, noCall, cellAt, held, argumentsHeld, sendArguments, callLayers, layersOf, adapterCount, withCalls, withCall, callRequest}
+use Rattle.spec_model.specs.Requests.{maxCallsEach, madeBy}
 use Rattle.spec_model.specs.Requests.{Cell as Cellᵐ, Call as Callᵐ}
 use Rattle.spec_model.specs.Refusals.{unknownSubject, notHeld, notCallable, wrongValues, callsFull}
 use Rattle.table_record.specs.declared.Counts.{Counts}
@@ -31,7 +32,7 @@ use Rattle.state_record.specs.declared.Calls.{Calls}
 use Rattle.state_record.specs.declared.Cell.{Cell}
 use Rattle.state_record.specs.Whole.{Whole as State}
 use Rattle.state_record.specs.View.{cellOf, callOf, cellsIn, placesIn, callsIn, callAdded, systemIn, withTypes}
-use Rattle.state_record.specs.Sound.{CallIn, Sound}
+use Rattle.state_record.specs.Sound.{CallIn, MayCall, Sound}
 use Rattle.state_record.proofs.Laws.{calls-length, system-is, means-counted}
 use Rattle.request_common.specs.declared.Outcome.{Outcome}
 use Rattle.request_common.specs.declared.Outcome.the-variants.{Pair}
@@ -42,7 +43,7 @@ use Rattle.request_value.specs.declared.Numbers.{Numbers}
 use Rattle.request_value.specs.declared.Numbers.the-variants as numbers
 use Rattle.request_value.specs.Sent.{argumentsOf, allSent, Sent, Passes}
 use Rattle.request_common.specs.Back.{isAccepted}
-use Rattle.request_value.proofs.Sending.{goes-on, only-refused, step-after}
+use Rattle.request_value.proofs.Sending.{went-counted, goes-on, only-refused, step-after}
 use Rattle.request_value.proofs.OtherCalls.{callsLeft, calls-step}
 use Rattle.request_call.specs.Called.{newCall, callThrough, callHeld, Planned}
 use Rattle.request_call.specs.declared.Plan.{Plan}
@@ -50,7 +51,7 @@ use Rattle.request_call.specs.declared.Plan.{Plan}
 pub call-eq : (a b c x y z : ℕ) → a ≡ x → b ≡ y → c ≡ z → newCall a b c ≡ newCall x y z
 call-eq a b c x y z p q r = ap (λ (n : ℕ). newCall n b c) p ∙ ap (λ (n : ℕ). newCall x n c) q ∙ ap (newCall x y) r
 
-module _ (s : State) (h : Sound s) (room : s .calls .count < maxCalls) (who k m adapters : ℕ) (cell : k < s .cells .count) (method : m < s .counts .methods) where
+module _ (s : State) (h : Sound s) (who : ℕ) (may : MayCall s who) (k m adapters : ℕ) (cell : k < s .cells .count) (method : m < s .counts .methods) where
   pub call-byte : (k < 256) × (m < 256)
   call-byte = (omega (arith, cell, h .cellCount), omega (arith, method, h .checked .limits .methods))
 
@@ -58,13 +59,19 @@ module _ (s : State) (h : Sound s) (room : s .calls .count < maxCalls) (who k m 
       Step s (ok (withCall (systemIn s) (newCall who k m), pair (s .calls .count) adapters)) (record { outcome = Pair (s .calls .count) adapters; state = callsLeft s calls })
   call-added c is calls e are =
       step-as (ap (λ (x : List Callᵐ). ok (withCalls (systemIn s) x, pair (s .calls .count) adapters)) (sym now-are))
-      (calls-step s h calls (omega (arith, one, room)) each (Pair (s .calls .count) adapters) (pair (s .calls .count) adapters) refl refl)
+      (calls-step s h calls each few (Pair (s .calls .count) adapters) (pair (s .calls .count) adapters) refl refl)
     where
       one : calls .count ≡ s .calls .count + 1
       one = ap (λ (x : Calls). x .count) e
 
+      added : callsIn calls ≡ callsIn (s .calls) ++ (newCall who k m ∷ [])
+      added = are ∙ ap (λ (x : Callᵐ). callsIn (s .calls) ++ (x ∷ [])) is
+
       now-are : callsIn calls ≡ systemIn s .calls ++ (newCall who k m ∷ [])
-      now-are = are ∙ ap (λ (x : Callᵐ). callsIn (s .calls) ++ (x ∷ [])) is ∙ ap (λ (x : List Callᵐ). x ++ (newCall who k m ∷ [])) (sym (calls-are s))
+      now-are = added ∙ ap (λ (x : List Callᵐ). x ++ (newCall who k m ∷ [])) (sym (calls-are s))
+
+      few : (n : ℕ) → madeBy n (callsIn calls) ≤ maxCallsEach
+      few n = subst (λ (x : List Callᵐ). madeBy n x ≤ maxCallsEach) (sym added) (few-added s h (newCall who k m) may n)
 
       each : (j : ℕ) → j < calls .count → CallIn s (getD (callsIn calls) j noCall)
       each j l = subst (λ (x : List Callᵐ). CallIn s (getD x j noCall)) (sym are) (go (lt-or-ge j (s .calls .count)))
@@ -73,8 +80,8 @@ module _ (s : State) (h : Sound s) (room : s .calls .count < maxCalls) (who k m 
           n = calls-length (s .calls)
 
           go : (j < s .calls .count) ⊎ (s .calls .count ≤ j) → CallIn s (getD (callsIn (s .calls) ++ (callOf c ∷ [])) j noCall)
-          go (inl u) = subst (CallIn s) (sym (List·getD-append (callsIn (s .calls)) (callOf c ∷ []) noCall j (omega (arith, u, n)))) (h .calls j u)
-          go (inr u) = subst (CallIn s) (sym (getD-at (callsIn (s .calls)) (callOf c) [] noCall j (omega (arith, u, n, l, one)) ∙ is)) (record { cell = cell; method = method })
+          go (inl u) = subst (CallIn s) (sym (List·getD-append (callsIn (s .calls)) (callOf c ∷ []) noCall j (omega (arith, u, n)))) (h .calls .each j u)
+          go (inr u) = subst (CallIn s) (sym (getD-at (callsIn (s .calls)) (callOf c) [] noCall j (omega (arith, u, n, l, one)) ∙ is)) (record { caller = may .0; cell = cell; method = method })
 
 -- ---- The called cell, read as c.
 module _ (s : State) (h : Sound s) (k : ℕ) (low : k < s .cells .count) (c : Cell) (is : cellOf c ≡ getD (cellsIn (s .cells)) k noCell) where
@@ -134,7 +141,7 @@ module _ (s : State) (vs : List ℤ) where
   pub planned-refuses : {m : Res (System × Result)} (e : ℕ) → 0 < e → m ≡ refuse e → (p : Plan) → p .refusal ≡ e → Planned s vs m p
   planned-refuses e low = planned-stops e (λ z. omega (arith, z, low))
 
-  pub planned-goes : (who k m adapters : ℕ) (x : Method) (sends : Bool) → (s .calls .count < maxCalls) × (who < 256) × (k < s .cells .count) × (m < s .counts .methods) →
+  pub planned-goes : (who k m adapters : ℕ) (x : Method) (sends : Bool) → MayCall s who × (who < 256) × (k < s .cells .count) × (m < s .counts .methods) →
       (sends ≡ false → callThrough (systemIn s) who k m (argumentsOf x) vs ≡ ok (withCall (systemIn s) (newCall who k m), pair (s .calls .count) adapters)) →
       Planned s vs (callThrough (systemIn s) who k m (argumentsOf x) vs)
       (record { refusal = 0; sends = sends; who = who; cell = k; method = m; adapters = adapters; signature = x })
@@ -186,11 +193,11 @@ module _ (s : State) (h : Sound s) (who k m : ℕ) (xs : List ℕ) (vs : List �
       Step s (callThrough (systemIn s) who k m xs vs) (record { outcome = y; state = withTypes s (q .state .types) }))
       (λ e u. refuses-kept h (sent .sound .long) (sent .stored .kept) u refl) (q .outcome) z through-is
 
-  pub through-room : s .calls .count < maxCalls → who < 256 → k < s .cells .count → m < s .counts .methods →
-      Sound (q .state) × (q .state .calls .count < maxCalls) × (who < 256) × (k < q .state .cells .count) × (m < q .state .counts .methods)
-  through-room room byte cell method = (
+  pub through-room : MayCall s who → who < 256 → k < s .cells .count → m < s .counts .methods →
+      Sound (q .state) × MayCall (q .state) who × (who < 256) × (k < q .state .cells .count) × (m < q .state .counts .methods)
+  through-room may byte cell method = (
     sent .sound,
-    omega (arith, room, sent .went .calls),
+    (subst (λ (c : Counts). who < c .subjects) (sym (sent .stored .counts)) (may .0), subst (λ (xs : List Callᵐ). madeBy who xs < maxCallsEach) (sym (sent .went .calls)) (may .1)),
     byte,
     omega (arith, cell, sent .went .cells),
     subst (λ (c : Counts). m < c .methods) (sym (sent .stored .counts)) method,
@@ -199,7 +206,7 @@ module _ (s : State) (h : Sound s) (who k m : ℕ) (xs : List ℕ) (vs : List �
   pub through-adds : isAccepted (q .outcome) ≡ true → (adapters : ℕ) → adapters ≡ adapterCount (placesIn (s .places)) p → (r : Served) →
       Step (q .state) (ok (withCall (systemIn (q .state)) (newCall who k m), pair (q .state .calls .count) adapters)) r → Step s (callThrough (systemIn s) who k m xs vs) r
   through-adds z adapters count r g = step-as
-      (through-is ∙ goes-on (q .outcome) (systemIn (q .state)) Then z ∙ ends-is s who k m p here (systemIn (q .state)) (q .state .calls .count) (sent .went .calls) adapters count)
+      (through-is ∙ goes-on (q .outcome) (systemIn (q .state)) Then z ∙ ends-is s who k m p here (systemIn (q .state)) (q .state .calls .count) (went-counted (sent .went)) adapters count)
       (step-after (q .state) (sent .stored) r g)
 
 -- ---- The tests that are left once the subject, its cell and the method are known.
@@ -208,8 +215,8 @@ module _ (s : State) (subject : ℤ) (k m : ℕ) (vs : List ℤ) (t : ℕ) (ty :
     (x : Method) (read : (l : List ℕ) → methodOf (rawMethod x) ≡ methodAt (tableIn (s .types) l (s .counts)) t m) where
   abbrev By : Methodᵐ → Res (System × Result)
   By y =
-      need (isAvail (y .state)) notCallable λ _. need (argumentsHeld (systemIn s) subject (y .args) vs) wrongValues λ _. need (ltb (length (systemIn s .calls)) maxCalls) callsFull λ _.
-      callThrough (systemIn s) (named subject) k m (y .args) vs
+      need (isAvail (y .state)) notCallable λ _. need (argumentsHeld (systemIn s) subject (y .args) vs) wrongValues λ _.
+      need (ltb (madeBy (named subject) (systemIn s .calls)) maxCallsEach) callsFull λ _. callThrough (systemIn s) (named subject) k m (y .args) vs
 
   held-is : callHeld (systemIn s) subject k m vs ≡ By (methodOf (rawMethod x))
   held-is = ap By (sym (read (s .links) ∙ ap (λ (n : ℕ). methodAt (tableIn (s .types) (s .links) (s .counts)) n m) ty
@@ -222,21 +229,23 @@ module _ (s : State) (subject : ℤ) (k m : ℕ) (vs : List ℤ) (t : ℕ) (ty :
     abbrev Next : Bool → Bool → Res (System × Result)
     Next a b = need a wrongValues λ _. need b callsFull λ _. callThrough (systemIn s) (named subject) k m (argumentsOf x) vs
 
-    avail-is : callHeld (systemIn s) subject k m vs ≡ Next (argumentsHeld (systemIn s) subject (argumentsOf x) vs) (ltb (length (systemIn s .calls)) maxCalls)
+    avail-is : callHeld (systemIn s) subject k m vs ≡ Next (argumentsHeld (systemIn s) subject (argumentsOf x) vs) (ltb (madeBy (named subject) (systemIn s .calls)) maxCallsEach)
     avail-is = held-is ∙ ap (λ (n : ℕ). By (signed (stateOf n) (cond (permit (stateOf n)) (argumentsOf x) []) (cond (permit (stateOf n)) (answerOf (x .answer)) none))) avail
 
     pub held-wrong-values : argumentsHeld (systemIn s) subject (argumentsOf x) vs ≡ false → callHeld (systemIn s) subject k m vs ≡ refuse wrongValues
     held-wrong-values z = avail-is ∙ rw z
 
     module _ (fit : argumentsHeld (systemIn s) subject (argumentsOf x) vs ≡ true) where
-      fit-is : callHeld (systemIn s) subject k m vs ≡ Next true (ltb (s .calls .count) maxCalls)
-      fit-is = avail-is ∙ ap (λ (y : Bool). Next y (ltb (length (systemIn s .calls)) maxCalls)) fit ∙ ap (λ (n : ℕ). Next true (ltb n maxCalls)) (means-counted s .calls)
+      module _ (who : ℕ) (w : named subject ≡ who) (made : ℕ) (is : made ≡ madeBy who (callsIn (s .calls))) where
+        fit-is : callHeld (systemIn s) subject k m vs ≡ Next true (ltb made maxCallsEach)
+        fit-is = avail-is ∙ ap (λ (y : Bool). Next y (ltb (madeBy (named subject) (systemIn s .calls)) maxCallsEach)) fit
+            ∙ ap (λ (n : ℕ). Next true (ltb n maxCallsEach)) (ap (λ (n : ℕ). madeBy n (systemIn s .calls)) w ∙ ap (madeBy who) (calls-are s) ∙ sym is)
 
-      pub held-calls-full : maxCalls ≤ s .calls .count → callHeld (systemIn s) subject k m vs ≡ refuse callsFull
-      held-calls-full l = fit-is ∙ ap (Next true) (le-ltb (s .calls .count) maxCalls l)
+        pub held-calls-full : maxCallsEach ≤ made → callHeld (systemIn s) subject k m vs ≡ refuse callsFull
+        held-calls-full l = fit-is ∙ ap (Next true) (le-ltb made maxCallsEach l)
 
-      pub held-goes : s .calls .count < maxCalls → (who : ℕ) → named subject ≡ who → callHeld (systemIn s) subject k m vs ≡ callThrough (systemIn s) who k m (argumentsOf x) vs
-      held-goes l who w = fit-is ∙ ap (Next true) (lt-ltb (s .calls .count) maxCalls l) ∙ ap (λ (n : ℕ). callThrough (systemIn s) n k m (argumentsOf x) vs) w
+        pub held-goes : made < maxCallsEach → callHeld (systemIn s) subject k m vs ≡ callThrough (systemIn s) who k m (argumentsOf x) vs
+        held-goes l = fit-is ∙ ap (Next true) (lt-ltb made maxCallsEach l) ∙ ap (λ (n : ℕ). callThrough (systemIn s) n k m (argumentsOf x) vs) w
 
 -- ---- The operands.
 module _ (s : System) (subject k m : ℤ) (vs : List ℤ) where
@@ -270,8 +279,8 @@ module _ (s : State) (h : Sound s) (subject cell method : ℤ) (vs : List ℤ) w
   asked-unknown-subject z = call-unknown-subject (systemIn s) subject cell method vs z
 
   module _ (known : names subject (systemIn s .table .subjects) ≡ true) (who : ℕ) (who-is : who ≡ indexOf subject (s .counts .subjects)) where
-    pub who-named : (named subject ≡ who) × (who < 256)
-    who-named = let x = subject-at s subject who who-is known in (sym (x .0), omega (arith, x .1, h .checked .limits .subjects))
+    pub who-named : (named subject ≡ who) × (who < s .counts .subjects)
+    who-named = let x = subject-at s subject who who-is known in (sym (x .0), x .1)
 
     pub asked-not-held : held (systemIn s) subject cell ≡ false → Asked ≡ refuse notHeld
     asked-not-held z = call-not-held (systemIn s) subject cell method vs known z

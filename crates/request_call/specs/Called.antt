@@ -9,10 +9,11 @@ use lib.ListN.{length}
 use Rattle.spec_model.specs.Basics.{Res, refuse, ok, try, need, named}
 use Rattle.spec_model.specs.Table.{methodAt, isAvail}
 use Rattle.spec_model.specs.Crossing.{baseOwner}
-use Rattle.spec_model.specs.Requests.{Call, System, Result, pair, cellAt, argumentsHeld, sendArguments, callLayers, adapterCount, withCall, maxCalls}
+use Rattle.spec_model.specs.Requests.{Call, System, Result, pair, cellAt, argumentsHeld, sendArguments, callLayers, adapterCount, withCall, maxCallsEach, madeBy}
 use Rattle.spec_model.specs.Refusals.{notCallable, wrongValues, callsFull}
 use Rattle.state_record.specs.Whole.{Whole as State}
 use Rattle.state_record.specs.View.{systemIn}
+use Rattle.state_record.specs.Sound.{MayCall}
 use Rattle.request_value.specs.Sent.{argumentsOf}
 use Rattle.request_call.specs.declared.Plan.{Plan}
 
@@ -31,16 +32,16 @@ callHeld s subject k m vs =
     let x = methodAt (s .table) (cellAt s k .type) m in
     need (isAvail (x .state)) notCallable λ _.
     need (argumentsHeld s subject (x .args) vs) wrongValues λ _.
-    need (ltb (length (s .calls)) maxCalls) callsFull λ _.
+    need (ltb (madeBy (named subject) (s .calls)) maxCallsEach) callsFull λ _.
     callThrough s (named subject) k m (x .args) vs
 
--- What a plan says of m, which is what the call comes to: its refusal; that there is room for the call, and its numbers name something; the call that is made where
--- nothing is sent.
+-- What a plan says of m, which is what the call comes to: its refusal; that the caller may make it, and its numbers name something; the call that is made where nothing
+-- is sent.
 abbrev pub Stops : Res (System × Result) → Plan → Type 0
 Stops m p = (p .refusal ≡ 0 → ⊥) → m ≡ refuse (p .refusal)
 
 abbrev pub Fits : State → Plan → Type 0
-Fits s p = (s .calls .count < maxCalls) × (p .who < 256) × (p .cell < s .cells .count) × (p .method < s .counts .methods)
+Fits s p = MayCall s (p .who) × (p .who < 256) × (p .cell < s .cells .count) × (p .method < s .counts .methods)
 
 abbrev pub Adds : State → Res (System × Result) → Plan → Type 0
 Adds s m p = p .refusal ≡ 0 → p .sends ≡ false → m ≡ ok (withCall (systemIn s) (newCall (p .who) (p .cell) (p .method)), pair (s .calls .count) (p .adapters))

@@ -3,18 +3,18 @@
 ghost use mathlib.Core.Path.{_≡_};
 ghost use mathlib.Core.Bool.{not, _||_};
 ghost use mathlib.Core.List.{List};
-ghost use Prim.Native.Nat.{ℕ, _<_};
+ghost use Prim.Native.Nat.{ℕ, _≤_, _<_};
 ghost use lib.IntN.{ℤ};
 ghost use lib.ListN.{getD};
 ghost use Rattle.spec_model.specs.Basics.{ok, named};
 ghost use Rattle.spec_model.specs.Table.{typeAt, methodAt, isRef};
 ghost use Rattle.spec_model.specs.Check.{methodOf};
-ghost use Rattle.spec_model.specs.Requests.{noCell, pair, held, argumentsHeld, withCall, callRequest, maxCalls};
+ghost use Rattle.spec_model.specs.Requests.{noCell, pair, held, argumentsHeld, withCall, callRequest, maxCalls, madeBy};
 ghost use Rattle.table_record.specs.Store.{tableIn, rawMethod};
 ghost use Rattle.table_record.specs.Limits.{Limits};
 ghost use Rattle.state_record.specs.Whole.{whole};
-ghost use Rattle.state_record.specs.View.{cellOf, cellsIn, systemIn};
-ghost use Rattle.state_record.specs.Sound.{Sound};
+ghost use Rattle.state_record.specs.View.{cellOf, cellsIn, callsIn, systemIn};
+ghost use Rattle.state_record.specs.Sound.{MayCall, Sound};
 ghost use Rattle.request_common.specs.Served.{Step, done};
 ghost use Rattle.request_value.specs.Sent.{argumentsOf};
 ghost use Rattle.request_call.specs.Called.{newCall, callThrough, callHeld, Planned};
@@ -26,6 +26,7 @@ use request_common::Outcome;
 use request_common::Served;
 use request_value::Numbers;
 use state_record::Call;
+use state_record::Calls;
 use state_record::Cell;
 use state_record::State;
 use table_record::Counts;
@@ -80,10 +81,27 @@ fn arguments_held(types: &[u8; TYPE_BYTES], s: State, who: usize, x: Method, vs:
     crossing_targets::argument_in(x, n) == 0
 }
 
+// How many of the calls are this subject's (C7).
+fn made_by(js: Calls, who: usize) -> usize
+    requires { ⌜ js .count ≤ maxCalls ⌝ }
+    ensures { λ r. ⌜ r ≡ madeBy who (callsIn js) ⌝ }
+{
+    let n = js.count;
+    let mut made: usize = 0;
+    let mut j: usize = 0;
+    while j < n {
+        if wide(js.list[j].caller) == who {
+            made += 1;
+        }
+        j += 1;
+    }
+    made
+}
+
 // One more call (C18), and its answer (C19).
 pub fn add_call(s: State, who: usize, k: usize, m: usize, adapters: usize) -> Served
     requires { ⌜ (s .calls .count < maxCalls) × (who < 256) × (k < 256) × (m < 256) ⌝ }
-    ensures { λ r. ⌜ ((b : List ℕ) → Sound (whole b s) → k < s .cells .count → m < s .counts .methods
+    ensures { λ r. ⌜ ((b : List ℕ) → Sound (whole b s) → MayCall (whole b s) who → k < s .cells .count → m < s .counts .methods
         → Step (whole b s) (ok (withCall (systemIn (whole b s)) (newCall who k m), pair (s .calls .count) adapters)) (done b r)) ⌝ }
 {
     let first = s.calls.count;
@@ -114,7 +132,7 @@ fn call_through(
     x: Method,
     vs: &[i64],
 ) -> Served
-    requires { ⌜ Sound (whole (now types) s) × (s .calls .count < maxCalls) × (who < 256) × (k < s .cells .count) × (m < s .counts .methods) ⌝ }
+    requires { ⌜ Sound (whole (now types) s) × MayCall (whole (now types) s) who × (who < 256) × (k < s .cells .count) × (m < s .counts .methods) ⌝ }
     ensures { λ r. ⌜ Step (whole (now (types .entry)) s) (callThrough (systemIn (whole (now (types .entry)) s)) who k m (argumentsOf x) (now (vs .entry)))
         (done (now (types .exit)) r) ⌝ }
 {
@@ -177,7 +195,7 @@ fn plan_numbers(
     x: Method,
     vs: &[i64],
 ) -> Plan
-    requires { ⌜ Sound (whole (now types) s) × (s .calls .count < maxCalls) × (who < 256) × (k < s .cells .count) × (m < s .counts .methods)
+    requires { ⌜ Sound (whole (now types) s) × MayCall (whole (now types) s) who × (who < 256) × (k < s .cells .count) × (m < s .counts .methods)
         × (cellOf c ≡ getD (cellsIn (s .cells)) k noCell) ⌝ }
     ensures { λ r. ⌜ Planned (whole (now (types .entry)) s) (now (vs .entry))
         (callThrough (systemIn (whole (now (types .entry)) s)) who k m (argumentsOf x) (now (vs .entry))) r ⌝ }
@@ -213,7 +231,7 @@ fn plan_numbers(
 
 // The tests that are left once the subject, its cell and the method are known (C3, C4, C5, C7).
 fn plan_held(types: &[u8; TYPE_BYTES], s: State, who: usize, k: usize, m: usize, vs: &[i64]) -> Plan
-    requires { ⌜ Sound (whole (now types) s) × (who < 256) × (k < s .cells .count) × (m < s .counts .methods) ⌝ }
+    requires { ⌜ Sound (whole (now types) s) × (who < s .counts .subjects) × (k < s .cells .count) × (m < s .counts .methods) ⌝ }
     ensures { λ r. ⌜ ((subject : ℤ) → named subject ≡ who
         → Planned (whole (now (types .entry)) s) (now (vs .entry)) (callHeld (systemIn (whole (now (types .entry)) s)) subject k m (now (vs .entry))) r) ⌝ }
 {
@@ -226,7 +244,7 @@ fn plan_held(types: &[u8; TYPE_BYTES], s: State, who: usize, k: usize, m: usize,
     if !arguments_held(types, s, who, x, vs) {
         return stops(refusal::WRONG_VALUES);
     }
-    if State::CALLS <= s.calls.count {
+    if State::CALLS_EACH <= made_by(s.calls, who) {
         return stops(refusal::CALLS_FULL);
     }
     plan_numbers(types, s, who, k, c, m, x, vs)

@@ -279,9 +279,11 @@ module _ (s : State) (types : List ℕ) (n : ℕ) (ps : Places) (holder ty place
         descending = h .descending;
         typed = h .typed;
         cellCount = let w = count-is in omega arith;
-        callCount = h .sound .callCount;
         cells = each-cell;
-        calls = λ j l. let x = h .sound .calls j l in record { cell = let u = x .cell in let w = count-is in omega arith; method = x .method };
+        calls = record {
+          each = λ j l. let x = h .sound .calls .each j l in record { caller = x .caller; cell = let u = x .cell in let w = count-is in omega arith; method = x .method };
+          few = h .sound .calls .few;
+        };
       };
     }
       where

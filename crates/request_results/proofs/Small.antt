@@ -1,4 +1,4 @@
--- The two numbers of a result are small (crate law_handed): a cell is one of 256 and its place one of 128; a call is one of 256, and at most 128 adapters stand behind its cell.
+-- The two numbers of a result are small (crate law_handed): a cell is one of 256 and its place one of 128; a call is one of 512, and at most 128 adapters stand behind its cell.
 use mathlib.Core.Path.{_≡_, refl, ap, sym, subst}
 use mathlib.Core.Logic.{inl, inr}
 use mathlib.Core.Bool.{Bool, true, false, So}
@@ -9,7 +9,7 @@ use Rattle.spec_model.specs.Requests.{System, Request, Result, pair, number, no
 use Rattle.spec_model.specs.Check.{systemAccepted, systemFits, systemOf}
 use Rattle.spec_model.specs.Refusals.{outOfRange}
 use Rattle.law_model.proofs.Steps.{IfOk}
-use Rattle.law_model.proofs.Checked.{Bounded, fits-bounded, checked-stays}
+use Rattle.law_model.proofs.Checked.{Bounded, bounded-calls, fits-bounded, checked-stays}
 use Rattle.law_model.proofs.Returned.{accepted-codes}
 use Rattle.law_handed.proofs.Small.{Named, small-serve}
 use Rattle.law_handed.proofs.Small.{Small as SmallWith}
@@ -33,7 +33,7 @@ serve-small s h q = go (serve s q) (small-serve s q) (checked-stays s h q)
   where
     small : (s′ : System) → Bounded s′ → (x : Result) → Named s s′ x → SmallResult x
     small s′ k (pair a b) (inl w) = let p = k .cells a (w .0) .place in (omega (arith, w .0, k .cellCount), omega (arith, w .1, p, k .places .count))
-    small s′ k (pair a b) (inr w) = (omega (arith, w .0), omega (arith, w .1, fits-bounded s h .places .count))
+    small s′ k (pair a b) (inr w) = let old = fits-bounded s h in (omega (arith, w .0, bounded-calls s old), omega (arith, w .1, old .places .count))
     small s′ k (number v) w = tt
     small s′ k nothing w = tt
 

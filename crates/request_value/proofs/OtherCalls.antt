@@ -4,7 +4,7 @@ use mathlib.Core.Bool.{true}
 use Prim.Native.Nat.{ℕ, _≤_, _<_}
 use lib.ListN.{getD}
 use Rattle.spec_model.specs.Basics.{ok}
-use Rattle.spec_model.specs.Requests.{System, Result, noCall, withCalls, got, maxCalls}
+use Rattle.spec_model.specs.Requests.{System, Result, noCall, withCalls, got, maxCallsEach, madeBy}
 use Rattle.spec_model.proofs.Rules.{never}
 use Rattle.state_record.specs.declared.Calls.{Calls}
 use Rattle.state_record.specs.Whole.{Whole as State}
@@ -19,7 +19,8 @@ use Rattle.request_common.specs.Back.{isAccepted}
 abbrev pub callsLeft : State → Calls → State
 callsLeft s calls = record { types = s .types; links = s .links; counts = s .counts; cells = s .cells; places = s .places; calls = calls }
 
-module _ (s : State) (h : Sound s) (calls : Calls) (few : calls .count ≤ maxCalls) (each : (j : ℕ) → j < calls .count → CallIn s (getD (callsIn calls) j noCall)) where
+module _ (s : State) (h : Sound s) (calls : Calls) (each : (j : ℕ) → j < calls .count → CallIn s (getD (callsIn calls) j noCall))
+    (few : (k : ℕ) → madeBy k (callsIn calls) ≤ maxCallsEach) where
   pub calls-mean : systemIn (callsLeft s calls) ≡ withCalls (systemIn s) (callsIn calls)
   calls-mean = system-is (callsLeft s calls) ∙ ap (λ (x : System). withCalls x (callsIn calls)) (sym (system-is s))
 
@@ -35,8 +36,7 @@ module _ (s : State) (h : Sound s) (calls : Calls) (few : calls .count ≤ maxCa
       descending = h .descending;
       typed = h .typed;
       cellCount = h .cellCount;
-      callCount = few;
       cells = λ i l. let y = h .cells i l in record { type = y .type; place = y .place };
-      calls = λ j l. let y = each j l in record { cell = y .cell; method = y .method };
+      calls = record { each = λ j l. let y = each j l in record { caller = y .caller; cell = y .cell; method = y .method }; few = few };
     };
   }

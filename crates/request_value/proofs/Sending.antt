@@ -26,7 +26,7 @@ use Rattle.state_record.specs.declared.Cell.{Cell}
 use Rattle.state_record.specs.Whole.{Whole as State}
 use Rattle.state_record.specs.View.{cellOf, cellsIn, placesIn, systemIn}
 use Rattle.state_record.specs.Sound.{CellIn, Sound}
-use Rattle.state_record.proofs.Laws.{cells-length, places-length, system-is, means-counted}
+use Rattle.state_record.proofs.Laws.{cells-length, places-length, calls-length, system-is, means-counted}
 use Rattle.crossing_meet.specs.declared.Crossed.{Crossed}
 use Rattle.crossing_meet.specs.Crossed.{reference, Ready, PlaceKnown, crossedOf, Leaves}
 use Rattle.crossing_meet.proofs.Laws.{refused-is, came-is}
@@ -36,7 +36,7 @@ use Rattle.request_common.specs.declared.Outcome.the-variants.{Refused, Pair, N
 use Rattle.request_common.specs.Served.{Done as Served, refusalOf as refusal}
 use Rattle.state_record.specs.View.{withTypes}
 use Rattle.request_common.specs.Served.{outcomeOf, servedWith, servedAs, Stored, Step, Arrives, arrived}
-use Rattle.request_common.proofs.Laws.{stored-self, stored-on, refuses, refuses-kept, step-as, table-is}
+use Rattle.request_common.proofs.Laws.{stored-self, stored-on, refuses, refuses-kept, step-as, table-is, calls-are}
 use Rattle.request_value.specs.Sent.{sendArgument, allSent, Went, Sent}
 use Rattle.request_common.specs.Back.{isAccepted}
 
@@ -91,6 +91,9 @@ went-types s t = record { cells = omega arith; places = omega arith; calls = ref
 pub went-on : (s s₁ s₂ : State) → Went s s₁ → Went s₁ s₂ → Went s s₂
 went-on s s₁ s₂ h k = record { cells = omega (arith, h .cells, k .cells); places = omega (arith, h .places, k .places); calls = k .calls ∙ h .calls }
 
+pub went-counted : {s s′ : State} → Went s s′ → s′ .calls .count ≡ s .calls .count
+went-counted {s} {s′} w = sym (calls-length (s′ .calls)) ∙ ap length (w .calls) ∙ calls-length (s .calls)
+
 -- ---- Sending a reference.
 -- where there is a place and a type, a cell by any number leads to one, by one
 pub any-cell : (s : State) → Sound s → 0 < s .places .count → 0 < s .counts .types → (k : ℕ) → CellIn s (getD (cellsIn (s .cells)) k noCell)
@@ -112,7 +115,7 @@ went-by s q x e c p j =
     record {
       cells = omega arith;
       places = omega arith;
-      calls = sym (means-counted q .calls) ∙ ap length (ap (λ (y : System). y .calls) e ∙ j) ∙ means-counted s .calls;
+      calls = sym (calls-are q) ∙ ap (λ (y : System). y .calls) e ∙ j ∙ calls-are s;
     }
 
 pub added-goes : (s : State) (r : ℕ) (f : Reference) → s .places .count ≤ length (f .places) → (q : Served) → Step s (addCell (systemIn s) r f) q → Went s (q .state)

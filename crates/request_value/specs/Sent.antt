@@ -10,6 +10,7 @@ use Rattle.spec_model.specs.Table.{typeAt, argumentAt, isRef}
 use Rattle.spec_model.specs.Requests.{System, Result, nothing, send, passLayers}
 use Rattle.table_record.specs.declared.Method.{Method}
 use Rattle.state_record.specs.Whole.{Whole as State}
+use Rattle.state_record.specs.View.{callsIn}
 use Rattle.state_record.specs.Sound.{Sound}
 use Rattle.request_common.specs.Served.{Done as Served}
 use Rattle.request_common.specs.Served.{servedAs, Stored}
@@ -30,11 +31,11 @@ sendArgument s r ls m i a v = elim (isRef (typeAt (s .table) a .rep)) [
 abbrev pub allSent : Res System → Res (System × Result)
 allSent x = try x λ s. ok (s, nothing)
 
--- What a step on the way leaves of the counts: nothing is taken away, and calls are made at the end alone.
+-- What a step on the way leaves: no cell or place is taken away, and calls are made at the end alone.
 pub record Went (s s′ : State) : Type 0 where
   pub cells : s .cells .count ≤ s′ .cells .count
   pub places : s .places .count ≤ s′ .places .count
-  pub calls : s′ .calls .count ≡ s .calls .count
+  pub calls : callsIn (s′ .calls) ≡ callsIn (s .calls)
 
 -- What comes of the arguments together. After a refusal the state is the one that the refused argument met, and the call gives back its own (C20).
 pub record Sent (s : State) (m : Res (System × Result)) (q : Served) : Type 0 where

@@ -15,14 +15,14 @@ use borrow.Author.Tests.{ltb-false}
 use Rattle.spec_model.specs.Basics.{Res, refuse, ok, try, need, names, named}
 use Rattle.spec_model.specs.Table.{typeAt, isRef, isAvail, isClass, answerAt, methodAt}
 use Rattle.spec_model.specs.Crossing.{object, maxPlaces, baseOwner, Reference, cross}
-use Rattle.spec_model.specs.Requests.{System, Request, new, move, call, answer, Result, pair, number, nothing, got, outcome, maxCells, maxCalls, cellAt, callAt, isSheetRef, held, leaving}
+use Rattle.spec_model.specs.Requests.{System, Request, new, move, call, answer, Result, pair, number, nothing, got, outcome, maxCells, maxCallsEach, madeBy, cellAt, callAt, isSheetRef, held, leaving}
 use Rattle.spec_model.specs.Requests.{addCell, newRequest, moveRequest, callLayers, crossLayers, passLayers, send, argumentsHeld, sendArguments, callRequest, withAnswer, give, answerRequest, serve}
 use Rattle.spec_model.specs.Requests.{after, run}
 use Rattle.spec_model.specs.Requests.{loaded as start}
 use Rattle.spec_model.specs.Claim.{follow}
 use Rattle.spec_model.specs.Refusals.{unknownSubject, notHeld, unknownType, placesFull, cellsFull, notCallable, wrongValues, answeredAlready, callsFull}
 use Rattle.law_model.proofs.Steps.{IfOk, ok-need, ok-try, whatever}
-use Rattle.law_model.proofs.Checked.{Bounded, fits-bounded, bounded-kept}
+use Rattle.law_model.proofs.Checked.{Bounded, bounded-calls, fits-bounded, bounded-kept}
 use Rattle.law_model.proofs.Reached.{reached-fits}
 use Rattle.law_handed.proofs.Small.{Small, Named, small-serve}
 use Rattle.spec_sheet.specs.Lines.{Row, row, cut, bytes, split, join}
@@ -124,7 +124,7 @@ serve-gives s (call subject k m vs) =
     ok-need _ (held s subject k) notHeld _ λ _.
     ok-need _ (names m (s .table .methods) && isAvail (f .state)) notCallable _ λ _.
     ok-need _ (argumentsHeld s subject (f .args) vs) wrongValues _ λ _.
-    ok-need _ (ltb (length (s .calls)) maxCalls) callsFull _ λ _.
+    ok-need _ (ltb (madeBy (named subject) (s .calls)) maxCallsEach) callsFull _ λ _.
     ok-try (λ _. Unit {0}) _ sent _ (whatever sent) λ _ _. tt
 serve-gives s (answer subject j v) =
     let c = cellAt s (callAt s (named j) .cell) in
@@ -138,7 +138,7 @@ serve-few s h q = go (serve s q) (small-serve s q) (bounded-kept s h q) (serve-g
   where
     few : (s′ : System) → Bounded s′ → (x : Result) → Named s s′ x → Given q x → Few q x
     few s′ k (pair a b) (inl w) g = let p = k .cells a (w .0) .place in (omega (arith, w .0, k .cellCount), omega (arith, w .1, p, k .places .count))
-    few s′ k (pair a b) (inr w) g = (omega (arith, w .0), omega (arith, w .1, h .places .count))
+    few s′ k (pair a b) (inr w) g = (omega (arith, w .0, bounded-calls s h), omega (arith, w .1, h .places .count))
     few s′ k (number v) w g = g
     few s′ k nothing w g = tt
 

@@ -3,6 +3,7 @@ pub mod Cases
 pub mod CasesStates
 pub mod CasesWorked
 pub mod CasesHanded
+pub mod CasesCalls
 pub mod Tests
 pub mod Codes
 pub mod Rules

@@ -10,13 +10,15 @@ use borrow.Author.Tests.{ltb-true, leb-true}
 use Rattle.spec_model.specs.Basics.{all, every}
 use Rattle.spec_model.specs.Table.{tableFits}
 use Rattle.spec_model.specs.Crossing.{Place as Placeᵐ, object, adapter, maxPlaces}
-use Rattle.spec_model.specs.Requests.{Cell as Cellᵐ, Call as Callᵐ, System, maxCells, maxCalls}
-use Rattle.spec_model.specs.Check.{RawType, RawTable, cellFits, placeFits, callFits, systemFits, tableOf, codesFit, stateCodesFit, tableAccepted}
+use Rattle.spec_model.specs.Requests.{Cell as Cellᵐ, Call as Callᵐ, System, noCall, maxCells, maxCalls}
+use Rattle.spec_model.specs.Check.{RawType, RawTable, cellFits, placeFits, callFits, callersFit, systemFits, tableOf, codesFit, stateCodesFit, tableAccepted}
 use Rattle.spec_model.specs.Check.{systemAccepted, noRawPlace, noRawCall}
 use Rattle.spec_model.specs.Handed.{placeRecord, callRecord}
 use Rattle.spec_model.proofs.Rules.{both, first, second}
 use Rattle.law_model.proofs.Records.{place-code, call-code}
+use Rattle.law_model.proofs.Fitting.{all-at}
 use Rattle.spec_model.proofs.Lists.{all-from}
+use Rattle.table_record.specs.declared.Counts.{Counts}
 use Rattle.table_record.specs.Limits.{Limits}
 use Rattle.table_record.specs.Store.{typesIn, tableIn, rawTable}
 use Rattle.table_record.proofs.Tables.{size-is}
@@ -24,12 +26,13 @@ use Rattle.table_check_links.proofs.Each.{under-and, all-each, every-each, each
 use Rattle.table_check.proofs.Accepted.{accepted-limits}
 use Rattle.state_record.specs.declared.PlaceRec.{PlaceRec}
 use Rattle.state_record.specs.declared.Call.{Call}
+use Rattle.state_record.specs.declared.Calls.{Calls}
 use Rattle.state_record.specs.Whole.{Whole as State}
 use Rattle.state_record.specs.View.{cellOf, placeOf, callOf, blankCell, blankPlace, blankCall, cellsIn, placesIn, callsIn, rawState, systemIn}
 use Rattle.state_record.proofs.Laws.{cells-length, places-length, calls-length, system-is}
 use Rattle.state_check_records.specs.Parts.{cellAccepted, placeAccepted, callAccepted, sizesAccepted}
 use Rattle.state_check_records.proofs.Laws.{class-is, ref-is}
-use Rattle.state_check.specs.Parts.{cellsAccepted, placesAccepted, callsAccepted, recordsAccepted}
+use Rattle.state_check.specs.Parts.{cellsAccepted, placesAccepted, callsAccepted, CallersBelow, recordsAccepted}
 
 -- A state of the model, by the parts of the code's.
 module _ (s : State) (limits : Limits (s .counts)) where
@@ -60,8 +63,9 @@ module _ (s : State) (limits : Limits (s .counts)) where
   unfolding tableIn tableOf
   call-is x = rw (cells-length (s .cells))
 
-  records-are : (all (cellFits m) (m .cells) && (every (placeFits m) 0 (m .places) && all (callFits m) (m .calls))) ≡ recordsAccepted rs (s .counts) (s .cells) (s .places) (s .calls)
-  unfolding cellsIn placesIn callsIn cellsAccepted placesAccepted callsAccepted
+  records-are : (all (cellFits m) (m .cells) && (every (placeFits m) 0 (m .places) && (all (callFits m) (m .calls) && callersFit m)))
+      ≡ recordsAccepted rs (s .counts) (s .cells) (s .places) (s .calls)
+  unfolding cellsIn placesIn callsIn cellsAccepted placesAccepted callsAccepted tableIn tableOf
   records-are =
       let f : ℕ → Cellᵐ = λ k. cellOf (getD (s .cells .list) k blankCell) in
       let g : ℕ → Placeᵐ = λ p. placeOf (getD (s .places .list) p blankPlace .place) in
@@ -117,3 +121,9 @@ pub sizes-are : (cells places calls : ℕ) → sizesAccepted cells places calls 
 sizes-are cells places calls e =
     let f = second (leb cells maxCells) _ e in
     (leb-true cells maxCells (first (leb cells maxCells) _ e), leb-true places maxPlaces (first (leb places maxPlaces) _ f), leb-true calls maxCalls (second (leb places maxPlaces) _ f))
+
+-- callers are known where calls are accepted
+pub callers-known : (c : Counts) (cells : ℕ) (js : Calls) → callsAccepted c cells js ≡ true → CallersBelow (c .subjects) (callsIn js)
+unfolding callsIn callsAccepted
+callers-known c cells js e j l = ltb-true _ _ (first (ltb (getD (callsIn js) j noCall .caller) (c .subjects)) _
+    (all-at (callAccepted c cells) noCall (callsIn js) (all-each (λ k. callOf (getD (js .list) k blankCall)) (callAccepted c cells) (js .count) 0 ∙ e) j l))

@@ -13,6 +13,7 @@ use Rattle.spec_model.specs.Check.{cellFits, placeFits, callFits, systemFits, c
 use Rattle.spec_model.proofs.Tests.{ltb-so}
 use Rattle.spec_model.proofs.Rules.{never, first, second}
 use Rattle.law_model.proofs.Fitting.{all-at, every-at}
+use Rattle.law_model.proofs.Callers.{callers-fit}
 use Rattle.law_model.proofs.Checked.{SystemFitting, system-fitting}
 use Rattle.table_record.specs.Limits.{Checked}
 use Rattle.table_record.specs.Store.{tableIn, rawTable}
@@ -57,6 +58,9 @@ module _ (s : State) (h : So (systemAccepted (rawState s))) where
       subst (λ (n : ℕ). So (placeFits m n (placeAt (placesIn (s .places)) p))) (omega arith)
       (every-at (placeFits m) noPlace 0 (placesIn (s .places)) (fitting .places) p (subst (λ (n : ℕ). p < n) (sym (places-length (s .places))) l))
 
+  call-fits : (j : ℕ) → j < length (callsIn (s .calls)) → So (callFits m (callAt m j))
+  call-fits j l = all-at (callFits m) noCall (callsIn (s .calls)) (fitting .calls) j l
+
   sheet-below : m .table .sheet ≤ size (m .table)
   unfolding tableIn tableOf
   sheet-below = subst (λ (n : ℕ). s .counts .sheet ≤ n) (sym (size-is (s .types) (s .links) (s .counts))) (checked .limits .counted)
@@ -73,7 +77,6 @@ module _ (s : State) (h : So (systemAccepted (rawState s))) where
         typed = λ p l. subst (λ (n : ℕ). placeType (placeAt (placesIn (s .places)) p) < n) (size-is (s .types) (s .links) (s .counts))
             (typed m p (placeAt (placesIn (s .places)) p) sheet-below (place-fits p l));
         cellCount = z .0;
-        callCount = z .2;
         cells = λ k l. let c = cellAt m k in
             let e = all-at (cellFits m) noCell (cellsIn (s .cells)) (fitting .cells) k (subst (λ (n : ℕ). k < n) (sym (cells-length (s .cells))) l) in
             let e₁ = second (ltb (c .holder) (m .table .subjects)) _ e in
@@ -84,13 +87,17 @@ module _ (s : State) (h : So (systemAccepted (rawState s))) where
               type = omega arith;
               place = subst (λ (n : ℕ). c .place < n) (places-length (s .places)) (ltb-so (first (ltb (c .place) (length (m .places))) _ e₁));
             };
-        calls = λ j l. let c = callAt m j in
-            let e = all-at (callFits m) noCall (callsIn (s .calls)) (fitting .calls) j (subst (λ (n : ℕ). j < n) (sym (calls-length (s .calls))) l) in
-            let e₁ = second (ltb (c .caller) (m .table .subjects)) _ e in
-            record {
-              cell = subst (λ (n : ℕ). c .cell < n) (cells-length (s .cells)) (ltb-so (first (ltb (c .cell) (length (m .cells))) _ e₁));
-              method = ltb-so (second (ltb (c .cell) (length (m .cells))) _ e₁);
-            };
+        calls = record {
+          each = λ j l. let c = callAt m j in
+              let e = call-fits j (subst (λ (n : ℕ). j < n) (sym (calls-length (s .calls))) l) in
+              let e₁ = second (ltb (c .caller) (m .table .subjects)) _ e in
+              record {
+                caller = ltb-so (first (ltb (c .caller) (m .table .subjects)) _ e);
+                cell = subst (λ (n : ℕ). c .cell < n) (cells-length (s .cells)) (ltb-so (first (ltb (c .cell) (length (m .cells))) _ e₁));
+                method = ltb-so (second (ltb (c .cell) (length (m .cells))) _ e₁);
+              };
+          few = callers-fit (m .table .subjects) (callsIn (s .calls)) (λ j l. ltb-so (first (ltb (callAt m j .caller) (m .table .subjects)) _ (call-fits j l))) (fitting .callers) .few;
+        };
       }
 
   pub accepted-sound : length (s .types) ≡ typesSize → Sound s

@@ -2,15 +2,18 @@
 -- proved (proofs/Laws), so nothing here has to be believed.
 use mathlib.Core.Bool.{Bool, _&&_}
 use mathlib.Core.List.{List}
-use Prim.Native.Nat.{ℕ}
-use lib.ListN.{getD}
+use Prim.Native.Nat.{ℕ, _<_}
+use lib.Dec.{leb}
+use lib.ListN.{length, getD}
+use Rattle.spec_model.specs.Basics.{all, from}
+use Rattle.spec_model.specs.Requests.{Call as Callᵐ, noCall, maxCallsEach, madeBy}
 use Rattle.spec_model.specs.Check.{RawType}
 use Rattle.table_record.specs.declared.Counts.{Counts}
 use Rattle.table_check_links.specs.Parts.{eachFrom}
 use Rattle.state_record.specs.declared.Cells.{Cells}
 use Rattle.state_record.specs.declared.Places.{Places}
 use Rattle.state_record.specs.declared.Calls.{Calls}
-use Rattle.state_record.specs.View.{cellOf, placeOf, callOf, blankCell, blankPlace, blankCall}
+use Rattle.state_record.specs.View.{cellOf, placeOf, callOf, blankCell, blankPlace, blankCall, callsIn}
 use Rattle.state_check_records.specs.Parts.{settledAs, cellAccepted, placeAccepted, callAccepted}
 
 -- the counted ones
@@ -26,5 +29,12 @@ unfoldable pub callsAccepted : Counts → ℕ → Calls → Bool
 unfolding eachFrom
 callsAccepted c cells js = eachFrom (js .count) 0 (λ j. callAccepted c cells (callOf (getD (js .list) j blankCall)))
 
+-- nobody made too many of them (H17), and their callers are among so many subjects
+abbrev pub callersAccepted : ℕ → List Callᵐ → Bool
+callersAccepted subjects cs = all (λ k. leb (madeBy k cs) maxCallsEach) (from subjects 0 (λ k. k))
+
+abbrev pub CallersBelow : ℕ → List Callᵐ → Type 0
+CallersBelow n cs = (j : ℕ) → j < length cs → getD cs j noCall .caller < n
+
 abbrev pub recordsAccepted : List RawType → Counts → Cells → Places → Calls → Bool
-recordsAccepted rs c cs ps js = cellsAccepted rs c (ps .count) cs && (placesAccepted rs c ps && callsAccepted c (cs .count) js)
+recordsAccepted rs c cs ps js = cellsAccepted rs c (ps .count) cs && (placesAccepted rs c ps && (callsAccepted c (cs .count) js && callersAccepted (c .subjects) (callsIn js)))

@@ -1,15 +1,16 @@
-// The check of a state that is handed in (H1 to H11): any counts and any records. Counts first, so that every index is below its array's length, then the
+// The check of a state that is handed in (H1 to H11, H17): any counts and any records. Counts first, so that every index is below its array's length, then the
 // table, then cells, places and calls.
 ghost use mathlib.Core.Path.{_≡_};
-ghost use Prim.Native.Nat.{_≤_};
+ghost use Prim.Native.Nat.{ℕ, _≤_};
 ghost use Rattle.spec_model.specs.Check.{systemAccepted};
 ghost use Rattle.spec_model.specs.Crossing.{maxPlaces};
 ghost use Rattle.spec_model.specs.Requests.{maxCells, maxCalls};
+ghost use Rattle.spec_model.specs.Table.{maxSubjects};
 ghost use Rattle.table_record.specs.Limits.{Limits};
 ghost use Rattle.table_record.specs.Store.{typesIn};
 ghost use Rattle.state_record.specs.Whole.{whole};
-ghost use Rattle.state_record.specs.View.{rawState};
-ghost use Rattle.state_check.specs.Parts.{cellsAccepted, placesAccepted, callsAccepted, recordsAccepted};
+ghost use Rattle.state_record.specs.View.{callsIn, rawState};
+ghost use Rattle.state_check.specs.Parts.{cellsAccepted, placesAccepted, callsAccepted, callersAccepted, CallersBelow, recordsAccepted};
 use state_record::Calls;
 use state_record::Cells;
 use state_record::Places;
@@ -65,6 +66,25 @@ fn calls_fit(c: Counts, cells: usize, js: Calls) -> bool
     true
 }
 
+// Nobody made more than 32 of the calls (H17), whose callers are known: they are counted by subject.
+fn callers_fit(js: Calls) -> bool
+    requires { ⌜ (js .count ≤ maxCalls) × CallersBelow maxSubjects (callsIn js) ⌝ }
+    ensures { λ r. ⌜ ((subjects : ℕ) → subjects ≤ maxSubjects → CallersBelow subjects (callsIn js) → r ≡ callersAccepted subjects (callsIn js)) ⌝ }
+{
+    let n = js.count;
+    let mut made = [0usize; Counts::SUBJECTS];
+    let mut j: usize = 0;
+    while j < n {
+        let k = base_numbers::wide(js.list[j].caller);
+        if State::CALLS_EACH <= made[k] {
+            return false;
+        }
+        made[k] += 1;
+        j += 1;
+    }
+    true
+}
+
 // Cells, places and calls, in a table that is accepted.
 fn records_fit(b: &[u8; TYPE_BYTES], c: Counts, cs: Cells, ps: Places, js: Calls) -> bool
     requires { ⌜ Limits c × (cs .count ≤ maxCells) × (ps .count ≤ maxPlaces) × (js .count ≤ maxCalls) ⌝ }
@@ -78,7 +98,10 @@ fn records_fit(b: &[u8; TYPE_BYTES], c: Counts, cs: Cells, ps: Places, js: Calls
         return false;
     }
     let cells = cs.count;
-    calls_fit(c, cells, js)
+    if !calls_fit(c, cells, js) {
+        return false;
+    }
+    callers_fit(js)
 }
 
 // Whether a state that is handed in is taken.

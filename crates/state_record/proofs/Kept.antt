@@ -1,22 +1,26 @@
 -- What the steps keep: one record more leaves a state sound, where the record's numbers are below their counts.
-use mathlib.Core.Path.{_≡_, sym, subst}
-use mathlib.Core.Bool.{false}
+use mathlib.Core.Path.{_≡_, refl, sym, subst}
+use mathlib.Core.Bool.{true, false}
 use mathlib.Core.List.{List, [], _∷_, _++_}
-use Prim.Native.Nat.{ℕ, _+_, _<_}
+use Prim.Native.Nat.{ℕ, _+_, _≤_, _<_}
 use native.Mathlib.Nat.{not-suc-le-zero}
 use native.Mathlib.Omega.{arith}
 use native.Mathlib.Decide.{decLt}
-use lib.ListN.{length, getD, List·getD-append}
+use lib.ListN.{length, getD, set, List·getD-append}
 use lib.Seq.{getD-at}
 use Rattle.spec_model.specs.Crossing.{Place as Placeᵐ, noPlace, placeAt, placeType, maxPlaces}
+use Rattle.spec_model.specs.Basics.{from}
+use Rattle.spec_model.specs.Requests.{noCall, flagged, maxCallsEach, maxCalls, madeBy}
+use Rattle.spec_model.specs.Requests.{Call as Callᵐ}
+use Rattle.law_model.proofs.Callers.{Calling, calls-few, calls-room, calling-more, calling-answered}
 use Rattle.table_record.specs.declared.Counts.{Counts}
 use Rattle.table_record.specs.Limits.{Checked}
 use Rattle.table_record.specs.Layout.{typesSize}
 use Rattle.state_record.specs.declared.Places.{Places}
 use Rattle.state_record.specs.Whole.{Whole, whole}
-use Rattle.state_record.specs.View.{placesIn, isObject, behindOf, stateLoaded, withTypes}
-use Rattle.state_record.specs.Sound.{Descending, Typed, Sound}
-use Rattle.state_record.proofs.Laws.{places-length}
+use Rattle.state_record.specs.View.{placesIn, callsIn, isObject, behindOf, noCalls, stateLoaded, withTypes}
+use Rattle.state_record.specs.Sound.{Descending, Typed, MayCall, Sound}
+use Rattle.state_record.proofs.Laws.{places-length, calls-length}
 
 -- what holds of every element of a list and of one more
 more : {A : Type 0} (d : A) (P : ℕ → A → Type 0) (xs : List A) (x : A) → ((i : ℕ) → i < length xs → P i (getD xs i d)) → P (length xs) x → (i : ℕ) → i < length xs + 1
@@ -42,6 +46,10 @@ module _ (ps qs : Places) (x : Placeᵐ) (count : qs .count ≡ ps .count + 1) (
   typed-more c h new = each-more (λ p y. placeType y < c .types) h new
 
 -- the state of a loaded sheet
+none-made : (k : ℕ) → madeBy k (callsIn noCalls) ≡ 0
+unfolding callsIn from
+none-made k = refl
+
 pub loaded-sound : (types links : List ℕ) (counts : Counts) → length types ≡ typesSize → Checked links counts → Sound (whole types (stateLoaded links counts))
 loaded-sound types links counts long h = record {
   long = long;
@@ -49,9 +57,8 @@ loaded-sound types links counts long h = record {
   descending = record { count = omega arith; behind = λ p l. absurd (not-suc-le-zero l) };
   typed = λ p l. absurd (not-suc-le-zero l);
   cellCount = omega arith;
-  callCount = omega arith;
   cells = λ k l. absurd (not-suc-le-zero l);
-  calls = λ j l. absurd (not-suc-le-zero l);
+  calls = record { each = λ j l. absurd (not-suc-le-zero l); few = λ k. omega (arith, none-made k) };
 }
 
 -- nothing of soundness is in the bytes of the types
@@ -62,7 +69,24 @@ sound-types s b long h = record {
   descending = h .descending;
   typed = h .typed;
   cellCount = h .cellCount;
-  callCount = h .callCount;
   cells = λ k l. let x = h .cells k l in record { type = x .type; place = x .place };
-  calls = λ j l. let x = h .calls j l in record { cell = x .cell; method = x .method };
+  calls = record { each = λ j l. let x = h .calls .each j l in record { caller = x .caller; cell = x .cell; method = x .method }; few = h .calls .few };
 }
+
+-- Callers are known and each has few calls, so that there is room for who has fewer (Q9).
+module _ (s : Whole) (h : Sound s) where
+  pub sound-calling : Calling (s .counts .subjects) (callsIn (s .calls))
+  sound-calling = record { callers = λ j l. h .calls .each j (subst (λ n. j < n) (calls-length (s .calls)) l) .caller; few = h .calls .few }
+
+  pub sound-few : s .calls .count ≤ maxCalls
+  sound-few = subst (λ n. n ≤ maxCalls) (calls-length (s .calls)) (calls-few sound-calling (h .checked .limits .subjects))
+
+  pub sound-room : (who : ℕ) → MayCall s who → s .calls .count < maxCalls
+  sound-room who may = subst (λ n. n < maxCalls) (calls-length (s .calls)) (calls-room sound-calling (h .checked .limits .subjects) who (may .0) (may .1))
+
+  -- one call more of who may make it, and one that is answered
+  pub few-added : (c : Callᵐ) → MayCall s (c .caller) → (k : ℕ) → madeBy k (callsIn (s .calls) ++ (c ∷ [])) ≤ maxCallsEach
+  few-added c may = calling-more sound-calling c (may .0) (may .1) .few
+
+  pub few-answered : (j k : ℕ) → madeBy k (set (callsIn (s .calls)) j (flagged (getD (callsIn (s .calls)) j noCall) true)) ≤ maxCallsEach
+  few-answered j = calling-answered sound-calling j true .few

@@ -5,7 +5,7 @@ use mathlib.Core.Bool.{false}
 use Prim.Native.Nat.{ℕ, _≤_, _<_}
 use lib.ListN.{length, getD}
 use Rattle.spec_model.specs.Crossing.{maxPlaces, placeAt, placeType}
-use Rattle.spec_model.specs.Requests.{Cell as Cellᵐ, Call as Callᵐ, noCell, noCall, maxCells, maxCalls}
+use Rattle.spec_model.specs.Requests.{Cell as Cellᵐ, Call as Callᵐ, noCell, noCall, maxCells, maxCallsEach, madeBy}
 use Rattle.table_record.specs.declared.Counts.{Counts}
 use Rattle.table_record.specs.Limits.{Checked}
 use Rattle.table_record.specs.Layout.{typesSize}
@@ -27,8 +27,18 @@ pub record CellIn (s : State) (c : Cellᵐ) : Type 0 where
   pub place : c .place < s .places .count
 
 pub record CallIn (s : State) (c : Callᵐ) : Type 0 where
+  pub caller : c .caller < s .counts .subjects
   pub cell : c .cell < s .cells .count
   pub method : c .method < s .counts .methods
+
+-- The calls, with their callers known and none of whom made more than 32: so who made fewer has room for one more (Q9).
+pub record CallsKnown (s : State) : Type 0 where
+  pub each : (j : ℕ) → j < s .calls .count → CallIn s (getD (callsIn (s .calls)) j noCall)
+  pub few : (k : ℕ) → madeBy k (callsIn (s .calls)) ≤ maxCallsEach
+
+-- a subject that may make one more (C7)
+abbrev pub MayCall : State → ℕ → Type 0
+MayCall s who = (who < s .counts .subjects) × (madeBy who (callsIn (s .calls)) < maxCallsEach)
 
 pub record Sound (s : State) : Type 0 where
   pub long : length (s .types) ≡ typesSize
@@ -36,6 +46,5 @@ pub record Sound (s : State) : Type 0 where
   pub descending : Descending (s .places)
   pub typed : Typed (s .places) (s .counts)
   pub cellCount : s .cells .count ≤ maxCells
-  pub callCount : s .calls .count ≤ maxCalls
   pub cells : (k : ℕ) → k < s .cells .count → CellIn s (getD (cellsIn (s .cells)) k noCell)
-  pub calls : (j : ℕ) → j < s .calls .count → CallIn s (getD (callsIn (s .calls)) j noCall)
+  pub calls : CallsKnown s

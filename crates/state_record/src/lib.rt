@@ -201,7 +201,10 @@ impl State {
 
     pub const PLACES: usize = 128;
 
-    pub const CALLS: usize = 256;
+    // of one subject, and of all
+    pub const CALLS_EACH: usize = 32;
+
+    pub const CALLS: usize = 512;
 
     // the state of a loaded sheet
     pub fn loaded(links: [u8; LINK_BYTES], counts: Counts) -> Self

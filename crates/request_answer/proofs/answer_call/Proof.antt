@@ -3,6 +3,7 @@ use native.Mathlib.Omega.{arith}
 use mathlib.Core.Path.{ap}
 use borrow.Author.Needs.{needs}
 use Rattle.state_record.specs.Whole.{whole}
+use Rattle.state_record.proofs.Kept.{sound-few}
 use Rattle.request_common.specs.Served.{done}
 use Rattle.request_answer.proofs.Laws.{keeps-same, cell-low, called, owner-not-held, answered-already, call-gives}
 use Rattle.request_answer.specs.Given.{givenAs}
@@ -10,7 +11,7 @@ use Rattle.request_answer.proofs.answer_call.Statement.{statement}
 use Rattle.request_answer.proofs.answer_call.Tie as tie
 
 call-at-requires : tie.Need-call-at-requires
-call-at-requires c κs = omega (arith, c .pre .1, c .pre .0 .callCount)
+call-at-requires c κs = omega (arith, c .pre .1, sound-few _ (c .pre .0))
 
 wide-requires : tie.Need-wide-requires
 wide-requires c κs = search needs

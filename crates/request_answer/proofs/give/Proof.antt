@@ -4,6 +4,7 @@ use mir.Facts.{toZ-ofZ}
 use mathlib.Core.Path.{refl, ap}
 use borrow.Author.Needs.{needs}
 use Rattle.state_record.specs.Whole.{whole}
+use Rattle.state_record.proofs.Kept.{sound-few}
 use Rattle.request_common.specs.Served.{done}
 use Rattle.spec_model.specs.Requests.{nothing}
 use Rattle.request_answer.proofs.Laws.{keeps-same, keeps-any, due-is, given-idle, given-nothing, given-lacks, given-value}
@@ -65,7 +66,7 @@ returns-2 c = (
 
 answered-requires : tie.Need-answered-requires
 answered-requires c κs =
-    (c .before .before .before .before .before .before .before .before .pre .1 .number, c .before .before .before .before .before .before .before .before .pre .0 .callCount, refl)
+    (c .before .before .before .before .before .before .before .before .pre .1 .number, sound-few _ (c .before .before .before .before .before .before .before .before .pre .0), refl)
 
 returns-3 : tie.Need-returns-3
 returns-3 c = (

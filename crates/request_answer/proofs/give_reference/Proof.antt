@@ -5,6 +5,8 @@ use native.Mathlib.Omega.{arith}
 use borrow.Author.Tests.{not-true, not-false}
 use borrow.Author.Needs.{needs}
 use Rattle.state_record.specs.Whole.{whole}
+use Rattle.state_record.proofs.Kept.{sound-few}
+use Rattle.request_value.proofs.Sending.{went-counted}
 use Rattle.request_common.specs.Served.{done}
 use Rattle.crossing_targets.specs.Targets.{targetsIn}
 use Rattle.request_answer.proofs.Laws.{reference-stops, reference-answers}
@@ -25,8 +27,8 @@ returns c = let a = c .before .before .before .before .args in let s = whole (a 
 
 answered-requires : tie.Need-answered-requires
 answered-requires c κs = let k = c .before .before .send .ensures in (
-  omega (arith, k .1 .calls, c .before .before .before .before .pre .1),
-  k .0 .sound .callCount,
+  omega (arith, went-counted (k .1), c .before .before .before .before .pre .1),
+  sound-few _ (k .0 .sound),
   sym (c .before .accepted .ensures)
       ∙ not-false (c .before .accepted .result) (c .if1 .left),
 )

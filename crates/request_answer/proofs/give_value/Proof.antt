@@ -6,6 +6,7 @@ use lib.IntN.{ℤ}
 use borrow.Author.Tests.{not-true, not-false}
 use borrow.Author.Needs.{needs}
 use Rattle.state_record.specs.Whole.{whole}
+use Rattle.state_record.proofs.Kept.{sound-few}
 use Rattle.request_common.specs.Served.{done}
 use Rattle.spec_model.specs.Requests.{number, got}
 use Rattle.crossing_targets.specs.Targets.{targetsIn}
@@ -78,8 +79,7 @@ returns-3 c = λ subject w. let a = c .before .before .before .before .before .b
 answered-requires : tie.Need-answered-requires
 answered-requires c κs = (
   c .before .before .before .before .before .before .before .before .before .before .before .pre .1 .number,
-  c .before .before .before .before .before .before
-      .before .before .before .before .before .pre .0 .callCount,
+  sound-few _ (c .before .before .before .before .before .before .before .before .before .before .before .pre .0),
   refl,
 )
 

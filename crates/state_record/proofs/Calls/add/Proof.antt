@@ -1,4 +1,4 @@
--- One record more at the end of the list: `calls-added`. The array has 256 elements.
+-- One record more at the end of the list: `calls-added`. The array has 512 elements.
 use lib.ListN.{length, length-map}
 use mathlib.Core.Path.{_≡_, refl}
 use Rattle.state_record.proofs.Laws.{calls-added}

@@ -1,4 +1,4 @@
--- One record is set: `calls-answered`. The array has 256 elements.
+-- One record is set: `calls-answered`. The array has 512 elements.
 use lib.ListN.{length, length-map}
 use mathlib.Core.Path.{_≡_, refl}
 use Rattle.state_record.proofs.Laws.{calls-answered}
