@@ -10,7 +10,9 @@
 #include <stdio.h>
 #include <string.h>
 
-enum { HEAD = 26, SUM = 4, PARTS = 5, VERSION = 1 };
+enum { HEAD = 26, SUM = 4, PARTS = 5 };
+enum { OLDEST = 1, OLDEST_CALLS = 256 }; /* the oldest version that is read: its bytes stand in the same places, and it has at most so many calls */
+enum { CALLS = 7 };                      /* their index among the counts */
 
 static const uint8_t MARK[] = { 'P', 'I', 'L', 'G', 'O', 'N', 'C', 'A' };
 static const size_t MOST[PILGONCA_STATE_COUNTS] = {
@@ -36,6 +38,18 @@ static void parts_of(struct pilgonca_state *state, struct part parts[PARTS])
     parts[2] = (struct part){ state->cells, 3 * counts[5] };
     parts[3] = (struct part){ state->places, 3 * counts[6] };
     parts[4] = (struct part){ state->calls, 4 * counts[7] };
+}
+
+/* The most calls of one caller. A call has four bytes, and the caller is the first. */
+static size_t most_made(const struct pilgonca_state *state)
+{
+    size_t made[256] = {0}, most = 0;
+
+    for (size_t which = 0; which < state->counts[CALLS]; which++) {
+        size_t by = ++made[state->calls[4 * which]];
+        if (by > most) most = by;
+    }
+    return most;
 }
 
 static uint32_t checksum(const uint8_t *bytes, size_t length)
@@ -70,7 +84,7 @@ static size_t save(struct pilgonca_state *state, uint8_t *bytes)
     size_t length = HEAD;
 
     memcpy(bytes, MARK, sizeof MARK);
-    put(bytes + 8, 2, VERSION);
+    put(bytes + 8, 2, PILGONCA_STATE_VERSION);
     for (size_t which = 0; which < PILGONCA_STATE_COUNTS; which++) put(bytes + 10 + 2 * which, 2, (uint32_t)state->counts[which]);
     parts_of(state, parts);
     for (size_t which = 0; which < PARTS; which++) {
@@ -87,22 +101,26 @@ static const char *restore(struct pilgonca_state *state, const uint8_t *bytes, s
     const int64_t no_methods = 0;
     struct part parts[PARTS];
     size_t due = HEAD, offered;
+    uint32_t version;
 
     if (length < sizeof MARK || memcmp(bytes, MARK, sizeof MARK) != 0) return "no saved state";
     if (length < HEAD + SUM) return "cut short";
-    if (got(bytes + 8, 2) != VERSION) return "of another version";
+    version = got(bytes + 8, 2);
+    if (version != OLDEST && version != PILGONCA_STATE_VERSION) return "of another version";
     memset(state, 0, sizeof *state);
     for (size_t which = 0; which < PILGONCA_STATE_COUNTS; which++) {
         state->counts[which] = got(bytes + 10 + 2 * which, 2);
         if (state->counts[which] > MOST[which]) return "a count is above its limit";
     }
+    if (version == OLDEST && state->counts[CALLS] > OLDEST_CALLS) return "a count is above its limit";
     parts_of(state, parts);
     for (size_t which = 0; which < PARTS; which++) due += parts[which].length;
     if (length != due + SUM) return length < due + SUM ? "cut short" : "too long";
     if (got(bytes + due, SUM) != checksum(bytes, due)) return "damaged";
     for (size_t which = 0, at = HEAD; which < PARTS; at += parts[which++].length) memcpy(parts[which].bytes, bytes + at, parts[which].length);
-    /* what a file holds is handed in: the core says whether it is sound */
-    if (pilgonca_offers(PILGONCA_STATE_OF(state), 0, &no_methods, 0, &offered) != PILGONCA_OK) return "refused by the core";
+    /* what a file holds is handed in: the core says whether it is sound. Of version 1 it may be whole, and hold more calls of a subject than it makes now */
+    if (pilgonca_offers(PILGONCA_STATE_OF(state), 0, &no_methods, 0, &offered) != PILGONCA_OK)
+        return most_made(state) > PILGONCA_CALLS_EACH ? "refused by the core: a subject has made too many calls" : "refused by the core";
     return NULL;
 }
 

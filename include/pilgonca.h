@@ -34,12 +34,26 @@ extern "C" {
 /* The version of the whole: core, header, Rust package and desk. */
 #define PILGONCA_VERSION "0.1.0"
 
+/*
+ * The version of a state's bytes, and of a saved state (docs/GUIDE.md). Version 2, in which each subject has its own count of calls (Q9), is a break:
+ *   - The array of calls has 2,048 bytes, and had 1,024. The functions keep their names, so no linker finds what was compiled with an older header: it lends
+ *     1,024 bytes, and the 1,024 behind them are read and written too. Compile anew whatever includes this header, and take lengths from here alone. (Then
+ *     gcc 12 warns where it sees that an array lent is too short; clang 14 does not.)
+ *   - A state that was kept as bytes has 1,024 bytes of calls: they are the first of the 2,048, and 0 belongs behind them. Where a whole struct was kept, of
+ *     18,720 bytes, its last 64 are the counts: these come behind the longer array, 1,024 bytes later than they stood.
+ *   - Such a state is served unless a subject has made more than 32 calls in it: that is 2 now, in every function (H17), and nothing makes it sound again.
+ *     Begin a new one with the sheet.
+ * Whoever counts on the bytes can be told of the next break: #if PILGONCA_STATE_VERSION != 2, and behind it an #error.
+ */
+#define PILGONCA_STATE_VERSION 2
+
 /* Counts and lengths pass as size_t, and the library is made for one of 64 bits. Where it has fewer this does not compile, in C99 and C++ alike. */
 typedef char pilgonca_needs_a_size_t_of_64_bits[sizeof(size_t) == 8 ? 1 : -1];
 
 /*
  * Limits (T1 to T5, Q7 to Q9); PILGONCA_ARGUMENTS is the most arguments of a signature (T13). Categories are numbered from 1, since 0 is for none;
- * everything else from 0.
+ * everything else from 0. A subject makes at most PILGONCA_CALLS_EACH calls, answered or not, and PILGONCA_CALLS are all that 16 of them can make. The next
+ * call of that subject is 18 (C7), whatever others ask; a state handed in with more calls than that, of one caller or of all, is 2 (H1, H17).
  */
 #define PILGONCA_SUBJECTS 16
 #define PILGONCA_METHODS 16
@@ -49,14 +63,15 @@ typedef char pilgonca_needs_a_size_t_of_64_bits[sizeof(size_t) == 8 ? 1 : -1];
 #define PILGONCA_TYPES 128
 #define PILGONCA_CELLS 256
 #define PILGONCA_PLACES 128
-#define PILGONCA_CALLS 256
+#define PILGONCA_CALLS 512
+#define PILGONCA_CALLS_EACH 32
 
 /* Bytes of the arrays of a table or a state, and of a pair table. */
 #define PILGONCA_TYPE_BYTES 16384
 #define PILGONCA_LINK_BYTES 96
 #define PILGONCA_CELL_BYTES 768
 #define PILGONCA_PLACE_BYTES 384
-#define PILGONCA_CALL_BYTES 1024
+#define PILGONCA_CALL_BYTES 2048
 #define PILGONCA_PAIR_BYTES 2304
 
 /* Counts of a table and of a state; values of a request; numbers that a run stores for each request (U8). */
@@ -129,7 +144,7 @@ static inline const char *pilgonca_refusal_text(size_t number)
     case PILGONCA_WRONG_VALUES: return "the arguments or the answer are not what the signature asks for";
     case PILGONCA_TOO_WIDE: return "the number does not fit 32 bits";
     case PILGONCA_ANSWERED_ALREADY: return "the call is answered already";
-    case PILGONCA_CALLS_FULL: return "no call is free";
+    case PILGONCA_CALLS_FULL: return "the subject has made all of its calls";
     case PILGONCA_LATER_LAYER: return "a value fails at a layer behind the first of the call";
     case PILGONCA_UNFIT_TIMES: return "a list of times is too long, falls or leaves its range, or the tolerance is too large";
     default: return "there is no refusal with this number";
@@ -260,7 +275,8 @@ size_t pilgonca_move(
  * Call (C): an argument is a number, or the number of a cell where the signature has a reference. Arguments may be of any length, and one that is not the
  * signature's is 15 (C4): no call with more than PILGONCA_ARGUMENTS is accepted. Results: call (values[1]), how many adapters it goes through.
  * References among the arguments become the next cells of the owner of what is called, in their order (C10, C12, C17): the first has the number that
- * counts[5] was before. No value names them, so the firmware tells the owner.
+ * counts[5] was before. No value names them, so the firmware tells the owner. A subject that has made PILGONCA_CALLS_EACH calls is refused with 18, by its
+ * own calls alone: refused ones do not count, those of others do not, and an answer gives none back (C7).
  */
 size_t pilgonca_call(
     uint8_t types[PILGONCA_TYPE_BYTES],

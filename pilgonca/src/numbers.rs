@@ -43,6 +43,11 @@ numbers! {
     Method;
 }
 
+/// The number of the record with this index. A byte would not do: calls are numbered to 511.
+pub(crate) fn number(index: usize) -> i64 {
+    i64::try_from(index).expect("no array has so many records")
+}
+
 /// The number as an index among so many; none where it names nothing.
 pub(crate) fn below(number: i64, count: usize) -> Option<usize> {
     usize::try_from(number).ok().filter(|index| *index < count)

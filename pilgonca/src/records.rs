@@ -1,6 +1,6 @@
 //! The records of a table, told in Rust's types. They are read from bytes that the core has accepted, so every code names something (H2).
 
-use crate::numbers::Type;
+use crate::numbers::{number, Type};
 use crate::raw::TYPE_RECORD;
 
 /// What values of a type are (T8).
@@ -101,11 +101,6 @@ pub(crate) fn record<const LENGTH: usize>(bytes: &[u8], index: usize) -> [u8; LE
     bytes[at..at + LENGTH].try_into().expect("as long as asked")
 }
 
-/// The number of a record: of none there are more than 256.
-pub(crate) fn numbered<Number: From<u8>>(index: usize) -> Number {
-    Number::from(u8::try_from(index).expect("an index below 256"))
-}
-
 /// The type with this index (B1 to B10) in a table of so many methods and sheet types.
 pub(crate) fn type_info(
     types: &[u8],
@@ -122,7 +117,7 @@ pub(crate) fn type_info(
     let is_ref = representation == Representation::Ref;
     let methods = if is_ref { methods } else { 0 };
     TypeInfo {
-        number: numbered(index),
+        number: Type(number(index)),
         representation,
         category: usize::from(bytes[1]),
         own: is_ref && bytes[2] == 1,

@@ -43,7 +43,7 @@ refusals! {
     WrongValues = 15: "the arguments or the answer are not what the signature asks for",
     TooWide = 16: "the number does not fit 32 bits",
     AnsweredAlready = 17: "the call is answered already",
-    CallsFull = 18: "no call is free",
+    CallsFull = 18: "the subject has made all of its calls",
     LaterLayer = 19: "a value fails at a layer behind the first of the call",
     UnfitTimes = 22: "a list of times is too long, falls or leaves its range, or the tolerance is too large",
 }

@@ -2,11 +2,15 @@
 //! [`Visit::from_saved`](crate::Visit::from_saved) reads them; docs/GUIDE.md, "A saved state", has them in a table for other languages.
 //!
 //! Nothing stands there of what is behind a count (Q16), so states with the same counts and the same counted records are saved as the same bytes.
+//!
+//! A file of version 1 has its bytes in the same places. It is of a time when all subjects together made 256 calls and one of them any number of these, so it is
+//! read where it counts no more, and the core then says whether some subject has made more than it may now. What is read is saved as version 2.
 
+use crate::numbers::Subject;
 use crate::raw::{
-    State, StateCounts, CALL_RECORD, CELL_RECORD, LINK_RECORD, MAX_CALLS, MAX_CATEGORIES,
-    MAX_CELLS, MAX_METHODS, MAX_PLACES, MAX_SHEET_TYPES, MAX_SUBJECTS, MAX_TYPES, PLACE_RECORD,
-    TYPE_RECORD,
+    State, StateCounts, CALL_RECORD, CELL_RECORD, LINK_RECORD, MAX_CALLS, MAX_CALLS_EACH,
+    MAX_CATEGORIES, MAX_CELLS, MAX_METHODS, MAX_PLACES, MAX_SHEET_TYPES, MAX_SUBJECTS, MAX_TYPES,
+    PLACE_RECORD, TYPE_RECORD,
 };
 use crate::refusal::Refusal;
 use std::error::Error;
@@ -15,8 +19,12 @@ use std::fmt;
 /// What every saved state begins with.
 pub const MARK: [u8; 8] = *b"PILGONCA";
 
-/// The version that is written, and the only one that is read.
-pub const VERSION: u16 = 1;
+/// The version that is written.
+pub const VERSION: u16 = 2;
+
+/// The oldest version that is read, and the most calls of a file of it.
+pub const OLDEST: u16 = 1;
+const OLDEST_CALLS: usize = 256;
 
 /// Bytes of mark, version and counts; of the checksum.
 const HEAD: usize = MARK.len() + size_of::<u16>() + COUNTED.len() * size_of::<u16>();
@@ -48,9 +56,9 @@ const COUNTED: [(&str, usize); 8] = [
 pub enum SavedRefused {
     /// They do not begin with [`MARK`].
     NotMarked,
-    /// They are of another version than [`VERSION`].
+    /// They are of a version before [`OLDEST`] or behind [`VERSION`].
     Version(u16),
-    /// A count is above its limit.
+    /// A count is above its limit, which for calls goes by the version.
     Count {
         /// Of what.
         of: &'static str,
@@ -80,7 +88,17 @@ pub enum SavedRefused {
         /// What is due.
         due: u32,
     },
-    /// The core refuses the state that they hold: 2.
+    /// The core refuses the state that they hold, with 2, and a subject has made more calls in it than it may (H17). In version 1 it could: such a file need not
+    /// be damaged, and still its state is not served any more.
+    Calls {
+        /// Of whom.
+        of: Subject,
+        /// How many.
+        count: usize,
+        /// The limit.
+        most: usize,
+    },
+    /// The core refuses it for another reason: 2.
     State(Refusal),
 }
 
@@ -88,8 +106,8 @@ pub enum SavedRefused {
 ///
 /// ```
 /// use pilgonca::Visit;
-/// let refused = Visit::from_saved(b"PILGONCA\x02\x00").unwrap_err();
-/// assert_eq!(refused.to_string(), "it is of version 2, and this program reads version 1");
+/// let refused = Visit::from_saved(b"PILGONCA\x03\x00").unwrap_err();
+/// assert_eq!(refused.to_string(), "it is of version 3, and this program reads versions 1 and 2");
 /// ```
 impl fmt::Display for SavedRefused {
     fn fmt(&self, out: &mut fmt::Formatter) -> fmt::Result {
@@ -99,7 +117,7 @@ impl fmt::Display for SavedRefused {
             }
             SavedRefused::Version(version) => write!(
                 out,
-                "it is of version {version}, and this program reads version {VERSION}"
+                "it is of version {version}, and this program reads versions {OLDEST} and {VERSION}"
             ),
             SavedRefused::Count { of, count, most } => {
                 write!(out, "it counts {count} {of}, and there are at most {most}")
@@ -114,6 +132,11 @@ impl fmt::Display for SavedRefused {
                 out,
                 "it is damaged: the checksum is {stands:08x}, and that of its bytes {due:08x}"
             ),
+            SavedRefused::Calls { of, count, most } => write!(
+                out,
+                "the core refuses the state with {}: subject {of} has made {count} calls, and since version 2 a subject makes at most {most}",
+                Refusal::OutOfRange.number()
+            ),
             SavedRefused::State(refusal) => write!(
                 out,
                 "the core refuses the state with {}: {refusal}",
@@ -127,6 +150,7 @@ impl Error for SavedRefused {
     fn source(&self) -> Option<&(dyn Error + 'static)> {
         match self {
             SavedRefused::State(refusal) => Some(refusal),
+            SavedRefused::Calls { .. } => Some(&Refusal::OutOfRange),
             _ => None,
         }
     }
@@ -149,7 +173,7 @@ pub(crate) fn write(state: &State) -> Vec<u8> {
     let mut bytes = MARK.to_vec();
     bytes.extend(VERSION.to_le_bytes());
     for count in state.counts {
-        let count = u16::try_from(count).expect("no limit is above 256");
+        let count = u16::try_from(count).expect("no limit is above 512");
         bytes.extend(count.to_le_bytes());
     }
     let State {
@@ -207,7 +231,22 @@ pub(crate) fn read(bytes: &[u8]) -> Result<Box<State>, SavedRefused> {
     Ok(state)
 }
 
-/// The counts, each within its limit.
+/// Why the core refuses this state, as far as it can be seen from here: its 2 does not say (H13).
+pub(crate) fn reason(state: &State, refusal: Refusal) -> SavedRefused {
+    let mut made = [0; 256];
+    let calls = state.calls.chunks_exact(CALL_RECORD);
+    for call in calls.take(state.counts[7]) {
+        made[usize::from(call[0])] += 1;
+    }
+    let most = MAX_CALLS_EACH;
+    let above = (0..=u8::MAX).zip(made).find(|(_, count)| *count > most);
+    above.map_or(SavedRefused::State(refusal), |(of, count)| {
+        let of = Subject::from(of);
+        SavedRefused::Calls { of, count, most }
+    })
+}
+
+/// The counts, each within its limit by the version.
 fn counts(bytes: &[u8]) -> Result<StateCounts, SavedRefused> {
     let behind = bytes.strip_prefix(&MARK);
     let mut words = behind
@@ -219,11 +258,14 @@ fn counts(bytes: &[u8]) -> Result<StateCounts, SavedRefused> {
         due: HEAD + CHECKSUM,
     };
     let version = words.next().ok_or(short)?;
-    if version != VERSION {
-        return Err(SavedRefused::Version(version));
+    let mut limits = COUNTED;
+    match version {
+        VERSION => {}
+        OLDEST => limits[7].1 = OLDEST_CALLS,
+        _ => return Err(SavedRefused::Version(version)),
     }
     let mut counts = [0; COUNTED.len()];
-    for (slot, (of, most)) in counts.iter_mut().zip(COUNTED) {
+    for (slot, (of, most)) in counts.iter_mut().zip(limits) {
         let count = usize::from(words.next().ok_or(short)?);
         if count > most {
             return Err(SavedRefused::Count { of, count, most });

@@ -1,9 +1,11 @@
 //! A table of types: of a sheet's text, or of a visit.
 
+#[cfg(feature = "tools")]
+use crate::numbers::number;
 use crate::numbers::{below, Type};
 use crate::raw::{self, PairTable, Table, LINK_RECORD, MAX_SHEET_TYPES, MAX_TEXT};
 #[cfg(feature = "tools")]
-use crate::records::{numbered, Kind};
+use crate::records::Kind;
 use crate::records::{type_info, TypeInfo};
 use crate::refusal::{Refusal, SheetRefused};
 use std::fmt;
@@ -160,10 +162,10 @@ impl Sheet {
     /// ```
     #[cfg(feature = "tools")]
     pub fn derive(&mut self, kind: Kind, t: Type, s: Type) -> Result<Type, Refusal> {
-        let mut number = 0;
-        let code = raw::tools::derive(self.table.lend_mut(), kind as usize, t.0, s.0, &mut number);
+        let mut index = 0;
+        let code = raw::tools::derive(self.table.lend_mut(), kind as usize, t.0, s.0, &mut index);
         Refusal::check(code)?;
-        Ok(numbered(number))
+        Ok(Type(number(index)))
     }
 
     /// How many subjects there are.

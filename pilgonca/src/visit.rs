@@ -91,14 +91,15 @@ impl Visit {
     /// assert_eq!(Visit::from_state(kept).unwrap_err(), Refusal::OutOfRange);
     /// ```
     pub fn from_state(state: State) -> Result<Visit, Refusal> {
-        Visit::checked(Box::new(state))
+        let state = Box::new(state);
+        let visit = Visit { state };
+        visit.check()?;
+        Ok(visit)
     }
 
-    fn checked(state: Box<State>) -> Result<Visit, Refusal> {
-        let visit = Visit { state };
-        // asked of any cell, the answer begins with the check (E11)
-        visit.offers(Cell(0), &[])?;
-        Ok(visit)
+    /// Whether it is sound, by the core: asked of any cell, the answer begins with the check (E11).
+    fn check(&self) -> Result<(), Refusal> {
+        self.offers(Cell(0), &[]).map(drop)
     }
 
     /// The bytes of a file that keeps the state ([`saved`]). A state that a sheet began always comes back (Q19).
@@ -116,7 +117,7 @@ impl Visit {
         saved::write(&self.state)
     }
 
-    /// The state of a file. Its bytes are trusted in nothing: what they hold is a state handed in, and the core checks it.
+    /// The state of a file, of this version or an older one ([`saved`]). Its bytes are trusted in nothing: what they hold is a state handed in, and the core checks it.
     ///
     /// ```
     /// use pilgonca::{SavedRefused, Visit, EXAMPLE};
@@ -127,7 +128,10 @@ impl Visit {
     /// ```
     pub fn from_saved(bytes: &[u8]) -> Result<Visit, SavedRefused> {
         let state = saved::read(bytes)?;
-        Visit::checked(state).map_err(SavedRefused::State)
+        let visit = Visit { state };
+        let sound = visit.check();
+        sound.map_err(|refusal| saved::reason(&visit.state, refusal))?;
+        Ok(visit)
     }
 
     /// The bytes of the state, to be kept.
@@ -191,7 +195,8 @@ impl Visit {
     }
 
     /// The subject calls the method through its cell (C). Where the signature has a reference, the argument is the number of a cell that the subject holds.
-    /// What such arguments became is in [`Called::arguments`].
+    /// What such arguments became is in [`Called::arguments`]. A subject that has made [`MAX_CALLS_EACH`](raw::MAX_CALLS_EACH) calls is refused with
+    /// [`Refusal::CallsFull`], however many the others have made (C7); an answer gives none back.
     ///
     /// ```
     /// use pilgonca::{Call, Method, Subject, Type, Visit, EXAMPLE};
@@ -317,7 +322,7 @@ impl Visit {
         (0..self.state.counts[6]).map(|index| place_info(&self.state.places, index))
     }
 
-    /// All calls.
+    /// All calls, of all subjects in one row.
     ///
     /// ```
     /// use pilgonca::{Method, Subject, Type, Visit, EXAMPLE};
@@ -327,6 +332,8 @@ impl Visit {
     /// let call = visit.calls().next().unwrap();
     /// assert_eq!((call.caller, call.cell, call.method), (Subject(1), held.cell, Method(0)));
     /// assert!(!call.answered);
+    /// let made_by = |subject| visit.calls().filter(|call| call.caller == subject).count();
+    /// assert_eq!((made_by(Subject(0)), made_by(Subject(1))), (0, 1));
     /// ```
     pub fn calls(&self) -> impl Iterator<Item = CallInfo> {
         (0..self.state.counts[7]).map(|index| call_info(&self.state.calls, index))

@@ -56,7 +56,7 @@ fn cells_are_used_up_for_everybody() {
 }
 
 #[test]
-fn calls_are_used_up_for_everybody() {
+fn calls_are_used_up_for_their_caller_alone() {
     let mut visit = Visit::load(EXAMPLE).expect("a sheet");
     let held = visit.new_object(DESK, Type(1), Type(1)).expect("made").cell;
     let lent = visit
@@ -64,13 +64,21 @@ fn calls_are_used_up_for_everybody() {
         .expect("lent")
         .cell;
     let called = until_refused(|_| visit.call(MODULE, lent, Method(0), &[]));
-    assert_eq!(called, (256, Refusal::CallsFull));
+    assert_eq!(called, (32, Refusal::CallsFull));
     // an answer gives none back
     visit.answer(DESK, Call(0), Some(1)).expect("answered");
     assert_eq!(
-        visit.call(DESK, held, Method(0), &[]),
+        visit.call(MODULE, lent, Method(0), &[]),
         Err(Refusal::CallsFull)
     );
+    // nor is there more by another cell, and the desk has all of its own
+    let second = visit.move_reference(MODULE, lent, MODULE, Type(2));
+    assert_eq!(
+        visit.call(MODULE, second.expect("moved").cell, Method(0), &[]),
+        Err(Refusal::CallsFull)
+    );
+    let called = until_refused(|_| visit.call(DESK, held, Method(0), &[]));
+    assert_eq!(called, (32, Refusal::CallsFull));
 }
 
 /// Type 1 is a class, 2 says optional of its method, and the others to 47 deny it: from each of those to 2 takes a Sub, a Closed and an adapter.

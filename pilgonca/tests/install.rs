@@ -154,7 +154,7 @@ fn the_examples_compile_by_its_flags() {
             ran += 1;
         }
     }
-    assert_eq!(ran, 4);
+    assert_eq!(ran, 5);
 }
 
 /// pkg-config, where there is one, gives the flags that the tests here use.

@@ -23,9 +23,9 @@ fn the_example_is_the_guides() {
 #[test]
 fn the_guide_has_the_sizes() {
     let guide = include_str!("../../docs/GUIDE.md");
-    assert_eq!(size_of::<raw::State>(), 18_720);
+    assert_eq!(size_of::<raw::State>(), 19_744);
     assert_eq!(size_of::<raw::Table>(), 16_520);
-    assert!(guide.contains("| 18,720:") && guide.contains("| 16,520 |"));
+    assert!(guide.contains("| 19,744:") && guide.contains("| 16,520 |"));
 }
 
 /// Whoever opens README sees what the core needs: platform, state, stack, code (tests/install.rs measures it), and no heap; and what there is for others.
@@ -144,24 +144,32 @@ fn until_refused<Got>(mut request: impl FnMut() -> Result<Got, Refusal>) -> (usi
 
 #[test]
 fn a_full_state_is_told_to_its_end() {
-    let mut visit = Visit::load(EXAMPLE).expect("a sheet");
+    let sheet = std::str::from_utf8(EXAMPLE).expect("ASCII");
+    let sheet = sheet.replace("subjects=2\n", "subjects=16\n");
+    let mut visit = Visit::load(sheet.as_bytes()).expect("a sheet");
     let made = until_refused(|| visit.new_object(DESK, Type(1), Type(1)));
     assert_eq!(made, (128, Refusal::PlacesFull));
-    let moved = until_refused(|| visit.move_reference(DESK, Cell(127), Subject(1), Type(2)));
+    // by turns, so that the last 16 cells are one of each subject
+    let mut receivers = (0..16).cycle().map(Subject);
+    let mut receiver = || receivers.next().expect("there is always one");
+    let moved = until_refused(|| visit.move_reference(DESK, Cell(127), receiver(), Type(2)));
     assert_eq!(moved, (128, Refusal::CellsFull));
-    let called = until_refused(|| visit.call(Subject(1), Cell(255), Method(0), &[]));
-    assert_eq!(called, (256, Refusal::CallsFull));
-    visit.answer(DESK, Call(255), Some(-7)).expect("answered");
+    for (subject, cell) in (0..16).zip(240..) {
+        let called = until_refused(|| visit.call(Subject(subject), Cell(cell), Method(0), &[]));
+        assert_eq!(called, (32, Refusal::CallsFull));
+    }
+    visit.answer(DESK, Call(511), Some(-7)).expect("answered");
 
     let cell = visit.cells().last().expect("a cell");
-    assert_eq!((cell.number, cell.holder), (Cell(255), Subject(1)));
+    assert_eq!((cell.number, cell.holder), (Cell(255), Subject(15)));
     assert_eq!((cell.type_, cell.place.0), (Type(2), 127));
     let place = visit.places().last().expect("a place");
     let (class, owner) = (Type(1), DESK);
     assert_eq!(place.kind, PlaceKind::Object { class, owner });
     assert_eq!(visit.base_of(place.number), Some(place.number));
     let call = visit.calls().last().expect("a call");
-    assert_eq!((call.number, call.cell), (Call(255), Cell(255)));
+    assert_eq!((call.number, call.cell), (Call(511), Cell(255)));
+    assert_eq!(call.caller, Subject(15));
     let answered = visit.calls().filter(|call| call.answered).count();
     assert!(call.answered && answered == 1);
 }

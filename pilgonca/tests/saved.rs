@@ -1,6 +1,6 @@
 //! A saved state: what its bytes are, that every damage is refused for a reason that is told, and that a right checksum is no way around the core.
 
-use pilgonca::saved::{checksum, MARK, MOST_BYTES};
+use pilgonca::saved::{checksum, MARK, MOST_BYTES, OLDEST, VERSION};
 use pilgonca::{Call, Cell, Method, Refusal, SavedRefused, Subject, Type, Visit};
 
 /// One of everything: a subject, a method, a category, a type.
@@ -53,7 +53,7 @@ fn every_byte_has_its_place() {
     let counts = [1, 0].repeat(8);
     let parts: [&[u8]; 8] = [
         b"PILGONCA",
-        &[1, 0],
+        &[2, 0],
         &counts,
         &type_,
         &[1, 0, 0],
@@ -101,7 +101,7 @@ fn the_guide_has_the_bytes() {
         }
     }
     assert_eq!(at, file.len());
-    assert!(section.contains("18,683") && MOST_BYTES == 18_683);
+    assert!(section.contains("19,707") && MOST_BYTES == 19_707);
     let read = Visit::from_saved(file).expect("a state");
     assert_eq!((read.cells().count(), read.calls().count()), (3, 2));
 }
@@ -110,10 +110,9 @@ fn the_guide_has_the_bytes() {
 #[test]
 fn the_longest_is_as_long_as_is_said() {
     let mut state = one().state().clone();
-    let last = state.counts[2..]
-        .iter_mut()
-        .zip([31, 48, 128, 256, 128, 256]);
-    last.for_each(|(count, most)| *count = most);
+    state.counts = [16, 1, 31, 48, 128, 256, 128, 512];
+    let calls = state.calls.chunks_mut(4).zip((0..16).cycle());
+    calls.for_each(|(call, caller)| call[0] = caller);
     state
         .links
         .chunks_mut(3)
@@ -190,8 +189,12 @@ fn reasons_are_told_apart() {
             SavedRefused::NotMarked,
             "begins with the bytes PILGONCA",
         ),
-        (&with(8, 2), SavedRefused::Version(2), "of version 2"),
-        (&with(9, 1), SavedRefused::Version(257), "reads version 1"),
+        (&with(8, 3), SavedRefused::Version(3), "of version 3"),
+        (
+            &with(9, 1),
+            SavedRefused::Version(258),
+            "reads versions 1 and 2",
+        ),
         (&with(8, 0), SavedRefused::Version(0), "of version 0"),
         (
             &MARK,
@@ -278,7 +281,9 @@ fn a_right_checksum_is_believed_in_nothing() {
             let forged = signed(&forged);
             match Visit::from_saved(&forged) {
                 Ok(visit) => {
-                    assert_eq!(visit.save(), forged);
+                    // an older version is saved as this one
+                    let due = if at == 8 { &bytes } else { &forged };
+                    assert_eq!(&visit.save(), due);
                     assert!(visit.offers(Cell(0), &[Method(0)]).is_ok());
                     sound += 1;
                 }
@@ -293,4 +298,86 @@ fn a_right_checksum_is_believed_in_nothing() {
     }
     println!("{sound} sound, {unsound} not");
     assert!(sound > 1000 && unsound > 1000);
+}
+
+/// A file with so many calls, whose callers are given in turn, on a sheet with 16 subjects.
+fn called(version: u16, calls: u16, callers: &[u8]) -> Vec<u8> {
+    let bytes = one().save();
+    // up to the checksum and the only call
+    let mut front = bytes[..bytes.len() - 8].to_vec();
+    front[8..10].copy_from_slice(&version.to_le_bytes());
+    front[10] = 16;
+    front[24..26].copy_from_slice(&calls.to_le_bytes());
+    let callers = callers.iter().cycle().take(usize::from(calls));
+    front.extend(callers.flat_map(|caller| [*caller, 0, 0, 1]));
+    signed(&front)
+}
+
+const ALL: [u8; 16] = [0, 1, 2, 3, 4, 5, 6, 7, 8, 9, 10, 11, 12, 13, 14, 15];
+
+/// The file that version 1 wrote of the same state: by the checksum, which stood in the guide then, it is that one to the byte.
+#[test]
+fn a_file_of_version_1_is_read() {
+    let file = include_bytes!("../../examples/optional.state");
+    let mut front = file[..file.len() - 4].to_vec();
+    front[8] = 1;
+    assert_eq!(checksum(&front), 0xb1f4_eaa9);
+    let read = Visit::from_saved(&signed(&front)).expect("a state");
+    let again = Visit::from_saved(file).expect("a state");
+    assert!(read.state() == again.state());
+    assert_eq!(read.save(), file);
+}
+
+/// As many calls as each version has.
+#[test]
+fn calls_are_counted_by_the_version() {
+    for (version, most) in [(OLDEST, 256), (VERSION, 512)] {
+        for calls in [0, 1, 255, 256, most] {
+            let file = called(version, calls, &ALL);
+            let read = Visit::from_saved(&file).expect("a state");
+            assert_eq!(read.calls().count(), usize::from(calls));
+            assert_eq!(read.save(), called(VERSION, calls, &ALL));
+        }
+        for calls in [most + 1, 1024, u16::MAX] {
+            let refused = reason(&called(version, calls, &ALL));
+            let due = SavedRefused::Count {
+                of: "calls",
+                count: usize::from(calls),
+                most: usize::from(most),
+            };
+            assert_eq!(refused, due);
+            let words = format!("it counts {calls} calls, and there are at most {most}");
+            assert_eq!(refused.to_string(), words);
+        }
+    }
+}
+
+/// More calls of a subject than it may make are refused by the core (H17), and it is told whose they are; what else is wrong is not told apart.
+#[test]
+fn too_many_calls_of_one_are_told() {
+    for version in [OLDEST, VERSION] {
+        let full = called(version, 32, &[7]);
+        assert!(Visit::from_saved(&full).is_ok());
+        for (calls, callers, of, count) in [
+            (33, &[7][..], 7, 33),
+            (256, &[15], 15, 256),
+            (66, &[3, 9], 3, 33),
+            (65, &[3, 9], 3, 33),
+            (66, &[3, 9, 9], 9, 44),
+        ] {
+            let refused = reason(&called(version, calls, callers));
+            let most = 32;
+            let of = Subject(of);
+            assert_eq!(refused, SavedRefused::Calls { of, count, most });
+            let words = format!(
+                "the core refuses the state with 2: subject {of} has made {count} calls, and since version 2 a subject makes at most 32"
+            );
+            assert_eq!(refused.to_string(), words);
+            let cause = std::error::Error::source(&refused).expect("a refusal");
+            assert_eq!(cause.to_string(), Refusal::OutOfRange.to_string());
+        }
+        // a caller that is no subject
+        let refused = reason(&called(version, 32, &[16]));
+        assert_eq!(refused, SavedRefused::State(Refusal::OutOfRange));
+    }
 }

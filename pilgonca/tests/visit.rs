@@ -1,5 +1,5 @@
-//! The headers and the examples in C compile without a warning with the system's C compiler; visit.c, route.c, tiny.c and doors.c print what stands beside
-//! them, as examples/visit.out, and saved.c reads and writes the saved states that this package does.
+//! The headers and the examples in C compile without a warning with the system's C compiler; visit.c, route.c, own_count.c, tiny.c and doors.c print what
+//! stands beside them, as examples/visit.out, and saved.c reads and writes the saved states that this package does.
 
 use pilgonca::saved::checksum;
 use pilgonca::{raw, Refusal, Subject, Type, Visit, EXAMPLE};
@@ -139,6 +139,21 @@ fn the_c_example_of_four_arguments_prints_its_route() {
     }
 }
 
+/// One subject makes all of its calls from C, and the others are served.
+#[test]
+fn the_c_example_of_own_counts_serves_the_others() {
+    prints("own_count", "case-p.sheet");
+    let said = fs::read_to_string(example("own_count.out")).expect("what it prints");
+    for words in [
+        "32 times, then refused with 18",
+        "desk 0, scanner 32, player 0; at most 32 each",
+        "the player reads: call 32\n",
+        "desk 1, scanner 32, player 32;",
+    ] {
+        assert!(said.contains(words), "{words}");
+    }
+}
+
 /// An example in C that takes no sheet prints what stands beside it, which is given back.
 fn prints_alone(name: &str) -> String {
     let output = Command::new(compiled(&example(&format!("{name}.c")))).output();
@@ -198,6 +213,7 @@ fn a_saved_state_is_the_same_in_c() {
     let program = compiled(&example("saved.c"));
     written_alike(&program);
     refused_alike(&program);
+    old_ones_alike(&program);
 }
 
 fn written_alike(program: &Path) {
@@ -233,12 +249,57 @@ fn refused_alike(program: &Path) {
         (&b"guide=1"[..], "no saved state"),
         (&bytes[..bytes.len() - 1], "cut short"),
         (&[&bytes[..], b"x"].concat(), "too long"),
-        (&with(8, 2), "of another version"),
+        (&with(8, 0), "of another version"),
+        (&with(8, 3), "of another version"),
+        (&with(9, 1), "of another version"),
         (&with(21, 9), "a count is above its limit"),
         (&damaged, "damaged"),
         (&with(bytes.len() - 5, 2), "refused by the core"),
     ] {
         assert_eq!(taken(program, bytes), (format!("{words}\n"), false));
         assert!(Visit::from_saved(bytes).is_err());
+    }
+}
+
+/// A file of version 1 is read where it has at most 256 calls, and no more than 32 of one caller; what is told of others is told apart.
+fn old_ones_alike(program: &Path) {
+    let bytes = fs::read(root().join("examples/optional.state")).expect("a state");
+    let signed = |front: &[u8]| [front, &checksum(front).to_le_bytes()].concat();
+    // so many calls, by 16 subjects in turn or by one alone, where there were two
+    let of = |version: u8, calls: u16, alone: bool| {
+        let mut front = bytes[..bytes.len() - 12].to_vec();
+        front[8] = version;
+        // as many subjects as there can be
+        front[10] = 16;
+        front[24..26].copy_from_slice(&calls.to_le_bytes());
+        let caller = |number: u16| if alone { 2 } else { (number % 16) as u8 };
+        let records = (0..calls).flat_map(|number| [caller(number), 0, 0, 1]);
+        front.extend(records);
+        signed(&front)
+    };
+    let taken_with = |calls: u16| (format!("cells 3, places 1, calls {calls}\n"), true);
+    for (bytes, calls) in [
+        (of(1, 2, false), 2),
+        (of(1, 256, false), 256),
+        (of(1, 32, true), 32),
+        (of(2, 257, false), 257),
+        (of(2, 512, false), 512),
+    ] {
+        assert_eq!(taken(program, &bytes), taken_with(calls));
+        let read = Visit::from_saved(&bytes).expect("a state");
+        assert_eq!(read.calls().count(), usize::from(calls));
+        let (said, accepted) = taken(program, &read.save());
+        assert_eq!((said, accepted), taken_with(calls));
+    }
+    let many = "refused by the core: a subject has made too many calls";
+    for (bytes, words) in [
+        (of(1, 257, false), "a count is above its limit"),
+        (of(2, 513, false), "a count is above its limit"),
+        (of(1, 33, true), many),
+        (of(1, 256, true), many),
+        (of(2, 33, true), many),
+    ] {
+        assert_eq!(taken(program, &bytes), (format!("{words}\n"), false));
+        assert!(Visit::from_saved(&bytes).is_err());
     }
 }

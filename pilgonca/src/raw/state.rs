@@ -1,13 +1,15 @@
 //! The arrays of a state, and a state owned or lent.
 
-use super::{Links, Table, Types};
+use super::{Links, Table, Types, MAX_SUBJECTS};
 
 /// The most cells (Q7).
 pub const MAX_CELLS: usize = 256;
 /// The most places (Q8).
 pub const MAX_PLACES: usize = 128;
-/// The most calls (Q9).
-pub const MAX_CALLS: usize = 256;
+/// The most calls of one subject (Q9).
+pub const MAX_CALLS_EACH: usize = 32;
+/// The most calls: as many of each subject (Q9).
+pub const MAX_CALLS: usize = MAX_SUBJECTS * MAX_CALLS_EACH;
 
 /// Bytes of a cell's record (B26).
 pub const CELL_RECORD: usize = 3;

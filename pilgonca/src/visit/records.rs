@@ -1,8 +1,8 @@
 //! The records of a state besides its table, told as `crate::records` tells that.
 
-use crate::numbers::{Call, Cell, Method, Place, Subject, Type};
+use crate::numbers::{number, Call, Cell, Method, Place, Subject, Type};
 use crate::raw::{CALL_RECORD, CELL_RECORD, PLACE_RECORD};
-use crate::records::{numbered, record};
+use crate::records::record;
 
 /// A cell: who holds it, by which type, and to which place it leads (Q4).
 #[derive(Clone, Copy, PartialEq, Eq, Debug)]
@@ -64,7 +64,7 @@ pub struct CallInfo {
 pub(crate) fn cell_info(cells: &[u8], index: usize) -> CellInfo {
     let [holder, type_, place]: [u8; CELL_RECORD] = record(cells, index);
     CellInfo {
-        number: numbered(index),
+        number: Cell(number(index)),
         holder: Subject::from(holder),
         type_: Type::from(type_),
         place: Place::from(place),
@@ -85,7 +85,7 @@ pub(crate) fn place_info(places: &[u8], index: usize) -> PlaceInfo {
         },
     };
     PlaceInfo {
-        number: numbered(index),
+        number: Place(number(index)),
         kind,
     }
 }
@@ -94,7 +94,7 @@ pub(crate) fn place_info(places: &[u8], index: usize) -> PlaceInfo {
 pub(crate) fn call_info(calls: &[u8], index: usize) -> CallInfo {
     let [caller, cell, method, answered]: [u8; CALL_RECORD] = record(calls, index);
     CallInfo {
-        number: numbered(index),
+        number: Call(number(index)),
         caller: Subject::from(caller),
         cell: Cell::from(cell),
         method: Method::from(method),

@@ -3,8 +3,7 @@
 mod declarations;
 
 use declarations::{between, rust_functions, Functions, Header, Passed};
-use pilgonca::raw;
-use pilgonca::Refusal;
+use pilgonca::{raw, saved, Refusal};
 use std::path::{Path, PathBuf};
 
 fn root() -> PathBuf {
@@ -212,7 +211,7 @@ fn packages_inherit_what_is_said_once() {
 }
 
 /// Numbers of the header by the crate that has each, and those of this crate.
-const NUMBERS: [(&str, &str, usize); 20] = [
+const NUMBERS: [(&str, &str, usize); 21] = [
     ("table_record", "SUBJECTS", raw::MAX_SUBJECTS),
     ("table_record", "METHODS", raw::MAX_METHODS),
     ("table_record", "ARGUMENTS", raw::MAX_ARGUMENTS),
@@ -222,6 +221,7 @@ const NUMBERS: [(&str, &str, usize); 20] = [
     ("state_record", "CELLS", raw::MAX_CELLS),
     ("state_record", "PLACES", raw::MAX_PLACES),
     ("state_record", "CALLS", raw::MAX_CALLS),
+    ("state_record", "CALLS_EACH", raw::MAX_CALLS_EACH),
     ("table_record", "TYPE_BYTES", size_of::<raw::Types>()),
     ("table_record", "LINK_BYTES", size_of::<raw::Links>()),
     ("state_bytes", "CELL_BYTES", size_of::<raw::Cells>()),
@@ -265,6 +265,8 @@ fn every_number_is_the_sources() {
     }
     let words = numbers.remove("PILGONCA_ANSWER_WORDS");
     assert_eq!(words, Some(constant("request_run", "WORDS")));
+    let version = numbers.remove("PILGONCA_STATE_VERSION");
+    assert_eq!(version, Some(usize::from(saved::VERSION)));
     // the rest are lengths of arrays, which are held against the functions
     let lengths = ["DOOR_COUNTS", "STATE_COUNTS", "TABLE_COUNTS", "VALUES"];
     let lengths = lengths.map(|word| format!("PILGONCA_{word}"));
