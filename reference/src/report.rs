@@ -21,7 +21,7 @@ use crate::refusal::{
 use crate::requests::Request;
 use crate::script::{self, MAX_CALL_ARGUMENTS};
 use crate::sheet;
-use crate::situations::{OF_HANDED_IN, OF_SHEETS};
+use crate::situations::{OF_CALL_COUNTS, OF_HANDED_IN, OF_SHEETS};
 use crate::state::State;
 use crate::table::MAX_ARGUMENTS;
 use std::collections::BTreeMap;
@@ -239,8 +239,10 @@ impl Report {
 
     /// The same of what is handed in.
     fn of_handed_in(&self) -> Vec<(bool, String)> {
-        let situations = OF_HANDED_IN
-            .map(|situation| (self.requests.met(situation) > 0, format!("{situation:?}")));
+        let situations = OF_HANDED_IN.iter().chain(&OF_CALL_COUNTS).map(|situation| {
+            let met = self.requests.met(*situation) > 0;
+            (met, format!("{situation:?} on a handed-in state"))
+        });
         let later = ["call", "answer"].map(|name| {
             let met = self.requests.refused.contains_key(&(name, LATER_LAYER));
             (met, format!("{name} 19 on a handed-in state"))
@@ -256,7 +258,7 @@ impl Report {
             (self.compare_refused, "compare 2"),
         ]
         .map(|(count, what)| (count > 0, what.to_string()));
-        let all = situations.into_iter().chain(later).chain(reasons);
+        let all = situations.chain(later).chain(reasons);
         let five = (
             self.five_in_record > 0,
             "five arguments in a type record".to_string(),
