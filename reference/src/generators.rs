@@ -6,13 +6,15 @@ mod plans;
 mod tables;
 mod times;
 mod tiny;
+mod two;
 
 pub use doors::{doors_input, doors_text};
-pub use lists::{any_request, request, requests};
+pub use lists::{any_request, request, requests, sure_call};
 pub use plans::{Goal, Plan, Profile, BIG, FULL, LONG, MEDIUM, PROFILES, SMALL, TINY};
 pub use tables::table;
 pub use times::{doors_lists, Lists};
 pub use tiny::{on_tiny, tiny_first, tiny_inputs};
+pub use two::{two_lists, TwoLists};
 
 use crate::damage::{damage, lengthen};
 use crate::random::Random;
