@@ -94,7 +94,7 @@ fn bent_from(random: &mut Random, plan: &Plan, table: Table) -> State {
 /// Requests for a state, noise in its bytes, and rules broken.
 fn handed_in(random: &mut Random, state: State) -> Hostile {
     let right = check::state(&RawState::of(&state)).ok().map(Model::new);
-    let requests = (0..random.within((2, 8)))
+    let requests = (0..random.within((3, 10)))
         .map(|_| request(random, &state, right.as_ref()))
         .collect();
     let mut raw = RawState::of(&state);

@@ -1,10 +1,12 @@
 //! What a set of generated inputs and handed-in states met.
 
 mod doors;
+mod limits;
 mod slips;
 mod times;
 
 pub use doors::Doors;
+use limits::LIMITS;
 
 use crate::check::{self, Reason, REASONS};
 use crate::coverage::{self, Seen, OF_ARGUMENTS, OF_REQUESTS};
@@ -54,6 +56,8 @@ pub struct Report {
     pub handed_in: u64,
     pub right: u64,
     pub reasons: BTreeMap<Reason, u64>,
+    /// Their calls at the limits.
+    pub limits: BTreeMap<&'static str, u64>,
     /// Requests on handed-in states.
     pub requests: Seen,
     /// Sheet write: done, 4, 2. Compare: answered, 7, 2.
@@ -134,7 +138,12 @@ impl Report {
         self.handed_in += 1;
         self.write(&mut random, &hostile.state.table);
         self.compare(&mut random, &hostile.state.table);
-        match check::state(&hostile.state) {
+        let checked = check::state(&hostile.state);
+        for (name, is_met) in LIMITS {
+            let met = is_met(&hostile.state, &checked);
+            *self.limits.entry(name).or_default() += u64::from(met);
+        }
+        match checked {
             Err(reason) => {
                 *self.reasons.entry(reason).or_default() += 1;
                 let five = reason == Reason::TooManyArguments && has_longer(&hostile.state.table);
@@ -249,6 +258,10 @@ impl Report {
         });
         let reasons =
             REASONS.map(|reason| (self.reasons.contains_key(&reason), format!("{reason:?}")));
+        let limits = LIMITS.iter().map(|(name, _)| {
+            let met = self.limits.get(name).is_some_and(|count| *count > 0);
+            (met, name.to_string())
+        });
         let tables = [
             (self.written, "sheet write"),
             (self.short, "sheet write 4"),
@@ -258,7 +271,7 @@ impl Report {
             (self.compare_refused, "compare 2"),
         ]
         .map(|(count, what)| (count > 0, what.to_string()));
-        let all = situations.chain(later).chain(reasons);
+        let all = situations.chain(later).chain(reasons).chain(limits);
         let five = (
             self.five_in_record > 0,
             "five arguments in a type record".to_string(),
@@ -318,6 +331,9 @@ impl Report {
         ));
         for (reason, count) in &self.reasons {
             text.push_str(&format!("  2 by {reason:?}: {count}\n"));
+        }
+        for (name, count) in &self.limits {
+            text.push_str(&format!("  {name}: {count}\n"));
         }
         text.push_str(&format!(
             "  five arguments: m= lines {}, do= lines {}, type records {}\n",

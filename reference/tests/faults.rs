@@ -4,8 +4,8 @@
 use faults::{named, CheckFault, Fault, ALL, CHECKS};
 use reference::book::Book;
 use reference::external::difference;
-use reference::generators::{tiny_first, Profile};
-use reference::log::{first_wrong, Log};
+use reference::generators::{tiny_first, two_lists, Profile};
+use reference::log::{first_wrong, passes, Log};
 use reference::script::{self, printed};
 use reference::serving;
 use reference::shrink::shrink;
@@ -155,6 +155,29 @@ fn the_log_finds_what_it_is_for() {
             first_wrong(&script.requests, &results).is_some() || !log.agrees(&state)
         };
         assert!(inputs(&[Profile::Full]).any(broken), "{name}");
+    }
+}
+
+/// L30 by itself finds what it is for: two histories from one sheet that do not agree on 18.
+#[test]
+fn two_histories_find_what_they_are_for() {
+    for name in [
+        "calls_of_another_counted",
+        "calls_of_owner_counted",
+        "calls_refused_counted",
+    ] {
+        let differ = |seed| {
+            let two = two_lists(seed);
+            let [one, other] = [&two.first, &two.second].map(|list| {
+                let state = State::of_sheet(two.table.clone());
+                let (results, _) = (named(name).run)(state, list);
+                let (last, before) = results.split_last().unwrap();
+                let accepted = Log::of_run(list, before).accepted(two.subject);
+                (accepted, passes(last.err()), last.err() == Some(18))
+            });
+            (one.0, one.1) == (other.0, true) && other.1 && one.2 != other.2
+        };
+        assert!((0..400).any(differ), "{name}");
     }
 }
 
