@@ -293,7 +293,8 @@ pub fn fill(random: &mut Random, state: &mut State, kind: usize) {
     }
 }
 
-/// Brings every subject to its limit, one of them so many short of it; with at least so many subjects.
+/// Brings every subject to its limit, one of them so many short of it; with at least so many
+/// subjects.
 fn fill_callers(random: &mut Random, state: &mut State, subjects: usize, short: usize) {
     state.table.subjects = state.table.subjects.max(subjects);
     let less = random.below(state.table.subjects);

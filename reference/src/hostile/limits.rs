@@ -218,7 +218,8 @@ impl Scene {
         }
     }
 
-    /// Calls by both, those of the one that are refused for an earlier reason (6, 14, 15), and others.
+    /// Calls by both, those of the one that are refused for an earlier reason (6, 14, 15), and
+    /// others.
     fn requests(&self, random: &mut Random) -> Vec<Request> {
         let mut requests = vec![self.call(true), self.call(false)];
         for _ in 0..random.within((0, 3)) {
