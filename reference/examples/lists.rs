@@ -127,8 +127,16 @@ fn by_hand() -> Vec<(String, String, String)> {
         list("categories: 10 by category, adapters lose it, the owner gets it back", &categories, "do=new 0 0 2\ndo=new 0 0 3\ndo=move 0 0 1 3\ndo=move 0 1 1 4\ndo=move 1 2 0 4\ndo=new 0 1 4\ndo=new 1 1 2\ndo=move 1 4 0 4\n"),
         list("places: 128 and 129 (long)", &p, &"do=new 0 1 4\n".repeat(129)),
         list("cells: 256 and 257 (long)", &p, &format!("do=new 0 1 4\n{}", "do=move 0 0 1 2\n".repeat(256))),
-        list("calls: 256 and 257 (long)", &p, &format!("do=new 0 1 4\n{}do=call 0 0 0 1\n", "do=call 0 0 0\n".repeat(257))),
+        list("calls: 32 and 33 of one, another served (long)", &p, &format!("do=new 0 1 4\ndo=move 0 0 1 2\n{}do=call 0 0 0 1\ndo=call 1 1 0\n", "do=call 0 0 0\n".repeat(33))),
+        list("calls: 512 of sixteen, and one more (long)", &p.replace("subjects=3", "subjects=16"), &sixteen()),
     ]
+}
+
+/// A cell for each of sixteen subjects, 32 calls of each by turns, and one more.
+fn sixteen() -> String {
+    let cells = (0..16).map(|one| format!("do=new {one} 1 4\n"));
+    let calls = (0..513).map(|number| format!("do=call {0} {0} 0\n", number % 16));
+    cells.chain(calls).collect()
 }
 
 /// Generated lists, chosen greedily by what they meet that earlier ones did

@@ -1,5 +1,6 @@
 //! Copies the modules of the reference model that serve requests, once for
-//! each file in edits/, and changes the one line that the file says.
+//! each file in edits/, and changes the one line that the file says. Of an edit
+//! of the check of what is handed in, that module alone is copied.
 
 use std::path::{Path, PathBuf};
 use std::{env, fs};
@@ -14,6 +15,9 @@ const COPIED: [&str; 6] = [
     "carrying",
     "serving",
 ];
+
+/// What is copied of the check instead.
+const CHECK: &str = "check";
 
 /// An edit: in a file of the model one text, found once and within a line, is
 /// put for another.
@@ -53,21 +57,35 @@ impl Edit {
             text = text.replace(&self.old, &self.new);
         }
         text = text.replace("crate::", "reference::");
-        for copied in COPIED {
+        for copied in self.copied() {
             let own = format!("crate::{}::{copied}::", self.name);
             text = text.replace(&format!("reference::{copied}::"), &own);
         }
         text
     }
 
+    /// Whether it is one of the check of what is handed in.
+    fn of_check(&self) -> bool {
+        self.file == format!("src/{CHECK}.rs")
+    }
+
+    /// What it has copies of.
+    fn copied(&self) -> &'static [&'static str] {
+        if self.of_check() {
+            &[CHECK]
+        } else {
+            &COPIED
+        }
+    }
+
     /// Writes the copy; gives the lines that name it.
     fn write(&self, model: &Path, out: &Path) -> String {
-        let of_this = |module: &str| self.file == format!("src/{module}.rs");
-        assert!(COPIED.into_iter().any(of_this), "{}", self.name);
+        let of_this = |module: &&str| self.file == format!("src/{module}.rs");
+        assert!(self.copied().iter().any(of_this), "{}", self.name);
         let folder = out.join(&self.name);
         fs::create_dir_all(&folder).expect("a folder");
         let mut lines = format!("#[allow(unused)]\npub mod {} {{\n", self.name);
-        for module in COPIED {
+        for module in self.copied() {
             let path = folder.join(format!("{module}.rs"));
             fs::write(&path, self.module(model, module)).expect("a copy");
             lines += &format!("    #[path = {path:?}]\n    pub mod {module};\n");
@@ -86,11 +104,19 @@ fn main() {
     let mut files: Vec<PathBuf> = files.map(|file| file.expect("a file").path()).collect();
     files.sort();
     let mut text = String::new();
-    let mut all = String::from("/// Every fault.\npub const ALL: &[Fault] = &[\n");
+    let mut all = String::from("/// Every fault of requests.\npub const ALL: &[Fault] = &[\n");
+    let mut checks =
+        String::from("/// Every fault of the check.\npub const CHECKS: &[CheckFault] = &[\n");
     for edit in files.iter().map(|file| Edit::read(file)) {
         text += &edit.write(&model, &out);
         let name = &edit.name;
-        all += &format!("    Fault {{ name: {name:?}, run: {name}::serving::run }},\n");
+        if edit.of_check() {
+            let check = format!("|raw| {name}::{CHECK}::state(raw).ok()");
+            checks += &format!("    CheckFault {{ name: {name:?}, check: {check} }},\n");
+        } else {
+            all += &format!("    Fault {{ name: {name:?}, run: {name}::serving::run }},\n");
+        }
     }
-    fs::write(out.join("faults.rs"), text + &all + "];\n").expect("faults.rs");
+    let lists = format!("{all}];\n\n{checks}];\n");
+    fs::write(out.join("faults.rs"), text + &lists).expect("faults.rs");
 }

@@ -2,7 +2,7 @@
 //! that is met first (the order cannot be seen, H13).
 
 use crate::raw::{self, RawState, RawTable, BROADER_BYTES};
-use crate::state::{Call, Cell, Place, State, MAX_CALLS, MAX_CELLS, MAX_PLACES};
+use crate::state::{Call, Cell, Place, State, MAX_CALLS, MAX_CALLS_EACH, MAX_CELLS, MAX_PLACES};
 use crate::table::*;
 
 /// Why a table or state that is handed in gets 2.
@@ -47,10 +47,12 @@ pub enum Reason {
     AdapterNotAboveBehind,
     PlaceCode,
     AnsweredCode,
+    // H17
+    TooManyCallsOfOne,
 }
 
 /// Every reason.
-pub const REASONS: [Reason; 35] = [
+pub const REASONS: [Reason; 36] = [
     Reason::SubjectsCount,
     Reason::MethodsCount,
     Reason::CategoriesCount,
@@ -86,6 +88,7 @@ pub const REASONS: [Reason; 35] = [
     Reason::AdapterNotAboveBehind,
     Reason::PlaceCode,
     Reason::AnsweredCode,
+    Reason::TooManyCallsOfOne,
 ];
 
 /// The table of counts and codes, if there is no reason for 2.
@@ -141,7 +144,18 @@ pub fn state(raw: &RawState) -> Result<State, Reason> {
             .calls
             .push(call(raw.call(number), cells, &state.table)?);
     }
+    callers(&state)?;
     Ok(state)
+}
+
+/// No subject made more calls than it may (H17).
+fn callers(state: &State) -> Result<(), Reason> {
+    for caller in 0..state.table.subjects {
+        if state.calls_of(caller) > MAX_CALLS_EACH {
+            return Err(Reason::TooManyCallsOfOne);
+        }
+    }
+    Ok(())
 }
 
 /// A count within its limits (H1).

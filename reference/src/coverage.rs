@@ -7,7 +7,7 @@ use crate::refusal::{
     WRONG_VALUES,
 };
 use crate::requests::{Got, Request};
-use crate::situations::{self, Situation};
+use crate::situations::{self, Past, Situation};
 use crate::state::State;
 use std::collections::BTreeMap;
 
@@ -137,6 +137,7 @@ impl Seen {
 pub fn serve(state: State, requests: &[Request]) -> Seen {
     let mut seen = Seen::default();
     let mut model = Model::new(state);
+    let mut past = Past::default();
     for request in requests {
         let before = model.state.counts();
         let result = model.request(request);
@@ -145,7 +146,11 @@ pub fn serve(state: State, requests: &[Request]) -> Seen {
             Ok(_) => seen.called(request, model.state.cells.len() - before.cells),
             Err(number) => seen.refused_at(number, situations::refused_at(&model, request)),
         }
-        for situation in situations::met(&model, before, request, result) {
+        let now = situations::met(&model, before, request, result);
+        for situation in now
+            .into_iter()
+            .chain(past.met(&model.state, request, result))
+        {
             seen.situation(situation);
         }
     }

@@ -9,7 +9,7 @@ pub const BYTES: &[u8] = b"0123456789=,()-+ \n\r\0\xffabdeghilmnopstuvwyA";
 
 /// Numbers in and around the ranges of sheets and requests, too long for any
 /// word, or not of the form of a number.
-pub const NUMBERS: [&str; 43] = [
+pub const NUMBERS: [&str; 47] = [
     "0",
     "1",
     "2",
@@ -25,6 +25,7 @@ pub const NUMBERS: [&str; 43] = [
     "30",
     "31",
     "32",
+    "33",
     "47",
     "48",
     "49",
@@ -32,6 +33,9 @@ pub const NUMBERS: [&str; 43] = [
     "128",
     "255",
     "256",
+    "511",
+    "512",
+    "513",
     "2147483647",
     "2147483648",
     "-2147483648",

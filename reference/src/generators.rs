@@ -6,13 +6,15 @@ mod plans;
 mod tables;
 mod times;
 mod tiny;
+mod two;
 
 pub use doors::{doors_input, doors_text};
-pub use lists::{any_request, request, requests};
+pub use lists::{any_request, request, requests, sure_call};
 pub use plans::{Goal, Plan, Profile, BIG, FULL, LONG, MEDIUM, PROFILES, SMALL, TINY};
 pub use tables::table;
 pub use times::{doors_lists, Lists};
 pub use tiny::{on_tiny, tiny_first, tiny_inputs};
+pub use two::{two_lists, TwoLists};
 
 use crate::damage::{damage, lengthen};
 use crate::random::Random;
@@ -21,6 +23,10 @@ use crate::script;
 use crate::sheet;
 use crate::table::Table;
 
+/// The plan of the full ones that is for seeds of their own: its lists are long, and a few do.
+const ALL_CALLS: usize = FULL.len() - 1;
+const ALL_CALLS_AT: u64 = 5;
+
 /// A sheet and a list of requests, as the program reads them.
 pub fn generate(seed: u64, profile: Profile) -> Vec<u8> {
     let mut random = Random::new(seed ^ ((profile as u64) << 56));
@@ -28,7 +34,8 @@ pub fn generate(seed: u64, profile: Profile) -> Vec<u8> {
         Profile::Small => input(&mut random, &SMALL),
         Profile::Medium => input(&mut random, &MEDIUM),
         Profile::Big => input(&mut random, &BIG),
-        Profile::Full => one_of(&mut random, &FULL),
+        Profile::Full if seed % 11 == ALL_CALLS_AT => input(&mut random, &FULL[ALL_CALLS]),
+        Profile::Full => one_of(&mut random, &FULL[..ALL_CALLS]),
         Profile::Long => one_of(&mut random, &LONG),
         Profile::Damaged => damaged(&mut random),
     }

@@ -3,9 +3,11 @@
 
 mod bending;
 mod breaking;
+mod limits;
 mod noise;
 
 pub use breaking::break_one;
+pub use limits::{Limit, LIMITS};
 pub use noise::noise;
 
 use crate::check::{self, REASONS};
@@ -30,8 +32,23 @@ pub struct Hostile {
 /// A hostile state from a seed.
 pub fn generate(seed: u64) -> Hostile {
     let mut random = Random::new(seed ^ 0x0005_7a7e_0000_0000);
+    if random.chance(8) {
+        let limit = *random.pick(&LIMITS);
+        return limits::at_limit(&mut random, limit);
+    }
     let state = bent(&mut random);
     handed_in(&mut random, state)
+}
+
+/// One at a limit of calls (Q9, H1, H17); seeds take the limits in turn. `limit(seed)` is which.
+pub fn at_call_limits(seed: u64) -> Hostile {
+    let mut random = Random::new(seed ^ 0x000c_a115_0000_0000);
+    limits::at_limit(&mut random, limit(seed))
+}
+
+/// The limit that a seed is about.
+pub fn limit(seed: u64) -> Limit {
+    LIMITS[(seed % LIMITS.len() as u64) as usize]
 }
 
 /// One in which hardly a place, cell or call is free.
@@ -58,9 +75,8 @@ pub fn on_tiny(seed: u64) -> Vec<Hostile> {
 
 /// A state that requests led to, mostly bent.
 fn bent(random: &mut Random) -> State {
-    let plan = random
-        .pick(&[SMALL, SMALL, MEDIUM, LONG[0].clone()])
-        .clone();
+    let plans = [SMALL, SMALL, MEDIUM, LONG[0].clone(), LONG[0].clone()];
+    let plan = random.pick(&plans).clone();
     let table = generators::table(random, &plan);
     bent_from(random, &plan, table)
 }
@@ -78,7 +94,7 @@ fn bent_from(random: &mut Random, plan: &Plan, table: Table) -> State {
 /// Requests for a state, noise in its bytes, and rules broken.
 fn handed_in(random: &mut Random, state: State) -> Hostile {
     let right = check::state(&RawState::of(&state)).ok().map(Model::new);
-    let requests = (0..random.within((2, 8)))
+    let requests = (0..random.within((3, 10)))
         .map(|_| request(random, &state, right.as_ref()))
         .collect();
     let mut raw = RawState::of(&state);

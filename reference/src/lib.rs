@@ -44,6 +44,8 @@ pub mod chains;
 
 pub mod book;
 
+pub mod log;
+
 // P
 pub mod script;
 

@@ -3,7 +3,7 @@
 
 use crate::refusal::{Refusal, CALLS_FULL, CELLS_FULL, PLACES_FULL};
 use crate::relations::{Relation, Relations};
-use crate::state::{Call, Cell, Counts, Place, State, MAX_CALLS, MAX_CELLS, MAX_PLACES};
+use crate::state::{Call, Cell, Counts, Place, State, MAX_CALLS_EACH, MAX_CELLS, MAX_PLACES};
 use crate::table::TypeNo;
 use std::cell::RefCell;
 
@@ -69,15 +69,15 @@ impl Model {
         Ok(number)
     }
 
-    /// Whether a call is free (Q9).
-    pub(crate) fn call_is_free(&self) -> Result<(), Refusal> {
-        if self.state.calls.len() >= MAX_CALLS {
+    /// Whether a subject may make one call more (Q9). Only its own count, answered or not (C7).
+    pub(crate) fn may_call(&self, caller: usize) -> Result<(), Refusal> {
+        if self.state.calls_of(caller) >= MAX_CALLS_EACH {
             return Err(CALLS_FULL);
         }
         Ok(())
     }
 
-    /// The next call (Q6), where one is free.
+    /// The next call (Q6), where its caller may make one.
     pub(crate) fn add_call(&mut self, call: Call) -> usize {
         self.state.calls.push(call);
         self.state.calls.len() - 1

@@ -38,7 +38,7 @@ pub const WRONG_VALUES: Refusal = 15;
 pub const TOO_WIDE: Refusal = 16;
 /// The call has its answer (A3).
 pub const ANSWERED_ALREADY: Refusal = 17;
-/// No call is free (C7).
+/// The subject has made all of its calls (C7).
 pub const CALLS_FULL: Refusal = 18;
 /// What would be 8 or 10, at a layer past the first (C13).
 pub const LATER_LAYER: Refusal = 19;

@@ -1,10 +1,12 @@
 //! What a set of generated inputs and handed-in states met.
 
 mod doors;
+mod limits;
 mod slips;
 mod times;
 
 pub use doors::Doors;
+use limits::LIMITS;
 
 use crate::check::{self, Reason, REASONS};
 use crate::coverage::{self, Seen, OF_ARGUMENTS, OF_REQUESTS};
@@ -21,7 +23,7 @@ use crate::refusal::{
 use crate::requests::Request;
 use crate::script::{self, MAX_CALL_ARGUMENTS};
 use crate::sheet;
-use crate::situations::{OF_HANDED_IN, OF_SHEETS};
+use crate::situations::{OF_CALL_COUNTS, OF_HANDED_IN, OF_SHEETS};
 use crate::state::State;
 use crate::table::MAX_ARGUMENTS;
 use std::collections::BTreeMap;
@@ -54,6 +56,8 @@ pub struct Report {
     pub handed_in: u64,
     pub right: u64,
     pub reasons: BTreeMap<Reason, u64>,
+    /// Their calls at the limits.
+    pub limits: BTreeMap<&'static str, u64>,
     /// Requests on handed-in states.
     pub requests: Seen,
     /// Sheet write: done, 4, 2. Compare: answered, 7, 2.
@@ -134,7 +138,12 @@ impl Report {
         self.handed_in += 1;
         self.write(&mut random, &hostile.state.table);
         self.compare(&mut random, &hostile.state.table);
-        match check::state(&hostile.state) {
+        let checked = check::state(&hostile.state);
+        for (name, is_met) in LIMITS {
+            let met = is_met(&hostile.state, &checked);
+            *self.limits.entry(name).or_default() += u64::from(met);
+        }
+        match checked {
             Err(reason) => {
                 *self.reasons.entry(reason).or_default() += 1;
                 let five = reason == Reason::TooManyArguments && has_longer(&hostile.state.table);
@@ -239,14 +248,20 @@ impl Report {
 
     /// The same of what is handed in.
     fn of_handed_in(&self) -> Vec<(bool, String)> {
-        let situations = OF_HANDED_IN
-            .map(|situation| (self.requests.met(situation) > 0, format!("{situation:?}")));
+        let situations = OF_HANDED_IN.iter().chain(&OF_CALL_COUNTS).map(|situation| {
+            let met = self.requests.met(*situation) > 0;
+            (met, format!("{situation:?} on a handed-in state"))
+        });
         let later = ["call", "answer"].map(|name| {
             let met = self.requests.refused.contains_key(&(name, LATER_LAYER));
             (met, format!("{name} 19 on a handed-in state"))
         });
         let reasons =
             REASONS.map(|reason| (self.reasons.contains_key(&reason), format!("{reason:?}")));
+        let limits = LIMITS.iter().map(|(name, _)| {
+            let met = self.limits.get(name).is_some_and(|count| *count > 0);
+            (met, name.to_string())
+        });
         let tables = [
             (self.written, "sheet write"),
             (self.short, "sheet write 4"),
@@ -256,7 +271,7 @@ impl Report {
             (self.compare_refused, "compare 2"),
         ]
         .map(|(count, what)| (count > 0, what.to_string()));
-        let all = situations.into_iter().chain(later).chain(reasons);
+        let all = situations.chain(later).chain(reasons).chain(limits);
         let five = (
             self.five_in_record > 0,
             "five arguments in a type record".to_string(),
@@ -316,6 +331,9 @@ impl Report {
         ));
         for (reason, count) in &self.reasons {
             text.push_str(&format!("  2 by {reason:?}: {count}\n"));
+        }
+        for (name, count) in &self.limits {
+            text.push_str(&format!("  {name}: {count}\n"));
         }
         text.push_str(&format!(
             "  five arguments: m= lines {}, do= lines {}, type records {}\n",

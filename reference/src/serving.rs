@@ -98,7 +98,7 @@ impl Model {
         let cell = self.held_cell(caller, cell).ok_or(NOT_HELD)?;
         let (method, signature) = self.avail_method(cell, method)?;
         let values = self.arguments(caller, arguments, &signature)?;
-        self.call_is_free()?;
+        self.may_call(caller)?;
         self.send(cell, method, &values)?;
         let call = self.add_call(Call {
             caller,

@@ -2,13 +2,18 @@
 //! state that it left. What was there before is still there (Q14, Q15), so that
 //! the counts before tell what is new.
 
+use crate::carrying::Value;
 use crate::model::Model;
-use crate::refusal::{Refusal, LATER_LAYER, TOO_WIDE, TYPES_FULL, UNRELATED, WRONG_VALUES};
+use crate::refusal::{
+    Refusal, CALLS_FULL, LATER_LAYER, NOT_CALLABLE, NOT_HELD, TOO_WIDE, TYPES_FULL, UNRELATED,
+    WRONG_VALUES,
+};
 use crate::relations::Relation;
 use crate::requests::{index, Got, Request};
 use crate::restriction::sub;
-use crate::state::{Counts, Place, State};
+use crate::state::{Counts, Place, State, MAX_CALLS, MAX_CALLS_EACH};
 use crate::table::{Representation, Signature, TypeNo, MAX_ARGUMENTS, MAX_TYPES};
+use std::collections::BTreeSet;
 
 /// Situations worth meeting.
 #[derive(Clone, Copy, PartialEq, Eq, Debug, Hash, PartialOrd, Ord)]
@@ -44,6 +49,24 @@ pub enum Situation {
     FourReferencesThroughSeveral,
     /// 11 met while the last argument that a signature can have crosses, the others having crossed.
     TypesFullAtLastArgument,
+    /// A call accepted that is its caller's last but one, and one that is its last (Q9).
+    LastCallButOne,
+    LastCall,
+    /// The last call of a caller accepted, with others of its calls refused before.
+    LastCallBehindRefused,
+    /// A call accepted of a subject that the common 256 of 01 would have left none.
+    CallBehind256,
+    /// The last call of the last of sixteen subjects accepted: 512 are there.
+    LastCallOfAll,
+    /// 18 met while another subject may call, and while none may.
+    CallsFullForOne,
+    CallsFullForAll,
+    /// 18 met by a call with an argument that would have been refused too (C7 is before C10).
+    CallsFullBeforeCrossing,
+    /// 6, 14 or 15 met by a call of a subject that may make none (C2 to C5 are before C7).
+    RefusedBeforeCallsFull,
+    /// A call of a subject accepted after another met 18.
+    CallAfterAnothers18,
     LayerWithoutValue,
     LayerNumberForReference,
     LayerReferenceForNumber,
@@ -51,10 +74,14 @@ pub enum Situation {
     LayerWithMoreArguments,
     /// A call with more arguments than any signature has (C4).
     MoreArgumentsThanAny,
+    /// 18 met though the caller holds the cells of fewer than 32 of the calls.
+    CallsFullThroughOthersCells,
+    /// A call accepted though 32 or more went through cells that the caller holds.
+    CallBehindOthersCalls,
 }
 
 /// Every situation a loaded sheet can meet.
-pub const OF_SHEETS: [Situation; 26] = [
+pub const OF_SHEETS: [Situation; 36] = [
     Situation::PassedBySubtype,
     Situation::PassedByPlaceType,
     Situation::AdapterOnObject,
@@ -81,15 +108,40 @@ pub const OF_SHEETS: [Situation; 26] = [
     Situation::TypesFullInside,
     Situation::FourReferencesThroughSeveral,
     Situation::TypesFullAtLastArgument,
+    Situation::LastCallButOne,
+    Situation::LastCall,
+    Situation::LastCallBehindRefused,
+    Situation::CallBehind256,
+    Situation::LastCallOfAll,
+    Situation::CallsFullForOne,
+    Situation::CallsFullForAll,
+    Situation::CallsFullBeforeCrossing,
+    Situation::RefusedBeforeCallsFull,
+    Situation::CallAfterAnothers18,
 ];
 
 /// The situations of handed-in states alone.
-pub const OF_HANDED_IN: [Situation; 5] = [
+pub const OF_HANDED_IN: [Situation; 7] = [
     Situation::LayerWithoutValue,
     Situation::LayerNumberForReference,
     Situation::LayerReferenceForNumber,
     Situation::LayerWithMoreArguments,
     Situation::MoreArgumentsThanAny,
+    Situation::CallsFullThroughOthersCells,
+    Situation::CallBehindOthersCalls,
+];
+
+/// The situations of calls that are counted, which requests on handed-in states have to meet too.
+pub const OF_CALL_COUNTS: [Situation; 9] = [
+    Situation::LastCallButOne,
+    Situation::LastCall,
+    Situation::CallBehind256,
+    Situation::LastCallOfAll,
+    Situation::CallsFullForOne,
+    Situation::CallsFullForAll,
+    Situation::CallsFullBeforeCrossing,
+    Situation::RefusedBeforeCallsFull,
+    Situation::CallAfterAnothers18,
 ];
 
 /// The situations that a request met.
@@ -119,7 +171,118 @@ pub fn met(
         Err(TOO_WIDE) => met.extend(beyond_w32(state, request)),
         Err(number) => met.extend(unfit_layer(state, request, number)),
     }
+    met.extend(counted_calls(model, request, result));
     met
+}
+
+/// What a call met of its caller's count and of the others' (Q9, C7).
+fn counted_calls(model: &Model, request: &Request, result: Result<Got, Refusal>) -> Vec<Situation> {
+    let state = &model.state;
+    let caller = match request {
+        Request::Call { subject, .. } => index(*subject, state.table.subjects),
+        _ => None,
+    };
+    let Some(caller) = caller else {
+        return Vec::new();
+    };
+    let made = state.calls_of(caller);
+    let full = made == MAX_CALLS_EACH;
+    // with the call that was accepted
+    let through = state.calls.iter().map(|call| state.cells[call.cell].holder);
+    let through = through.filter(|holder| *holder == caller).count();
+    let mut others = (0..state.table.subjects).filter(|other| *other != caller);
+    let met = match result {
+        Ok(_) => vec![
+            (Situation::LastCallButOne, made + 1 == MAX_CALLS_EACH),
+            (Situation::LastCall, full),
+            (Situation::CallBehind256, state.calls.len() > 256),
+            (Situation::LastCallOfAll, state.calls.len() == MAX_CALLS),
+            (Situation::CallBehindOthersCalls, through > MAX_CALLS_EACH),
+        ],
+        Err(CALLS_FULL) => {
+            let free = others.any(|other| state.calls_of(other) < MAX_CALLS_EACH);
+            vec![
+                (Situation::CallsFullForOne, free),
+                (Situation::CallsFullForAll, state.calls.len() == MAX_CALLS),
+                (
+                    Situation::CallsFullBeforeCrossing,
+                    fails_on_its_way(model, request),
+                ),
+                (
+                    Situation::CallsFullThroughOthersCells,
+                    through < MAX_CALLS_EACH,
+                ),
+            ]
+        }
+        Err(NOT_HELD | NOT_CALLABLE | WRONG_VALUES) => {
+            vec![(Situation::RefusedBeforeCallsFull, full)]
+        }
+        Err(_) => Vec::new(),
+    };
+    met.into_iter()
+        .filter_map(|(name, met)| met.then_some(name))
+        .collect()
+}
+
+/// Whether a call that got 18 has an argument that does not arrive.
+fn fails_on_its_way(model: &Model, request: &Request) -> bool {
+    let Some(looked_up) = looked_up(model, request) else {
+        return false;
+    };
+    let values: Option<Vec<Value>> = looked_up.values.into_iter().collect();
+    values.is_some_and(|values| {
+        let mut model = model.clone();
+        model
+            .send(looked_up.cell, looked_up.method, &values)
+            .is_err()
+    })
+}
+
+/// What subjects met before a request, which no state tells.
+#[derive(Clone, Debug, Default)]
+pub struct Past {
+    /// The subjects that had a call refused, and those that had one refused with 18.
+    refused: BTreeSet<i64>,
+    full: BTreeSet<i64>,
+}
+
+impl Past {
+    /// What a call met that goes by the requests before it. It is one of them from here on.
+    pub fn met(
+        &mut self,
+        state: &State,
+        request: &Request,
+        result: Result<Got, Refusal>,
+    ) -> Vec<Situation> {
+        let Request::Call { subject, .. } = request else {
+            return Vec::new();
+        };
+        match result {
+            Ok(_) => {
+                let last = state.calls_of(*subject as usize) == MAX_CALLS_EACH;
+                let met = [
+                    (
+                        Situation::LastCallBehindRefused,
+                        last && self.refused.contains(subject),
+                    ),
+                    (
+                        Situation::CallAfterAnothers18,
+                        self.full.iter().any(|other| other != subject),
+                    ),
+                ];
+                met.into_iter()
+                    .filter_map(|(name, met)| met.then_some(name))
+                    .collect()
+            }
+            Err(number) => {
+                self.refused.insert(*subject);
+                if number == CALLS_FULL {
+                    self.full.insert(*subject);
+                }
+                Vec::new()
+            }
+        }
+    }
 }
 
 /// The new adapters, by what is behind them, and whether their types were known.
@@ -268,9 +431,17 @@ fn too_many(request: &Request) -> Option<Situation> {
     longer.then_some(Situation::MoreArgumentsThanAny)
 }
 
-/// The position of the argument that a call was refused by, if it was by one: the first whose
-/// cell is not held (C5), or the first that does not arrive when those up to it are sent once more.
-pub fn refused_at(model: &Model, request: &Request) -> Option<usize> {
+/// A call that passes C1 to C4.
+struct LookedUp {
+    caller: usize,
+    cell: usize,
+    method: usize,
+    /// Its arguments; none where a cell is not held (C5).
+    values: Vec<Option<Value>>,
+}
+
+/// A call that passes C1 to C4, looked up once more.
+fn looked_up(model: &Model, request: &Request) -> Option<LookedUp> {
     let Request::Call {
         subject,
         cell,
@@ -287,15 +458,29 @@ pub fn refused_at(model: &Model, request: &Request) -> Option<usize> {
         return None;
     }
     let operands = arguments.iter().zip(&signature.arguments);
-    let looked_up = operands.map(|(operand, named)| model.value(caller, *operand, *named));
-    let mut values = Vec::new();
-    for (position, value) in looked_up.enumerate() {
-        match value {
-            Ok(value) => values.push(value),
-            Err(_) => return Some(position),
-        }
+    let values = operands.map(|(operand, named)| model.value(caller, *operand, *named).ok());
+    Some(LookedUp {
+        caller,
+        cell,
+        method,
+        values: values.collect(),
+    })
+}
+
+/// The position of the argument that a call was refused by, if it was by one: the first whose
+/// cell is not held (C5), or the first that does not arrive when those up to it are sent once more.
+pub fn refused_at(model: &Model, request: &Request) -> Option<usize> {
+    let LookedUp {
+        caller,
+        cell,
+        method,
+        values,
+    } = looked_up(model, request)?;
+    if let Some(position) = values.iter().position(Option::is_none) {
+        return Some(position);
     }
-    model.call_is_free().ok()?;
+    let values: Vec<Value> = values.into_iter().flatten().collect();
+    model.may_call(caller).ok()?;
     let arrive = |count: &usize| model.clone().send(cell, method, &values[..*count]).is_ok();
     (1..=values.len())
         .find(|count| !arrive(count))

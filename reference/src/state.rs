@@ -1,13 +1,14 @@
 //! The state (Q): a table with cells, places and calls.
 
-use crate::table::{Table, TypeNo};
+use crate::table::{Table, TypeNo, MAX_SUBJECTS};
 
 /// Q7.
 pub const MAX_CELLS: usize = 256;
 /// Q8.
 pub const MAX_PLACES: usize = 128;
-/// Q9.
-pub const MAX_CALLS: usize = 256;
+/// The calls of one subject (Q9), and of all that there can be.
+pub const MAX_CALLS_EACH: usize = 32;
+pub const MAX_CALLS: usize = MAX_SUBJECTS * MAX_CALLS_EACH;
 
 /// What a reference leads to (Q1).
 #[derive(Clone, Copy, PartialEq, Eq, Debug)]
@@ -70,6 +71,12 @@ impl State {
             cells: self.cells.len(),
             calls: self.calls.len(),
         }
+    }
+
+    /// The records of calls that a subject made, answered or not (Q9).
+    pub fn calls_of(&self, caller: usize) -> usize {
+        let made = self.calls.iter().filter(|call| call.caller == caller);
+        made.count()
     }
 
     /// The type of a place (Q3).

@@ -133,15 +133,79 @@ fn cell_256_and_257() {
     assert_eq!(output.lines().nth(256), Some("no=13"));
 }
 
+/// Subject 0 holds cell 0, subject 1 cell 1, and 0 has made its 32 calls (Q9).
+fn thirty_two() -> String {
+    let calls = "do=call 0 0 0\n".repeat(32);
+    format!("do=new 0 1 4\ndo=move 0 0 1 2\n{calls}")
+}
+
 #[test]
-fn call_256_and_257() {
-    let list = format!("do=new 0 1 4\n{}", "do=call 0 0 0\n".repeat(257));
+fn call_32_and_33_of_one_subject() {
+    let list = thirty_two();
     let output = p(&list);
-    assert_eq!(output.lines().nth(256), Some("got=255 0"));
-    assert_eq!(output.lines().nth(257), Some("no=18"));
-    // 15 comes before 18.
-    let list = format!("{list}do=call 0 0 0 1\n");
-    assert_eq!(last(&p(&list)), "no=15");
+    assert_eq!(output.lines().nth(32), Some("got=30 0"));
+    assert_eq!(output.lines().nth(33), Some("got=31 0"));
+    let then = |rest: &str| last(&p(&format!("{list}{rest}"))).to_string();
+    assert_eq!(then("do=call 0 0 0\n"), "no=18");
+    // another is served as before, up to its own limit
+    assert_eq!(then("do=call 0 0 0\ndo=call 1 1 0\n"), "got=32 0");
+    let others = "do=call 1 1 0\n".repeat(32);
+    assert_eq!(then(&others), "got=63 0");
+    assert_eq!(then(&format!("{others}do=call 1 1 0\n")), "no=18");
+    assert_eq!(then(&format!("{others}do=call 0 0 0\n")), "no=18");
+}
+
+/// C1 to C5 come before C7, and C7 before what crosses.
+#[test]
+fn order_around_18() {
+    let list = thirty_two();
+    let then = |rest: &str| last(&p(&format!("{list}{rest}"))).to_string();
+    assert_eq!(then("do=call 3 0 0\n"), "no=5");
+    assert_eq!(then("do=call 0 1 0\n"), "no=6");
+    assert_eq!(then("do=call 0 0 3\n"), "no=14");
+    assert_eq!(then("do=call 0 0 0 1\n"), "no=15");
+    assert_eq!(then("do=call 0 0 1\n"), "no=15");
+    assert_eq!(then("do=call 0 0 1 2147483648\n"), "no=18");
+}
+
+/// Answers give no call back, and what else a subject asks for takes none (Q9).
+#[test]
+fn only_calls_of_the_subject_count() {
+    let list = thirty_two();
+    let answers: String = (0..32)
+        .map(|call| format!("do=answer 0 {call} 7\n"))
+        .collect();
+    let all = format!("{list}{answers}do=call 0 0 0\n");
+    assert_eq!(last(&p(&all)), "no=18");
+    // to move, to get and to give answers go on
+    assert_eq!(last(&p(&format!("{all}do=move 0 0 1 2\n"))), "got=2 0");
+    let asked = format!("{all}do=call 1 1 0\ndo=answer 0 32 9\n");
+    assert_eq!(last(&p(&asked)), "got=9");
+    // refused calls do not count, whatever they are refused with
+    let refused = "do=call 0 9 0\ndo=call 0 0 9\ndo=call 0 0 0 9\ndo=call 0 0 1 2147483648\n";
+    let list = format!("do=new 0 1 4\n{}", refused.repeat(40));
+    let calls = "do=call 0 0 0\n";
+    assert_eq!(last(&p(&format!("{list}{}", calls.repeat(32)))), "got=31 0");
+    assert_eq!(last(&p(&format!("{list}{}", calls.repeat(33)))), "no=18");
+}
+
+/// All that can be called: sixteen subjects, 32 calls each, by turns and one behind the other.
+#[test]
+fn call_512_of_sixteen_subjects() {
+    let sheet = SHEET_P.replace("subjects=3", "subjects=16");
+    let cells: String = (0..16).map(|one| format!("do=new {one} 1 4\n")).collect();
+    let call = |one: usize| format!("do=call {one} {one} 0\n");
+    let turns: String = (0..512).map(|number| call(number % 16)).collect();
+    let blocks: String = (0..512).map(|number| call(number / 32)).collect();
+    for list in [turns, blocks] {
+        let output = run(&sheet, &format!("{cells}{list}"));
+        let expected: String = (0..512).map(|number| format!("got={number} 0\n")).collect();
+        assert!(output.ends_with(&expected));
+        for one in 0..16 {
+            let more = format!("{cells}{list}{}", call(one));
+            assert_eq!(last(&run(&sheet, &more)), "no=18");
+        }
+    }
 }
 
 #[test]

@@ -1,10 +1,11 @@
 //! Deliberate faults, each an edit of the model's sources (faults/edits), are
 //! each found by the generated inputs. The tiny sheets come first (02 k).
 
-use faults::{named, Fault, ALL};
+use faults::{named, CheckFault, Fault, ALL, CHECKS};
 use reference::book::Book;
 use reference::external::difference;
-use reference::generators::{tiny_first, Profile};
+use reference::generators::{tiny_first, two_lists, Profile};
+use reference::log::{first_wrong, passes, Log};
 use reference::script::{self, printed};
 use reference::serving;
 use reference::shrink::shrink;
@@ -32,12 +33,16 @@ fn differs(input: &[u8], fault: Fault) -> bool {
 
 /// The first generated input for which the faulty model prints something else.
 fn found(fault: Fault) -> Option<Vec<u8>> {
-    let profiles = [
+    let mut profiles = [
         Profile::Small,
         Profile::Medium,
         Profile::Long,
         Profile::Full,
     ];
+    if fault.name.starts_with("call") {
+        // full lists come to the limits of calls
+        profiles.reverse();
+    }
     inputs(&profiles).find(|input| differs(input, fault))
 }
 
@@ -70,16 +75,36 @@ fn found_in_state(fault: Fault) -> bool {
 
 #[test]
 fn every_fault_is_found() {
-    assert!(ALL.len() >= 30, "{}", ALL.len());
+    assert!(ALL.len() >= 42, "{}", ALL.len());
     for fault in ALL {
         let found = match fault.name {
             // 19 is met on handed-in states alone
             "later_crossing_keeps_number" => found_handed_in(*fault),
+            // a cell is called through by its holder alone (C2), but on handed-in states
+            "calls_of_holder_counted" => found_handed_in(*fault),
             // numbers of types are not printed
             "number_after_signatures" => found_in_state(*fault),
             _ => found(*fault).is_some(),
         };
         assert!(found, "{}", fault.name);
+    }
+}
+
+/// Whether a faulty check answers another way for a state that is handed in.
+fn found_by(fault: CheckFault, states: impl Iterator<Item = hostile::Hostile>) -> bool {
+    let mut states = states.map(|hostile| hostile.state);
+    states.any(|state| (fault.check)(&state) != check::state(&state).ok())
+}
+
+/// Both by the states at the limits of calls, and by any.
+#[test]
+fn every_fault_of_the_check_is_found() {
+    assert!(CHECKS.len() >= 9, "{}", CHECKS.len());
+    for fault in CHECKS {
+        let at_limits = (0..320).map(hostile::at_call_limits);
+        assert!(found_by(*fault, at_limits), "{}", fault.name);
+        let generated = (0..3000).map(hostile::generate);
+        assert!(found_by(*fault, generated), "{}", fault.name);
     }
 }
 
@@ -104,6 +129,56 @@ fn is_broken(fault: Fault, input: &[u8]) -> bool {
     Book::of_run(&script.table, &script.requests, &results)
         .and_then(|book| book.check(&state))
         .is_err()
+}
+
+/// What L28 and L29 say of requests and outcomes finds what they are for, with no right model
+/// beside it.
+#[test]
+fn the_log_finds_what_it_is_for() {
+    for name in [
+        "call_33_accepted",
+        "call_32_refused",
+        "calls_of_another_counted",
+        "calls_of_owner_counted",
+        "calls_unanswered_counted",
+        "calls_full_by_total",
+        "calls_full_by_total_too",
+        "calls_full_by_cell",
+        "calls_full_after_crossing",
+        "calls_refused_counted",
+    ] {
+        let broken = |input: Vec<u8>| {
+            let script = script::read(&input).unwrap();
+            let state = State::of_sheet(script.table);
+            let (results, state) = (named(name).run)(state, &script.requests);
+            let log = Log::of_run(&script.requests, &results);
+            first_wrong(&script.requests, &results).is_some() || !log.agrees(&state)
+        };
+        assert!(inputs(&[Profile::Full]).any(broken), "{name}");
+    }
+}
+
+/// L30 by itself finds what it is for: two histories from one sheet that do not agree on 18.
+#[test]
+fn two_histories_find_what_they_are_for() {
+    for name in [
+        "calls_of_another_counted",
+        "calls_of_owner_counted",
+        "calls_refused_counted",
+    ] {
+        let differ = |seed| {
+            let two = two_lists(seed);
+            let [one, other] = [&two.first, &two.second].map(|list| {
+                let state = State::of_sheet(two.table.clone());
+                let (results, _) = (named(name).run)(state, list);
+                let (last, before) = results.split_last().unwrap();
+                let accepted = Log::of_run(list, before).accepted(two.subject);
+                (accepted, passes(last.err()), last.err() == Some(18))
+            });
+            (one.0, one.1) == (other.0, true) && other.1 && one.2 != other.2
+        };
+        assert!((0..400).any(differ), "{name}");
+    }
 }
 
 /// A fault found is shown by a small input.

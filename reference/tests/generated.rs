@@ -2,7 +2,7 @@
 //! first in each test (02 k).
 
 use reference::chains::{first_difference, All};
-use reference::check::{self, REASONS};
+use reference::check::{self, Reason, REASONS};
 use reference::demand;
 use reference::entry;
 use reference::generators::{self, tiny_first, Profile, PROFILES};
@@ -425,7 +425,12 @@ fn assert_earlier_records_stay(before: &RawState, after: &RawState) {
         .filter(|number| before.call(*number) != after.call(*number))
         .count();
     assert!(answered <= 1);
-    assert!(check::state(after).is_ok());
+    // a known derived type is believed, own too, and may come to stand in a signature (H14, Q19)
+    let left = check::state(after).err();
+    assert!(
+        matches!(left, None | Some(Reason::OwnInSignature)),
+        "{left:?}"
+    );
 }
 
 /// Each way to break a state gives the reason it aims at, for some state.

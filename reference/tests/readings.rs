@@ -10,7 +10,7 @@ use reference::requests::{Got, Request};
 use reference::restriction::{closed, sub, sup};
 use reference::script::{self, run_whole};
 use reference::sheet;
-use reference::state::{Place, State};
+use reference::state::{Call, Place, State, MAX_CALLS, MAX_CALLS_EACH};
 use reference::table::*;
 
 const HEAD: &str = "guide=1\nsubjects=2\nmethods=1\ncats=0\n";
@@ -597,7 +597,7 @@ fn nothing_due() {
     let mut model = Model::new(state.clone());
     model.request(&new(0, 0, 1)).unwrap();
     state = model.state;
-    state.calls.push(reference::state::Call {
+    state.calls.push(Call {
         caller: 1,
         cell: 0,
         method: 0,
@@ -764,6 +764,121 @@ fn known_number_for_r_is_10() {
     });
     let mut raw = RawState::of(&State::of_sheet(table));
     assert_eq!(entry::request(&mut raw, &new(0, 0, 1)), Err(10));
+}
+
+/// A state of sixteen subjects, each with a cell of its own, and so many calls of each, made by
+/// turns; every so-manieth is answered.
+fn called(counts: [usize; MAX_SUBJECTS], answered: Option<usize>) -> RawState {
+    let text = sheet_of(1, &[&["no", "avail()-"]]).replace("subjects=3", "subjects=16");
+    let table = sheet::read(text.as_bytes()).unwrap();
+    let mut model = Model::new(State::of_sheet(table));
+    for subject in 0..16 {
+        model.request(&new(subject, 0, 0)).unwrap();
+    }
+    let mut state = model.state;
+    for turn in 0..counts.into_iter().max().unwrap() {
+        for caller in (0..MAX_SUBJECTS).filter(|caller| turn < counts[*caller]) {
+            let every = |step: usize| state.calls.len() % step == 0;
+            state.calls.push(Call {
+                caller,
+                cell: caller,
+                method: 0,
+                answered: answered.is_some_and(every),
+            });
+        }
+    }
+    RawState::of(&state)
+}
+
+fn call_of(subject: i64) -> Request {
+    Request::Call {
+        subject,
+        cell: subject,
+        method: 0,
+        arguments: Vec::new(),
+    }
+}
+
+/// B25, B28, B29: 512 records of four bytes.
+#[test]
+fn bytes_of_calls() {
+    let raw = called([MAX_CALLS_EACH; MAX_SUBJECTS], Some(3));
+    assert_eq!(raw.call_bytes.len(), 2_048);
+    assert_eq!(raw.calls, 512);
+    assert_eq!(raw.call(510), [14, 14, 0, 1]);
+    assert_eq!(raw.call_bytes[2_044..], [15, 15, 0, 0]);
+}
+
+/// H17: at most 32 calls of one caller, answered or not; C7 on what passes.
+#[test]
+fn calls_of_one_caller_handed_in() {
+    for answered in [None, Some(1), Some(2), Some(5)] {
+        for caller in [0, 7, 15] {
+            for others in [0, 1, 31] {
+                let mut counts = [others; MAX_SUBJECTS];
+                counts[caller] = MAX_CALLS_EACH + 1;
+                let mut raw = called(counts, answered);
+                assert_eq!(check::state(&raw), Err(Reason::TooManyCallsOfOne));
+                let before = raw.clone();
+                for subject in 0..16 {
+                    assert_eq!(entry::request(&mut raw, &call_of(subject)), Err(2));
+                }
+                assert_eq!(entry::offers(&raw, 0, &[]), Err(2));
+                assert!(raw == before);
+                counts[caller] = MAX_CALLS_EACH;
+                let mut raw = called(counts, answered);
+                let there = raw.calls as usize;
+                assert_eq!(entry::request(&mut raw, &call_of(caller as i64)), Err(18));
+                let other = (caller as i64 + 1) % 16;
+                let got = Got::Call {
+                    call: there,
+                    adapters: 0,
+                };
+                assert_eq!(entry::request(&mut raw, &call_of(other)), Ok(got));
+                assert_eq!(raw.calls as usize, there + 1);
+            }
+        }
+    }
+}
+
+/// H1, H15: 512 calls are the most, and what stands past the count is not looked at.
+#[test]
+fn counts_of_calls_handed_in() {
+    let full = called([MAX_CALLS_EACH; MAX_SUBJECTS], None);
+    assert!(check::state(&full).is_ok());
+    for subject in 0..16 {
+        assert_eq!(
+            entry::request(&mut full.clone(), &call_of(subject)),
+            Err(18)
+        );
+    }
+    for count in [513, 514, 544, 1_024, 1 << 16, u32::MAX] {
+        let mut raw = full.clone();
+        raw.calls = count;
+        assert_eq!(check::state(&raw), Err(Reason::CallsCount), "{count}");
+        assert_eq!(entry::request(&mut raw, &call_of(0)), Err(2));
+    }
+    // 512 with one more of one caller and one less of another
+    let mut raw = full.clone();
+    raw.call_mut(MAX_CALLS - 1)[0] = 3;
+    assert_eq!(check::state(&raw), Err(Reason::TooManyCallsOfOne));
+    raw.calls = MAX_CALLS as u32 - 1;
+    assert!(check::state(&raw).is_ok());
+    assert!(entry::request(&mut raw.clone(), &call_of(15)).is_ok());
+    assert_eq!(entry::request(&mut raw, &call_of(3)), Err(18));
+}
+
+/// C7, H16: the caller of a record counts, not who holds its cell or owns what is behind it.
+#[test]
+fn the_caller_of_a_record_counts() {
+    let mut counts = [0; MAX_SUBJECTS];
+    counts[4] = MAX_CALLS_EACH;
+    let mut raw = called(counts, None);
+    for number in 0..MAX_CALLS_EACH {
+        raw.call_mut(number)[1] = 5;
+    }
+    assert_eq!(entry::request(&mut raw.clone(), &call_of(4)), Err(18));
+    assert!(entry::request(&mut raw, &call_of(5)).is_ok());
 }
 
 /// Q12, C4.

@@ -1,6 +1,7 @@
 //! The reference model with deliberate faults, a copy for each file in edits/
 //! (build.rs makes them). They exist so that tests can show that they find them.
 
+use reference::raw::RawState;
 use reference::refusal::Refusal;
 use reference::requests::{Got, Request};
 use reference::state::State;
@@ -14,6 +15,17 @@ pub struct Fault {
     /// The name of its edit.
     pub name: &'static str,
     pub run: Run,
+}
+
+/// The check of a state that is handed in: the state, or none for 2.
+pub type Check = fn(&RawState) -> Option<State>;
+
+/// A faulty check of what is handed in.
+#[derive(Clone, Copy)]
+pub struct CheckFault {
+    /// The name of its edit.
+    pub name: &'static str,
+    pub check: Check,
 }
 
 /// The fault of a name.

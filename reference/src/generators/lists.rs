@@ -5,7 +5,7 @@ use crate::model::Model;
 use crate::random::Random;
 use crate::relations::Relation;
 use crate::requests::Request;
-use crate::state::{Call, State};
+use crate::state::{Call, State, MAX_CALLS_EACH, MAX_CELLS};
 use crate::table::{Table, TypeNo, MAX_ARGUMENTS};
 
 /// A list of requests, the model that they lead to, and whether they met what
@@ -24,16 +24,23 @@ pub fn requests(random: &mut Random, plan: &Plan, table: Table) -> Listed {
     let mut refusals = plan.refusals;
     let mut reached = plan.goal.is_none();
     let mut requests = Vec::new();
+    let weights = plan.weights;
+    let mut plan = plan.clone();
     for _ in 0..wanted * 4 {
         if requests.len() >= wanted {
             break;
         }
-        let request = request(random, plan, &model);
+        // more calls, so that one of them meets it full and not with its first argument
+        let near = |goal: Goal| goal.is_near(&model.state);
+        let more = if plan.goal.is_some_and(near) { 60 } else { 0 };
+        plan.weights[2] = weights[2] + more;
+        let request = request(random, &plan, &model);
         let result = model.request(&request);
         if result.is_ok() || random.chance(refusals) {
             requests.push(request);
         }
-        if !reached && result.err() == plan.goal.map(Goal::refusal) {
+        let is_met = |goal: Goal| goal.is_met(result, &model.state);
+        if !reached && plan.goal.is_some_and(is_met) {
             // Some requests more, refused ones too, and the list ends.
             reached = true;
             refusals = 60;
@@ -62,7 +69,8 @@ pub fn request(random: &mut Random, plan: &Plan, model: &Model) -> Request {
     let request = match random.weighted(&weights) {
         0 => new_request(random, model),
         1 => move_request(random, plan, model),
-        2 => call_request(random, model),
+        2 if plan.goal == Some(Goal::AllCalls) => call_by_turns(random, plan, model),
+        2 => call_request(random, plan, model),
         3 => answer_request(random, model),
         _ => None,
     };
@@ -156,9 +164,22 @@ fn deep(random: &mut Random, state: &State) -> Option<usize> {
         .max_by_key(|cell| state.stack(state.cells[*cell].place).0.len())
 }
 
-fn call_request(random: &mut Random, model: &Model) -> Option<Request> {
-    let state = &model.state;
+/// A cell to call through, seldom one of a subject that may make no more calls (Q9), unless calls
+/// are to be full.
+fn called(random: &mut Random, plan: &Plan, state: &State) -> Option<usize> {
     let cell = deep(random, state)?;
+    let may = |cell: usize| state.calls_of(state.cells[cell].holder) < MAX_CALLS_EACH;
+    let calls = matches!(plan.goal, Some(Goal::Calls | Goal::AllCalls));
+    if calls || may(cell) || random.chance(20) {
+        return Some(cell);
+    }
+    let others: Vec<usize> = (0..state.cells.len()).filter(|cell| may(*cell)).collect();
+    random.pick_some(&others).copied().or(Some(cell))
+}
+
+fn call_request(random: &mut Random, plan: &Plan, model: &Model) -> Option<Request> {
+    let state = &model.state;
+    let cell = called(random, plan, state)?;
     let holder = state.cells[cell].holder;
     let type_ = &state.table.types[state.cells[cell].type_];
     let avail: Vec<usize> = (0..state.table.methods)
@@ -174,6 +195,90 @@ fn call_request(random: &mut Random, model: &Model) -> Option<Request> {
         cell: number(cell),
         method: number(method),
         arguments,
+    })
+}
+
+/// A call by a subject that may make one more (Q9), if any may, and mostly one that is sure.
+fn call_by_turns(random: &mut Random, plan: &Plan, model: &Model) -> Option<Request> {
+    let state = &model.state;
+    let may: Vec<usize> = (0..state.table.subjects)
+        .filter(|caller| state.calls_of(*caller) < MAX_CALLS_EACH)
+        .collect();
+    match random.pick_some(&may) {
+        Some(caller) if random.chance(95) => sure_call(random, model, *caller),
+        _ => call_request(random, plan, model),
+    }
+}
+
+/// A call by a subject that meets no refusal but 18 where cells and the like are free: of a method
+/// whose arguments pass as they are, mostly one with few references, at times with many while
+/// there is room for them. If it holds no cell for it, the request that gets it one.
+pub fn sure_call(random: &mut Random, model: &Model, caller: usize) -> Option<Request> {
+    let state = &model.state;
+    let held = (0..state.cells.len()).filter(|cell| state.cells[*cell].holder == caller);
+    let mut calls = Vec::new();
+    for cell in held {
+        let type_ = state.cells[cell].type_;
+        for method in 0..state.table.methods {
+            calls.extend(easy_call(random, model, cell, method).map(|call| {
+                let references = references(state, type_, method);
+                (references, call)
+            }));
+        }
+    }
+    let references = calls.iter().map(|(references, _)| *references);
+    let many = random.chance(30) && state.cells.len() < MAX_CELLS - MAX_CELLS / 4;
+    let wanted = if many {
+        references.max()
+    } else {
+        references.min()
+    };
+    calls.retain(|(references, _)| Some(*references) == wanted);
+    match random.pick_some(&calls) {
+        Some((_, call)) => Some(call.clone()),
+        None => new_for(random, model, caller),
+    }
+}
+
+/// A call of a method that is avail in the type of a cell, by its holder, where there are values
+/// that pass the types of its arguments as they are.
+fn easy_call(random: &mut Random, model: &Model, cell: usize, method: usize) -> Option<Request> {
+    let from = model.state.cells[cell];
+    let type_ = &model.state.table.types[from.type_];
+    let signature = type_.permits(method)?;
+    let values = signature.arguments.iter();
+    let arguments: Option<Vec<i64>> = values
+        .map(|named| easy_value(random, model, from.holder, *named))
+        .collect();
+    type_.state(method).is_avail().then_some(Request::Call {
+        subject: number(from.holder),
+        cell: number(cell),
+        method: number(method),
+        arguments: arguments?,
+    })
+}
+
+/// How many arguments of a type's method are references.
+fn references(state: &State, type_: TypeNo, method: usize) -> usize {
+    let types = &state.table.types;
+    let signature = types[type_].permits(method);
+    let arguments = signature.into_iter().flat_map(|one| &one.arguments);
+    arguments.filter(|named| types[**named].is_ref()).count()
+}
+
+/// A new object for a subject, seen by its class, of a class that has a method to call.
+fn new_for(random: &mut Random, model: &Model, subject: usize) -> Option<Request> {
+    let table = &model.state.table;
+    let can = |class: &TypeNo| {
+        let mut methods = table.types[*class].methods.iter();
+        table.is_sheet_class(*class) && methods.any(|state| state.is_avail())
+    };
+    let classes: Vec<TypeNo> = (0..table.sheet_types).filter(can).collect();
+    let class = number(*random.pick_some(&classes)?);
+    Some(Request::New {
+        subject: number(subject),
+        class,
+        type_: class,
     })
 }
 
@@ -319,7 +424,7 @@ pub fn any_request(random: &mut Random, state: &State) -> Request {
         },
         _ => Request::Answer {
             subject,
-            call: any_number(random, state.calls.len()),
+            call: any_call(random, state.calls.len()),
             value: random
                 .chance(60)
                 .then(|| any_number(random, state.cells.len())),
@@ -341,6 +446,14 @@ fn any_number(random: &mut Random, count: usize) -> i64 {
         0,
         256,
     ])
+}
+
+/// The same of calls: at most 512 there are of them (Q9), where it is 256 of cells.
+fn any_call(random: &mut Random, count: usize) -> i64 {
+    match any_number(random, count) {
+        256 if count <= 256 => 512,
+        call => call,
+    }
 }
 
 fn number(index: usize) -> i64 {

@@ -1,7 +1,9 @@
 //! How large inputs are to be, and what they are to be full of.
 
 use crate::refusal::{Refusal, CALLS_FULL, CELLS_FULL, PLACES_FULL, TYPES_FULL};
-use crate::table::MAX_ARGUMENTS;
+use crate::requests::Got;
+use crate::state::{State, MAX_CALLS, MAX_CELLS, MAX_PLACES};
+use crate::table::{MAX_ARGUMENTS, MAX_SUBJECTS, MAX_TYPES};
 
 /// What kind of input to generate.
 #[derive(Clone, Copy, PartialEq, Eq, Debug, Hash)]
@@ -9,7 +11,8 @@ pub enum Profile {
     Small,
     Medium,
     Big,
-    /// Runs until the table, the places, the cells or the calls are full.
+    /// Runs until the table, the places, the cells, the calls of one subject or those of sixteen
+    /// are full.
     Full,
     /// Calls with three and four arguments, and with what they meet where things are full.
     Long,
@@ -76,7 +79,10 @@ pub enum Goal {
     Types,
     Places,
     Cells,
+    /// The calls of one subject.
     Calls,
+    /// The calls of sixteen subjects.
+    AllCalls,
 }
 
 impl Goal {
@@ -86,8 +92,24 @@ impl Goal {
             Goal::Types => TYPES_FULL,
             Goal::Places => PLACES_FULL,
             Goal::Cells => CELLS_FULL,
-            Goal::Calls => CALLS_FULL,
+            Goal::Calls | Goal::AllCalls => CALLS_FULL,
         }
+    }
+
+    /// Whether a call with many references may be the one that meets it full.
+    pub fn is_near(self, state: &State) -> bool {
+        match self {
+            Goal::Types => state.table.types.len() + 12 > MAX_TYPES,
+            Goal::Places => state.places.len() + 10 > MAX_PLACES,
+            Goal::Cells => state.cells.len() + 8 > MAX_CELLS,
+            Goal::Calls | Goal::AllCalls => false,
+        }
+    }
+
+    /// Whether a request with this result, which left this state, met it full.
+    pub fn is_met(self, result: Result<Got, Refusal>, state: &State) -> bool {
+        let all = self != Goal::AllCalls || state.calls.len() == MAX_CALLS;
+        all && result == Err(self.refusal())
     }
 }
 
@@ -140,9 +162,9 @@ pub const BIG: Plan = Plan {
     goal: None,
 };
 
-/// One plan each for the table, the places, the cells and the calls, and one
-/// for all of them together.
-pub const FULL: [Plan; 5] = [
+/// One plan each for the table, the places, the cells and the calls of one subject, one for all of
+/// them together, and one for the calls of sixteen subjects.
+pub const FULL: [Plan; 6] = [
     Plan {
         subjects: (2, 4),
         methods: (2, 5),
@@ -208,20 +230,36 @@ pub const FULL: [Plan; 5] = [
         own: 10,
         goal: None,
     },
+    Plan {
+        subjects: (MAX_SUBJECTS, MAX_SUBJECTS),
+        methods: (2, 4),
+        categories: (0, 1),
+        types: (2, 8),
+        families: (1, 1),
+        arguments: [40, 10, 5, 10, 35],
+        requests: (600, 700),
+        weights: [1, 3, 90, 4, 2],
+        refusals: 5,
+        own: 10,
+        goal: Some(Goal::AllCalls),
+    },
 ];
 
 /// Plans whose methods have many arguments: for no goal, and for each thing that an argument can
 /// find full.
 pub const LONG: [Plan; 4] = [
-    long((20, 70), [14, 34, 44, 6, 2], None),
-    long((150, 300), [14, 34, 44, 6, 2], Some(Goal::Types)),
-    long((150, 300), [40, 20, 34, 4, 2], Some(Goal::Places)),
-    long((150, 300), [14, 34, 44, 6, 2], Some(Goal::Cells)),
+    Plan {
+        subjects: (1, 2),
+        ..long((20, 70), [14, 34, 44, 6, 2], None)
+    },
+    long((150, 300), [14, 34, 34, 6, 2], Some(Goal::Types)),
+    long((150, 300), [40, 20, 24, 4, 2], Some(Goal::Places)),
+    long((150, 300), [14, 34, 34, 6, 2], Some(Goal::Cells)),
 ];
 
 const fn long(requests: (usize, usize), weights: [usize; 5], goal: Option<Goal>) -> Plan {
     Plan {
-        subjects: (1, 2),
+        subjects: (1, 4),
         methods: (1, 3),
         categories: (0, 2),
         types: (4, 16),

@@ -1,13 +1,13 @@
 //! States bent within what the check lets pass (H14, H16), or nearly.
 
 use crate::random::Random;
-use crate::state::{Call, Cell, Place, State, MAX_CALLS, MAX_CELLS, MAX_PLACES};
+use crate::state::{Call, Cell, Place, State, MAX_CALLS_EACH, MAX_CELLS, MAX_PLACES};
 use crate::table::*;
 
 /// Changes one thing that a loaded sheet would not lead to. Mostly the check
 /// is still passed.
 pub fn bend(random: &mut Random, state: &mut State) {
-    match random.below(16) {
+    match random.below(18) {
         0 => bend_cell(random, state),
         1 | 2 => bend_adapter(random, state),
         3 => bend_place(random, state),
@@ -21,7 +21,7 @@ pub fn bend(random: &mut Random, state: &mut State) {
             let kind = random.below(3);
             fill(random, state, kind);
         }
-        13 | 14 => other_length(random, state),
+        13..=16 => other_length(random, state),
         _ => add_cell_and_call(random, state),
     }
 }
@@ -86,14 +86,25 @@ fn bend_place(random: &mut Random, state: &mut State) {
 }
 
 fn bend_call(random: &mut Random, state: &mut State) {
-    if let Some(call) = random.index(state.calls.len()) {
+    let Some(call) = random.index(state.calls.len()) else {
+        return;
+    };
+    if let Some(caller) = may_call(random, state) {
         state.calls[call] = Call {
-            caller: random.below(state.table.subjects),
+            caller,
             cell: random.below(state.cells.len()),
             method: random.below(state.table.methods),
             answered: random.chance(20),
         };
     }
+}
+
+/// A subject that may make one call more (Q9).
+fn may_call(random: &mut Random, state: &State) -> Option<usize> {
+    let may: Vec<usize> = (0..state.table.subjects)
+        .filter(|caller| state.calls_of(*caller) < MAX_CALLS_EACH)
+        .collect();
+    random.pick_some(&may).copied()
 }
 
 /// A state of a method with any signature of types without own below a count.
@@ -137,7 +148,8 @@ fn bend_derived(random: &mut Random, state: &mut State) {
     }
 }
 
-/// One argument more or less in one layer of a cell, so that another has fewer (C15) or more (C16).
+/// One argument more or less in one layer of a cell, so that another has fewer (C15) or more (C16),
+/// or another type for one of them.
 fn other_length(random: &mut Random, state: &mut State) {
     let Some(cell) = random.index(state.cells.len()) else {
         return;
@@ -147,16 +159,29 @@ fn other_length(random: &mut Random, state: &mut State) {
     let permitted: Vec<usize> = (0..table.methods)
         .filter(|method| table.types[layers[0]].permits(*method).is_some())
         .collect();
-    let Some(method) = random.pick_some(&permitted).copied() else {
+    let Some(first) = random.pick_some(&permitted).copied() else {
         return;
     };
+    let second = *random.pick(&permitted);
+    let length = |method: &usize| {
+        let signature = table.types[layers[0]].permits(*method);
+        signature.map_or(0, |one| one.arguments.len())
+    };
+    let method = [first, second].into_iter().max_by_key(length);
+    let method = method.unwrap_or(first);
     // a sheet type without own may stand in every signature (T14, T15)
-    let more = (0..table.sheet_types).find(|one| !table.types[*one].own);
+    let may: Vec<TypeNo> = (0..table.sheet_types)
+        .filter(|one| !table.types[*one].own)
+        .collect();
+    let more = random.pick_some(&may).copied();
     let layer = *random.pick(&layers);
     let state = table.types[layer].methods.get_mut(method);
     if let (Some(MethodState::Optional(one) | MethodState::Avail(one)), Some(more)) = (state, more)
     {
-        if one.arguments.len() < MAX_ARGUMENTS && random.chance(50) {
+        let at = random.index(one.arguments.len());
+        if let Some(at) = at.filter(|_| random.chance(50)) {
+            one.arguments[at] = more;
+        } else if one.arguments.len() < MAX_ARGUMENTS && random.chance(50) {
             one.arguments.push(more);
         } else {
             one.arguments.pop();
@@ -239,7 +264,8 @@ fn add_adapters(random: &mut Random, state: &mut State) {
     state.cells[cell].place = place;
 }
 
-/// Brings places (0), cells (1) or calls (2) to their limits or just below.
+/// Brings places (0), cells (1) or calls (2) to their limits or just below; calls for one subject,
+/// for all, or for sixteen.
 pub fn fill(random: &mut Random, state: &mut State, kind: usize) {
     let short = random.below(3);
     match kind {
@@ -255,13 +281,37 @@ pub fn fill(random: &mut Random, state: &mut State, kind: usize) {
                 state.cells.push(state.cells[at]);
             }
         }
-        2 if !state.calls.is_empty() => {
-            while state.calls.len() < MAX_CALLS - short {
-                let at = random.below(state.calls.len());
-                state.calls.push(state.calls[at]);
+        2 if !state.calls.is_empty() => match random.below(4) {
+            0 => fill_callers(random, state, MAX_SUBJECTS, short),
+            1 => fill_callers(random, state, 0, short),
+            _ => {
+                let caller = random.below(state.table.subjects);
+                fill_caller(random, state, caller, MAX_CALLS_EACH.saturating_sub(short));
             }
-        }
+        },
         _ => {}
+    }
+}
+
+/// Brings every subject to its limit, one of them so many short of it; with at least so many
+/// subjects.
+fn fill_callers(random: &mut Random, state: &mut State, subjects: usize, short: usize) {
+    state.table.subjects = state.table.subjects.max(subjects);
+    let less = random.below(state.table.subjects);
+    for caller in 0..state.table.subjects {
+        let missing = if caller == less { short } else { 0 };
+        fill_caller(random, state, caller, MAX_CALLS_EACH - missing);
+    }
+}
+
+/// Brings a subject to so many calls, each like another that is there but for the caller, and put
+/// anywhere among them. There is one.
+pub fn fill_caller(random: &mut Random, state: &mut State, caller: usize, count: usize) {
+    for _ in state.calls_of(caller)..count {
+        let mut call = *random.pick(&state.calls);
+        call.caller = caller;
+        let at = random.below(state.calls.len() + 1);
+        state.calls.insert(at, call);
     }
 }
 
@@ -272,14 +322,17 @@ fn add_cell_and_call(random: &mut Random, state: &mut State) {
     let Some(type_) = some_sheet_ref(random, &state.table) else {
         return;
     };
-    if state.cells.len() < MAX_CELLS && state.calls.len() < MAX_CALLS {
+    let Some(caller) = may_call(random, state) else {
+        return;
+    };
+    if state.cells.len() < MAX_CELLS {
         state.cells.push(Cell {
             holder: random.below(state.table.subjects),
             type_,
             place,
         });
         state.calls.push(Call {
-            caller: random.below(state.table.subjects),
+            caller,
             cell: state.cells.len() - 1,
             method: random.below(state.table.methods),
             answered: false,

@@ -3,8 +3,8 @@
 use crate::check::Reason;
 use crate::random::Random;
 use crate::raw::{RawState, RawTable, METHOD_BYTES};
-use crate::state::{MAX_CALLS, MAX_CELLS, MAX_PLACES};
-use crate::table::{MAX_ARGUMENTS, MAX_CATEGORIES, MAX_METHODS, MAX_TYPES};
+use crate::state::{MAX_CALLS, MAX_CALLS_EACH, MAX_CELLS, MAX_PLACES};
+use crate::table::{MAX_ARGUMENTS, MAX_CATEGORIES, MAX_METHODS, MAX_SUBJECTS, MAX_TYPES};
 
 /// Breaks the rule behind a reason, where the state has what it needs for it.
 /// Another reason may be met first.
@@ -39,6 +39,7 @@ pub fn break_one(random: &mut Random, raw: &mut RawState, reason: Reason) {
         | Reason::AdapterTypeNotRef
         | Reason::AdapterNotAboveBehind
         | Reason::PlaceCode => break_place(random, raw, reason),
+        Reason::TooManyCallsOfOne => call_too_often(random, raw),
         _ => break_count(random, raw, reason, far),
     }
 }
@@ -57,8 +58,68 @@ fn break_count(random: &mut Random, raw: &mut RawState, reason: Reason, far: u32
         }
         Reason::CellsCount => raw.cells = 257 + far,
         Reason::PlacesCount => raw.places = 129 + far,
-        _ => raw.calls = 257 + far,
+        _ => {
+            if random.chance(50) {
+                full_calls(random, raw);
+            }
+            raw.calls = *random.pick(&[513, 513 + far]);
+        }
     }
+}
+
+/// Fills all records of calls as sixteen subjects can have made them, so that a count above them
+/// stands alone. Their callers take turns, or come one behind the other.
+pub fn full_calls(random: &mut Random, raw: &mut RawState) {
+    if raw.cells == 0 || raw.table.methods == 0 {
+        return;
+    }
+    raw.table.subjects = MAX_SUBJECTS as u32;
+    raw.calls = MAX_CALLS as u32;
+    let turns = random.chance(50);
+    for number in 0..MAX_CALLS {
+        let caller = if turns {
+            number % MAX_SUBJECTS
+        } else {
+            number / MAX_CALLS_EACH
+        };
+        put_call(random, raw, number, caller);
+    }
+}
+
+/// A right record of a call by a caller.
+fn put_call(random: &mut Random, raw: &mut RawState, number: usize, caller: usize) {
+    let cell = random.below((raw.cells as usize).min(MAX_CELLS)) as u8;
+    let method = random.below((raw.table.methods as usize).min(MAX_METHODS)) as u8;
+    let answered = u8::from(random.chance(30));
+    raw.call_mut(number)
+        .copy_from_slice(&[caller as u8, cell, method, answered]);
+}
+
+/// One call of a caller too many, or all; none of them answered, or some. Where records are
+/// missing for it there are more of them.
+fn call_too_often(random: &mut Random, raw: &mut RawState) {
+    if raw.cells == 0 || raw.table.methods == 0 {
+        return;
+    }
+    let Some(caller) = random.index((raw.table.subjects as usize).min(MAX_SUBJECTS)) else {
+        return;
+    };
+    let calls = (raw.calls as usize).min(MAX_CALLS);
+    let more = *random.pick(&[1, 1, 1, 2, 31, 32]);
+    let wanted = MAX_CALLS_EACH + more;
+    let of_caller = |raw: &RawState, number: &usize| usize::from(raw.call(*number)[0]) == caller;
+    let mut missing = wanted.saturating_sub((0..calls).filter(|one| of_caller(raw, one)).count());
+    // new records first, as long as there is room, and then others' records
+    let new = missing.min(MAX_CALLS - calls);
+    for number in calls..calls + new {
+        put_call(random, raw, number, caller);
+    }
+    missing -= new;
+    let others: Vec<usize> = (0..calls).filter(|one| !of_caller(raw, one)).collect();
+    for number in others.into_iter().take(missing) {
+        raw.call_mut(number)[0] = caller as u8;
+    }
+    raw.calls = (calls + new) as u32;
 }
 
 fn limited_index(random: &mut Random, count: u32, limit: usize) -> Option<usize> {
