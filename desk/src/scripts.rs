@@ -2,6 +2,7 @@
 //! instead.
 
 mod audit;
+pub mod callers;
 mod calls;
 pub mod follow;
 pub mod requests;
@@ -24,8 +25,11 @@ use crate::paint::Tone;
 use crate::problem::Problem;
 use crate::spoilt::spoilt;
 use audit::{audit, Answer, Question};
+use callers::Caller;
 use follow::{follow, malformed, output, Malformed, Run};
-use pilgonca::{raw, Sheet, Visit};
+use pilgonca::raw::{self, MAX_CALLS_EACH};
+use pilgonca::saved::SavedRefused;
+use pilgonca::{Sheet, Visit};
 use requests::{right, split};
 use std::path::Path;
 use told::Teller;
@@ -165,9 +169,26 @@ impl Desk {
             return run.map_err(|stop| if neither { stop.noted(NO_MARK) } else { stop });
         }
         let visit = Visit::from_saved(bytes);
-        let visit = visit.map_err(|refused| format!("{}: {refused}", input::name(path)))?;
+        let visit = visit.map_err(|refused| self.unsaved(path, bytes, refused))?;
         self.names.fit(&visit.sheet())?;
         Ok(Run::begun(visit, true))
+    }
+
+    /// A saved state that is refused. One from before subjects had calls of their own may have too many of one.
+    fn unsaved(&self, path: &Path, bytes: &[u8], refused: SavedRefused) -> Stop {
+        let stop = Stop::from(format!("{}: {refused}", input::name(path)));
+        let many = match refused {
+            SavedRefused::State(_) => callers::too_many(bytes),
+            _ => None,
+        };
+        let Some(Caller { subject, made }) = many else {
+            return stop;
+        };
+        let subject = self.names.words(Kind::Subject, subject.0);
+        stop.noted(&format!(
+            "{subject} has made {made} calls in it, and a subject has {MAX_CALLS_EACH}. A state from before that limit may have more, and only a \
+             program from before it reads that."
+        ))
     }
 
     /// What keeps a text from being right.

@@ -20,7 +20,7 @@ pub use functions::{compare, pairs, read, write};
 #[cfg(feature = "visits")]
 pub use state::{
     Calls, Cells, Places, State, StateCounts, StateMut, StateRef, Values, CALL_RECORD, CELL_RECORD,
-    MAX_CALLS, MAX_CELLS, MAX_PLACES, PLACE_RECORD, SCRIPT_LONGER,
+    MAX_CALLS, MAX_CALLS_EACH, MAX_CELLS, MAX_PLACES, PLACE_RECORD, SCRIPT_LONGER,
 };
 
 /// The most subjects (T1).

@@ -8,6 +8,8 @@ pub const MAX_CELLS: usize = 256;
 pub const MAX_PLACES: usize = 128;
 /// The most calls (Q9).
 pub const MAX_CALLS: usize = 256;
+/// The most calls of one subject (Q9).
+pub const MAX_CALLS_EACH: usize = 32;
 
 /// Bytes of a cell's record (B26).
 pub const CELL_RECORD: usize = 3;
