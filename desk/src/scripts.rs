@@ -25,11 +25,8 @@ use crate::paint::Tone;
 use crate::problem::Problem;
 use crate::spoilt::spoilt;
 use audit::{audit, Answer, Question};
-use callers::Caller;
 use follow::{follow, malformed, output, Malformed, Run};
-use pilgonca::raw::{self, MAX_CALLS_EACH};
-use pilgonca::saved::SavedRefused;
-use pilgonca::{Sheet, Visit};
+use pilgonca::{raw, Sheet, Visit};
 use requests::{right, split};
 use std::path::Path;
 use told::Teller;
@@ -169,26 +166,9 @@ impl Desk {
             return run.map_err(|stop| if neither { stop.noted(NO_MARK) } else { stop });
         }
         let visit = Visit::from_saved(bytes);
-        let visit = visit.map_err(|refused| self.unsaved(path, bytes, refused))?;
+        let visit = visit.map_err(|refused| format!("{}: {refused}", input::name(path)))?;
         self.names.fit(&visit.sheet())?;
         Ok(Run::begun(visit, true))
-    }
-
-    /// A saved state that is refused. One from before subjects had calls of their own may have too many of one.
-    fn unsaved(&self, path: &Path, bytes: &[u8], refused: SavedRefused) -> Stop {
-        let stop = Stop::from(format!("{}: {refused}", input::name(path)));
-        let many = match refused {
-            SavedRefused::State(_) => callers::too_many(bytes),
-            _ => None,
-        };
-        let Some(Caller { subject, made }) = many else {
-            return stop;
-        };
-        let subject = self.names.words(Kind::Subject, subject.0);
-        stop.noted(&format!(
-            "{subject} has made {made} calls in it, and a subject has {MAX_CALLS_EACH}. A state from before that limit may have more, and only a \
-             program from before it reads that."
-        ))
     }
 
     /// What keeps a text from being right.

@@ -2,7 +2,7 @@
 
 use crate::json::Json;
 use crate::names::{Kind, Names};
-use pilgonca::raw::{CALL_RECORD, MAX_CALLS_EACH};
+use pilgonca::raw::MAX_CALLS_EACH;
 use pilgonca::{Subject, Visit};
 
 /// A subject, and how many calls it has made.
@@ -63,23 +63,4 @@ pub fn told(callers: &[Caller], names: &Names) -> String {
         format!("  {subject:width$}  made {made:>2} of {MAX_CALLS_EACH}, {left} left\n")
     });
     lines.collect()
-}
-
-/// In a saved state, from byte 24 on: how many calls there are. They stand right in front of the checksum (docs/GUIDE.md, "A saved state").
-const COUNT_OF_CALLS: usize = 24;
-const CHECKSUM: usize = 4;
-
-/// The first subject that made more calls than one has, in a saved state that is whole but for that (H17): before version 2 all subjects had them in common.
-pub fn too_many(saved: &[u8]) -> Option<Caller> {
-    let count = saved.get(COUNT_OF_CALLS..)?.first_chunk()?;
-    let count = usize::from(u16::from_le_bytes(*count));
-    let end = saved.len().checked_sub(CHECKSUM)?;
-    let records = saved.get(end.checked_sub(count * CALL_RECORD)?..end)?;
-    let callers = records.chunks_exact(CALL_RECORD).map(|record| record[0]);
-    let of = |caller: u8| Caller {
-        subject: Subject(caller.into()),
-        made: callers.clone().filter(|one| *one == caller).count(),
-    };
-    let mut all = (0..=u8::MAX).map(of);
-    all.find(|caller| caller.made > MAX_CALLS_EACH)
 }

@@ -1,9 +1,9 @@
 //! Each subject has 32 calls of its own: who has used them up, and how many each has left, is told wherever calls are.
 
 use crate::drawing::{apart, drawn, drawn_run, sound};
-use crate::files::{accepted, read, refused, run, with_file, NAMES, SCRIPT, SHEET};
+use crate::files::{accepted, read, run, with_file, NAMES, SCRIPT, SHEET};
 use crate::json::Value;
-use desk::scripts::callers::{callers, too_many};
+use desk::scripts::callers::callers;
 use desk::scripts::follow::follow;
 use reference::generators::{generate, on_tiny, Profile};
 
@@ -49,7 +49,7 @@ fn who_used_up_its_calls_is_told() {
           subject 2 (printer)  made  0 of 32, 32 left\n";
     assert!(out.ends_with(end), "{out}");
     let out = told(&read_by_tour(30), &["run"]);
-    assert!(!out.contains("refused"), "{out}");
+    assert!(!out.contains("refused with"), "{out}");
     assert!(
         out.contains("  subject 1 (tour)     made 31 of 32, 1 left\n"),
         "{out}"
@@ -134,10 +134,7 @@ fn all_subjects_use_up_theirs() {
     }
     let run = follow(&script).expect("a sheet");
     assert!(callers(&run.visit).iter().all(|one| one.made == 32));
-    // such a state can be saved, and has nothing that is too much
-    let saved = run.visit.save();
-    assert_eq!(too_many(&saved), None);
-    with_file("all.state", &saved, |path| {
+    with_file("all.state", &run.visit.save(), |path| {
         let out = accepted(&["audit", path, "--calls"]);
         assert_eq!(out.matches("made 32 of 32, none left\n").count(), 16);
     });
@@ -189,16 +186,4 @@ fn callers_are_those_of_the_calls() {
         called += made;
     }
     assert!(called > 100, "{called}");
-}
-
-/// Callers are looked for in whatever bytes there are, and told of only where the core refused the state for what it holds.
-#[test]
-fn cut_states_have_no_callers() {
-    let state = read("examples/optional.state");
-    for length in 0..=state.len() {
-        assert_eq!(too_many(&state[..length]), None, "{length}");
-    }
-    with_file("short.state", &state[..25], |path| {
-        assert!(!refused(&["audit", path]).contains("calls in it"));
-    });
 }
