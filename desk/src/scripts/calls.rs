@@ -54,7 +54,7 @@ impl Calls<'_> {
         }
         let [subject, _] = self.question.of(self.names);
         let who = subject.unwrap_or_else(|| "each subject".to_string());
-        let title = format!("How many {who} made");
+        let title = format!("How many calls {who} made");
         let lines = callers::told(&self.callers(), self.names);
         format!("\n{}\n{lines}", self.paint.of(Tone::Strong, &title))
     }

@@ -74,7 +74,7 @@ fn one_subject_alone() {
 #[test]
 fn audits_tell_it() {
     let script = read_by_tour(32);
-    let title = "\nHow many each subject made\n";
+    let title = "\nHow many calls each subject made\n";
     let [desk, tour, printer] = [
         "  subject 0 (desk)     made  1 of 32, 31 left\n",
         "  subject 1 (tour)     made 32 of 32, none left\n",
@@ -88,7 +88,8 @@ fn audits_tell_it() {
         );
     }
     let out = told(&script, &["audit", "--subject", "tour"]);
-    let only = "\nHow many subject 1 (tour) made\n  subject 1 (tour)  made 32 of 32, none left\n";
+    let only =
+        "\nHow many calls subject 1 (tour) made\n  subject 1 (tour)  made 32 of 32, none left\n";
     assert!(out.contains(only), "{out}");
     for words in [
         &["audit", "--method", "read"][..],
