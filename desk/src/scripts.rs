@@ -2,6 +2,7 @@
 //! instead.
 
 mod audit;
+pub mod callers;
 mod calls;
 pub mod follow;
 pub mod requests;

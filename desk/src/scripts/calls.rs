@@ -5,6 +5,7 @@ mod document;
 use crate::names::{Kind, Names};
 use crate::paint::{Paint, Tone};
 use crate::scripts::audit::Question;
+use crate::scripts::callers::{self, callers, Caller};
 use crate::scripts::follow::{Got, Run, Step};
 use crate::scripts::requests::Request;
 use crate::scripts::trails::layers;
@@ -38,8 +39,35 @@ impl Calls<'_> {
         let title = self.title();
         match calls.is_empty() {
             true => format!("{title}: {}\n", self.paint.of(Tone::Quiet, "none")),
-            false => format!("{}\n{calls}", self.paint.of(Tone::Strong, &title)),
+            false => format!(
+                "{}\n{calls}{}",
+                self.paint.of(Tone::Strong, &title),
+                self.limits()
+            ),
         }
+    }
+
+    /// How many each subject has left; nothing where one method is asked about, since calls of every method count.
+    fn limits(&self) -> String {
+        if self.question.method.is_some() {
+            return String::new();
+        }
+        let [subject, _] = self.question.of(self.names);
+        let who = subject.unwrap_or_else(|| "each subject".to_string());
+        let title = format!("How many calls {who} made");
+        let lines = callers::told(&self.callers(), self.names);
+        format!("\n{}\n{lines}", self.paint.of(Tone::Strong, &title))
+    }
+
+    /// The subjects that are asked about, with the calls of every method.
+    fn callers(&self) -> Vec<Caller> {
+        let asked = |caller: &Caller| {
+            let number = self.question.subject;
+            number.is_none_or(|one| one as i64 == caller.subject.0)
+        };
+        let mut callers = callers(&self.run.visit);
+        callers.retain(asked);
+        callers
     }
 
     /// With what of them is asked about.

@@ -1,6 +1,7 @@
 //! The references at the end of a run as a picture.
 
 use crate::names::Names;
+use crate::scripts::callers::{all_made, callers};
 use crate::scripts::follow::Run;
 use crate::scripts::run_plan::{Leaf, Node, Plan};
 use crate::scripts::run_tree::forest;
@@ -79,8 +80,22 @@ pub fn picture(title: &str, run: &Run, names: &Names) -> Result<String, Refusal>
         draw_node(&mut canvas, node, behind, &columns);
     }
     let (legend_width, bottom) = legend(&mut canvas, plan.bottom + 16);
-    let right = columns.right.max(MARGIN + legend_width);
+    let (used_width, bottom) = used_up(&mut canvas, bottom, run, names);
+    let right = columns.right.max(MARGIN + legend_width.max(used_width));
     Ok(canvas.finish(right, bottom))
+}
+
+/// A line for each subject that can call nothing any more, whatever its cells let it call; how wide that is, and where it ends.
+fn used_up(canvas: &mut Canvas, top: usize, run: &Run, names: &Names) -> (usize, usize) {
+    let (mut width, mut y) = (0, top);
+    let callers = callers(&run.visit).into_iter();
+    for caller in callers.filter(|caller| caller.left() == 0) {
+        let words = format!("{}: none is left", all_made(caller.subject, names));
+        canvas.text("strong", (MARGIN, y + 13), &words);
+        width = width.max(text_width(&words, 12, true));
+        y += LINE + PAD;
+    }
+    (width, y)
 }
 
 fn draw_leaf(canvas: &mut Canvas, leaf: &Leaf, columns: &Columns) {

@@ -7,6 +7,7 @@ use crate::explain::refused;
 use crate::names::{Kind, Names};
 use crate::paint::{Paint, Tone};
 use crate::scripts::audit::cut_short;
+use crate::scripts::callers::{self, callers};
 use crate::scripts::follow::{printed, Got, Run, Step};
 use crate::scripts::requests::Request;
 use crate::shown::shown;
@@ -25,7 +26,7 @@ impl Teller<'_> {
     pub fn told(&self) -> String {
         let steps = self.run.steps.iter().map(|step| self.step(step));
         let cut = cut_short(self.run).unwrap_or_default();
-        steps.collect::<String>() + &self.end() + &cut
+        steps.collect::<String>() + &self.end() + &self.callers() + &cut
     }
 
     fn step(&self, step: &Step) -> String {
@@ -196,6 +197,18 @@ impl Teller<'_> {
             plural(adapters, "adapter"),
             plural(visit.calls().count(), "call"),
         )
+    }
+
+    /// How many calls each subject has made, if there are any.
+    fn callers(&self) -> String {
+        let visit = &self.run.visit;
+        match visit.calls().next() {
+            None => String::new(),
+            Some(_) => format!(
+                "Calls of each subject:\n{}",
+                callers::told(&callers(visit), self.names)
+            ),
+        }
     }
 }
 

@@ -3,9 +3,10 @@
 
 use crate::described::{permitted, signature, Described};
 use crate::reasons::{Reason, Reasons, Relation, Says};
+use crate::scripts::callers::made_by;
 use crate::scripts::requests::Request;
 use crate::scripts::why::{Cross, Full, Given, Layer, LeadsTo, NoClass, Operand, Value, Why};
-use pilgonca::raw::{MAX_CALLS, MAX_CELLS, MAX_PLACES};
+use pilgonca::raw::{MAX_CALLS_EACH, MAX_CELLS, MAX_PLACES};
 use pilgonca::{
     CellInfo, Kind, Method, PlaceKind, Refusal, Representation, Sheet, Signature, Subject, Type,
     TypeInfo, Visit,
@@ -142,10 +143,10 @@ impl<'a> Trial<'a> {
                 self.value(subject, Value::Argument(index), *number, *due)
             })
             .collect::<Result<_, _>>()?;
-        if self.visit.calls().count() == MAX_CALLS {
-            return Err(Why::Full {
-                what: Full::Calls,
-                used: MAX_CALLS,
+        if made_by(self.visit, subject) == MAX_CALLS_EACH {
+            return Err(Why::CallsMade {
+                caller: subject,
+                others: self.sheet.subjects() > 1,
             });
         }
         let way = Way {

@@ -3,8 +3,9 @@
 use crate::described::{methods, Described};
 use crate::names::{Kind, Names};
 use crate::reasons::{Reason, Says};
+use crate::scripts::callers::all_made;
 use crate::words::plural;
-use pilgonca::raw::{MAX_CALLS, MAX_CELLS, MAX_PLACES, MAX_TYPES};
+use pilgonca::raw::{MAX_CALLS_EACH, MAX_CELLS, MAX_PLACES, MAX_TYPES};
 use pilgonca::{Refusal, Subject, Type};
 
 /// Where a request fails.
@@ -20,6 +21,11 @@ pub enum Why {
     Full {
         what: Full,
         used: usize,
+    },
+    /// The caller has made as many calls as one may (C7); whether there are other subjects.
+    CallsMade {
+        caller: Subject,
+        others: bool,
     },
     /// A value that fails on its way, and where.
     Passing {
@@ -133,13 +139,12 @@ pub enum Cross {
     Unfit,
 }
 
-/// What there are only so many of.
+/// What there are only so many of for all subjects together.
 #[derive(Clone, Copy, PartialEq, Eq, Debug)]
 pub enum Full {
     Types,
     Places,
     Cells,
-    Calls,
 }
 
 /// Why a ref type is no class (T16).
@@ -187,6 +192,7 @@ impl Why {
             Why::Cross(cross) => cross.refusal(),
             Why::Wide { .. } => Refusal::TooWide,
             Why::Full { what, .. } => what.limit().0,
+            Why::CallsMade { .. } => Refusal::CallsFull,
             Why::Passing { first, why, .. } => match why.refusal() {
                 // C13
                 Refusal::Unrelated | Refusal::NotStrict if !first => Refusal::LaterLayer,
@@ -205,6 +211,7 @@ impl Why {
             Why::Cross(cross) => cross.words(names),
             Why::Wide { number } => format!("{number} does not fit 32 bits"),
             Why::Full { what, used } => what.words(*used),
+            Why::CallsMade { caller, others } => calls_made(*caller, *others, names),
             Why::Passing {
                 what, layer, why, ..
             } => {
@@ -397,7 +404,6 @@ impl Full {
             Full::Types => (Refusal::TypesFull, "types", MAX_TYPES),
             Full::Places => (Refusal::PlacesFull, "places", MAX_PLACES),
             Full::Cells => (Refusal::CellsFull, "cells", MAX_CELLS),
-            Full::Calls => (Refusal::CallsFull, "calls", MAX_CALLS),
         }
     }
 
@@ -407,6 +413,15 @@ impl Full {
             true => format!("it needs another of the {most} {what}, and all are used up"),
             false => format!("it needs more {what} than are left: {used} of {most} are used up"),
         }
+    }
+}
+
+/// The others may have made theirs too: how many each has left is told at the end of a run.
+fn calls_made(caller: Subject, others: bool, names: &Names) -> String {
+    let made = all_made(caller, names);
+    match others {
+        true => format!("{made}; every other subject has {MAX_CALLS_EACH} of its own"),
+        false => made,
     }
 }
 

@@ -1,6 +1,7 @@
 //! The program `desk` against the core, against damaged and generated files, and against what README and the guide show.
 
 mod audits;
+mod callers;
 mod damage;
 mod diagnosis;
 mod documents;

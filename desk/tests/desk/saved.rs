@@ -231,6 +231,7 @@ fn forged(at: usize, byte: u8) -> Vec<u8> {
 #[test]
 fn a_damaged_state_is_refused_with_a_word() {
     let state = read(STATE);
+    let sum = state.last_chunk().expect("a checksum");
     let mut damaged = state.clone();
     damaged[100] ^= 1;
     let mut unmarked = state.clone();
@@ -242,8 +243,8 @@ fn a_damaged_state_is_refused_with_a_word() {
         ),
         (&state[..5], "It is no saved state either"),
         (
-            &forged(8, 2),
-            "it is of version 2, and this program reads version 1",
+            &forged(8, 3),
+            "it is of version 3, and this program reads versions 1 and 2",
         ),
         (&state[..20], "it is cut short: 20 bytes, and 30 are due"),
         (&state[..900], "it is cut short: 900 bytes, and 946 are due"),
@@ -255,7 +256,13 @@ fn a_damaged_state_is_refused_with_a_word() {
             &forged(23, 9),
             "it counts 2305 places, and there are at most 128",
         ),
-        (&damaged, "it is damaged: the checksum is b1f4eaa9"),
+        (
+            &damaged,
+            &format!(
+                "it is damaged: the checksum is {:08x}",
+                u32::from_le_bytes(*sum)
+            ),
+        ),
         // a cell of a subject that is not there
         (&forged(922, 3), "the core refuses the state with 2"),
     ] {
@@ -270,6 +277,39 @@ fn a_damaged_state_is_refused_with_a_word() {
         });
     }
     assert!(!refused(&["audit", "examples/refused-no-end.sheet"]).contains("PILGONCA"));
+}
+
+/// STATE in version 1, with so many calls of the desk's besides the two that it has.
+fn of_version_1(more: usize) -> Vec<u8> {
+    let mut front = forged(8, 1);
+    front.truncate(front.len() - 4);
+    front[24..26].copy_from_slice(&(2 + more as u16).to_le_bytes());
+    front.extend([0, 0, 0, 1].repeat(more));
+    [&front[..], &checksum(&front).to_le_bytes()].concat()
+}
+
+/// Files from before each subject had calls of its own are read, but for those in which one has too many; then it is said whose they are.
+#[test]
+fn older_states_are_read() {
+    let of = |more: usize| {
+        let mut told = (0, String::new(), String::new());
+        with_file("older.state", &of_version_1(more), |path| {
+            told = run(&["audit", path, "--names", NAMES]);
+        });
+        told
+    };
+    assert_eq!(of(0).1, accepted(&["audit", STATE, "--names", NAMES]));
+    let (status, out, _) = of(31);
+    assert_eq!(status, 0);
+    let none_left = "\n  subject 0 (desk)     made 32 of 32, none left\n";
+    assert!(out.contains(none_left), "{out}");
+    for more in [32, 254] {
+        let (status, out, error) = of(more);
+        assert_eq!((status, out.as_str()), (1, ""), "{error}");
+        let made = format!("subject 0 has made {} calls, and ", 1 + more);
+        assert!(error.contains("the core refuses the state with 2: "));
+        assert!(error.contains(&made), "{error}");
+    }
 }
 
 #[test]

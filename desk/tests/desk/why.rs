@@ -212,10 +212,18 @@ fn holds(visit: &Visit, request: &Request, why: &Why) -> &'static str {
                 Full::Types => (visit.types().count(), "types full"),
                 Full::Places => (visit.places().count(), "places full"),
                 Full::Cells => (visit.cells().count(), "cells full"),
-                Full::Calls => (visit.calls().count(), "calls full"),
             };
             assert_eq!(*used, there);
             word
+        }
+        Why::CallsMade { caller, others } => {
+            assert!(
+                matches!(request, Request::Call { subject, .. } if Subject(*subject) == *caller)
+            );
+            let made = visit.calls().filter(|call| call.caller == *caller);
+            assert_eq!(made.count(), 32);
+            assert_eq!(*others, visit.sheet().subjects() > 1);
+            "calls made"
         }
         Why::Unexplained => panic!("{request:?}"),
         Why::Passing { layer, why, .. } => {
@@ -384,7 +392,7 @@ const SAID: [(&str, &str); 14] = [
     ("15", "method 1 takes 1 argument in type 1, and none came"),
     ("16", "argument 1, at the cell's type 1: 2147483648 does not fit 32 bits"),
     ("17", "call 0 is answered already"),
-    ("18", "it needs another of the 256 calls, and all are used up"),
+    ("18", "subject 0 has made all of its 32 calls; every other subject has 32 of its own"),
 ];
 
 #[test]

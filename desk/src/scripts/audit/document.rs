@@ -19,6 +19,7 @@ pub fn document(auditor: Option<&Auditor>, calls: &Calls, answer: Answer) -> Jso
         ("question", asked.into()),
         ("objects", auditor.map(Auditor::objects).into()),
         ("calls", calls.document()),
+        ("callers", calls.callers_json()),
     ])
 }
 

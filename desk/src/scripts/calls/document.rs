@@ -11,6 +11,11 @@ impl Calls<'_> {
         Json::list(self.asked().map(|call| self.one(&call)))
     }
 
+    /// As the words have them, but whatever method is asked about.
+    pub fn callers_json(&self) -> Json {
+        Json::list(self.callers().iter().map(|one| one.document(self.names)))
+    }
+
     fn one(&self, call: &CallInfo) -> Json {
         let visit = &self.run.visit;
         let step = self.run.steps.iter().find(|step| made(step, call));

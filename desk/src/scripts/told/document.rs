@@ -5,6 +5,7 @@ use crate::described::permitted;
 use crate::documents::named;
 use crate::json::Json;
 use crate::names::Kind;
+use crate::scripts::callers::callers;
 use crate::scripts::follow::{printed, Step};
 use crate::shown::shown;
 use pilgonca::{CallInfo, CellInfo, PlaceInfo, PlaceKind};
@@ -30,6 +31,10 @@ impl Teller<'_> {
             (
                 "calls",
                 Json::list(visit.calls().map(|call| self.call(&call))),
+            ),
+            (
+                "callers",
+                Json::list(callers(visit).iter().map(|one| one.document(self.names))),
             ),
         ])
     }
