@@ -14,7 +14,7 @@ use Rattle.spec_model.specs.Basics.{Res, refuse, ok, names, named, _⇒_}
 use Rattle.spec_model.specs.Table.{Table, size, typeAt, methodAt, argumentAt, answerAt, isRef, permit, isAvail, validSheet}
 use Rattle.spec_model.specs.Relations.{conforms, stateLe, sameRep, outerRule, related}
 use Rattle.spec_model.specs.Crossing.{baseOwner}
-use Rattle.spec_model.specs.Requests.{System, loaded, Request, new, move, call, answer, Result, maxCalls, cellAt, callAt, held, callLayers, argumentsHeld, sendArguments, callRequest, give}
+use Rattle.spec_model.specs.Requests.{System, loaded, Request, new, move, call, answer, Result, maxCallsEach, madeBy, cellAt, callAt, held, callLayers, argumentsHeld, sendArguments, callRequest, give}
 use Rattle.spec_model.specs.Requests.{answerRequest, serve, after}
 use Rattle.spec_model.specs.Chains.{Permits}
 use Rattle.spec_model.specs.Book.{Note, Book, opened, noteAt, pageAt, pageLayers, lastType, copyPage, copyArguments, copyAnswer, enter}
@@ -73,7 +73,7 @@ call-tested s subject k m vs =
     ok-need _ (held s subject k) notHeld _ λ h.
     ok-need _ (names m (s .table .methods) && isAvail (f .state)) notCallable _ λ a.
     ok-need _ (argumentsHeld s subject (f .args) vs) wrongValues _ λ _.
-    ok-need _ (ltb (length (s .calls)) maxCalls) callsFull _ λ _.
+    ok-need _ (ltb (madeBy (named subject) (s .calls)) maxCallsEach) callsFull _ λ _.
     let sent = sendArguments s (baseOwner (s .places) (cellAt s (named k) .place)) (callLayers s (cellAt s (named k))) (named m) 0 (f .args) vs in
     let z : Tested s k m = record { cell = first (names k (length (s .cells))) _ h; method = first (names m (s .table .methods)) _ a; avail = second (names m (s .table .methods)) _ a } in
     ok-try (λ _. Unit {0}) _ sent _ (whatever sent) λ _ _. z

@@ -1,35 +1,41 @@
 -- What is returned by contract means a state that the model reaches from the sheet, and the book is the model's book of the same requests: so the claim holds of it, and the
 -- method of an accepted call is permitted.
 use mathlib.Core.Path.{_≡_, refl, ap, sym, subst, _∙_}
-use mathlib.Core.Bool.{Bool, true, false, So}
+use mathlib.Core.Bool.{Bool, true, false, _&&_, So, cond}
 use mathlib.Core.List.{List, [], _∷_, _++_}
 use mathlib.Core.Option.{Option}
-use Prim.Native.Nat.{ℕ, _<_}
+use Prim.Native.Nat.{ℕ, _+_, _<_}
 use lib.IntN.{ℤ}
 use lib.ListN.{length, length-map}
 use Rattle.spec_model.specs.Basics.{Res, refuse, ok, need, names}
 use Rattle.spec_model.specs.Table.{Table, validSheet}
-use Rattle.spec_model.specs.Requests.{System, Request, call, answer, Result, Outcome, loaded, serve, run}
+use Rattle.spec_model.specs.Requests.{System, Request, call, answer, Result, Outcome, outcome, madeBy, loaded, serve, run}
 use Rattle.spec_model.specs.Check.{RawTable, RawSystem, tableOf, systemOf, tableAccepted, systemAccepted}
 use Rattle.spec_model.specs.Handed.{rawLoaded, counted, storedFrom, handBack, serveHanded, Returns}
 use Rattle.spec_model.specs.Book.{Book, opened}
 use Rattle.spec_model.specs.Claim.{accepted, feed, follow, reached, noteOf, Claim}
+use Rattle.spec_model.specs.Callers.{Transcript, taken, calledBy, acceptedCalls}
 use Rattle.spec_model.proofs.Rules.{never}
 use Rattle.spec_model.specs.Refusals.{outOfRange}
 use Rattle.law_model.proofs.Steps.{IfOk}
 use Rattle.law_model.proofs.Sheets.{demand3}
 use Rattle.law_model.proofs.Returned.{handed-is}
 use Rattle.law_model.proofs.Loaded.{loaded-means, loaded-accepted}
+use Rattle.law_rules.proofs.Callers.{serve-made, run-made}
 use Rattle.law_handed.proofs.Counted.{means-same, accepted-same}
 use Rattle.law_handed.proofs.Laws.{returns-reached}
 use Rattle.request_run.specs.Requested.{asked}
-use Rattle.theorem.specs.Shown.{taken, told, RunReturns, Permitted, NotePermitted}
-use Rattle.theorem.proofs.Runs.{run-follows, follow-both, stored-means, stored-accepted}
+use Rattle.theorem.specs.Shown.{fed, seenOf, RunReturns, Permitted, NotePermitted}
+use Rattle.theorem.proofs.Runs.{run-follows, seen-placed, follow-both, stored-means, stored-accepted}
 use Rattle.theorem.proofs.Calls.{if-accepted, call-tested, answer-tested, tested-permitted, follow-on, noted-permitted}
 
 handed-taken : (r : RawSystem) (m : Res (System × Result)) → taken (handBack r m .outcome) ≡ accepted m
 handed-taken r (refuse n) = refl
 handed-taken r (ok x) = refl
+
+handed-outcome : (r : RawSystem) (m : Res (System × Result)) → handBack r m .outcome ≡ outcome m
+handed-outcome r (refuse n) = refl
+handed-outcome r (ok x) = refl
 
 -- ---- r means a state that the model reaches from the sheet t, b is the model's book of the same requests, and r passes the check of 2.
 pub record Means (t : Table) (r : RawSystem) (b : Book) : Type 0 where
@@ -54,6 +60,19 @@ module _ (t : Table) (v : So (validSheet t)) where
       taken-is : taken o ≡ accepted (serve (reached t (h .requests) .0) q)
       taken-is = ap taken (w .outcome ∙ ap (λ x. x .outcome) (handed-is r (h .passes) q)) ∙ handed-taken r (serve (systemOf r) q) ∙ ap (λ s. accepted (serve s q)) (h .state)
 
+      -- what the request counts for each subject
+      pub asked-made : (n : ℕ) → madeBy n (systemOf r′ .calls) ≡ madeBy n (systemOf r .calls) + cond (calledBy n q && taken o) 1 0
+      asked-made n =
+          let s = reached t (h .requests) .0 in
+          let x = returns-reached r q o r′ w t v (h .requests) (h .passes) (h .state) in
+          ap (λ (y : System). madeBy n (y .calls)) (x .1 ∙ ap (λ y. y .0) (follow-on q (h .requests) (loaded t) (opened t))) ∙ serve-made s q n
+          ∙ ap (λ (c : Bool). madeBy n (s .calls) + cond (calledBy n q && c) 1 0) (sym taken-is)
+          ∙ ap (λ (y : System). madeBy n (y .calls) + cond (calledBy n q && taken o) 1 0) (sym (h .state))
+
+      -- a state that passes gives the model's outcome
+      pub outcome-is : o ≡ outcome (serve (systemOf r) q)
+      outcome-is = w .outcome ∙ ap (λ x. x .outcome) (handed-is r (h .passes) q) ∙ handed-outcome r (serve (systemOf r) q)
+
       pub means-asked : Means t r′ (feed b q (taken o))
       means-asked = let x = returns-reached r q o r′ w t v (h .requests) (h .passes) (h .state) in record {
         requests = h .requests ++ (q ∷ []);
@@ -68,15 +87,22 @@ module _ (t : Table) (v : So (validSheet t)) where
       both = h .requests ++ asked qs
 
       -- the model's run goes on where the requests before it ended, and feeds the book
-      ran-on : reached t both ≡ (run (systemOf r) (asked qs) .1, told b qs os)
+      ran-on : reached t both ≡ (run (systemOf r) (asked qs) .1, fed b (seenOf qs os))
       ran-on = follow-both (h .requests) (asked qs) (loaded t) (opened t)
           ∙ ap (λ s. follow s (reached t (h .requests) .1) (asked qs)) (sym (h .state)) ∙ ap (λ x. follow (systemOf r) x (asked qs)) (sym (h .book))
-          ∙ run-follows qs (systemOf r) b ∙ ap (λ x. (run (systemOf r) (asked qs) .1, told b qs x)) (sym (w .outcomes))
+          ∙ run-follows qs (systemOf r) b ∙ ap (λ x. (run (systemOf r) (asked qs) .1, fed b (seenOf qs x))) (sym (w .outcomes))
 
       stored : counted r′ ≡ counted (storedFrom r (reached t both .0))
       stored = w .records ∙ ap (λ x. counted (storedFrom r (x .0))) (sym ran-on)
 
-      pub means-run : Means t r′ (told b qs os)
+      -- and what the run counts
+      pub run-counts : (n : ℕ) → madeBy n (systemOf r′ .calls) ≡ madeBy n (systemOf r .calls) + acceptedCalls n (seenOf qs os)
+      run-counts n = let u = storedFrom r (reached t both .0) in
+          ap (λ (y : System). madeBy n (y .calls)) (means-same r′ u stored ∙ stored-means t v r (h .passes) (h .requests) (asked qs) (h .state) ∙ ap (λ y. y .0) ran-on)
+          ∙ run-made (asked qs) (systemOf r) n
+          ∙ ap (λ (l : Transcript). madeBy n (systemOf r .calls) + acceptedCalls n l) (sym (ap (seenOf qs) (w .outcomes) ∙ seen-placed qs (systemOf r)))
+
+      pub means-run : Means t r′ (fed b (seenOf qs os))
       means-run = let u = storedFrom r (reached t both .0) in record {
         requests = both;
         state = means-same r′ u stored ∙ stored-means t v r (h .passes) (h .requests) (asked qs) (h .state);

@@ -2,21 +2,21 @@
 use mathlib.Core.Path.{_≡_, refl, ap, sym, subst, _∙_}
 use mathlib.Core.Logic.{_↔_}
 use mathlib.Core.Bool.{Bool, true, false, So}
-use mathlib.Core.List.{List}
+use mathlib.Core.List.{List, [], _∷_, _++_}
 use mathlib.Core.Option.{Option}
 use Prim.Native.Nat.{ℕ}
 use native.Mathlib.Omega.{arith}
 use lib.Dec.{eqb}
-use lib.IntN.{ℤ}
+use lib.IntN.{ℤ, pos}
 use lib.ListN.{length}
-use Rattle.spec_model.specs.Basics.{ok, need, from}
+use Rattle.spec_model.specs.Basics.{ok, need, from, named}
 use Rattle.spec_model.specs.Relations.{bit}
-use Rattle.spec_model.specs.Requests.{Cell, System, Request, call, answer, Outcome, got, refused}
+use Rattle.spec_model.specs.Requests.{Cell, System, Request, call, answer, Outcome, got, refused, maxCallsEach}
 use Rattle.spec_model.specs.Check.{RawTable, RawPlace, RawCall, RawSystem, systemOf, systemAccepted}
 use Rattle.spec_model.specs.Handed.{rawLoaded, counted}
 use Rattle.spec_model.specs.Book.{Book}
-use Rattle.spec_model.specs.Claim.{feed}
-use Rattle.spec_model.specs.Refusals.{outOfRange}
+use Rattle.spec_model.specs.Callers.{Transcript, taken, acceptedCalls, refusedBefore}
+use Rattle.spec_model.specs.Refusals.{outOfRange, callsFull}
 use Rattle.law_handed.proofs.Small.{refusal-number}
 use Rattle.table_record.specs.Store.{rawTable}
 use Rattle.spec_sheet.specs.Sheet.{read}
@@ -27,14 +27,14 @@ use Rattle.request_run.specs.Requested.{runAsked, runHanded}
 use Rattle.request_run.specs.Ran.{room}
 use Rattle.state_offers.specs.Chained.{offersNamed, offersHanded}
 use Rattle.state_bytes.specs.Flat.{Flat, countsIn, rawCells, rawPlaces, rawCalls, rawFlat}
-use Rattle.request_results.specs.States.{outcomeNumber, outcomeOn}
+use Rattle.request_results.specs.States.{LentState, Handed, outcomeNumber, outcomeOn}
 use Rattle.export_runs.specs.Results.{offeredOut, LoadedIs, LentRun, RanOut, RunsOut}
 use Rattle.text_write.specs.Written.{WrittenIs}
-use Rattle.theorem.specs.Shown.{first, taken, RunReturns, History, begins, asks, runs, alike, Holds, Permitted}
-use Rattle.theorem.specs.OfStates.{toldBy}
-use Rattle.theorem.specs.OfBytes.{sheetIn, ShownOfLoads, ShownOfBytes}
+use Rattle.theorem.specs.Shown.{Accepts, first, bookOf, RunReturns, History, begins, asks, runs, alike, Holds, Permitted}
+use Rattle.theorem.specs.OfStates.{seenBy}
+use Rattle.theorem.specs.OfBytes.{sheetIn, ShownOfLoads, ShownOfBytes, ShownOfBytesApart}
 use Rattle.theorem.proofs.Shown.{shown}
-use Rattle.theorem.proofs.RunWords.{not-zero, outcomes-length, words-told}
+use Rattle.theorem.proofs.RunWords.{not-zero, outcomes-length, words-seen}
 use Rattle.theorem.proofs.Offers.{offers-is, offers-yes, offers-no}
 use Rattle.theorem.proofs.Writes.{written-back}
 
@@ -88,11 +88,11 @@ module _ (words : List ℤ) (n : ℕ) (old new : LentRun) (p : So (systemAccepte
     run-returns : RunReturns (rawFlat x) qs os (rawFlat x′)
     run-returns = record { outcomes = refl; records = ran .records }
 
-    run-goes-on : (f : Sheet) (b : Book) → History f (rawFlat x) b → (n ≡ 0) × (new .served ≡ length qs) × History f (rawFlat x′) (toldBy b qs (new .answers))
-    run-goes-on f b h = (
+    run-goes-on : (f : Sheet) (l : Transcript) → History f (rawFlat x) l → (n ≡ 0) × (new .served ≡ length qs) × History f (rawFlat x′) (l ++ seenBy qs (new .answers))
+    run-goes-on f l h = (
       ran .number,
       ran .served ∙ outcomes-length qs (systemOf (rawFlat x)),
-      subst (λ z. History f (rawFlat x′) z) (sym (ap (toldBy b qs) (ran .answers) ∙ words-told words (old .answers) (systemOf (rawFlat x)) b)) (runs {qs = qs} {os = os} h run-returns),
+      subst (λ z. History f (rawFlat x′) (l ++ z)) (sym (ap (seenBy qs) (ran .answers) ∙ words-seen words (old .answers) (systemOf (rawFlat x)))) (runs {qs = qs} {os = os} h run-returns),
     )
 
 -- ---- the number stored by offers
@@ -121,18 +121,51 @@ module _ (r : RawSystem) (b : Book) (x : Holds r b) (k : ℤ) (w : List ℤ) (n 
     (λ z. offers-no r b x k w .0 (bit-false c (sym bit-is ∙ z)), λ h. bit-is ∙ ap bit (offers-no r b x k w .1 h)),
   )
 
+-- ---- the number returned says the outcome
+module _ (x : Flat) (q : Request) (n : ℕ) (e : n ≡ outcomeNumber (outcomeOn x q)) where
+  before-by : refusedBefore (refused n) ≡ refusedBefore (outcomeOn x q)
+  before-by = go (outcomeOn x q) e
+    where
+      go : (o : Outcome) → n ≡ outcomeNumber o → refusedBefore (refused n) ≡ refusedBefore o
+      go (refused i) p = ap (λ z. refusedBefore (refused z)) p
+      go (got v) p = ap (λ z. refusedBefore (refused z)) p
+
+  number-by : (n ≡ callsFull) ↔ (outcomeOn x q ≡ refused callsFull)
+  number-by = go (outcomeOn x q) e
+    where
+      go : (o : Outcome) → n ≡ outcomeNumber o → (n ≡ callsFull) ↔ (o ≡ refused callsFull)
+      go (refused i) p = (λ z. ap refused (sym p ∙ z), λ z. p ∙ ap outcomeNumber z)
+      go (got v) p = (λ z. absurd (omega (arith, p, z)), λ z. p ∙ ap outcomeNumber z)
+
+full-by : (bytes : List ℕ) (f : Sheet) → Accepts bytes f → (l : Transcript) (subject k m : ℤ) (vs : List ℤ) (n : ℕ) (old new : LentState) → History f (rawFlat (old .state)) l
+    → Handed (call subject k m vs) n old new → refusedBefore (refused n) ≡ false → (n ≡ callsFull) ↔ (acceptedCalls (named subject) l ≡ maxCallsEach)
+full-by bytes f a l subject k m vs n old new h w p =
+    let q = call subject k m vs in
+    let x = shown bytes f a (rawFlat (old .state)) l h .1 .full subject k m vs (outcomeOn (old .state) q) (rawFlat (new .state)) (w .returns)
+    (sym (before-by (old .state) q n (w .number)) ∙ p) in
+    let y = number-by (old .state) q n (w .number) in
+    (λ z. x .0 (y .0 z), λ z. y .1 (x .1 z))
+
+pub shown-of-bytes-apart : ShownOfBytesApart
+shown-of-bytes-apart bytes f a subject old new old′ new′ l l′ h h′ e k m vs n w p k′ m′ vs′ n′ w′ p′ =
+    let x = full-by bytes f a l (pos subject) k m vs n old new h w p in
+    let x′ = full-by bytes f a l′ (pos subject) k′ m′ vs′ n′ old′ new′ h′ w′ p′ in
+    (λ z. x′ .1 (sym e ∙ x .0 z), λ z. x .1 (e ∙ x′ .0 z))
+
 pub shown-of-bytes : ShownOfBytes
 shown-of-bytes bytes f a = record {
   loads = λ n at x w. let e = w .sheet ∙ sym (a .contract) in (ap (λ (z : Sheet). z .refusal) e ∙ a .accepted, alike begins (load-counted bytes f n at x w e));
-  serves = λ b q n old new h w. subst (λ (c : Bool). History f (rawFlat (new .state)) (feed b q c)) (taken-by (old .state) q n (w .number)) (asks h (w .returns));
-  calls = λ b subject k m vs n old new h w z. let q = call subject k m vs in
-      shown bytes f a (rawFlat (old .state)) b h .calls subject k m vs (outcomeOn (old .state) q) (rawFlat (new .state)) (w .returns) (zero-taken (old .state) q n (w .number) z);
-  answers = λ b subject j v n old new h w z. let q = answer subject j v in
-      shown bytes f a (rawFlat (old .state)) b h .answers subject j v (outcomeOn (old .state) q) (rawFlat (new .state)) (w .returns) (zero-taken (old .state) q n (w .number) z);
-  runs = λ b words n old new h w. run-goes-on words n old new (shown bytes f a (rawFlat (old .state)) b h .passes) w f b h;
-  offers = λ x b k w n old new h e. offers-says (rawFlat x) b (shown bytes f a (rawFlat x) b h) k w n old new e;
-  writes = λ x b counts n before after old new h e w. subst (λ z. WrittenIs z n before after new)
-      (ap (λ c. write (rawTable (x .types) (x .links) c) old) e ∙ written-back bytes f a (rawFlat x) b h old) w;
+  serves = λ l q n old new h w. subst (λ (c : Bool). History f (rawFlat (new .state)) (l ++ ((q, c) ∷ []))) (taken-by (old .state) q n (w .number)) (asks h (w .returns));
+  calls = λ l subject k m vs n old new h w z. let q = call subject k m vs in
+      shown bytes f a (rawFlat (old .state)) l h .0 .calls subject k m vs (outcomeOn (old .state) q) (rawFlat (new .state)) (w .returns) (zero-taken (old .state) q n (w .number) z);
+  answers = λ l subject j v n old new h w z. let q = answer subject j v in
+      shown bytes f a (rawFlat (old .state)) l h .0 .answers subject j v (outcomeOn (old .state) q) (rawFlat (new .state)) (w .returns) (zero-taken (old .state) q n (w .number) z);
+  made = λ x l h. shown bytes f a (rawFlat x) l h .1 .made;
+  full = λ l subject k m vs n old new h w p. full-by bytes f a l subject k m vs n old new h w p;
+  runs = λ l words n old new h w. run-goes-on words n old new (shown bytes f a (rawFlat (old .state)) l h .0 .passes) w f l h;
+  offers = λ x l k w n old new h e. offers-says (rawFlat x) (bookOf f l) (shown bytes f a (rawFlat x) l h .0) k w n old new e;
+  writes = λ x l counts n before after old new h e w. subst (λ z. WrittenIs z n before after new)
+      (ap (λ c. write (rawTable (x .types) (x .links) c) old) e ∙ written-back bytes f a (rawFlat x) l h old) w;
   reads = λ m at types links counts n before after old new e w. subst (λ z. WrittenIs z n before after new)
       (ap (λ (z : Sheet). write (first z .table) old) (e ∙ sym (a .contract)) ∙ written-back bytes f a (first f) _ begins old) w;
 }

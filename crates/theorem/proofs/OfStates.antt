@@ -2,7 +2,7 @@
 use mathlib.Core.Path.{_≡_, refl, ap, sym, subst, _∙_}
 use mathlib.Core.Logic.{_↔_}
 use mathlib.Core.Bool.{Bool, true, false, So}
-use mathlib.Core.List.{List}
+use mathlib.Core.List.{List, _++_}
 use mathlib.Core.Option.{Option}
 use lib.IntN.{ℤ}
 use lib.ListN.{length}
@@ -11,6 +11,7 @@ use Rattle.spec_model.specs.Requests.{Request}
 use Rattle.spec_model.specs.Check.{RawSystem, systemOf, systemAccepted}
 use Rattle.spec_model.specs.Handed.{counted}
 use Rattle.spec_model.specs.Book.{Book}
+use Rattle.spec_model.specs.Callers.{Transcript}
 use Rattle.spec_model.proofs.Rules.{never}
 use Rattle.spec_model.specs.Refusals.{outOfRange}
 use Rattle.sheet_read.specs.declared.Sheet.{Sheet}
@@ -25,10 +26,10 @@ use Rattle.request_run.specs.Ran.{room, RanAs, Runs}
 use Rattle.state_offers.specs.declared.Offered.{Offered}
 use Rattle.state_offers.specs.declared.Offered.the-variants.{Unfit, Yes, No}
 use Rattle.state_offers.specs.Chained.{offersNamed, offeredAs}
-use Rattle.theorem.specs.Shown.{first, RunReturns, History, begins, asks, runs, alike, Holds, Permitted}
-use Rattle.theorem.specs.OfStates.{toldBy, ShownOfStates}
+use Rattle.theorem.specs.Shown.{first, bookOf, RunReturns, History, begins, asks, runs, alike, Holds, Permitted}
+use Rattle.theorem.specs.OfStates.{seenBy, ShownOfStates}
 use Rattle.theorem.proofs.Shown.{shown}
-use Rattle.theorem.proofs.RunWords.{outcomes-length, words-told}
+use Rattle.theorem.proofs.RunWords.{outcomes-length, words-seen}
 use Rattle.theorem.proofs.Offers.{offers-is, offers-yes, offers-no}
 use Rattle.theorem.proofs.Writes.{written-back}
 
@@ -50,11 +51,11 @@ module _ (s : State) (words old new : List ℤ) (y : Ran) (p : So (systemAccepte
   unfolding systemIn
   run-returns = record { outcomes = refl; records = ran .records }
 
-  run-goes-on : (f : Sheet) (b : Book) → History f (rawState s) b → (y .refusal ≡ 0) × (y .served ≡ length qs) × History f (rawState (y .state)) (toldBy b qs new)
-  run-goes-on f b h = let os = runAsked (systemIn s) qs .0 in (
+  run-goes-on : (f : Sheet) (l : Transcript) → History f (rawState s) l → (y .refusal ≡ 0) × (y .served ≡ length qs) × History f (rawState (y .state)) (l ++ seenBy qs new)
+  run-goes-on f l h = let os = runAsked (systemIn s) qs .0 in (
     ran .refusal,
     ran .served ∙ outcomes-length qs (systemIn s),
-    subst (λ z. History f (rawState (y .state)) z) (sym (ap (toldBy b qs) (ran .answers) ∙ words-told words old (systemIn s) b)) (runs {qs = qs} {os = os} h run-returns),
+    subst (λ z. History f (rawState (y .state)) (l ++ z)) (sym (ap (seenBy qs) (ran .answers) ∙ words-seen words old (systemIn s))) (runs {qs = qs} {os = os} h run-returns),
   )
 
 -- ---- the code's three answers to Offers
@@ -79,10 +80,11 @@ module _ (r : RawSystem) (b : Book) (x : Holds r b) (k : ℤ) (w : List ℤ) whe
 pub shown-of-states : ShownOfStates
 shown-of-states bytes f a = record {
   begins = alike begins (loaded-counted f);
-  serves = λ s b q y h w. asks h (w .returns);
-  calls = λ s b subject k m vs y h w e. shown bytes f a (rawState s) b h .calls subject k m vs (outcomeOf (y .outcome)) (rawState (y .state)) (w .returns) e;
-  answers = λ s b subject j v y h w e. shown bytes f a (rawState s) b h .answers subject j v (outcomeOf (y .outcome)) (rawState (y .state)) (w .returns) e;
-  runs = λ s b words old new y h w. run-goes-on s words old new y (shown bytes f a (rawState s) b h .passes) w f b h;
-  offers = λ s b k w o h e. let x = shown bytes f a (rawState s) b h in said (rawState s) b x k w o (e ∙ offers-is (rawState s) b x k w);
-  writes = λ s b w old new h e. e ∙ written-back bytes f a (rawState s) b h old;
+  serves = λ s l q y h w. asks h (w .returns);
+  calls = λ s l subject k m vs y h w e. shown bytes f a (rawState s) l h .0 .calls subject k m vs (outcomeOf (y .outcome)) (rawState (y .state)) (w .returns) e;
+  answers = λ s l subject j v y h w e. shown bytes f a (rawState s) l h .0 .answers subject j v (outcomeOf (y .outcome)) (rawState (y .state)) (w .returns) e;
+  full = λ s l subject k m vs y h w e. shown bytes f a (rawState s) l h .1 .full subject k m vs (outcomeOf (y .outcome)) (rawState (y .state)) (w .returns) e;
+  runs = λ s l words old new y h w. run-goes-on s words old new y (shown bytes f a (rawState s) l h .0 .passes) w f l h;
+  offers = λ s l k w o h e. let x = shown bytes f a (rawState s) l h .0 in said (rawState s) (bookOf f l) x k w o (e ∙ offers-is (rawState s) (bookOf f l) x k w);
+  writes = λ s l w old new h e. e ∙ written-back bytes f a (rawState s) l h old;
 }

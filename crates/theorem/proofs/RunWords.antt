@@ -1,4 +1,4 @@
--- The words of a run tell the book what its outcomes do: the first of four is 0 exactly where the request was accepted.
+-- The words of a run have the transcript of its outcomes: the first of four is 0 exactly where the request was accepted.
 use mathlib.Core.Path.{_≡_, refl, ap, _∙_}
 use mathlib.Core.Bool.{Bool, true, false, cond}
 use mathlib.Core.List.{List, [], _∷_, _++_}
@@ -11,15 +11,14 @@ use lib.ListN.{length, getD, take, drop, length-append}
 use lib.Seq.{sets, sets-eq}
 use Rattle.spec_model.specs.Basics.{Res, refuse, ok, names, named}
 use Rattle.spec_model.specs.Requests.{System, Request, Result, pair, number, nothing, Outcome, got, refused, outcome, serve, after, run}
-use Rattle.spec_model.specs.Book.{Book}
-use Rattle.spec_model.specs.Claim.{feed}
+use Rattle.spec_model.specs.Callers.{Transcript, taken}
 use Rattle.spec_model.proofs.Tests.{eqb-so}
 use Rattle.law_handed.proofs.Small.{Small, Named, small-serve}
 use Rattle.request_words.specs.Words.{request, requests, outcomeSize, wordsOf, outcomeWords}
 use Rattle.request_run.specs.Requested.{asked, placed, runAsked}
 use Rattle.request_run.specs.Ran.{room}
-use Rattle.theorem.specs.Shown.{taken, told}
-use Rattle.theorem.specs.OfStates.{isZero, toldBy}
+use Rattle.theorem.specs.Shown.{seenOf}
+use Rattle.theorem.specs.OfStates.{isZero, seenBy}
 
 -- the number of a refusal is not 0
 pub not-zero : (n : ℕ) → 0 < n → eqb n 0 ≡ false
@@ -47,16 +46,16 @@ module _ (ws rest : List ℤ) where
   first-word s (refuse e) h = not-zero e (h .0)
   first-word s (ok x) h = first-got (x .1)
 
-told-words : (qs : List (Option Request)) (s : System) (b : Book) (rest : List ℤ) → let os = placed qs (run s (asked qs) .0) in toldBy b qs (outcomeWords os ++ rest) ≡ told b qs os
+seen-words : (qs : List (Option Request)) (s : System) (rest : List ℤ) → let os = placed qs (run s (asked qs) .0) in seenBy qs (outcomeWords os ++ rest) ≡ seenOf qs os
 unfolding run outcomeWords
-told-words [] s b rest = refl
-told-words (none ∷ qs) s b rest = told-words qs s b rest
-told-words (some q ∷ qs) s b rest =
+seen-words [] s rest = refl
+seen-words (none ∷ qs) s rest = seen-words qs s rest
+seen-words (some q ∷ qs) s rest =
     let a = serve s q in
     let os = placed qs (run (after s a) (asked qs) .0) in
     let ws = outcomeWords os in
-    ap (λ c. toldBy (feed b q c) qs (drop outcomeSize ((wordsOf (outcome a) ++ ws) ++ rest))) (first-word ws rest s a (small-serve s q))
-    ∙ ap (λ z. toldBy (feed b q (taken (outcome a))) qs z) (behind ws rest (outcome a)) ∙ told-words qs (after s a) (feed b q (taken (outcome a))) rest
+    ap (λ c. (q, c) ∷ seenBy qs (drop outcomeSize ((wordsOf (outcome a) ++ ws) ++ rest))) (first-word ws rest s a (small-serve s q))
+    ∙ ap (λ z. (q, taken (outcome a)) ∷ seenBy qs z) (behind ws rest (outcome a)) ∙ ap (λ (l : Transcript). (q, taken (outcome a)) ∷ l) (seen-words qs (after s a) rest)
 
 -- ---- all of them: there is room
 pub outcomes-length : (qs : List (Option Request)) (s : System) → length (placed qs (run s (asked qs) .0)) ≡ length qs
@@ -87,9 +86,9 @@ requests-few (suc f) (code ∷ n ∷ ws) = go (names n (suc (length ws))) (reque
     go true l = omega arith
     go false l = omega arith
 
-pub words-told : (words old : List ℤ) (s : System) (b : Book) → let qs = requests (room old) words in let os = runAsked s qs .0 in toldBy b qs (sets old 0 (outcomeWords os)) ≡ told b qs os
-words-told words old s b =
+pub words-seen : (words old : List ℤ) (s : System) → let qs = requests (room old) words in let os = runAsked s qs .0 in seenBy qs (sets old 0 (outcomeWords os)) ≡ seenOf qs os
+words-seen words old s =
     let qs = requests (room old) words in
     let os = runAsked s qs .0 in
     let n : length (outcomeWords os) ≤ length old = omega (arith, answers-length os, outcomes-length qs s, requests-few (room old) words) in
-    ap (toldBy b qs) (sets-eq (outcomeWords os) old 0 (omega arith)) ∙ told-words qs s b (drop (0 + length (outcomeWords os)) old)
+    ap (seenBy qs) (sets-eq (outcomeWords os) old 0 (omega arith)) ∙ seen-words qs s (drop (0 + length (outcomeWords os)) old)

@@ -13,24 +13,36 @@ use Rattle.spec_model.specs.Check.{RawSystem, tableOf, systemOf, codesFit, syst
 use Rattle.spec_model.specs.Handed.{storedFrom}
 use Rattle.spec_model.specs.Book.{Book, opened}
 use Rattle.spec_model.specs.Claim.{accepted, feed, follow, reached}
+use Rattle.spec_model.specs.Callers.{Transcript, taken, seen}
 use Rattle.spec_model.proofs.Growth.{grown-refl, grown-trans}
 use Rattle.law_model.proofs.Checked.{system-fitting, fits-bounded}
 use Rattle.law_model.proofs.Reached.{reached-fits}
 use Rattle.law_model.proofs.Returned.{NewType, Added, request-adds, system-means, accepted-codes, accept, stored-codes, stored-state-codes}
 use Rattle.request_run.specs.Requested.{asked, placed}
-use Rattle.theorem.specs.Shown.{taken, told}
+use Rattle.theorem.specs.Shown.{fed, seenOf}
 
 -- an outcome is taken where the model accepts
 pub outcome-taken : (m : Res (System × Result)) → taken (outcome m) ≡ accepted m
 outcome-taken (refuse n) = refl
 outcome-taken (ok x) = refl
 
-pub run-follows : (qs : List (Option Request)) (s : System) (b : Book) → let m = run s (asked qs) in follow s b (asked qs) ≡ (m .1, told b qs (placed qs (m .0)))
+pub run-follows : (qs : List (Option Request)) (s : System) (b : Book) → let m = run s (asked qs) in follow s b (asked qs) ≡ (m .1, fed b (seenOf qs (placed qs (m .0))))
 unfolding run follow
 run-follows [] s b = refl
 run-follows (none ∷ qs) s b = run-follows qs s b
 run-follows (some q ∷ qs) s b = let a = serve s q in let m = run (after s a) (asked qs) in
-    run-follows qs (after s a) (feed b q (accepted a)) ∙ ap (λ x. (m .1, told (feed b q x) qs (placed qs (m .0)))) (sym (outcome-taken a))
+    run-follows qs (after s a) (feed b q (accepted a)) ∙ ap (λ x. (m .1, fed (feed b q x) (seenOf qs (placed qs (m .0))))) (sym (outcome-taken a))
+
+-- what is no request is in no transcript
+pub seen-placed : (qs : List (Option Request)) (s : System) → let os = run s (asked qs) .0 in seenOf qs (placed qs os) ≡ seen (asked qs) os
+unfolding run
+seen-placed [] s = refl
+seen-placed (none ∷ qs) s = seen-placed qs s
+seen-placed (some q ∷ qs) s = let a = serve s q in ap (λ (l : Transcript). (q, taken (outcome a)) ∷ l) (seen-placed qs (after s a))
+
+pub fed-both : (l m : Transcript) (b : Book) → fed b (l ++ m) ≡ fed (fed b l) m
+fed-both [] m b = refl
+fed-both (x ∷ l) m b = fed-both l m (feed b (x .0) (x .1))
 
 pub follow-both : (ps qs : List Request) (s : System) (b : Book) → follow s b (ps ++ qs) ≡ follow (follow s b ps .0) (follow s b ps .1) qs
 unfolding follow

@@ -19,12 +19,13 @@ use Rattle.law_model.proofs.Sheets.{sheet-fitting}
 use Rattle.law_model.proofs.Checked.{system-fitting}
 use Rattle.law_model.proofs.Reached.{reached-fits}
 use Rattle.law_model.proofs.Returned.{accepted-codes}
+use Rattle.spec_model.specs.Callers.{Transcript}
 use Rattle.spec_sheet.specs.Lines.{join}
 use Rattle.spec_sheet.specs.Text.{endText, sheetLines, withoutDerived, text, writeText, write}
 use Rattle.spec_sheet.proofs.Exact.{text-of-read}
 use Rattle.sheet_read.specs.declared.Sheet.{Sheet}
 use Rattle.sheet_read.proofs.Accepted.{read-loaded}
-use Rattle.theorem.specs.Shown.{Accepts, sheetTable, History}
+use Rattle.theorem.specs.Shown.{Accepts, sheetTable, bookOf, History}
 use Rattle.theorem.proofs.Runs.{follow-added}
 use Rattle.theorem.proofs.Laws.{Means}
 use Rattle.theorem.proofs.Shown.{valid, history-means}
@@ -63,6 +64,6 @@ module _ (t : Table) (v : So (validSheet t)) where
 
 -- from the bytes on
 module _ (bytes : List ℕ) (f : Sheet) (a : Accepts bytes f) where
-  pub written-back : (r : RawSystem) (b : Book) → History f r b → (old : List ℕ) → write (r .table) old ≡ writeText bytes old
-  written-back r b h old = let t = sheetTable f in
-      means-writes t (valid bytes f a) r b (history-means bytes f a r b h) old ∙ ap (λ z. writeText z old) (text-of-read bytes t (read-loaded bytes f (a .contract) (a .accepted)))
+  pub written-back : (r : RawSystem) (l : Transcript) → History f r l → (old : List ℕ) → write (r .table) old ≡ writeText bytes old
+  written-back r l h old = let t = sheetTable f in
+      means-writes t (valid bytes f a) r (bookOf f l) (history-means bytes f a r l h) old ∙ ap (λ z. writeText z old) (text-of-read bytes t (read-loaded bytes f (a .contract) (a .accepted)))

@@ -1,19 +1,21 @@
 -- The theorem of a caller in C: `ShownOfBytes`. He keeps a state in arrays of bytes and counts (B25 to B30) and uses the functions that include/pilgonca.h has for a state:
 -- load, new, move, call, answer, run, offers, and write. Whatever he does, the bytes that he then holds are a state of a history, so that `Shown` holds of it (L24); and what
--- is answered is said by the book, which is told what the caller sees (L25): the number returned, and the words that a run stored. Proof: proofs/OfBytes.
+-- is answered is said by the book, which is made of what the caller sees (L25): the number returned, and the words that a run stored. Of two callers' states: `ShownOfBytesApart`.
+-- Proof: proofs/OfBytes.
 use mathlib.Core.Path.{_≡_}
 use mathlib.Core.Logic.{_↔_}
-use mathlib.Core.Bool.{So}
-use mathlib.Core.List.{List, [], _∷_}
+use mathlib.Core.Bool.{false, So}
+use mathlib.Core.List.{List, [], _∷_, _++_}
 use mathlib.Core.Option.{Option}
 use Prim.Native.Nat.{ℕ}
 use lib.Dec.{eqb}
-use lib.IntN.{ℤ}
+use lib.IntN.{ℤ, pos}
 use lib.ListN.{length}
-use Rattle.spec_model.specs.Basics.{names}
-use Rattle.spec_model.specs.Requests.{Request, call, answer}
-use Rattle.spec_model.specs.Book.{Book, opened}
-use Rattle.spec_model.specs.Claim.{feed}
+use Rattle.spec_model.specs.Basics.{names, named}
+use Rattle.spec_model.specs.Requests.{Request, call, answer, refused, maxCallsEach, madeBy}
+use Rattle.spec_model.specs.Check.{systemOf}
+use Rattle.spec_model.specs.Callers.{Transcript, acceptedCalls, refusedBefore}
+use Rattle.spec_model.specs.Refusals.{callsFull}
 use Rattle.table_record.specs.Layout.{rawTable}
 use Rattle.spec_sheet.specs.Sheet.{read}
 use Rattle.spec_sheet.specs.Text.{write, writeText}
@@ -27,8 +29,8 @@ use Rattle.state_bytes.specs.Flat.{Flat, countsIn, rawFlat}
 use Rattle.request_results.specs.States.{LentState, Handed}
 use Rattle.export_runs.specs.Results.{offeredOut, LoadedIs, LentRun, RunsOut}
 use Rattle.text_write.specs.Written.{WrittenIs}
-use Rattle.theorem.specs.Shown.{Accepts, sheetTable, History, Permitted}
-use Rattle.theorem.specs.OfStates.{toldBy}
+use Rattle.theorem.specs.Shown.{Accepts, bookOf, History, Permitted}
+use Rattle.theorem.specs.OfStates.{seenBy}
 
 -- ---- Where `pilgonca_load` returns 0, what it stored is the reader's result for the bytes, and no refusal: so it is an f of which the rest is said.
 abbrev pub sheetIn : ℕ → ℕ → Flat → Sheet
@@ -39,28 +41,41 @@ ShownOfLoads = (bytes : List ℕ) (n at : ℕ) (x : Flat) → LoadedIs (read byt
 
 -- ---- f is what the reader made of the bytes.
 pub record OfBytes (bytes : List ℕ) (f : Sheet) : Type 0 where
-  -- `pilgonca_load` returns 0, and what it stores begins a history, with the sheet's table in the book (L24).
-  pub loads : (n at : ℕ) (x : Flat) → LoadedIs (read bytes) n at x → (n ≡ 0) × History f (rawFlat x) (opened (sheetTable f))
-  -- `pilgonca_new`, `_move`, `_call` and `_answer` take it on, whatever the numbers are; the book is told whether 0 was returned (L24, L25).
-  pub serves : (b : Book) (q : Request) (n : ℕ) (old new : LentState) → History f (rawFlat (old .state)) b → Handed q n old new → History f (rawFlat (new .state)) (feed b q (eqb n 0))
+  -- `pilgonca_load` returns 0, and what it stores begins a history, with nothing in the transcript (L24).
+  pub loads : (n at : ℕ) (x : Flat) → LoadedIs (read bytes) n at x → (n ≡ 0) × History f (rawFlat x) []
+  -- `pilgonca_new`, `_move`, `_call` and `_answer` take it on, whatever the numbers are; the transcript has whether 0 was returned (L24, L25).
+  pub serves : (l : Transcript) (q : Request) (n : ℕ) (old new : LentState) → History f (rawFlat (old .state)) l → Handed q n old new → History f (rawFlat (new .state)) (l ++ ((q, eqb n 0) ∷ []))
   -- A call for which 0 is returned is of a method that the page of the called cell permits (L27), and an answer is to a call that the book noted.
-  pub calls : (b : Book) (subject k m : ℤ) (vs : List ℤ) (n : ℕ) (old new : LentState) → History f (rawFlat (old .state)) b
-      → Handed (call subject k m vs) n old new → n ≡ 0 → Permitted b k (m ∷ [])
-  pub answers : (b : Book) (subject j : ℤ) (v : Option ℤ) (n : ℕ) (old new : LentState) → History f (rawFlat (old .state)) b
-      → Handed (answer subject j v) n old new → n ≡ 0 → So (names j (length (b .calls)))
-  -- `pilgonca_run` returns 0, and takes the history on: of the requests in its words, as many as there is room for, the book is told what the list of outcomes says then (L24, L25).
-  pub runs : (b : Book) (words : List ℤ) (n : ℕ) (old new : LentRun) → History f (rawFlat (old .state)) b
+  pub calls : (l : Transcript) (subject k m : ℤ) (vs : List ℤ) (n : ℕ) (old new : LentState) → History f (rawFlat (old .state)) l
+      → Handed (call subject k m vs) n old new → n ≡ 0 → Permitted (bookOf f l) k (m ∷ [])
+  pub answers : (l : Transcript) (subject j : ℤ) (v : Option ℤ) (n : ℕ) (old new : LentState) → History f (rawFlat (old .state)) l
+      → Handed (answer subject j v) n old new → n ≡ 0 → So (names j (length (bookOf f l .calls)))
+  -- The calls of a subject in the bytes are as many as its accepted calls (L28); and where `pilgonca_call` returns none of 5, 6, 14 and 15, it returns 18 exactly if these are 32 (L29).
+  pub made : (x : Flat) (l : Transcript) → History f (rawFlat x) l → (n : ℕ) → madeBy n (systemOf (rawFlat x) .calls) ≡ acceptedCalls n l
+  pub full : (l : Transcript) (subject k m : ℤ) (vs : List ℤ) (n : ℕ) (old new : LentState) → History f (rawFlat (old .state)) l → Handed (call subject k m vs) n old new
+      → refusedBefore (refused n) ≡ false → (n ≡ callsFull) ↔ (acceptedCalls (named subject) l ≡ maxCallsEach)
+  -- `pilgonca_run` returns 0, and takes the history on: of the requests in its words, as many as there is room for, the transcript has what the list of outcomes says then (L24, L25).
+  pub runs : (l : Transcript) (words : List ℤ) (n : ℕ) (old new : LentRun) → History f (rawFlat (old .state)) l
       → RunsOut (runHanded (rawFlat (old .state)) (room (old .answers)) words) n old new
-      → let qs = requests (room (old .answers)) words in (n ≡ 0) × (new .served ≡ length qs) × History f (rawFlat (new .state)) (toldBy b qs (new .answers))
+      → let qs = requests (room (old .answers)) words in (n ≡ 0) × (new .served ≡ length qs) × History f (rawFlat (new .state)) (l ++ seenBy qs (new .answers))
   -- `pilgonca_offers` returns 0, and stores 1 exactly where the page of that cell, its class and all of its trail, permits the chain, and else 0 (L26).
-  pub offers : (x : Flat) (b : Book) (k : ℤ) (w : List ℤ) (n old new : ℕ) → History f (rawFlat x) b → (n, new) ≡ offeredOut old (offersHanded (rawFlat x) k w)
-      → (n ≡ 0) × ((new ≡ 1) ↔ Permitted b k w) × ((new ≡ 0) ↔ (Permitted b k w → ⊥))
+  pub offers : (x : Flat) (l : Transcript) (k : ℤ) (w : List ℤ) (n old new : ℕ) → History f (rawFlat x) l → (n, new) ≡ offeredOut old (offersHanded (rawFlat x) k w)
+      → (n ≡ 0) × ((new ≡ 1) ↔ Permitted (bookOf f l) k w) × ((new ≡ 0) ↔ (Permitted (bookOf f l) k w → ⊥))
   -- `pilgonca_write` gives the bytes back that were loaded (W9), into any buffer that has room for them (W2 to W4): no derived type is written (W5). Of the counts it takes the
   -- first five. And so it gives those back that `pilgonca_read` read.
-  pub writes : (x : Flat) (b : Book) (counts : List ℕ) (n before after : ℕ) (old new : List ℕ) → History f (rawFlat x) b → countsIn counts ≡ countsIn (x .counts)
+  pub writes : (x : Flat) (l : Transcript) (counts : List ℕ) (n before after : ℕ) (old new : List ℕ) → History f (rawFlat x) l → countsIn counts ≡ countsIn (x .counts)
       → WrittenIs (write (rawTable (x .types) (x .links) (countsIn counts)) old) n before after new → WrittenIs (writeText bytes old) n before after new
   pub reads : (m at : ℕ) (types links counts : List ℕ) (n before after : ℕ) (old new : List ℕ) → sheetOf m at types links (countsIn counts) ≡ sheetFor (read bytes)
       → WrittenIs (write (rawTable types links (countsIn counts)) old) n before after new → WrittenIs (writeText bytes old) n before after new
 
 abbrev pub ShownOfBytes : Type 0
 ShownOfBytes = (bytes : List ℕ) (f : Sheet) → Accepts bytes f → OfBytes bytes f
+
+-- Two states in bytes, each of a history from the same sheet: where a subject has equally many accepted calls in both, two calls of its for which none of 5, 6, 14 and 15 is
+-- returned return 18 both or neither, whatever else was asked in the one and in the other (L30).
+abbrev pub ShownOfBytesApart : Type 0
+ShownOfBytesApart = (bytes : List ℕ) (f : Sheet) → Accepts bytes f → (subject : ℕ) (old new old′ new′ : LentState) (l l′ : Transcript)
+    → History f (rawFlat (old .state)) l → History f (rawFlat (old′ .state)) l′ → acceptedCalls subject l ≡ acceptedCalls subject l′
+    → (k m : ℤ) (vs : List ℤ) (n : ℕ) → Handed (call (pos subject) k m vs) n old new → refusedBefore (refused n) ≡ false
+    → (k′ m′ : ℤ) (vs′ : List ℤ) (n′ : ℕ) → Handed (call (pos subject) k′ m′ vs′) n′ old′ new′ → refusedBefore (refused n′) ≡ false
+    → (n ≡ callsFull) ↔ (n′ ≡ callsFull)

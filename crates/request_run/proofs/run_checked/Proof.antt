@@ -2,12 +2,15 @@
 use mathlib.Core.Path.{refl, ap, _∙_}
 use mathlib.Core.Bool.{cond, _||_}
 use mathlib.Core.List.{List}
-use Prim.Native.Nat.{ℕ, _-_}
+use Prim.Native.Nat.{ℕ, _+_, _-_, _*_}
+use mir.Syntax.{w64}
+use mir.Val.{Fits}
 use Rattle.state_record.specs.Whole.{whole}
 use Rattle.request_common.specs.Served.{done}
 use Rattle.request_run.specs.Ran.{room, over}
 use Rattle.request_run.proofs.Laws.{Going, going-starts, going-full, going-done, going-on}
 use Rattle.request_run.proofs.Small.{step-small}
+use native.Mathlib.Omega.{arith}
 use borrow.Author.Needs.{needs}
 use Rattle.request_run.proofs.run_checked.Statement.{statement}
 use Rattle.request_run.proofs.run_checked.Tie as tie
@@ -48,8 +51,12 @@ put-outcome-requires : tie.Need-put-outcome-requires Inv-loop μ-loop
 put-outcome-requires c κs = let w = c .before .before .before .before .before .before .before .loop in let r = c .before .before .before .serve-at in
     (search needs, step-small (whole (w .types) (w .state)) _ (done (r .last .0) (r .result)) (w .inv .sound) (r .ensures))
 
+-- four words of each are counted in a word, so the next is
+after-four : (n : ℕ) → Fits w64 (n * 4) → Fits w64 (n + 1)
+after-four n h = omega (arith, h)
+
 add-served : tie.Need-add-served Inv-loop μ-loop
-add-served c = search needs
+add-served c = after-four _ (mul-put-outcome (c .before .before .before))
 
 next-requires : tie.Need-next-requires Inv-loop μ-loop
 next-requires c κs = search needs

@@ -5,6 +5,7 @@ use borrow.Author.Needs.{needs}
 use Rattle.spec_model.specs.Coded.{byCode}
 use Rattle.table_check_links.proofs.Steps.{refused, passed}
 use Rattle.state_record.specs.Whole.{whole}
+use Rattle.state_record.proofs.Kept.{sound-room}
 use Rattle.state_check.proofs.Sound.{accepted-sound}
 use Rattle.request_common.specs.Served.{done}
 use Rattle.request_common.proofs.Laws.{refuses, step-as}
@@ -74,8 +75,8 @@ add-call-requires c κs =
     (passed (check .result) _ (check .ensures) (c .before .before .before .before .before .before .before .before .before .if1 .left))
     (c .before .before .before .before .before .before .before .type-bytes .ensures) in
     let low = q .ensures .fits (c .before .if3 .left) (c .if4 .left) in
-    let b = call-byte (whole (a .types .now) (a .s)) sound (low .0) (q .result .who) (q .result .cell) (q .result .method) 0 (low .2) (low .3) in
-    (low .0, low .1, b .0, b .1)
+    let b = call-byte (whole (a .types .now) (a .s)) sound (q .result .who) (low .0) (q .result .cell) (q .result .method) 0 (low .2) (low .3) in
+    (sound-room _ sound (q .result .who) (low .0), low .1, b .0, b .1)
 
 returns-5 : tie.Need-returns-5
 returns-5 c =
@@ -85,7 +86,7 @@ returns-5 c =
     let sound = accepted-sound (whole b (a .s)) taken (c .before .before .before .before .before .before .before .before .type-bytes .ensures) in
     let low = q .ensures .fits (c .before .before .if3 .left) (c .before .if4 .left) in
     kept-serves b b (a .s) (byCode (a .code) (a .ops .now)) (c .add-call .result) sound taken
-    (step-as (q .ensures .adds (c .before .before .if3 .left) (c .before .if4 .left)) (c .add-call .ensures b sound (low .2) (low .3))) refl
+    (step-as (q .ensures .adds (c .before .before .if3 .left) (c .before .if4 .left)) (c .add-call .ensures b sound (low .0) (low .2) (low .3))) refl
 
 pub serve-spec : {M : Type 1} → statement M
 serve-spec =
