@@ -81,13 +81,13 @@ loop-less c = search needs
 loop-again : tie.Need-loop-again Inv-loop μ-loop
 loop-again c = let a = c .before .before .before .before .before .args in let h = c .before .before .before .before .before .pre in let l = c .before .before .before .before .loop in
     let low = c .before .before .before .loop-test .taken in (
-  omega arith,
-  tally-more (Called (a .b .now)) (l .j) (l .made) (l .inv .1) (c .before .wide .result)
-      (caller-is (a .b .now) (a .n) h (l .j) low (c .before .before .call-from .result) (c .before .before .call-from .ensures)
-      (c .before .wide .result) (c .before .wide .ensures .0))
-      (caller-low (a .b .now) (a .n) h (l .j) low (c .before .before .call-from .result) (c .before .before .call-from .ensures) (c .before .wide .result) (c .before .wide .ensures .0))
-      (c .if1 .left),
-)
+      omega arith,
+      tally-more (Called (a .b .now)) (l .j) (l .made) (l .inv .1) (c .before .wide .result)
+          (caller-is (a .b .now) (a .n) h (l .j) low (c .before .before .call-from .result) (c .before .before .call-from .ensures)
+          (c .before .wide .result) (c .before .wide .ensures .0))
+          (caller-low (a .b .now) (a .n) h (l .j) low (c .before .before .call-from .result) (c .before .before .call-from .ensures) (c .before .wide .result) (c .before .wide .ensures .0))
+          (c .if1 .left),
+    )
 
 returns-2 : tie.Need-returns-2 Inv-loop μ-loop
 returns-2 c = let a = c .before .before .args in let l = c .before .loop in λ subjects few known.

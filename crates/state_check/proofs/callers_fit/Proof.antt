@@ -58,16 +58,24 @@ mul-made c = search needs
 
 array-read-made : tie.Need-array-read-made Inv-loop μ-loop
 array-read-made c = let js = c .before .before .before .before .args .t1 in
-    omega (arith, c .before .wide .ensures .0, caller-below (called js) (js .count) (callsIn js) (are js) maxSubjects (c .before .before .before .before .pre .1)
-    (c .before .before .before .loop .j) (c .before .before .loop-test .taken))
+    omega (
+      arith,
+      c .before .wide .ensures .0,
+      caller-below (called js) (js .count) (callsIn js) (are js) maxSubjects (c .before .before .before .before .pre .1)
+          (c .before .before .before .loop .j) (c .before .before .loop-test .taken),
+    )
 
 add-made : tie.Need-add-made Inv-loop μ-loop
 add-made c = search needs
 
 array-write-made : tie.Need-array-write-made Inv-loop μ-loop
 array-write-made c = let js = c .before .before .before .before .args .t1 in
-    omega (arith, c .before .wide .ensures .0, caller-below (called js) (js .count) (callsIn js) (are js) maxSubjects (c .before .before .before .before .pre .1)
-    (c .before .before .before .loop .j) (c .before .before .loop-test .taken))
+    omega (
+      arith,
+      c .before .wide .ensures .0,
+      caller-below (called js) (js .count) (callsIn js) (are js) maxSubjects (c .before .before .before .before .pre .1)
+          (c .before .before .before .loop .j) (c .before .before .loop-test .taken),
+    )
 
 add-j : tie.Need-add-j Inv-loop μ-loop
 add-j c = search needs
