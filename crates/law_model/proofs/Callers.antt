@@ -28,9 +28,6 @@ pub made-append : (k : ℕ) (xs ys : List Call) → madeBy k (xs ++ ys) ≡ made
 made-append k [] ys = omega arith
 made-append k (c ∷ xs) ys = bumped-plus (eqb k (c .caller)) (madeBy k xs) (madeBy k ys) (madeBy k (xs ++ ys)) (made-append k xs ys)
 
-pub made-one : (k : ℕ) (c : Call) → madeBy k (c ∷ []) ≡ cond (eqb k (c .caller)) 1 0
-made-one k c = refl
-
 -- a call that is answered stays its caller's
 pub made-answered : (k : ℕ) (cs : List Call) (j : ℕ) (b : Bool) → madeBy k (set cs j (flagged (getD cs j noCall) b)) ≡ madeBy k cs
 made-answered k [] j b = refl

@@ -6,11 +6,11 @@ use Prim.Native.Nat.{ℕ, zero, suc, _+_, _-_, _≤_, _<_}
 use native.Mathlib.Numerals.{add-one}
 use native.Mathlib.Omega.{arith}
 use native.Mathlib.Decide.{ℕ-discrete}
-use lib.Dec.{eqb, leb}
+use lib.Dec.{leb}
 use lib.ListN.{length, getD, set, replicate, length-set, length-replicate, getD-replicate}
 use lib.Seq.{getD-set-same, getD-set-other}
 use borrow.Author.Tests.{eq-eqb, ne-eqb}
-use Rattle.spec_model.specs.Basics.{all, from}
+use Rattle.spec_model.specs.Basics.{from}
 use Rattle.spec_model.specs.Table.{maxSubjects}
 use Rattle.spec_model.specs.Requests.{Call as Callᵐ, noCall, maxCallsEach, madeBy}
 use Rattle.spec_model.proofs.Tests.{leb-so, so-leb}
