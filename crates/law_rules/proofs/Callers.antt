@@ -289,7 +289,7 @@ full-met s (answer subject j v) = (
 )
 
 -- ---- L29, L30: from a loaded sheet nobody has made more than 32
-run-bounded : (qs : List Request) (s : System) → Bounded s → Bounded (run s qs .1)
+pub run-bounded : (qs : List Request) (s : System) → Bounded s → Bounded (run s qs .1)
 unfolding run
 run-bounded [] s h = h
 run-bounded (q ∷ qs) s h = run-bounded qs (after s (serve s q)) (bounded-kept s h q)

@@ -4,6 +4,7 @@ use mathlib.Core.Bool.{So}
 use mathlib.Core.List.{List, [], _∷_, _++_}
 use mathlib.Core.Option.{Option, none, some}
 use Prim.Native.Nat.{ℕ, _≤_, _<_}
+use lib.ListN.{length, getElem?}
 use native.Mathlib.Omega.{arith}
 use native.Mathlib.Decide.{decLt}
 use Rattle.spec_model.specs.Basics.{Res, refuse, ok}
@@ -39,6 +40,21 @@ unfolding run
 seen-placed [] s = refl
 seen-placed (none ∷ qs) s = seen-placed qs s
 seen-placed (some q ∷ qs) s = let a = serve s q in ap (λ (l : Transcript). (q, taken (outcome a)) ∷ l) (seen-placed qs (after s a))
+
+-- a request in the middle of a run is served on the state that those before it left, whose transcript is that of the outcomes before
+pub placed-at : (before behind : List (Option Request)) (q : Request) (s : System) → let qs = before ++ (some q ∷ behind) in
+    getElem? (placed qs (run s (asked qs) .0)) (length before) ≡ some (outcome (serve (run s (asked before) .1) q))
+unfolding run
+placed-at [] behind q s = refl
+placed-at (none ∷ before) behind q s = placed-at before behind q s
+placed-at (some p ∷ before) behind q s = placed-at before behind q (after s (serve s p))
+
+pub seen-before : (before behind : List (Option Request)) (q : Request) (s : System) → let qs = before ++ (some q ∷ behind) in
+    seenOf before (placed qs (run s (asked qs) .0)) ≡ seenOf before (placed before (run s (asked before) .0))
+unfolding run
+seen-before [] behind q s = refl
+seen-before (none ∷ before) behind q s = seen-before before behind q s
+seen-before (some p ∷ before) behind q s = ap (λ (l : Transcript). (p, taken (outcome (serve s p))) ∷ l) (seen-before before behind q (after s (serve s p)))
 
 pub fed-both : (l m : Transcript) (b : Book) → fed b (l ++ m) ≡ fed (fed b l) m
 fed-both [] m b = refl

@@ -2,30 +2,33 @@
 use mathlib.Core.Path.{_≡_, refl, ap, sym, subst, _∙_}
 use mathlib.Core.Logic.{_↔_}
 use mathlib.Core.Bool.{false, not, _&&_, So, cond}
-use mathlib.Core.List.{List, [], _∷_}
+use mathlib.Core.List.{List, [], _∷_, _++_}
+use mathlib.Core.Option.{Option, some}
 use Prim.Native.Nat.{ℕ, _+_, _≤_}
 use native.Mathlib.Omega.{arith}
 use lib.IntN.{ℤ, pos}
+use lib.ListN.{length, getElem?}
 use Rattle.spec_model.specs.Basics.{named}
 use Rattle.spec_model.specs.Table.{Table, validSheet}
-use Rattle.spec_model.specs.Requests.{System, Request, new, move, call, answer, Outcome, refused, outcome, maxCallsEach, madeBy, serve}
+use Rattle.spec_model.specs.Requests.{System, Request, new, move, call, answer, Outcome, refused, outcome, maxCallsEach, madeBy, serve, run}
 use Rattle.spec_model.specs.Check.{RawSystem, systemOf}
 use Rattle.spec_model.specs.Handed.{Returns}
 use Rattle.spec_model.specs.Book.{Book, opened}
-use Rattle.spec_model.specs.Callers.{Transcript, taken, calledBy, acceptedCalls, passesTests, refusedBefore, madeAll}
+use Rattle.spec_model.specs.Callers.{Transcript, taken, seen, calledBy, acceptedCalls, passesTests, refusedBefore, madeAll}
 use Rattle.spec_model.specs.Refusals.{callsFull}
 use Rattle.spec_model.proofs.Rules.{never}
 use Rattle.law_model.proofs.Checked.{fits-bounded}
 use Rattle.law_model.proofs.Returned.{accepted-codes}
 use Rattle.law_model.proofs.Loaded.{loaded-means}
-use Rattle.law_rules.proofs.Callers.{accepted-append, tests-seen, limit-seen, full-met}
+use Rattle.law_rules.proofs.Callers.{run-made, accepted-append, tests-seen, limit-seen, full-met, run-bounded}
 use Rattle.law_handed.proofs.Counted.{means-same}
 use Rattle.table_record.specs.Store.{rawTable, tableIn}
 use Rattle.spec_sheet.proofs.Exact.{loaded-valid}
 use Rattle.sheet_read.specs.declared.Sheet.{Sheet}
 use Rattle.sheet_read.proofs.Accepted.{read-loaded, read-accepted}
-use Rattle.theorem.specs.Shown.{Accepts, sheetTable, bookOf, seenOf, isCall, History, begins, asks, runs, alike, Shown, ShownApart}
-use Rattle.theorem.proofs.Runs.{fed-both}
+use Rattle.request_run.specs.Requested.{asked}
+use Rattle.theorem.specs.Shown.{Accepts, sheetTable, bookOf, seenOf, isCall, RunReturns, History, begins, asks, runs, alike, Shown, ShownApart}
+use Rattle.theorem.proofs.Runs.{seen-placed, placed-at, seen-before, fed-both}
 use Rattle.theorem.proofs.Laws.{Means, means-first, means-alike, means-asked, asked-made, outcome-is, means-run, run-counts, means-claim, means-noted, means-called, means-answered}
 
 module _ (bytes : List ℕ) (f : Sheet) (a : Accepts bytes f) where
@@ -76,6 +79,24 @@ module _ (bytes : List ℕ) (f : Sheet) (a : Accepts bytes f) where
         let c = history-made r l h (named subject) in
         (λ z. omega (arith, x .0 (sym i ∙ z), c, history-few r l h (named subject)), λ z. i ∙ x .1 (omega (arith, z, c)))
 
+    some-value : {x y : Outcome} → some x ≡ some y → x ≡ y
+    some-value p = cc
+
+    in-runs : (before behind : List (Option Request)) (subject k m : ℤ) (vs : List ℤ) (os : List Outcome) (r′ : RawSystem)
+        → RunReturns r (before ++ (some (call subject k m vs) ∷ behind)) os r′ → (o : Outcome) → getElem? os (length before) ≡ some o → refusedBefore o ≡ false
+        → (o ≡ refused callsFull) ↔ (acceptedCalls (named subject) (l ++ seenOf before os) ≡ maxCallsEach)
+    in-runs before behind subject k m vs os r′ w o at e =
+        let n = named subject in
+        let q = call subject k m vs in
+        let s = systemOf r in
+        let s′ = run s (asked before) .1 in
+        let i : o ≡ outcome (serve s′ q) = some-value (sym at ∙ ap (λ (z : List Outcome). getElem? z (length before)) (w .outcomes) ∙ placed-at before behind q s) in
+        let x = limit-seen s′ subject k m vs (tests-seen s′ subject k m vs ∙ ap (λ z. not (refusedBefore z)) (sym i) ∙ ap not e) in
+        let few = run-bounded (asked before) s (fits-bounded s (accepted-codes r (history-means r l h .passes) .2)) .calls .few n in
+        let c : madeBy n (s′ .calls) ≡ acceptedCalls n (l ++ seenOf before os) = run-made (asked before) s n ∙ ap (λ (z : ℕ). z + acceptedCalls n (seen (asked before) (run s (asked before) .0))) (history-made r l h n)
+            ∙ ap (λ (z : Transcript). acceptedCalls n l + acceptedCalls n z) (sym (ap (seenOf before) (w .outcomes) ∙ seen-before before behind q s ∙ seen-placed before s)) ∙ sym (accepted-append n l (seenOf before os)) in
+        (λ z. omega (arith, x .0 (sym i ∙ z), c, few), λ z. i ∙ x .1 (omega (arith, z, c)))
+
     others : (q : Request) (o : Outcome) (r′ : RawSystem) → Returns r q o r′ → isCall q ≡ false → o ≡ refused callsFull → ⊥
     others q o r′ w e z = go q e (full-met (systemOf r) q .0 (sym (outcome-of q o r′ w) ∙ z))
       where
@@ -94,7 +115,7 @@ shown bytes f a r l h = let t = sheetTable f in let v = valid bytes f a in let x
     notes = means-noted t v r (bookOf f l) x;
     answers = λ subject j y o r′ w e. means-answered t v r (bookOf f l) x o r′ e subject j y w;
   },
-  record { made = history-made bytes f a r l h; tests = tests bytes f a r l h; full = full bytes f a r l h; others = others bytes f a r l h },
+  record { made = history-made bytes f a r l h; tests = tests bytes f a r l h; full = full bytes f a r l h; inRuns = in-runs bytes f a r l h; others = others bytes f a r l h },
 )
 
 pub shown-apart : ShownApart

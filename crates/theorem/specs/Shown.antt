@@ -10,7 +10,7 @@ use mathlib.Core.List.{List, [], _∷_, _++_, map}
 use mathlib.Core.Option.{Option, none, some}
 use Prim.Native.Nat.{ℕ, _<_}
 use lib.IntN.{ℤ, pos}
-use lib.ListN.{length}
+use lib.ListN.{length, getElem?}
 use Rattle.spec_model.specs.Basics.{all, names, named}
 use Rattle.spec_model.specs.Table.{Table}
 use Rattle.spec_model.specs.Requests.{Request, new, move, call, answer, Outcome, refused, maxCallsEach, madeBy}
@@ -113,6 +113,10 @@ pub record CallsOwn (r : RawSystem) (l : Transcript) : Type 0 where
   pub tests : (subject k m : ℤ) (vs : List ℤ) (o : Outcome) (r′ : RawSystem) → Returns r (call subject k m vs) o r′ → passesTests (systemOf r) subject k m vs ≡ not (refusedBefore o)
   pub full : (subject k m : ℤ) (vs : List ℤ) (o : Outcome) (r′ : RawSystem) → Returns r (call subject k m vs) o r′ → refusedBefore o ≡ false
       → (o ≡ refused callsFull) ↔ (acceptedCalls (named subject) l ≡ maxCallsEach)
+  -- the same of a call in a run, behind the requests `before` of the list
+  pub inRuns : (before behind : List (Option Request)) (subject k m : ℤ) (vs : List ℤ) (os : List Outcome) (r′ : RawSystem)
+      → RunReturns r (before ++ (some (call subject k m vs) ∷ behind)) os r′ → (o : Outcome) → getElem? os (length before) ≡ some o → refusedBefore o ≡ false
+      → (o ≡ refused callsFull) ↔ (acceptedCalls (named subject) (l ++ seenOf before os) ≡ maxCallsEach)
   -- no other request meets it
   pub others : (q : Request) (o : Outcome) (r′ : RawSystem) → Returns r q o r′ → isCall q ≡ false → o ≡ refused callsFull → ⊥
 
