@@ -5,6 +5,7 @@ pub mod Shown
 pub mod RunWords
 pub mod Offers
 pub mod Writes
+pub mod Full
 pub mod OfStates
 pub mod OfBytes
 pub mod Scripted

@@ -35,6 +35,7 @@ use Rattle.theorem.specs.OfStates.{seenBy}
 use Rattle.theorem.specs.OfBytes.{sheetIn, ShownOfLoads, ShownOfBytes, ShownOfBytesApart}
 use Rattle.theorem.proofs.Shown.{shown}
 use Rattle.theorem.proofs.RunWords.{not-zero, outcomes-length, words-seen}
+use Rattle.theorem.proofs.Full.{before-by, number-by, ran-full}
 use Rattle.theorem.proofs.Offers.{offers-is, offers-yes, offers-no}
 use Rattle.theorem.proofs.Writes.{written-back}
 
@@ -121,29 +122,13 @@ module _ (r : RawSystem) (b : Book) (x : Holds r b) (k : ℤ) (w : List ℤ) (n 
     (λ z. offers-no r b x k w .0 (bit-false c (sym bit-is ∙ z)), λ h. bit-is ∙ ap bit (offers-no r b x k w .1 h)),
   )
 
--- ---- the number returned says the outcome
-module _ (x : Flat) (q : Request) (n : ℕ) (e : n ≡ outcomeNumber (outcomeOn x q)) where
-  before-by : refusedBefore (refused n) ≡ refusedBefore (outcomeOn x q)
-  before-by = go (outcomeOn x q) e
-    where
-      go : (o : Outcome) → n ≡ outcomeNumber o → refusedBefore (refused n) ≡ refusedBefore o
-      go (refused i) p = ap (λ z. refusedBefore (refused z)) p
-      go (got v) p = ap (λ z. refusedBefore (refused z)) p
-
-  number-by : (n ≡ callsFull) ↔ (outcomeOn x q ≡ refused callsFull)
-  number-by = go (outcomeOn x q) e
-    where
-      go : (o : Outcome) → n ≡ outcomeNumber o → (n ≡ callsFull) ↔ (o ≡ refused callsFull)
-      go (refused i) p = (λ z. ap refused (sym p ∙ z), λ z. p ∙ ap outcomeNumber z)
-      go (got v) p = (λ z. absurd (omega (arith, p, z)), λ z. p ∙ ap outcomeNumber z)
-
 full-by : (bytes : List ℕ) (f : Sheet) → Accepts bytes f → (l : Transcript) (subject k m : ℤ) (vs : List ℤ) (n : ℕ) (old new : LentState) → History f (rawFlat (old .state)) l
     → Handed (call subject k m vs) n old new → refusedBefore (refused n) ≡ false → (n ≡ callsFull) ↔ (acceptedCalls (named subject) l ≡ maxCallsEach)
 full-by bytes f a l subject k m vs n old new h w p =
     let q = call subject k m vs in
     let x = shown bytes f a (rawFlat (old .state)) l h .1 .full subject k m vs (outcomeOn (old .state) q) (rawFlat (new .state)) (w .returns)
-    (sym (before-by (old .state) q n (w .number)) ∙ p) in
-    let y = number-by (old .state) q n (w .number) in
+    (sym (before-by (outcomeOn (old .state) q) n (w .number)) ∙ p) in
+    let y = number-by (outcomeOn (old .state) q) n (w .number) in
     (λ z. x .0 (y .0 z), λ z. y .1 (x .1 z))
 
 pub shown-of-bytes-apart : ShownOfBytesApart
@@ -162,6 +147,9 @@ shown-of-bytes bytes f a = record {
       shown bytes f a (rawFlat (old .state)) l h .0 .answers subject j v (outcomeOn (old .state) q) (rawFlat (new .state)) (w .returns) (zero-taken (old .state) q n (w .number) z);
   made = λ x l h. shown bytes f a (rawFlat x) l h .1 .made;
   full = λ l subject k m vs n old new h w p. full-by bytes f a l subject k m vs n old new h w p;
+  ranFull = λ l words n old new h w before behind subject k m vs e i z p. let x = shown bytes f a (rawFlat (old .state)) l h in
+      ran-full (rawFlat (old .state)) l (x .1) words (old .answers) (new .answers) (ran words n old new (x .0 .passes) w .answers) (rawFlat (new .state))
+      (run-returns words n old new (x .0 .passes) w) before behind subject k m vs e i z p;
   runs = λ l words n old new h w. run-goes-on words n old new (shown bytes f a (rawFlat (old .state)) l h .0 .passes) w f l h;
   offers = λ x l k w n old new h e. offers-says (rawFlat x) (bookOf f l) (shown bytes f a (rawFlat x) l h .0) k w n old new e;
   writes = λ x l counts n before after old new h e w. subst (λ z. WrittenIs z n before after new)

@@ -6,6 +6,7 @@ use mathlib.Core.List.{List, _++_}
 use mathlib.Core.Option.{Option}
 use lib.IntN.{ℤ}
 use lib.ListN.{length}
+use lib.Seq.{sets}
 use Rattle.spec_model.specs.Basics.{Res, refuse, ok, need, from}
 use Rattle.spec_model.specs.Requests.{Request}
 use Rattle.spec_model.specs.Check.{RawSystem, systemOf, systemAccepted}
@@ -19,7 +20,7 @@ use Rattle.state_record.specs.Whole.{Whole as State}
 use Rattle.state_record.specs.Whole.{whole}
 use Rattle.state_record.specs.View.{rawState, systemIn, stateLoaded}
 use Rattle.request_common.specs.Served.{outcomeOf}
-use Rattle.request_words.specs.Words.{requests}
+use Rattle.request_words.specs.Words.{requests, outcomeWords}
 use Rattle.request_run.specs.Requested.{runAsked, runHanded}
 use Rattle.request_run.specs.Ran.{Over as Ran}
 use Rattle.request_run.specs.Ran.{room, RanAs, Runs}
@@ -30,6 +31,7 @@ use Rattle.theorem.specs.Shown.{first, bookOf, RunReturns, History, begi
 use Rattle.theorem.specs.OfStates.{seenBy, ShownOfStates}
 use Rattle.theorem.proofs.Shown.{shown}
 use Rattle.theorem.proofs.RunWords.{outcomes-length, words-seen}
+use Rattle.theorem.proofs.Full.{ran-full}
 use Rattle.theorem.proofs.Offers.{offers-is, offers-yes, offers-no}
 use Rattle.theorem.proofs.Writes.{written-back}
 
@@ -50,6 +52,15 @@ module _ (s : State) (words old new : List ℤ) (y : Ran) (p : So (systemAccepte
   run-returns : RunReturns (rawState s) qs (runAsked (systemIn s) qs .0) (rawState (y .state))
   unfolding systemIn
   run-returns = record { outcomes = refl; records = ran .records }
+
+  -- the same by the state's meaning as it is handed in
+  stored-words : new ≡ sets old 0 (outcomeWords (runAsked (systemOf (rawState s)) qs .0))
+  unfolding systemIn
+  stored-words = ran .answers
+
+  run-returned : RunReturns (rawState s) qs (runAsked (systemOf (rawState s)) qs .0) (rawState (y .state))
+  unfolding systemIn
+  run-returned = run-returns
 
   run-goes-on : (f : Sheet) (l : Transcript) → History f (rawState s) l → (y .refusal ≡ 0) × (y .served ≡ length qs) × History f (rawState (y .state)) (l ++ seenBy qs new)
   run-goes-on f l h = let os = runAsked (systemIn s) qs .0 in (
@@ -84,6 +95,9 @@ shown-of-states bytes f a = record {
   calls = λ s l subject k m vs y h w e. shown bytes f a (rawState s) l h .0 .calls subject k m vs (outcomeOf (y .outcome)) (rawState (y .state)) (w .returns) e;
   answers = λ s l subject j v y h w e. shown bytes f a (rawState s) l h .0 .answers subject j v (outcomeOf (y .outcome)) (rawState (y .state)) (w .returns) e;
   full = λ s l subject k m vs y h w e. shown bytes f a (rawState s) l h .1 .full subject k m vs (outcomeOf (y .outcome)) (rawState (y .state)) (w .returns) e;
+  ranFull = λ s l words old new y h w before behind subject k m vs e n z p. let x = shown bytes f a (rawState s) l h in
+      ran-full (rawState s) l (x .1) words old new (stored-words s words old new y (x .0 .passes) w) (rawState (y .state)) (run-returned s words old new y (x .0 .passes) w)
+      before behind subject k m vs e n z p;
   runs = λ s l words old new y h w. run-goes-on s words old new y (shown bytes f a (rawState s) l h .0 .passes) w f l h;
   offers = λ s l k w o h e. let x = shown bytes f a (rawState s) l h .0 in said (rawState s) (bookOf f l) x k w o (e ∙ offers-is (rawState s) (bookOf f l) x k w);
   writes = λ s l w old new h e. e ∙ written-back bytes f a (rawState s) l h old;

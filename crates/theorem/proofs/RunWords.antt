@@ -1,5 +1,5 @@
 -- The words of a run have the transcript of its outcomes: the first of four is 0 exactly where the request was accepted.
-use mathlib.Core.Path.{_≡_, refl, ap, _∙_}
+use mathlib.Core.Path.{_≡_, refl, ap, sym, subst, _∙_}
 use mathlib.Core.Bool.{Bool, true, false, cond}
 use mathlib.Core.List.{List, [], _∷_, _++_}
 use mathlib.Core.Option.{Option, none, some}
@@ -14,11 +14,12 @@ use Rattle.spec_model.specs.Requests.{System, Request, Result, pair, number, no
 use Rattle.spec_model.specs.Callers.{Transcript, taken}
 use Rattle.spec_model.proofs.Tests.{eqb-so}
 use Rattle.law_handed.proofs.Small.{Small, Named, small-serve}
+use Rattle.request_results.specs.States.{outcomeNumber}
 use Rattle.request_words.specs.Words.{request, requests, outcomeSize, wordsOf, outcomeWords}
 use Rattle.request_run.specs.Requested.{asked, placed, runAsked}
 use Rattle.request_run.specs.Ran.{room}
 use Rattle.theorem.specs.Shown.{seenOf}
-use Rattle.theorem.specs.OfStates.{isZero, seenBy}
+use Rattle.theorem.specs.OfStates.{isZero, seenBy, firstWord}
 
 -- the number of a refusal is not 0
 pub not-zero : (n : ℕ) → 0 < n → eqb n 0 ≡ false
@@ -57,6 +58,34 @@ seen-words (some q ∷ qs) s rest =
     ap (λ c. (q, c) ∷ seenBy qs (drop outcomeSize ((wordsOf (outcome a) ++ ws) ++ rest))) (first-word ws rest s a (small-serve s q))
     ∙ ap (λ z. (q, taken (outcome a)) ∷ seenBy qs z) (behind ws rest (outcome a)) ∙ ap (λ (l : Transcript). (q, taken (outcome a)) ∷ l) (seen-words qs (after s a) rest)
 
+-- ---- a call in the middle: its first word is the number of its outcome, and the words before it have the transcript of the outcomes before it
+number-word : (o : Outcome) (ws rest : List ℤ) → getD ((wordsOf o ++ ws) ++ rest) 0 (pos 1) ≡ pos (outcomeNumber o)
+number-word (refused e) ws rest = refl
+number-word (got (pair a b)) ws rest = refl
+number-word (got (number v)) ws rest = refl
+number-word (got nothing) ws rest = refl
+
+module _ (after′ : List (Option Request)) (q : Request) where
+  word-at : (before : List (Option Request)) (s : System) (rest : List ℤ) → let qs = before ++ (some q ∷ after′) in
+      firstWord (length before) (outcomeWords (placed qs (run s (asked qs) .0)) ++ rest) ≡ pos (outcomeNumber (outcome (serve (run s (asked before) .1) q)))
+  unfolding run outcomeWords
+  word-at [] s rest = number-word (outcome (serve s q)) _ rest
+  word-at (none ∷ before) s rest = word-at before s rest
+  word-at (some p ∷ before) s rest = let a = serve s p in let qs = before ++ (some q ∷ after′) in let ws = outcomeWords (placed qs (run (after s a) (asked qs) .0)) in
+      ap (firstWord (length before)) (behind ws rest (outcome a)) ∙ word-at before (after s a) rest
+
+  words-before : (before : List (Option Request)) (s : System) (rest : List ℤ) → let qs = before ++ (some q ∷ after′) in let os = placed qs (run s (asked qs) .0) in
+      seenBy before (outcomeWords os ++ rest) ≡ seenOf before os
+  unfolding run outcomeWords
+  words-before [] s rest = refl
+  words-before (none ∷ before) s rest = words-before before s rest
+  words-before (some p ∷ before) s rest =
+      let a = serve s p in
+      let qs = before ++ (some q ∷ after′) in
+      let ws = outcomeWords (placed qs (run (after s a) (asked qs) .0)) in
+      ap (λ c. (p, c) ∷ seenBy before (drop outcomeSize ((wordsOf (outcome a) ++ ws) ++ rest))) (first-word ws rest s a (small-serve s p))
+      ∙ ap (λ z. (p, taken (outcome a)) ∷ seenBy before z) (behind ws rest (outcome a)) ∙ ap (λ (l : Transcript). (p, taken (outcome a)) ∷ l) (words-before before (after s a) rest)
+
 -- ---- all of them: there is room
 pub outcomes-length : (qs : List (Option Request)) (s : System) → length (placed qs (run s (asked qs) .0)) ≡ length qs
 unfolding run
@@ -86,9 +115,28 @@ requests-few (suc f) (code ∷ n ∷ ws) = go (names n (suc (length ws))) (reque
     go true l = omega arith
     go false l = omega arith
 
+room-for : (words old : List ℤ) (s : System) → let os = runAsked s (requests (room old) words) .0 in
+    sets old 0 (outcomeWords os) ≡ outcomeWords os ++ drop (0 + length (outcomeWords os)) old
+room-for words old s =
+    let qs = requests (room old) words in
+    let os = runAsked s qs .0 in
+    let n : length (outcomeWords os) ≤ length old = omega (arith, answers-length os, outcomes-length qs s, requests-few (room old) words) in
+    sets-eq (outcomeWords os) old 0 (omega arith)
+
 pub words-seen : (words old : List ℤ) (s : System) → let qs = requests (room old) words in let os = runAsked s qs .0 in seenBy qs (sets old 0 (outcomeWords os)) ≡ seenOf qs os
 words-seen words old s =
     let qs = requests (room old) words in
     let os = runAsked s qs .0 in
-    let n : length (outcomeWords os) ≤ length old = omega (arith, answers-length os, outcomes-length qs s, requests-few (room old) words) in
-    ap (seenBy qs) (sets-eq (outcomeWords os) old 0 (omega arith)) ∙ seen-words qs s (drop (0 + length (outcomeWords os)) old)
+    ap (seenBy qs) (room-for words old s) ∙ seen-words qs s (drop (0 + length (outcomeWords os)) old)
+
+-- the same of a call in the middle of a run that stored the words `new`
+pub record CallWords (s : System) (new : List ℤ) (before : List (Option Request)) (q : Request) (os : List Outcome) : Type 0 where
+  pub number : firstWord (length before) new ≡ pos (outcomeNumber (outcome (serve (run s (asked before) .1) q)))
+  pub seen : seenBy before new ≡ seenOf before os
+
+pub call-words : (words old new : List ℤ) (s : System) (before behind : List (Option Request)) (q : Request) → requests (room old) words ≡ before ++ (some q ∷ behind)
+    → let os = runAsked s (requests (room old) words) .0 in new ≡ sets old 0 (outcomeWords os) → CallWords s new before q os
+call-words words old new s before behind q e w = subst (λ qs. new ≡ outcomeWords (runAsked s qs .0) ++ drop (0 + length (outcomeWords (runAsked s qs .0))) old → CallWords s new before q (runAsked s qs .0))
+    (sym e)
+    (λ z. record { number = ap (firstWord (length before)) z ∙ word-at behind q before s _; seen = ap (seenBy before) z ∙ words-before behind q before s _ })
+    (w ∙ room-for words old s)

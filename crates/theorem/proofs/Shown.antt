@@ -94,7 +94,7 @@ module _ (bytes : List ℕ) (f : Sheet) (a : Accepts bytes f) where
         let x = limit-seen s′ subject k m vs (tests-seen s′ subject k m vs ∙ ap (λ z. not (refusedBefore z)) (sym i) ∙ ap not e) in
         let few = run-bounded (asked before) s (fits-bounded s (accepted-codes r (history-means r l h .passes) .2)) .calls .few n in
         let c : madeBy n (s′ .calls) ≡ acceptedCalls n (l ++ seenOf before os) = run-made (asked before) s n ∙ ap (λ (z : ℕ). z + acceptedCalls n (seen (asked before) (run s (asked before) .0))) (history-made r l h n)
-            ∙ ap (λ (z : Transcript). acceptedCalls n l + acceptedCalls n z) (sym (ap (seenOf before) (w .outcomes) ∙ seen-before before behind q s ∙ seen-placed before s)) ∙ sym (accepted-append n l (seenOf before os)) in
+        ∙ ap (λ (z : Transcript). acceptedCalls n l + acceptedCalls n z) (sym (ap (seenOf before) (w .outcomes) ∙ seen-before before behind q s ∙ seen-placed before s)) ∙ sym (accepted-append n l (seenOf before os)) in
         (λ z. omega (arith, x .0 (sym i ∙ z), c, few), λ z. i ∙ x .1 (omega (arith, z, c)))
 
     others : (q : Request) (o : Outcome) (r′ : RawSystem) → Returns r q o r′ → isCall q ≡ false → o ≡ refused callsFull → ⊥

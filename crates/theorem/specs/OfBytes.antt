@@ -6,7 +6,7 @@ use mathlib.Core.Path.{_≡_}
 use mathlib.Core.Logic.{_↔_}
 use mathlib.Core.Bool.{false, So}
 use mathlib.Core.List.{List, [], _∷_, _++_}
-use mathlib.Core.Option.{Option}
+use mathlib.Core.Option.{Option, some}
 use Prim.Native.Nat.{ℕ}
 use lib.Dec.{eqb}
 use lib.IntN.{ℤ, pos}
@@ -30,7 +30,7 @@ use Rattle.request_results.specs.States.{LentState, Handed}
 use Rattle.export_runs.specs.Results.{offeredOut, LoadedIs, LentRun, RunsOut}
 use Rattle.text_write.specs.Written.{WrittenIs}
 use Rattle.theorem.specs.Shown.{Accepts, bookOf, History, Permitted}
-use Rattle.theorem.specs.OfStates.{seenBy}
+use Rattle.theorem.specs.OfStates.{seenBy, firstWord}
 
 -- ---- Where `pilgonca_load` returns 0, what it stored is the reader's result for the bytes, and no refusal: so it is an f of which the rest is said.
 abbrev pub sheetIn : ℕ → ℕ → Flat → Sheet
@@ -58,6 +58,11 @@ pub record OfBytes (bytes : List ℕ) (f : Sheet) : Type 0 where
   pub runs : (l : Transcript) (words : List ℤ) (n : ℕ) (old new : LentRun) → History f (rawFlat (old .state)) l
       → RunsOut (runHanded (rawFlat (old .state)) (room (old .answers)) words) n old new
       → let qs = requests (room (old .answers)) words in (n ≡ 0) × (new .served ≡ length qs) × History f (rawFlat (new .state)) (l ++ seenBy qs (new .answers))
+  -- A call among them whose first word is none of 5, 6, 14 and 15 has 18 there exactly if its subject's accepted calls before it are 32 (L29).
+  pub ranFull : (l : Transcript) (words : List ℤ) (n : ℕ) (old new : LentRun) → History f (rawFlat (old .state)) l → RunsOut (runHanded (rawFlat (old .state)) (room (old .answers)) words) n old new
+      → (before behind : List (Option Request)) (subject k m : ℤ) (vs : List ℤ) → requests (room (old .answers)) words ≡ before ++ (some (call subject k m vs) ∷ behind)
+      → (e : ℕ) → firstWord (length before) (new .answers) ≡ pos e → refusedBefore (refused e) ≡ false
+      → (e ≡ callsFull) ↔ (acceptedCalls (named subject) (l ++ seenBy before (new .answers)) ≡ maxCallsEach)
   -- `pilgonca_offers` returns 0, and stores 1 exactly where the page of that cell, its class and all of its trail, permits the chain, and else 0 (L26).
   pub offers : (x : Flat) (l : Transcript) (k : ℤ) (w : List ℤ) (n old new : ℕ) → History f (rawFlat x) l → (n, new) ≡ offeredOut old (offersHanded (rawFlat x) k w)
       → (n ≡ 0) × ((new ≡ 1) ↔ Permitted (bookOf f l) k w) × ((new ≡ 0) ↔ (Permitted (bookOf f l) k w → ⊥))

@@ -6,7 +6,7 @@ use mathlib.Core.Logic.{_↔_}
 use mathlib.Core.Bool.{Bool, false, So}
 use mathlib.Core.List.{List, [], _∷_, _++_}
 use mathlib.Core.Option.{Option, none, some}
-use Prim.Native.Nat.{ℕ}
+use Prim.Native.Nat.{ℕ, zero, suc}
 use lib.Dec.{eqb}
 use lib.IntN.{ℤ, pos, negsuc}
 use lib.ListN.{length, getD, drop}
@@ -44,6 +44,11 @@ seenBy [] answers = []
 seenBy (none ∷ qs) answers = seenBy qs (drop outcomeSize answers)
 seenBy (some q ∷ qs) answers = (q, isZero (getD answers 0 (pos 1))) ∷ seenBy qs (drop outcomeSize answers)
 
+-- the first word of outcome i: 0, or the number of its refusal
+abbrev pub firstWord : ℕ → List ℤ → ℤ
+firstWord zero answers = getD answers 0 (pos 1)
+firstWord (suc i) answers = firstWord i (drop outcomeSize answers)
+
 -- ---- f is what the reader made of the bytes.
 pub record OfStates (bytes : List ℕ) (f : Sheet) : Type 0 where
   -- The state made of the sheet (`State::loaded`) begins a history, with nothing in the transcript (L24).
@@ -62,6 +67,10 @@ pub record OfStates (bytes : List ℕ) (f : Sheet) : Type 0 where
   -- A run is not refused, and takes the history on: of the requests in its words, as many as there is room for, the transcript has what the list of outcomes says then (L24, L25).
   pub runs : (s : State) (l : Transcript) (words old new : List ℤ) (y : Ran) → History f (rawState s) l → Runs s old new (runHanded (rawState s) (room old) words) y
       → let qs = requests (room old) words in (y .refusal ≡ 0) × (y .served ≡ length qs) × History f (rawState (y .state)) (l ++ seenBy qs new)
+  -- A call among them whose first word is none of 5, 6, 14 and 15 has 18 there exactly if its subject's accepted calls before it are 32 (L29).
+  pub ranFull : (s : State) (l : Transcript) (words old new : List ℤ) (y : Ran) → History f (rawState s) l → Runs s old new (runHanded (rawState s) (room old) words) y
+      → (before behind : List (Option Request)) (subject k m : ℤ) (vs : List ℤ) → requests (room old) words ≡ before ++ (some (call subject k m vs) ∷ behind)
+      → (n : ℕ) → firstWord (length before) new ≡ pos n → refusedBefore (refused n) ≡ false → (n ≡ callsFull) ↔ (acceptedCalls (named subject) (l ++ seenBy before new) ≡ maxCallsEach)
   -- Offers says yes exactly where the page of that cell, its class and all of its trail, permits the chain, and else no (L26).
   pub offers : (s : State) (l : Transcript) (k : ℤ) (w : List ℤ) (o : Offered) → History f (rawState s) l → offeredAs o ≡ offersHanded (rawState s) k w
       → ((o ≡ Yes) ↔ Permitted (bookOf f l) k w) × ((o ≡ No) ↔ (Permitted (bookOf f l) k w → ⊥))
