@@ -1,7 +1,8 @@
 -- The theorem of the program `script` (specs/Scripted). No line that is printed has an LF in it, so splitting the output gives its lines back; a run is its requests followed; and
--- the sheet being valid, demand 3 and the laws over calls hold of every state on the way.
+-- the sheet being valid, demand 3 and the laws over calls hold of every state on the way. What is printed is the transcript: `got=` stands before what was accepted alone, and the
+-- text of a refusal is that of its number alone.
 use mathlib.Core.Path.{_≡_, refl, ap, sym, subst, _∙_}
-use mathlib.Core.Logic.{_⊎_, inl, inr}
+use mathlib.Core.Logic.{_⊎_, inl, inr, _↔_}
 use mathlib.Core.Bool.{Bool, true, false, So, cond}
 use mathlib.Core.List.{List, [], _∷_, _++_, map}
 use mathlib.Core.Option.{Option, none, some}
@@ -12,21 +13,25 @@ use lib.IntN.{ℤ, pos, negsuc}
 use lib.ListN.{length, take, drop, getElem?, length-append, length-drop}
 use lib.Seq.{take-append-seam, drop-append-seam}
 use borrow.Author.Tests.{leb-true, leb-false, lt-ltb, le-ltb}
-use Rattle.spec_model.specs.Basics.{Res, refuse, ok}
-use Rattle.spec_model.specs.Table.{Table}
-use Rattle.spec_model.specs.Requests.{System, Request, call, Result, pair, number, nothing, Outcome, got, refused, outcome, serve, after, run}
+use Rattle.spec_model.specs.Basics.{Res, refuse, ok, named}
+use Rattle.spec_model.specs.Table.{Table, validSheet}
+use Rattle.spec_model.specs.Requests.{System, Request, call, Result, pair, number, nothing, Outcome, got, refused, outcome, maxCallsEach, madeBy, serve, after, run}
 use Rattle.spec_model.specs.Requests.{loaded as start}
 use Rattle.spec_model.specs.Book.{Book, opened}
 use Rattle.spec_model.specs.Claim.{accepted, feed, follow}
+use Rattle.spec_model.specs.Callers.{Transcript, taken, seen, acceptedCalls, passesTests, sawOf}
+use Rattle.spec_model.specs.Refusals.{shortBuffer, callsFull}
 use Rattle.spec_model.proofs.Rules.{never}
-use Rattle.spec_model.specs.Refusals.{shortBuffer}
+use Rattle.law_rules.proofs.Callers.{calls-counted, limit-seen, accepted-few}
+use Rattle.law_handed.proofs.Small.{Small, Named, small-serve}
 use Rattle.spec_sheet.specs.Lines.{Row, row, cut, bytes, split, join, starts, firstLine}
 use Rattle.spec_sheet.specs.Clean.{notLF, clean}
 use Rattle.spec_sheet.specs.Numbers.{decimal}
 use Rattle.spec_sheet.specs.Text.{numberText, Written, writeText}
-use Rattle.spec_sheet.specs.Sheet.{SheetResult, malformed, loaded, read}
-use Rattle.spec_sheet.proofs.Steps.{none-some}
+use Rattle.spec_sheet.specs.Sheet.{SheetResult, malformed, loaded, read, numberLine}
+use Rattle.spec_sheet.proofs.Steps.{none-some, ok-value}
 use Rattle.spec_sheet.proofs.Lines.{rows, Clean, clean-lines, all-append, split-full, decimal-clean}
+use Rattle.spec_sheet.proofs.LineKinds.{in-between, number-exact}
 use Rattle.spec_sheet.proofs.Exact.{loaded-valid, loaded-demand3}
 use Rattle.script_read_request.specs.Asked.{requestLine}
 use Rattle.script_write_outcome.specs.Outcomes.{integerText, outcomeText}
@@ -35,7 +40,9 @@ use Rattle.text_write.specs.Written.{writtenOf, WrittenIs}
 use Rattle.script_output.proofs.Short.{output-short, output-fits}
 use Rattle.script_output.proofs.Whole.{lastLine}
 use Rattle.theorem.specs.Shown.{Permitted}
-use Rattle.theorem.specs.Scripted.{Fits, TooShort, lineOf, requestsOf, endsMalformed, stateAfter, bookAfter, Served, Script, ShownOfScripts, writtenIn, ShownOfScriptBytes}
+use Rattle.theorem.specs.Scripted.{Fits, TooShort, lineOf, requestsOf, endsMalformed, stateAfter, bookAfter, seenLines, transcriptAfter, Served, Script}
+use Rattle.theorem.specs.Scripted.{ShownOfScripts, writtenIn, ShownOfScriptBytes}
+use Rattle.theorem.proofs.Runs.{outcome-taken}
 use Rattle.theorem.proofs.Calls.{if-accepted, call-tested, tested-permitted}
 
 -- ---- the buffer
@@ -133,10 +140,52 @@ lines-end [] s ls = refl
 lines-end (q ∷ qs) s ls = lines-end qs (after s (serve s q)) ls
 
 -- a line that begins with `got=` is that of an accepted request
-got-accepted : (m : Res (System × Result)) → So (starts (bytes "got=") (outcomeText (outcome m))) → So (accepted m)
+got-taken : (o : Outcome) → starts (bytes "got=") (outcomeText o) ≡ taken o
 unfolding outcomeText numberText starts
-got-accepted (refuse e) h = never h
-got-accepted (ok x) h = refl
+got-taken (refused e) = refl
+got-taken (got (pair a b)) = refl
+got-taken (got (number v)) = refl
+got-taken (got nothing) = refl
+
+got-accepted : (m : Res (System × Result)) → So (starts (bytes "got=") (outcomeText (outcome m))) → So (accepted m)
+got-accepted m h = sym (got-taken (outcome m) ∙ outcome-taken m) ∙ h
+
+-- ---- the transcript that is printed (L28)
+follow-runs : (qs : List Request) (s : System) (b : Book) → follow s b qs .0 ≡ run s qs .1
+unfolding follow run
+follow-runs [] s b = refl
+follow-runs (q ∷ qs) s b = let a = serve s q in follow-runs qs (after s a) (feed b q (accepted a))
+
+drop-next : (rs : List Row) (i : ℕ) (r : Row) (us : List Row) → drop i rs ≡ r ∷ us → drop (suc i) rs ≡ us
+drop-next [] zero r us h = cc
+drop-next [] (suc i) r us h = cc
+drop-next (x ∷ rs) zero r us h = cc
+drop-next (x ∷ rs) (suc i) r us h = drop-next rs i r us h
+
+-- where the lines of a run of qs stand from line i on, the first k of them are the transcript of the first k requests
+lines-seen : (text : List ℕ) (qs : List Request) (k i : ℕ) (s : System) (ls : List (List ℕ)) → drop i (split text) ≡ rows (map outcomeText (run s qs .0) ++ ls)
+    → seenLines text i (take k qs) ≡ seen (take k qs) (run s (take k qs) .0)
+unfolding run
+lines-seen text [] zero i s ls h = refl
+lines-seen text [] (suc k) i s ls h = refl
+lines-seen text (q ∷ qs) zero i s ls h = refl
+lines-seen text (q ∷ qs) (suc k) i s ls h =
+    let a = serve s q in
+    let us = rows (map outcomeText (run (after s a) qs .0) ++ ls) in
+    let e : starts (bytes "got=") (lineOf text i) ≡ taken (outcome a) = ap (λ z. starts (bytes "got=") (firstLine z)) h ∙ got-taken (outcome a) in
+    let l = lines-seen text qs k (suc i) (after s a) ls (drop-next (split text) i (row (outcomeText (outcome a))) us h) in
+    ap (λ (b : Bool). (q, b) ∷ seenLines text (suc i) (take k qs)) e ∙ ap (λ (z : Transcript). (q, taken (outcome a)) ∷ z) l
+
+-- ---- `no=18` is printed for 18 alone (L29)
+number-back : (m n : ℕ) → m < 256 → n < 256 → numberText (bytes "no=") m ≡ numberText (bytes "no=") n → m ≡ n
+number-back m n a b e = let w = number-exact (bytes "no=") 0 255 (omega arith) refl in
+    ok-value (sym (w .full m (in-between 0 255 m (omega arith) (omega (arith, a)))) ∙ ap (numberLine (bytes "no=") 0 255) e ∙ w .full n (in-between 0 255 n (omega arith) (omega (arith, b))))
+
+full-printed : (s : System) (m : Res (System × Result)) → Small (λ (x : System × Result). Named s (x .0) (x .1)) m
+    → outcomeText (outcome m) ≡ numberText (bytes "no=") callsFull → outcome m ≡ refused callsFull
+unfolding outcomeText numberText starts
+full-printed s (refuse e) h z = ap refused (number-back e callsFull (h .1) (omega arith) z)
+full-printed s (ok x) h z = never (sym (sym (got-taken (got (x .1))) ∙ ap (starts (bytes "got=")) z))
 
 -- ---- the output by its cases
 
@@ -162,6 +211,9 @@ module _ (input : List ℕ) where
     abbrev qs : List Request
     qs = requestsOf input
 
+    valid : So (validSheet t)
+    valid = loaded-valid (sheetPart input) t e
+
     abbrev linesOut : List (List ℕ)
     linesOut = map outcomeText (run (start t) qs .0) ++ lastLine (endsMalformed input)
 
@@ -176,8 +228,28 @@ module _ (input : List ℕ) where
     calls : (k : ℕ) (subject cell method : ℤ) (vs : List ℤ) → getElem? qs k ≡ some (call subject cell method vs)
         → So (starts (bytes "got=") (lineOf (scriptOutput input) k)) → Permitted (bookAfter input t k) cell (method ∷ [])
     calls k subject cell method vs h g = let m = serve (stateAfter input t k) (call subject cell method vs) in
-        tested-permitted t (loaded-valid (sheetPart input) t e) (take k qs) cell method
+        tested-permitted t valid (take k qs) cell method
         (if-accepted m (call-tested (stateAfter input t k) subject cell method vs) (got-accepted m (subst (λ z. So (starts (bytes "got=") z)) (prints k (call subject cell method vs) h) g)))
+
+    saw : (k : ℕ) → transcriptAfter input k ≡ sawOf t (take k qs)
+    saw k = lines-seen (scriptOutput input) qs k 0 (start t) (lastLine (endsMalformed input)) lines-are
+
+    made : (k n : ℕ) → madeBy n (stateAfter input t k .calls) ≡ acceptedCalls n (transcriptAfter input k)
+    made k n = ap (λ (s : System). madeBy n (s .calls)) (follow-runs (take k qs) (start t) (opened t)) ∙ calls-counted t valid (take k qs) n ∙ sym (ap (acceptedCalls n) (saw k))
+
+    few : (k n : ℕ) → acceptedCalls n (transcriptAfter input k) ≤ maxCallsEach
+    few k n = subst (λ l. acceptedCalls n l ≤ maxCallsEach) (sym (saw k)) (accepted-few t valid (take k qs) n)
+
+    full : (k : ℕ) (subject cell method : ℤ) (vs : List ℤ) → getElem? qs k ≡ some (call subject cell method vs) → So (passesTests (stateAfter input t k) subject cell method vs)
+        → (lineOf (scriptOutput input) k ≡ numberText (bytes "no=") callsFull) ↔ (acceptedCalls (named subject) (transcriptAfter input k) ≡ maxCallsEach)
+    unfolding outcomeText
+    full k subject cell method vs h p =
+        let s = stateAfter input t k in
+        let q : Request = call subject cell method vs in
+        let i = prints k q h in
+        let x = limit-seen s subject cell method vs p in
+        let c = made k (named subject) in
+        (λ z. omega (arith, x .0 (full-printed s (serve s q) (small-serve s q) (sym i ∙ z)), c, few k (named subject)), λ z. i ∙ ap outcomeText (x .1 (omega (arith, z, c))))
 
     served : Served input t
     served = record {
@@ -188,6 +260,8 @@ module _ (input : List ℕ) where
       ends = ap (drop (length qs)) lines-are ∙ lines-end qs (start t) (lastLine (endsMalformed input)) ∙ last-rows (endsMalformed input);
       claim = λ k. loaded-demand3 (sheetPart input) t e (take k qs);
       calls = calls;
+      made = made;
+      full = full;
     }
 
 enough : (input old : List ℕ) (w : Written) → Fits (scriptOutput input) old w ⊎ TooShort (scriptOutput input) old w → length (scriptOutput input) ≤ length old

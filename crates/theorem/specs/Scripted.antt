@@ -1,22 +1,24 @@
 -- The theorem of the program `script`, from bytes to bytes: `ShownOfScripts`. For every input and every buffer that is lent, it says what stands in the buffer after the entry
--- point, line by line; and what is known of every state on the way: demand 3 (L19 to L23), and that a call that is printed as accepted is of a permitted method.
+-- point, line by line; and what is known of every state on the way: demand 3 (L19 to L23), that a call that is printed as accepted is of a permitted method, and that `no=18`
+-- goes by the subject's own calls that are printed as accepted (L28, L29).
 -- The code comes in by the contract of its entry point alone (crate script_output, `script`): `Written` is the result and the buffer that it leaves. `ShownOfScriptBytes` says the
 -- same of the C function. Proof: proofs/Scripted.
 use mathlib.Core.Path.{_≡_}
-use mathlib.Core.Logic.{_⊎_}
+use mathlib.Core.Logic.{_⊎_, _↔_}
 use mathlib.Core.Bool.{Bool, false, So, cond}
 use mathlib.Core.List.{List, [], _∷_}
 use mathlib.Core.Option.{none, some}
-use Prim.Native.Nat.{ℕ, _+_, _≤_, _<_}
+use Prim.Native.Nat.{ℕ, suc, _+_, _≤_, _<_}
 use lib.Dec.{eqb}
 use lib.IntN.{ℤ}
 use lib.ListN.{length, take, drop, getElem?}
-use Rattle.spec_model.specs.Basics.{refuse, ok}
+use Rattle.spec_model.specs.Basics.{refuse, ok, named}
 use Rattle.spec_model.specs.Table.{Table}
-use Rattle.spec_model.specs.Requests.{System, Request, call, outcome, serve}
+use Rattle.spec_model.specs.Requests.{System, Request, call, outcome, maxCallsEach, madeBy, serve}
 use Rattle.spec_model.specs.Book.{Book}
 use Rattle.spec_model.specs.Claim.{reached, Claim}
-use Rattle.spec_model.specs.Refusals.{shortBuffer}
+use Rattle.spec_model.specs.Callers.{Transcript, acceptedCalls, passesTests}
+use Rattle.spec_model.specs.Refusals.{shortBuffer, callsFull}
 use Rattle.spec_sheet.specs.Lines.{row, bytes, split, join, starts, firstLine}
 use Rattle.spec_sheet.specs.Text.{numberText, Written, writeText}
 use Rattle.spec_sheet.specs.Sheet.{malformed, loaded, read}
@@ -60,6 +62,15 @@ stateAfter input t k = reached t (take k (requestsOf input)) .0
 abbrev pub bookAfter : List ℕ → Table → ℕ → Book
 bookAfter input t k = reached t (take k (requestsOf input)) .1
 
+-- requests and whether each was accepted, by the lines of a text from line i on: where a line begins with `got=` (L28)
+abbrev pub seenLines : List ℕ → ℕ → List Request → Transcript
+seenLines text i [] = []
+seenLines text i (q ∷ qs) = (q, starts (bytes "got=") (lineOf text i)) ∷ seenLines text (suc i) qs
+
+-- the transcript of the first k requests, by what is printed
+abbrev pub transcriptAfter : List ℕ → ℕ → Transcript
+transcriptAfter input k = seenLines (scriptOutput input) 0 (take k (requestsOf input))
+
 pub record Served (input : List ℕ) (t : Table) : Type 0 where
   -- request k is what line k behind the sheet asks
   pub asks : (k : ℕ) (q : Request) → getElem? (requestsOf input) k ≡ some q → requestLine (lineOf (requestPart input) k) ≡ some q
@@ -76,6 +87,12 @@ pub record Served (input : List ℕ) (t : Table) : Type 0 where
   -- the method.
   pub calls : (k : ℕ) (subject cell method : ℤ) (vs : List ℤ) → getElem? (requestsOf input) k ≡ some (call subject cell method vs)
       → So (starts (bytes "got=") (lineOf (scriptOutput input) k)) → Permitted (bookAfter input t k) cell (method ∷ [])
+  -- The calls of a subject in the state that the first k requests leave are as many as its accepted calls in what is printed (L28).
+  pub made : (k n : ℕ) → madeBy n (stateAfter input t k .calls) ≡ acceptedCalls n (transcriptAfter input k)
+  -- Where request k is a call that passes the tests before 18, line k of the output is `no=18` exactly if its subject's accepted calls, by the lines before it, are 32 (L29).
+  pub full : (k : ℕ) (subject cell method : ℤ) (vs : List ℤ) → getElem? (requestsOf input) k ≡ some (call subject cell method vs)
+      → So (passesTests (stateAfter input t k) subject cell method vs)
+      → (lineOf (scriptOutput input) k ≡ numberText (bytes "no=") callsFull) ↔ (acceptedCalls (named subject) (transcriptAfter input k) ≡ maxCallsEach)
 
 -- ---- The theorem
 pub record Script (input old : List ℕ) (w : Written) : Type 0 where
