@@ -12,6 +12,7 @@ use lib.Seq.{getD-at, getD-set-same, getD-set-other}
 use Rattle.spec_model.specs.Basics.{all, from}
 use Rattle.spec_model.specs.Table.{maxSubjects}
 use Rattle.spec_model.specs.Requests.{Call, noCall, flagged, maxCallsEach, maxCalls, madeBy}
+use Rattle.spec_model.specs.Check.{callersFit}
 use Rattle.spec_model.proofs.Tests.{eqb-so, eqb-no, leb-so, so-leb}
 use Rattle.spec_model.proofs.Lists.{length-from, from-first, all-from}
 use Rattle.law_model.proofs.Fitting.{all-at}
@@ -126,7 +127,7 @@ made-past n (c ∷ cs) h k l = go (eqb k (c .caller)) refl (made-past n cs (λ j
 
 -- H17 asks it of the subjects alone
 pub callers-fit : (n : ℕ) (cs : List Call) → ((j : ℕ) → j < length cs → getD cs j noCall .caller < n)
-    → So (all (λ k. leb (madeBy k cs) maxCallsEach) (from n 0 (λ k. k))) → Calling n cs
+    → So (callersFit n cs) → Calling n cs
 callers-fit n cs h e = record { callers = h; few = λ k. go k (decLt k n) }
   where
     go : (k : ℕ) → Dec (k < n) → madeBy k cs ≤ maxCallsEach
@@ -134,5 +135,5 @@ callers-fit n cs h e = record { callers = h; few = λ k. go k (decLt k n) }
         (all-at (λ j. leb (madeBy j cs) maxCallsEach) 0 (from n 0 (λ j. j)) e k (omega (arith, length-from (λ j. j) n 0))))
     go k (no l) = let z = made-past n cs h k (omega arith) in omega (arith, z)
 
-pub fit-callers : (n : ℕ) (cs : List Call) → Calling n cs → So (all (λ k. leb (madeBy k cs) maxCallsEach) (from n 0 (λ k. k)))
+pub fit-callers : (n : ℕ) (cs : List Call) → Calling n cs → So (callersFit n cs)
 fit-callers n cs w = all-from (λ k. k) (λ k. leb (madeBy k cs) maxCallsEach) n 0 (λ j l u. so-leb (w .few j))

@@ -70,7 +70,7 @@ pub record SystemFitting (s : System) : Type 0 where
   pub cells : So (all (cellFits s) (s .cells))
   pub places : So (every (placeFits s) 0 (s .places))
   pub calls : So (all (callFits s) (s .calls))
-  pub callers : So (callersFit s)
+  pub callers : So (callersFit (s .table .subjects) (s .calls))
 
 pub system-fitting : (s : System) → So (systemFits s) → SystemFitting s
 unfolding systemFits

@@ -56,7 +56,7 @@ serve-made s q k = go q (serve s q) (serve-makes s q)
         ap (madeBy k) (h .0) ∙ made-append k (s .calls) (c ∷ []) ∙ ap (λ n. madeBy k (s .calls) + n) (one-accepted (eqb k (named subject)))
     go (answer subject j v) (ok x) h = omega (arith, ap (madeBy k) (h .1), made-answered k (s .calls) (named j) true)
 
-taken-is : (m : Res (System × Result)) → taken (outcome m) ≡ accepted m
+pub taken-is : (m : Res (System × Result)) → taken (outcome m) ≡ accepted m
 taken-is (refuse e) = refl
 taken-is (ok x) = refl
 

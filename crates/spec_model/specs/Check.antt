@@ -26,13 +26,13 @@ placeFits s p (adapter b c) = ltb b p && (ltb c (size (s .table)) && isRef (type
 abbrev pub callFits : System → Call → Bool
 callFits s c = ltb (c .caller) (s .table .subjects) && (ltb (c .cell) (length (s .cells)) && ltb (c .method) (s .table .methods))
 
-abbrev pub callersFit : System → Bool
-callersFit s = all (λ k. leb (madeBy k (s .calls)) maxCallsEach) (from (s .table .subjects) 0 (λ k. k))
+abbrev pub callersFit : ℕ → List Call → Bool
+callersFit subjects calls = all (λ k. leb (madeBy k calls) maxCallsEach) (from subjects 0 (λ k. k))
 
 unfoldable pub systemFits : System → Bool
 unfolding tableFits
 systemFits s = tableFits (s .table) && (leb (length (s .cells)) maxCells && (leb (length (s .places)) maxPlaces && (leb (length (s .calls)) maxCalls
-    && (all (cellFits s) (s .cells) && (every (placeFits s) 0 (s .places) && (all (callFits s) (s .calls) && callersFit s))))))
+    && (all (cellFits s) (s .cells) && (every (placeFits s) 0 (s .places) && (all (callFits s) (s .calls) && callersFit (s .table .subjects) (s .calls)))))))
 
 -- The records as they are handed in. A method's `answer` is 0 for none, else the type's number plus 1.
 pub record RawMethod : Type 0 where

@@ -5,7 +5,7 @@ use mathlib.Core.List.{List}
 use Prim.Native.Nat.{ℕ, zero, suc, _+_, _-_, _≤_, _<_}
 use native.Mathlib.Omega.{arith}
 use lib.ListN.{getD}
-use Rattle.spec_model.specs.Check.{tableAccepted, systemAccepted}
+use Rattle.spec_model.specs.Check.{callersFit, tableAccepted, systemAccepted}
 use Rattle.spec_model.specs.Crossing.{maxPlaces}
 use Rattle.spec_model.specs.Basics.{from}
 use Rattle.spec_model.specs.Requests.{maxCells, maxCalls}
@@ -21,7 +21,7 @@ use Rattle.state_record.specs.declared.PlaceRec.{PlaceRec}
 use Rattle.state_record.specs.declared.Call.{Call}
 use Rattle.state_record.specs.View.{cellOf, placeOf, callOf, blankCell, blankPlace, blankCall, callsIn, rawState}
 use Rattle.state_check_records.specs.Parts.{cellAccepted, placeAccepted, callAccepted, sizesAccepted}
-use Rattle.state_check.specs.Parts.{cellsAccepted, placesAccepted, callsAccepted, callersAccepted}
+use Rattle.state_check.specs.Parts.{cellsAccepted, placesAccepted, callsAccepted}
 use Rattle.state_check.proofs.Laws.{accepted-is}
 use Rattle.state_bytes.specs.Flat.{Flat, countsIn, cellCount, placeCount, callCount, rawFlat}
 use Rattle.state_bytes.specs.Records.{cellFrom, placeFrom, callFrom, cellsFrom, placesFrom, callsFrom, stateFrom}
@@ -79,7 +79,7 @@ module _ (f : Flat) where
       sizesAccepted (cellCount n) (placeCount n) (callCount n) && (tableAccepted (rawTable (f .types) (f .links) c)
       && (cellsAccepted rs c (placeCount n) (cellsFrom (f .cells) (cellCount n))
       && (placesAccepted rs c (placesFrom (f .places) (placeCount n))
-      && (callsAccepted c (cellCount n) (callsFrom (f .calls) (callCount n)) && callersAccepted (c .subjects) (callsIn (callsFrom (f .calls) (callCount n)))))))
+      && (callsAccepted c (cellCount n) (callsFrom (f .calls) (callCount n)) && callersFit (c .subjects) (callsIn (callsFrom (f .calls) (callCount n)))))))
 
   pub bytes-are : (c : Counts) → c ≡ countsIn (f .counts) → systemAccepted (rawState (stateFrom f)) ≡ parts c
   unfolding cellsFrom placesFrom callsFrom

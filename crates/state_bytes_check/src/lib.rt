@@ -1,8 +1,8 @@
-// The check of a state that is handed in (H1 to H11, H17), in its bytes: what crate `state_check` says of the records that stand there, for a caller who makes none
-// of them (offers). One record at a time is read and tested.
+// The check of a state that is handed in (H1 to H11, H17), in its bytes: what crate `state_check` says of the records that stand there, for a caller who makes
+// none of them (offers). One record at a time is read and tested.
 ghost use mathlib.Core.Path.{_≡_};
 ghost use Prim.Native.Nat.{ℕ, _≤_};
-ghost use Rattle.spec_model.specs.Check.{systemAccepted};
+ghost use Rattle.spec_model.specs.Check.{callersFit, systemAccepted};
 ghost use Rattle.spec_model.specs.Crossing.{maxPlaces};
 ghost use Rattle.spec_model.specs.Requests.{maxCells, maxCalls};
 ghost use Rattle.spec_model.specs.Table.{maxSubjects};
@@ -11,7 +11,7 @@ ghost use Rattle.table_record.specs.Store.{typesIn};
 ghost use Rattle.state_record.specs.View.{callsIn, rawState};
 ghost use Rattle.state_bytes.specs.Flat.{flat, rawFlat};
 ghost use Rattle.state_bytes.specs.Records.{cellsFrom, placesFrom, callsFrom, stateFrom};
-ghost use Rattle.state_check.specs.Parts.{cellsAccepted, placesAccepted, callsAccepted, callersAccepted, CallersBelow};
+ghost use Rattle.state_check.specs.Parts.{cellsAccepted, placesAccepted, callsAccepted, CallersBelow};
 use state_bytes::CALL_BYTES;
 use state_bytes::CELL_BYTES;
 use state_bytes::PLACE_BYTES;
@@ -78,7 +78,7 @@ fn calls_fit(c: Counts, cells: usize, b: &[u8; CALL_BYTES], n: usize) -> bool
 fn callers_fit(b: &[u8; CALL_BYTES], n: usize) -> bool
     requires { ⌜ (n ≤ maxCalls) × CallersBelow maxSubjects (callsIn (callsFrom (now b) n)) ⌝ }
     ensures { λ r. ⌜ ((subjects : ℕ) → subjects ≤ maxSubjects → CallersBelow subjects (callsIn (callsFrom (now (b .entry)) n))
-        → r ≡ callersAccepted subjects (callsIn (callsFrom (now (b .entry)) n))) ⌝ }
+        → r ≡ callersFit subjects (callsIn (callsFrom (now (b .entry)) n))) ⌝ }
 {
     let mut made = [0usize; Counts::SUBJECTS];
     let mut j: usize = 0;

@@ -63,7 +63,7 @@ module _ (s : State) (limits : Limits (s .counts)) where
   unfolding tableIn tableOf
   call-is x = rw (cells-length (s .cells))
 
-  records-are : (all (cellFits m) (m .cells) && (every (placeFits m) 0 (m .places) && (all (callFits m) (m .calls) && callersFit m)))
+  records-are : (all (cellFits m) (m .cells) && (every (placeFits m) 0 (m .places) && (all (callFits m) (m .calls) && callersFit (m .table .subjects) (m .calls))))
       ≡ recordsAccepted rs (s .counts) (s .cells) (s .places) (s .calls)
   unfolding cellsIn placesIn callsIn cellsAccepted placesAccepted callsAccepted tableIn tableOf
   records-are =

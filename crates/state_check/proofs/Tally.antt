@@ -13,11 +13,12 @@ use borrow.Author.Tests.{eq-eqb, ne-eqb}
 use Rattle.spec_model.specs.Basics.{from}
 use Rattle.spec_model.specs.Table.{maxSubjects}
 use Rattle.spec_model.specs.Requests.{Call as Callᵐ, noCall, maxCallsEach, madeBy}
+use Rattle.spec_model.specs.Check.{callersFit}
 use Rattle.spec_model.proofs.Tests.{leb-so, so-leb}
 use Rattle.spec_model.proofs.Lists.{all-from, from-first, length-from}
 use Rattle.law_model.proofs.Fitting.{all-at}
 use Rattle.state_record.proofs.Kept.{made-last}
-use Rattle.state_check.specs.Parts.{callersAccepted, CallersBelow}
+use Rattle.state_check.specs.Parts.{CallersBelow}
 
 -- the first j of the calls f 0, f 1, .. are counted, by subject
 pub record Tallied (f : ℕ → Callᵐ) (j : ℕ) (made : List ℕ) : Type 0 where
@@ -62,8 +63,8 @@ module _ (f : ℕ → Callᵐ) where
 
   -- a caller that has made all of its calls, and one more call of it
   pub tally-over : (n j : ℕ) (made : List ℕ) → Tallied f j made → j < n → (c : ℕ) → c ≡ f j .caller → (subjects : ℕ) → c < subjects → subjects ≤ maxSubjects → maxCallsEach ≤ getD made c 0
-      → callersAccepted subjects (from n 0 f) ≡ false
-  tally-over n j made t low c is subjects known few full = go (callersAccepted subjects (from n 0 f)) refl
+      → callersFit subjects (from n 0 f) ≡ false
+  tally-over n j made t low c is subjects known few full = go (callersFit subjects (from n 0 f)) refl
     where
       more : maxCallsEach < madeBy c (from n 0 f)
       more =
@@ -71,7 +72,7 @@ module _ (f : ℕ → Callᵐ) where
           let r = subst (λ (i : ℕ). madeBy c (from (suc j) 0 f) ≤ madeBy c (from i 0 f)) (let z : (n - suc j) + suc j ≡ n = omega arith in z) (made-rises c (suc j) (n - suc j)) in
           omega (arith, e, r, t .counts c (omega arith), full)
 
-      go : (b : Bool) → callersAccepted subjects (from n 0 f) ≡ b → callersAccepted subjects (from n 0 f) ≡ false
+      go : (b : Bool) → callersFit subjects (from n 0 f) ≡ b → callersFit subjects (from n 0 f) ≡ false
       go false e = e
       go true e =
           let a = all-at (λ k. leb (madeBy k (from n 0 f)) maxCallsEach) 0 (from subjects 0 (λ k. k)) e c (subst (λ (i : ℕ). c < i) (sym (length-from (λ k. k) subjects 0)) known) in
@@ -79,7 +80,7 @@ module _ (f : ℕ → Callᵐ) where
           absurd (omega (arith, more, l))
 
   -- and nobody, to the end
-  pub tally-all : (n : ℕ) (made : List ℕ) → Tallied f n made → (subjects : ℕ) → subjects ≤ maxSubjects → callersAccepted subjects (from n 0 f) ≡ true
+  pub tally-all : (n : ℕ) (made : List ℕ) → Tallied f n made → (subjects : ℕ) → subjects ≤ maxSubjects → callersFit subjects (from n 0 f) ≡ true
   tally-all n made t subjects few = all-from (λ k. k) (λ k. leb (madeBy k (from n 0 f)) maxCallsEach) subjects 0
       (λ k p q. let l : madeBy k (from n 0 f) ≤ maxCallsEach = omega (arith, t .counts k (omega arith), t .few k (omega arith)) in so-leb l)
 
@@ -91,9 +92,9 @@ module _ (f : ℕ → Callᵐ) (n : ℕ) (cs : List Callᵐ) (are : cs ≡ from 
       subst (λ (c : Callᵐ). c .caller < m) (ap (λ xs. getD xs j noCall) are ∙ from-first f n j noCall l) (known j (omega (arith, len, l)))
 
   pub callers-over : (j : ℕ) (made : List ℕ) → Tallied f j made → j < n → (c : ℕ) → c ≡ f j .caller → maxCallsEach ≤ getD made c 0
-      → (subjects : ℕ) → subjects ≤ maxSubjects → CallersBelow subjects cs → callersAccepted subjects cs ≡ false
+      → (subjects : ℕ) → subjects ≤ maxSubjects → CallersBelow subjects cs → callersFit subjects cs ≡ false
   callers-over j made t l c is full subjects few known =
-      ap (callersAccepted subjects) are ∙ tally-over f n j made t l c is subjects (subst (λ i. i < subjects) (sym is) (caller-below subjects known j l)) few full
+      ap (callersFit subjects) are ∙ tally-over f n j made t l c is subjects (subst (λ i. i < subjects) (sym is) (caller-below subjects known j l)) few full
 
-  pub callers-few : (made : List ℕ) → Tallied f n made → (subjects : ℕ) → subjects ≤ maxSubjects → callersAccepted subjects cs ≡ true
-  callers-few made t subjects few = ap (callersAccepted subjects) are ∙ tally-all f n made t subjects few
+  pub callers-few : (made : List ℕ) → Tallied f n made → (subjects : ℕ) → subjects ≤ maxSubjects → callersFit subjects cs ≡ true
+  callers-few made t subjects few = ap (callersFit subjects) are ∙ tally-all f n made t subjects few

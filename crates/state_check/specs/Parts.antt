@@ -3,11 +3,9 @@
 use mathlib.Core.Bool.{Bool, _&&_}
 use mathlib.Core.List.{List}
 use Prim.Native.Nat.{ℕ, _<_}
-use lib.Dec.{leb}
 use lib.ListN.{length, getD}
-use Rattle.spec_model.specs.Basics.{all, from}
-use Rattle.spec_model.specs.Requests.{Call as Callᵐ, noCall, maxCallsEach, madeBy}
-use Rattle.spec_model.specs.Check.{RawType}
+use Rattle.spec_model.specs.Requests.{Call as Callᵐ, noCall}
+use Rattle.spec_model.specs.Check.{RawType, callersFit}
 use Rattle.table_record.specs.declared.Counts.{Counts}
 use Rattle.table_check_links.specs.Parts.{eachFrom}
 use Rattle.state_record.specs.declared.Cells.{Cells}
@@ -29,12 +27,9 @@ unfoldable pub callsAccepted : Counts → ℕ → Calls → Bool
 unfolding eachFrom
 callsAccepted c cells js = eachFrom (js .count) 0 (λ j. callAccepted c cells (callOf (getD (js .list) j blankCall)))
 
--- nobody made too many of them (H17), and their callers are among so many subjects
-abbrev pub callersAccepted : ℕ → List Callᵐ → Bool
-callersAccepted subjects cs = all (λ k. leb (madeBy k cs) maxCallsEach) (from subjects 0 (λ k. k))
-
+-- their callers are among so many subjects
 abbrev pub CallersBelow : ℕ → List Callᵐ → Type 0
 CallersBelow n cs = (j : ℕ) → j < length cs → getD cs j noCall .caller < n
 
 abbrev pub recordsAccepted : List RawType → Counts → Cells → Places → Calls → Bool
-recordsAccepted rs c cs ps js = cellsAccepted rs c (ps .count) cs && (placesAccepted rs c ps && (callsAccepted c (cs .count) js && callersAccepted (c .subjects) (callsIn js)))
+recordsAccepted rs c cs ps js = cellsAccepted rs c (ps .count) cs && (placesAccepted rs c ps && (callsAccepted c (cs .count) js && callersFit (c .subjects) (callsIn js)))

@@ -2,7 +2,7 @@
 // table, then cells, places and calls.
 ghost use mathlib.Core.Path.{_≡_};
 ghost use Prim.Native.Nat.{ℕ, _≤_};
-ghost use Rattle.spec_model.specs.Check.{systemAccepted};
+ghost use Rattle.spec_model.specs.Check.{callersFit, systemAccepted};
 ghost use Rattle.spec_model.specs.Crossing.{maxPlaces};
 ghost use Rattle.spec_model.specs.Requests.{maxCells, maxCalls};
 ghost use Rattle.spec_model.specs.Table.{maxSubjects};
@@ -10,7 +10,7 @@ ghost use Rattle.table_record.specs.Limits.{Limits};
 ghost use Rattle.table_record.specs.Store.{typesIn};
 ghost use Rattle.state_record.specs.Whole.{whole};
 ghost use Rattle.state_record.specs.View.{callsIn, rawState};
-ghost use Rattle.state_check.specs.Parts.{cellsAccepted, placesAccepted, callsAccepted, callersAccepted, CallersBelow, recordsAccepted};
+ghost use Rattle.state_check.specs.Parts.{cellsAccepted, placesAccepted, callsAccepted, CallersBelow, recordsAccepted};
 use state_record::Calls;
 use state_record::Cells;
 use state_record::Places;
@@ -69,7 +69,7 @@ fn calls_fit(c: Counts, cells: usize, js: Calls) -> bool
 // Nobody made more than 32 of the calls (H17), whose callers are known: they are counted by subject.
 fn callers_fit(js: Calls) -> bool
     requires { ⌜ (js .count ≤ maxCalls) × CallersBelow maxSubjects (callsIn js) ⌝ }
-    ensures { λ r. ⌜ ((subjects : ℕ) → subjects ≤ maxSubjects → CallersBelow subjects (callsIn js) → r ≡ callersAccepted subjects (callsIn js)) ⌝ }
+    ensures { λ r. ⌜ ((subjects : ℕ) → subjects ≤ maxSubjects → CallersBelow subjects (callsIn js) → r ≡ callersFit subjects (callsIn js)) ⌝ }
 {
     let n = js.count;
     let mut made = [0usize; Counts::SUBJECTS];

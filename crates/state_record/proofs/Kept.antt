@@ -19,8 +19,9 @@ use Rattle.table_record.specs.Limits.{Checked}
 use Rattle.table_record.specs.Layout.{typesSize}
 use Rattle.table_record.proofs.Lists.{from-last}
 use Rattle.state_record.specs.declared.Places.{Places}
+use Rattle.state_record.specs.declared.Calls.{Calls}
 use Rattle.state_record.specs.Whole.{Whole, whole}
-use Rattle.state_record.specs.View.{placesIn, callsIn, isObject, behindOf, noCalls, stateLoaded, withTypes}
+use Rattle.state_record.specs.View.{callOf, blankCall, placesIn, callsIn, isObject, behindOf, noCalls, stateLoaded, withTypes}
 use Rattle.state_record.specs.Sound.{Descending, Typed, MayCall, Sound}
 use Rattle.state_record.proofs.Laws.{places-length, calls-length}
 
@@ -74,6 +75,17 @@ sound-types s b long h = record {
   cells = λ k l. let x = h .cells k l in record { type = x .type; place = x .place };
   calls = record { each = λ j l. let x = h .calls .each j l in record { caller = x .caller; cell = x .cell; method = x .method }; few = h .calls .few };
 }
+
+-- the calls by their numbers, and the end of a loop that goes through them
+abbrev pub called : Calls → ℕ → Callᵐ
+called js j = callOf (getD (js .list) j blankCall)
+
+pub calls-from : (js : Calls) → callsIn js ≡ from (js .count) 0 (called js)
+unfolding callsIn
+calls-from js = refl
+
+pub ended : (j n : ℕ) → j ≤ n → n ≤ j → j ≡ n
+ended j n l z = omega arith
 
 -- one call more in a list of them
 pub made-last : (f : ℕ → Callᵐ) (k j : ℕ) → madeBy k (from (suc j) 0 f) ≡ madeBy k (from j 0 f) + cond (eqb k (f j .caller)) 1 0

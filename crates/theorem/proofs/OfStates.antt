@@ -4,15 +4,16 @@ use mathlib.Core.Logic.{_↔_}
 use mathlib.Core.Bool.{Bool, true, false, So}
 use mathlib.Core.List.{List, _++_}
 use mathlib.Core.Option.{Option}
+use Prim.Native.Nat.{ℕ}
 use lib.IntN.{ℤ}
 use lib.ListN.{length}
 use lib.Seq.{sets}
 use Rattle.spec_model.specs.Basics.{Res, refuse, ok, need, from}
-use Rattle.spec_model.specs.Requests.{Request}
+use Rattle.spec_model.specs.Requests.{Request, madeBy}
 use Rattle.spec_model.specs.Check.{RawSystem, systemOf, systemAccepted}
 use Rattle.spec_model.specs.Handed.{counted}
 use Rattle.spec_model.specs.Book.{Book}
-use Rattle.spec_model.specs.Callers.{Transcript}
+use Rattle.spec_model.specs.Callers.{Transcript, acceptedCalls}
 use Rattle.spec_model.proofs.Rules.{never}
 use Rattle.spec_model.specs.Refusals.{outOfRange}
 use Rattle.sheet_read.specs.declared.Sheet.{Sheet}
@@ -27,7 +28,7 @@ use Rattle.request_run.specs.Ran.{room, RanAs, Runs}
 use Rattle.state_offers.specs.declared.Offered.{Offered}
 use Rattle.state_offers.specs.declared.Offered.the-variants.{Unfit, Yes, No}
 use Rattle.state_offers.specs.Chained.{offersNamed, offeredAs}
-use Rattle.theorem.specs.Shown.{first, bookOf, RunReturns, History, begins, asks, runs, alike, Holds, Permitted}
+use Rattle.theorem.specs.Shown.{Accepts, first, bookOf, RunReturns, History, begins, asks, runs, alike, Holds, Permitted}
 use Rattle.theorem.specs.OfStates.{seenBy, ShownOfStates}
 use Rattle.theorem.proofs.Shown.{shown}
 use Rattle.theorem.proofs.RunWords.{outcomes-length, words-seen}
@@ -88,12 +89,17 @@ module _ (r : RawSystem) (b : Book) (x : Holds r b) (k : ℤ) (w : List ℤ) whe
   said Yes e = let y = offers-yes r b x k w .0 (sym (value e)) in ((λ z. y, λ h. refl), (λ z. never (sym (ap isYes z)), λ h. absurd (h y)))
   said No e = let n = offers-no r b x k w .0 (sym (value e)) in ((λ z. never (ap isYes z), λ h. absurd (n h)), (λ z. n, λ h. refl))
 
+made-by-state : (bytes : List ℕ) (f : Sheet) → Accepts bytes f → (s : State) (l : Transcript) → History f (rawState s) l → (n : ℕ) → madeBy n (systemIn s .calls) ≡ acceptedCalls n l
+unfolding systemIn
+made-by-state bytes f a s l h = shown bytes f a (rawState s) l h .1 .made
+
 pub shown-of-states : ShownOfStates
 shown-of-states bytes f a = record {
   begins = alike begins (loaded-counted f);
   serves = λ s l q y h w. asks h (w .returns);
   calls = λ s l subject k m vs y h w e. shown bytes f a (rawState s) l h .0 .calls subject k m vs (outcomeOf (y .outcome)) (rawState (y .state)) (w .returns) e;
   answers = λ s l subject j v y h w e. shown bytes f a (rawState s) l h .0 .answers subject j v (outcomeOf (y .outcome)) (rawState (y .state)) (w .returns) e;
+  made = λ s l h. made-by-state bytes f a s l h;
   full = λ s l subject k m vs y h w e. shown bytes f a (rawState s) l h .1 .full subject k m vs (outcomeOf (y .outcome)) (rawState (y .state)) (w .returns) e;
   ranFull = λ s l words old new y h w before behind subject k m vs e n z p. let x = shown bytes f a (rawState s) l h in
       ran-full (rawState s) l (x .1) words old new (stored-words s words old new y (x .0 .passes) w) (rawState (y .state)) (run-returned s words old new y (x .0 .passes) w)

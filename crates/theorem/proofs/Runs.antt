@@ -19,20 +19,16 @@ use Rattle.spec_model.proofs.Growth.{grown-refl, grown-trans}
 use Rattle.law_model.proofs.Checked.{system-fitting, fits-bounded}
 use Rattle.law_model.proofs.Reached.{reached-fits}
 use Rattle.law_model.proofs.Returned.{NewType, Added, request-adds, system-means, accepted-codes, accept, stored-codes, stored-state-codes}
+use Rattle.law_rules.proofs.Callers.{taken-is}
 use Rattle.request_run.specs.Requested.{asked, placed}
 use Rattle.theorem.specs.Shown.{fed, seenOf}
-
--- an outcome is taken where the model accepts
-pub outcome-taken : (m : Res (System × Result)) → taken (outcome m) ≡ accepted m
-outcome-taken (refuse n) = refl
-outcome-taken (ok x) = refl
 
 pub run-follows : (qs : List (Option Request)) (s : System) (b : Book) → let m = run s (asked qs) in follow s b (asked qs) ≡ (m .1, fed b (seenOf qs (placed qs (m .0))))
 unfolding run follow
 run-follows [] s b = refl
 run-follows (none ∷ qs) s b = run-follows qs s b
 run-follows (some q ∷ qs) s b = let a = serve s q in let m = run (after s a) (asked qs) in
-    run-follows qs (after s a) (feed b q (accepted a)) ∙ ap (λ x. (m .1, fed (feed b q x) (seenOf qs (placed qs (m .0))))) (sym (outcome-taken a))
+    run-follows qs (after s a) (feed b q (accepted a)) ∙ ap (λ x. (m .1, fed (feed b q x) (seenOf qs (placed qs (m .0))))) (sym (taken-is a))
 
 -- what is no request is in no transcript
 pub seen-placed : (qs : List (Option Request)) (s : System) → let os = run s (asked qs) .0 in seenOf qs (placed qs os) ≡ seen (asked qs) os

@@ -22,7 +22,7 @@ use Rattle.spec_model.specs.Claim.{accepted, feed, follow}
 use Rattle.spec_model.specs.Callers.{Transcript, taken, seen, acceptedCalls, passesTests, sawOf}
 use Rattle.spec_model.specs.Refusals.{shortBuffer, callsFull}
 use Rattle.spec_model.proofs.Rules.{never}
-use Rattle.law_rules.proofs.Callers.{calls-counted, limit-seen, accepted-few}
+use Rattle.law_rules.proofs.Callers.{taken-is, calls-counted, limit-seen, accepted-few}
 use Rattle.law_handed.proofs.Small.{Small, Named, small-serve}
 use Rattle.spec_sheet.specs.Lines.{Row, row, cut, bytes, split, join, starts, firstLine}
 use Rattle.spec_sheet.specs.Clean.{notLF, clean}
@@ -42,7 +42,6 @@ use Rattle.script_output.proofs.Whole.{lastLine}
 use Rattle.theorem.specs.Shown.{Permitted}
 use Rattle.theorem.specs.Scripted.{Fits, TooShort, lineOf, requestsOf, endsMalformed, stateAfter, bookAfter, seenLines, transcriptAfter, Served, Script}
 use Rattle.theorem.specs.Scripted.{ShownOfScripts, writtenIn, ShownOfScriptBytes}
-use Rattle.theorem.proofs.Runs.{outcome-taken}
 use Rattle.theorem.proofs.Calls.{if-accepted, call-tested, tested-permitted}
 
 -- ---- the buffer
@@ -148,7 +147,7 @@ got-taken (got (number v)) = refl
 got-taken (got nothing) = refl
 
 got-accepted : (m : Res (System × Result)) → So (starts (bytes "got=") (outcomeText (outcome m))) → So (accepted m)
-got-accepted m h = sym (got-taken (outcome m) ∙ outcome-taken m) ∙ h
+got-accepted m h = sym (got-taken (outcome m) ∙ taken-is m) ∙ h
 
 -- ---- the transcript that is printed (L28)
 follow-runs : (qs : List Request) (s : System) (b : Book) → follow s b qs .0 ≡ run s qs .1

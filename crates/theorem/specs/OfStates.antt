@@ -11,7 +11,7 @@ use lib.Dec.{eqb}
 use lib.IntN.{ℤ, pos, negsuc}
 use lib.ListN.{length, getD, drop}
 use Rattle.spec_model.specs.Basics.{names, named}
-use Rattle.spec_model.specs.Requests.{Request, call, answer, refused, maxCallsEach}
+use Rattle.spec_model.specs.Requests.{Request, call, answer, refused, maxCallsEach, madeBy}
 use Rattle.spec_model.specs.Callers.{Transcript, taken, acceptedCalls, refusedBefore}
 use Rattle.spec_model.specs.Refusals.{callsFull}
 use Rattle.table_record.specs.Layout.{rawTable}
@@ -21,7 +21,7 @@ use Rattle.text_write.specs.declared.Wrote.{Wrote}
 use Rattle.text_write.specs.Written.{writtenOf}
 use Rattle.state_record.specs.Whole.{Whole as State}
 use Rattle.state_record.specs.Whole.{whole}
-use Rattle.state_record.specs.Meaning.{rawState, stateLoaded}
+use Rattle.state_record.specs.Meaning.{rawState, systemIn, stateLoaded}
 use Rattle.request_common.specs.Outcome.{Done as Served}
 use Rattle.request_common.specs.Outcome.{outcomeOf}
 use Rattle.request_serve.specs.Serves.{Serves}
@@ -61,6 +61,8 @@ pub record OfStates (bytes : List ℕ) (f : Sheet) : Type 0 where
       → Serves s (call subject k m vs) y → So (taken (outcomeOf (y .outcome))) → Permitted (bookOf f l) k (m ∷ [])
   pub answers : (s : State) (l : Transcript) (subject j : ℤ) (v : Option ℤ) (y : Served) → History f (rawState s) l
       → Serves s (answer subject j v) y → So (taken (outcomeOf (y .outcome))) → So (names j (length (bookOf f l .calls)))
+  -- The calls of a subject are as many as its accepted calls (L28).
+  pub made : (s : State) (l : Transcript) → History f (rawState s) l → (n : ℕ) → madeBy n (systemIn s .calls) ≡ acceptedCalls n l
   -- A call that is not refused before 18 is refused with 18 exactly if its subject's accepted calls are 32 (L29).
   pub full : (s : State) (l : Transcript) (subject k m : ℤ) (vs : List ℤ) (y : Served) → History f (rawState s) l → Serves s (call subject k m vs) y
       → refusedBefore (outcomeOf (y .outcome)) ≡ false → (outcomeOf (y .outcome) ≡ refused callsFull) ↔ (acceptedCalls (named subject) l ≡ maxCallsEach)

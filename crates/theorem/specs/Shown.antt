@@ -1,6 +1,7 @@
 -- The theorem that a reader is shown: `Shown`. For all bytes that the sheet reader accepts, and every way to a state from what was read, by requests and runs, refused ones
 -- included: demand 3 holds of what the state means (L19 to L23). And every call that is accepted is of a method that the object's class permits, and every type that its
--- reference crossed since the object was made or last unwrapped. And whether a subject's call meets 18 goes by its own accepted calls (L28 to L31; of two histories: `ShownApart`).
+-- reference crossed since the object was made or last unwrapped. And whether a subject's call that passes the tests before
+-- 18 meets it goes by that subject's accepted calls (L28 to L31; of two histories: `ShownApart`).
 -- It speaks of states as records of numbers, so that it covers every form a caller may keep them in. OfStates and OfBytes tie the code to it, by the contracts that are
 -- proved of the code where it stands: whatever a caller does, the state that he holds is one of a history. Proof: proofs/Shown.
 use mathlib.Core.Path.{_≡_}

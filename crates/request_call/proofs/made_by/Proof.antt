@@ -7,25 +7,11 @@ use native.Mathlib.Numerals.{add-one}
 use native.Mathlib.Omega.{arith}
 use borrow.Author.Needs.{needs}
 use borrow.Author.Tests.{eq-eqb, ne-eqb}
-use lib.ListN.{getD}
 use Rattle.spec_model.specs.Basics.{from}
 use Rattle.spec_model.specs.Requests.{madeBy}
-use Rattle.spec_model.specs.Requests.{Call as Callᵐ}
-use Rattle.state_record.specs.declared.Calls.{Calls}
-use Rattle.state_record.specs.View.{callOf, blankCall, callsIn}
-use Rattle.state_record.proofs.Kept.{made-last}
+use Rattle.state_record.proofs.Kept.{called, calls-from, ended, made-last}
 use Rattle.request_call.proofs.made_by.Statement.{statement}
 use Rattle.request_call.proofs.made_by.Tie as tie
-
-abbrev called : Calls → ℕ → Callᵐ
-called js j = callOf (getD (js .list) j blankCall)
-
-are : (js : Calls) → callsIn js ≡ from (js .count) 0 (called js)
-unfolding callsIn
-are js = refl
-
-ends : (j n : ℕ) → j ≤ n → n ≤ j → j ≡ n
-ends j n l z = omega arith
 
 next : (j : ℕ) (f : ℕ → ℕ) → f (j + 1) ≡ f (suc j)
 next j f = ap f (add-one j)
@@ -68,7 +54,8 @@ loop-again c = let a = c .before .before .before .before .args in let l = c .bef
 
 returns : tie.Need-returns Inv-loop μ-loop
 returns c = let js = c .before .before .args .t1 in let l = c .before .loop in
-    l .inv .3 ∙ ap (λ (n : ℕ). madeBy (c .before .before .args .who) (from n 0 (called js))) (ends (l .j) (js .count) (l .inv .0) (c .loop-test .left)) ∙ sym (ap (madeBy (c .before .before .args .who)) (are js))
+    l .inv .3 ∙ ap (λ (n : ℕ). madeBy (c .before .before .args .who) (from n 0 (called js))) (ended (l .j) (js .count) (l .inv .0) (c .loop-test .left))
+    ∙ sym (ap (madeBy (c .before .before .args .who)) (calls-from js))
 
 pub made-by-spec : {M : Type 1} → statement M
 made-by-spec =

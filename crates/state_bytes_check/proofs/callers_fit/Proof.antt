@@ -8,6 +8,7 @@ use Rattle.spec_model.specs.Table.{maxSubjects}
 use Rattle.spec_model.specs.Requests.{maxCalls}
 use Rattle.state_record.specs.declared.Call.{Call}
 use Rattle.state_record.specs.View.{callsIn}
+use Rattle.state_record.proofs.Kept.{ended}
 use Rattle.state_check.specs.Parts.{CallersBelow}
 use Rattle.state_check.proofs.Tally.{Tallied, tally-none, tally-more, caller-below, callers-over, callers-few}
 use Rattle.state_bytes.specs.Records.{callFrom, callsFrom}
@@ -20,9 +21,6 @@ Inv-loop b n made₀ j₀ made j = (j ≤ n) × Tallied (Called b) j made
 
 abbrev μ-loop : tie.MeasureT-loop
 μ-loop b n made₀ j₀ made j = n - j
-
-ends : (j n : ℕ) → j ≤ n → n ≤ j → j ≡ n
-ends j n l z = omega arith
 
 -- the caller of call j, read as x and as k
 module _ (b : List ℕ) (n : ℕ) (h : (n ≤ maxCalls) × CallersBelow maxSubjects (callsIn (callsFrom b n))) (j : ℕ) (low : j < n) (x : Call) (is : x ≡ callFrom b j) (k : ℕ) (e : k ≡ x .caller) where
@@ -92,7 +90,7 @@ loop-again c = let a = c .before .before .before .before .before .args in let h 
 returns-2 : tie.Need-returns-2 Inv-loop μ-loop
 returns-2 c = let a = c .before .before .args in let l = c .before .loop in λ subjects few known.
     sym (callers-few (Called (a .b .now)) (a .n) (callsIn (callsFrom (a .b .now) (a .n))) (calls-are (a .b .now) (a .n) (c .before .before .pre .0)) (l .made)
-    (subst (λ (i : ℕ). Tallied (Called (a .b .now)) i (l .made)) (ends _ _ (l .inv .0) (c .loop-test .left)) (l .inv .1)) subjects few)
+    (subst (λ (i : ℕ). Tallied (Called (a .b .now)) i (l .made)) (ended _ _ (l .inv .0) (c .loop-test .left)) (l .inv .1)) subjects few)
 
 pub callers-fit-spec : {M : Type 1} → statement M
 callers-fit-spec =

@@ -1,24 +1,16 @@
 -- The invariant: the calls so far are counted by subject (`Tallied`), nobody's more than 32.
 use mathlib.Core.Path.{_≡_, refl, sym, subst}
-use Prim.Native.Nat.{ℕ, _-_, _≤_}
+use Prim.Native.Nat.{ℕ, _-_, _≤_, _<_}
 use native.Mathlib.Omega.{arith}
 use borrow.Author.Needs.{needs}
-use lib.ListN.{getD}
-use Rattle.spec_model.specs.Basics.{from}
 use Rattle.spec_model.specs.Table.{maxSubjects}
-use Rattle.spec_model.specs.Requests.{Call as Callᵐ}
 use Rattle.state_record.specs.declared.Calls.{Calls}
-use Rattle.state_record.specs.View.{callOf, blankCall, callsIn}
+use Rattle.state_record.specs.View.{callsIn}
+use Rattle.state_record.proofs.Kept.{called, calls-from, ended}
+use Rattle.state_check.specs.Parts.{CallersBelow}
 use Rattle.state_check.proofs.Tally.{Tallied, tally-none, tally-more, caller-below, callers-over, callers-few}
 use Rattle.state_check.proofs.callers_fit.Statement.{statement}
 use Rattle.state_check.proofs.callers_fit.Tie as tie
-
-abbrev called : Calls → ℕ → Callᵐ
-called js j = callOf (getD (js .list) j blankCall)
-
-are : (js : Calls) → callsIn js ≡ from (js .count) 0 (called js)
-unfolding callsIn
-are js = refl
 
 abbrev Inv-loop : tie.InvT-loop
 Inv-loop js n made₀ j₀ made j = (j ≤ n) × (n ≡ js .count) × Tallied (called js) j made
@@ -26,8 +18,9 @@ Inv-loop js n made₀ j₀ made j = (j ≤ n) × (n ≡ js .count) × Tallied (c
 abbrev μ-loop : tie.MeasureT-loop
 μ-loop js n made₀ j₀ made j = n - j
 
-ends : (j n : ℕ) → j ≤ n → n ≤ j → j ≡ n
-ends j n l z = omega arith
+-- the caller of call j, read as k
+caller-low : (js : Calls) → CallersBelow maxSubjects (callsIn js) → (j : ℕ) → j < js .count → (k : ℕ) → k ≡ called js j .caller → k < maxSubjects
+caller-low js h j low k e = omega (arith, e, caller-below (called js) (js .count) (callsIn js) (calls-from js) maxSubjects h j low)
 
 loop-holds : tie.Need-loop-holds Inv-loop μ-loop
 loop-holds c = (omega arith, refl, tally-none _)
@@ -45,37 +38,29 @@ mul-if1 : tie.Need-mul-if1 Inv-loop μ-loop
 mul-if1 c = search needs
 
 array-read-if1 : tie.Need-array-read-if1 Inv-loop μ-loop
-array-read-if1 c = let js = c .before .before .before .args .t1 in
-    omega (arith, c .wide .ensures .0, caller-below (called js) (js .count) (callsIn js) (are js) maxSubjects (c .before .before .before .pre .1) (c .before .before .loop .j) (c .before .loop-test .taken))
+array-read-if1 c =
+    caller-low (c .before .before .before .args .t1) (c .before .before .before .pre .1) (c .before .before .loop .j) (c .before .loop-test .taken) (c .wide .result) (c .wide .ensures .0)
 
 returns : tie.Need-returns Inv-loop μ-loop
 returns c = let js = c .before .before .before .before .args .t1 in let l = c .before .before .before .loop in λ subjects few known.
-    sym (callers-over (called js) (js .count) (callsIn js) (are js) (l .j) (l .made) (l .inv .2) (c .before .before .loop-test .taken) (c .before .wide .result) (c .before .wide .ensures .0)
+    sym (callers-over (called js) (js .count) (callsIn js) (calls-from js) (l .j) (l .made) (l .inv .2) (c .before .before .loop-test .taken) (c .before .wide .result) (c .before .wide .ensures .0)
     (c .if1 .taken) subjects few known)
 
 mul-made : tie.Need-mul-made Inv-loop μ-loop
 mul-made c = search needs
 
 array-read-made : tie.Need-array-read-made Inv-loop μ-loop
-array-read-made c = let js = c .before .before .before .before .args .t1 in
-    omega (
-      arith,
-      c .before .wide .ensures .0,
-      caller-below (called js) (js .count) (callsIn js) (are js) maxSubjects (c .before .before .before .before .pre .1)
-          (c .before .before .before .loop .j) (c .before .before .loop-test .taken),
-    )
+array-read-made c =
+    caller-low (c .before .before .before .before .args .t1) (c .before .before .before .before .pre .1) (c .before .before .before .loop .j) (c .before .before .loop-test .taken)
+    (c .before .wide .result) (c .before .wide .ensures .0)
 
 add-made : tie.Need-add-made Inv-loop μ-loop
 add-made c = search needs
 
 array-write-made : tie.Need-array-write-made Inv-loop μ-loop
-array-write-made c = let js = c .before .before .before .before .args .t1 in
-    omega (
-      arith,
-      c .before .wide .ensures .0,
-      caller-below (called js) (js .count) (callsIn js) (are js) maxSubjects (c .before .before .before .before .pre .1)
-          (c .before .before .before .loop .j) (c .before .before .loop-test .taken),
-    )
+array-write-made c =
+    caller-low (c .before .before .before .before .args .t1) (c .before .before .before .before .pre .1) (c .before .before .before .loop .j) (c .before .before .loop-test .taken)
+    (c .before .wide .result) (c .before .wide .ensures .0)
 
 add-j : tie.Need-add-j Inv-loop μ-loop
 add-j c = search needs
@@ -88,13 +73,12 @@ loop-again c = let js = c .before .before .before .before .args .t1 in let l = c
   omega arith,
   refl,
   tally-more (called js) (l .j) (l .made) (l .inv .2) (c .before .wide .result) (c .before .wide .ensures .0)
-      (omega (arith, c .before .wide .ensures .0, caller-below (called js) (js .count) (callsIn js) (are js) maxSubjects (c .before .before .before .before .pre .1) (l .j) (c .before .before .loop-test .taken)))
-      (c .if1 .left),
+      (caller-low js (c .before .before .before .before .pre .1) (l .j) (c .before .before .loop-test .taken) (c .before .wide .result) (c .before .wide .ensures .0)) (c .if1 .left),
 )
 
 returns-2 : tie.Need-returns-2 Inv-loop μ-loop
 returns-2 c = let js = c .before .before .args .t1 in let l = c .before .loop in λ subjects few known.
-    sym (callers-few (called js) (js .count) (callsIn js) (are js) (l .made) (subst (λ (i : ℕ). Tallied (called js) i (l .made)) (ends _ _ (l .inv .0) (c .loop-test .left)) (l .inv .2)) subjects few)
+    sym (callers-few (called js) (js .count) (callsIn js) (calls-from js) (l .made) (subst (λ (i : ℕ). Tallied (called js) i (l .made)) (ended _ _ (l .inv .0) (c .loop-test .left)) (l .inv .2)) subjects few)
 
 pub callers-fit-spec : {M : Type 1} → statement M
 callers-fit-spec =
