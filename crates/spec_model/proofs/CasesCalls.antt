@@ -2,7 +2,7 @@
 -- that a third owns; what others ask does not matter, nor what was refused (C7, H17).
 use mathlib.Core.Path.{_≡_, refl}
 use mathlib.Core.Bool.{true}
-use mathlib.Core.List.{List, [], _∷_, _++_}
+use mathlib.Core.List.{List, [], _∷_, _++_, map}
 use mathlib.Core.Option.{none}
 use Prim.Native.Nat.{ℕ, zero, suc}
 use lib.IntN.{pos}
@@ -12,6 +12,7 @@ use Rattle.spec_model.specs.Crossing.{object}
 use Rattle.spec_model.specs.Requests.{Call, System, Request, Outcome, got, refused, pair, nothing, run}
 use Rattle.spec_model.specs.Check.{RawSystem}
 use Rattle.spec_model.specs.Handed.{rawLoaded, storedFrom, serveHanded}
+use Rattle.spec_model.specs.Callers.{seen, acceptedCalls}
 use Rattle.spec_model.proofs.Codes.{rawTableOf}
 use Rattle.spec_model.proofs.CasesWords.{type, sheetOf, cell, stateFrom, new′, move′, call′, answer′}
 
@@ -66,6 +67,13 @@ limits =
 pub limits-given : AllGive limits
 unfolding run
 limits-given = (refl, (refl, (refl, (refl, tt))))
+
+-- the accepted calls of a subject in each of these, by the transcript (L28)
+abbrev own : ℕ → Asks → ℕ
+own n x = acceptedCalls n (seen (x .requests) (x .gives))
+
+pub limits-seen : (map (own 0) limits ≡ 1 ∷ 1 ∷ 0 ∷ 1 ∷ []) × (map (own 1) limits ≡ 1 ∷ 0 ∷ 0 ∷ 1 ∷ []) × (map (own 2) limits ≡ 1 ∷ 0 ∷ 0 ∷ 1 ∷ [])
+limits-seen = (refl, refl, refl)
 
 -- ---- handed in: 32 of each pass, 33 of the first or of the last are refused with 2; past the count of calls anything may stand
 abbrev stored : ℕ → List Call → RawSystem
