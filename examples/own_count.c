@@ -1,6 +1,6 @@
 /*
- * Each subject has its own count of calls: a chatty scanner makes all of its own, and the player is served as if it were alone. On the sheet of Case P, whose
- * three subjects are here a desk, a scanner and a player. examples/own_count.out is what it prints. It is compiled as visit.c is:
+ * Each subject has its own count of calls: a chatty scanner makes all of its own, and the player still has all of its own. On the sheet of Case P, whose three
+ * subjects are here a desk, a scanner and a player. examples/own_count.out is what it prints. It is compiled as visit.c is:
  *
  *     cc -std=c99 examples/own_count.c $(pkg-config --cflags --libs pilgonca) -o own_count && ./own_count examples/case-p.sheet
  */

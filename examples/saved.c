@@ -12,7 +12,7 @@
 
 enum { HEAD = 26, SUM = 4, PARTS = 5 };
 enum { OLDEST = 1, OLDEST_CALLS = 256 }; /* the oldest version that is read: its bytes stand in the same places, and it has at most so many calls */
-enum { CALLS = 7 };                      /* their index among the counts */
+enum { SUBJECTS = 0, CALLS = 7 };        /* their index among the counts */
 
 static const uint8_t MARK[] = { 'P', 'I', 'L', 'G', 'O', 'N', 'C', 'A' };
 static const size_t MOST[PILGONCA_STATE_COUNTS] = {
@@ -40,14 +40,14 @@ static void parts_of(struct pilgonca_state *state, struct part parts[PARTS])
     parts[4] = (struct part){ state->calls, 4 * counts[7] };
 }
 
-/* The most calls of one caller. A call has four bytes, and the caller is the first. */
+/* The most calls of one subject. A call has four bytes, and the caller is the first; one that is no subject is another reason for 2 (H11). */
 static size_t most_made(const struct pilgonca_state *state)
 {
     size_t made[256] = {0}, most = 0;
 
-    for (size_t which = 0; which < state->counts[CALLS]; which++) {
-        size_t by = ++made[state->calls[4 * which]];
-        if (by > most) most = by;
+    for (size_t which = 0; which < state->counts[CALLS]; which++) made[state->calls[4 * which]]++;
+    for (size_t subject = 0; subject < state->counts[SUBJECTS]; subject++) {
+        if (made[subject] > most) most = made[subject];
     }
     return most;
 }

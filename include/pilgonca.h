@@ -32,17 +32,18 @@ extern "C" {
 #endif
 
 /* The version of the whole: core, header, Rust package and desk. */
-#define PILGONCA_VERSION "0.1.0"
+#define PILGONCA_VERSION "0.2.0"
 
 /*
  * The version of a state's bytes, and of a saved state (docs/GUIDE.md). Version 2, in which each subject has its own count of calls (Q9), is a break:
  *   - The array of calls has 2,048 bytes, and had 1,024. The functions keep their names, so no linker finds what was compiled with an older header: it lends
- *     1,024 bytes, and the 1,024 behind them are read and written too. Compile anew whatever includes this header, and take lengths from here alone. (Then
- *     gcc 12 warns where it sees that an array lent is too short; clang 14 does not.)
+ *     1,024 bytes, and the 1,024 behind them may be read and written too. pilgonca_load always writes 0 there, the others come there from the 257th call on.
+ *     Compile anew whatever includes this header, and take lengths from here alone. (Then gcc 12 warns where it sees that an array lent is too short; clang
+ *     14 does not.)
  *   - A state that was kept as bytes has 1,024 bytes of calls: they are the first of the 2,048, and 0 belongs behind them. Where a whole struct was kept, of
  *     18,720 bytes, its last 64 are the counts: these come behind the longer array, 1,024 bytes later than they stood.
- *   - Such a state is served unless a subject has made more than 32 calls in it: that is 2 now, in every function (H17), and nothing makes it sound again.
- *     Begin a new one with the sheet.
+ *   - Such a state is served unless a subject has made more than 32 calls in it: that is 2 now, in every function that takes a state (H17), and nothing
+ *     makes it sound again. Begin a new one with the sheet.
  * Whoever counts on the bytes can be told of the next break: #if PILGONCA_STATE_VERSION != 2, and behind it an #error.
  */
 #define PILGONCA_STATE_VERSION 2

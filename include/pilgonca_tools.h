@@ -1,9 +1,9 @@
 /*
  * pilgonca_tools.h: what is there for tests and for tools that look at types, beside pilgonca.h. Programs that serve requests do not need it.
  *
- * Lend these functions a table of its own, never the arrays of a state. A request derives types as it crosses, and what is proved of references (L19 to L27) follows the
- * numbers that they get. A type that no request derived takes a number among them: the state still passes the check (H), and the next type that a request derives has
- * another number than the one that the claim speaks of. Nothing would refuse it, so pilgonca.h has no function that can do it.
+ * Lend these functions a table of its own, never the arrays of a state. A request derives types as it crosses, and what is proved of references (L19 to L27)
+ * follows the numbers that they get. A type that no request derived takes a number among them: the state still passes the check (H), and the next type that a
+ * request derives has another number than the one that the claim speaks of. Nothing would refuse it, so pilgonca.h has no function that can do it.
  */
 #ifndef PILGONCA_TOOLS_H
 #define PILGONCA_TOOLS_H

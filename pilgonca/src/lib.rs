@@ -1,5 +1,6 @@
-//! The proved permission core as a library. A [`Sheet`] is a table of types, a [`Visit`] the state that requests are put to; both decide nothing themselves, every answer is
-//! that of the proved code. docs/SPEC.md has the rules that comments name (as M3), docs/GUIDE.md how to write a sheet and what to do about a refusal.
+//! The proved permission core as a library. A [`Sheet`] is a table of types, a [`Visit`] the state that requests are put to; both decide nothing themselves,
+//! every answer is that of the proved code. docs/SPEC.md has the rules that comments name (as M3), docs/GUIDE.md how to write a sheet and what to do about a
+//! refusal.
 //!
 //! ```
 //! use pilgonca::{Method, Refusal, Subject, Type, Visit, EXAMPLE};
@@ -17,9 +18,9 @@
 //!
 //! # The library first
 //!
-//! The package links static libraries that are made of the proved crates, for x86-64 Linux; cargo cannot make them. In a clone of the repository `tools/libraries` proves and
-//! writes them, into target/staticlib, where the package finds them. Elsewhere, as for a dependency by git: `tools/install PREFIX` in a clone, and
-//! `PILGONCA_LIB_DIR=PREFIX/lib` in the environment of cargo, an absolute path. Both need the toolchain `rt`, once.
+//! The package links static libraries that are made of the proved crates, for x86-64 Linux; cargo cannot make them. In a clone of the repository
+//! `tools/libraries` proves and writes them, into target/staticlib, where the package finds them. Elsewhere, as for a dependency by git: `tools/install PREFIX`
+//! in a clone, and `PILGONCA_LIB_DIR=PREFIX/lib` in the environment of cargo, an absolute path. Both need the toolchain `rt`, once.
 //!
 //! `Visit` and `script` are the feature `visits`, `tiny` and `tiny_sheets` the feature `tiny`, `doors` the feature `doors`. All are on unless they are turned
 //! off: sheets alone need two static libraries of the seven.

@@ -1,8 +1,9 @@
-//! The C functions as safe Rust, one for each, for those who keep the bytes of a table or a state themselves. Any bytes and any counts may be handed in (docs/SPEC.md, E2);
-//! arrays have their full length, so that nothing outside them is read or written. B has the layout, E12 what is returned: 0, or a refusal's number with nothing stored.
+//! The C functions as safe Rust, one for each, for those who keep the bytes of a table or a state themselves. Any bytes and any counts may be handed in
+//! (docs/SPEC.md, E2); arrays have their full length, so that nothing outside them is read or written. B has the layout, E12 what is returned: 0, or a
+//! refusal's number with nothing stored.
 //!
-//! Arrays are lent one by one ([`TableRef`], [`StateMut`] and their likes), so that they may stand wherever their owner keeps them; [`Table`] and [`State`] are owners.
-//! The feature `tools` adds `tools`, a derivation on a table, which no visit needs and no state should meet.
+//! Arrays are lent one by one ([`TableRef`], [`StateMut`] and their likes), so that they may stand wherever their owner keeps them; [`Table`] and [`State`] are
+//! owners. The feature `tools` adds `tools`, a derivation on a table, which no visit needs and no state should meet.
 
 mod functions;
 #[cfg(feature = "visits")]

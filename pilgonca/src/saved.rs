@@ -3,8 +3,8 @@
 //!
 //! Nothing stands there of what is behind a count (Q16), so states with the same counts and the same counted records are saved as the same bytes.
 //!
-//! A file of version 1 has its bytes in the same places. It is of a time when all subjects together made 256 calls and one of them any number of these, so it is
-//! read where it counts no more, and the core then says whether some subject has made more than it may now. What is read is saved as version 2.
+//! A file of version 1 has its bytes in the same places. It is of a time when all subjects together made 256 calls and one of them any number of these, so it
+//! is read where it counts no more, and the core then says whether some subject has made more than it may now. What is read is saved as version 2.
 
 use crate::numbers::Subject;
 use crate::raw::{
@@ -88,8 +88,8 @@ pub enum SavedRefused {
         /// What is due.
         due: u32,
     },
-    /// The core refuses the state that they hold, with 2, and a subject has made more calls in it than it may (H17). In version 1 it could: such a file need not
-    /// be damaged, and still its state is not served any more.
+    /// The core refuses the state that they hold, with 2, and a subject has made more calls in it than it may (H17). In version 1 it could: such a file need
+    /// not be damaged, and still its state is not served any more.
     Calls {
         /// Of whom.
         of: Subject,
@@ -231,7 +231,8 @@ pub(crate) fn read(bytes: &[u8]) -> Result<Box<State>, SavedRefused> {
     Ok(state)
 }
 
-/// Why the core refuses this state, as far as it can be seen from here: its 2 does not say (H13).
+/// Why the core refuses this state, as far as it can be seen from here: its 2 does not say (H13). A caller that is no subject is another reason (H11), however
+/// many its calls are.
 pub(crate) fn reason(state: &State, refusal: Refusal) -> SavedRefused {
     let mut made = [0; 256];
     let calls = state.calls.chunks_exact(CALL_RECORD);
@@ -239,7 +240,8 @@ pub(crate) fn reason(state: &State, refusal: Refusal) -> SavedRefused {
         made[usize::from(call[0])] += 1;
     }
     let most = MAX_CALLS_EACH;
-    let above = (0..=u8::MAX).zip(made).find(|(_, count)| *count > most);
+    let mut subjects = (0..=u8::MAX).zip(made).take(state.counts[0]);
+    let above = subjects.find(|(_, count)| *count > most);
     above.map_or(SavedRefused::State(refusal), |(of, count)| {
         let of = Subject::from(of);
         SavedRefused::Calls { of, count, most }

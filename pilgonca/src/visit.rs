@@ -17,8 +17,8 @@ pub use script::script;
 
 /// A state: a table with the cells, places and calls made since it was loaded. A request that is refused changes nothing of it (Q14).
 ///
-/// A request's first operand is the subject that asks. Whoever keeps the `Visit` says which that is, by what it knows itself, and never takes it from a module: the core
-/// believes it (docs/HOSTILE.md).
+/// A request's first operand is the subject that asks. Whoever keeps the `Visit` says which that is, by what it knows itself, and never takes it from a module:
+/// the core believes it (docs/HOSTILE.md).
 #[derive(Clone)]
 pub struct Visit {
     state: Box<State>,
@@ -117,7 +117,8 @@ impl Visit {
         saved::write(&self.state)
     }
 
-    /// The state of a file, of this version or an older one ([`saved`]). Its bytes are trusted in nothing: what they hold is a state handed in, and the core checks it.
+    /// The state of a file, of this version or an older one ([`saved`]). Its bytes are trusted in nothing: what they hold is a state handed in, and the core
+    /// checks it.
     ///
     /// ```
     /// use pilgonca::{SavedRefused, Visit, EXAMPLE};

@@ -376,8 +376,20 @@ fn too_many_calls_of_one_are_told() {
             let cause = std::error::Error::source(&refused).expect("a refusal");
             assert_eq!(cause.to_string(), Refusal::OutOfRange.to_string());
         }
-        // a caller that is no subject
-        let refused = reason(&called(version, 32, &[16]));
+        // a caller that is no subject, whose calls are as many as one makes or more: another reason (H11)
+        for (calls, caller) in [(32, 16), (33, 16), (33, 200), (256, 255)] {
+            let refused = reason(&called(version, calls, &[caller]));
+            assert_eq!(refused, SavedRefused::State(Refusal::OutOfRange));
+        }
+        // with both reasons the subject is told
+        let refused = reason(&called(version, 99, &[16, 15, 200]));
+        let (of, count, most) = (Subject(15), 33, 32);
+        assert_eq!(refused, SavedRefused::Calls { of, count, most });
+        // a caller that would be a subject on another sheet
+        let mut front = called(version, 33, &[7]);
+        front.truncate(front.len() - 4);
+        front[10] = 7;
+        let refused = reason(&signed(&front));
         assert_eq!(refused, SavedRefused::State(Refusal::OutOfRange));
     }
 }

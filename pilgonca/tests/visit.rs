@@ -266,24 +266,24 @@ fn old_ones_alike(program: &Path) {
     let bytes = fs::read(root().join("examples/optional.state")).expect("a state");
     let signed = |front: &[u8]| [front, &checksum(front).to_le_bytes()].concat();
     // so many calls, by 16 subjects in turn or by one alone, where there were two
-    let of = |version: u8, calls: u16, alone: bool| {
+    let of = |version: u8, calls: u16, alone: Option<u8>| {
         let mut front = bytes[..bytes.len() - 12].to_vec();
         front[8] = version;
         // as many subjects as there can be
         front[10] = 16;
         front[24..26].copy_from_slice(&calls.to_le_bytes());
-        let caller = |number: u16| if alone { 2 } else { (number % 16) as u8 };
+        let caller = |number: u16| alone.unwrap_or((number % 16) as u8);
         let records = (0..calls).flat_map(|number| [caller(number), 0, 0, 1]);
         front.extend(records);
         signed(&front)
     };
     let taken_with = |calls: u16| (format!("cells 3, places 1, calls {calls}\n"), true);
     for (bytes, calls) in [
-        (of(1, 2, false), 2),
-        (of(1, 256, false), 256),
-        (of(1, 32, true), 32),
-        (of(2, 257, false), 257),
-        (of(2, 512, false), 512),
+        (of(1, 2, None), 2),
+        (of(1, 256, None), 256),
+        (of(1, 32, Some(2)), 32),
+        (of(2, 257, None), 257),
+        (of(2, 512, None), 512),
     ] {
         assert_eq!(taken(program, &bytes), taken_with(calls));
         let read = Visit::from_saved(&bytes).expect("a state");
@@ -293,11 +293,15 @@ fn old_ones_alike(program: &Path) {
     }
     let many = "refused by the core: a subject has made too many calls";
     for (bytes, words) in [
-        (of(1, 257, false), "a count is above its limit"),
-        (of(2, 513, false), "a count is above its limit"),
-        (of(1, 33, true), many),
-        (of(1, 256, true), many),
-        (of(2, 33, true), many),
+        (of(1, 257, None), "a count is above its limit"),
+        (of(2, 513, None), "a count is above its limit"),
+        (of(1, 33, Some(2)), many),
+        (of(1, 256, Some(15)), many),
+        (of(2, 33, Some(2)), many),
+        // callers that are no subjects
+        (of(1, 33, Some(16)), "refused by the core"),
+        (of(1, 256, Some(200)), "refused by the core"),
+        (of(2, 33, Some(200)), "refused by the core"),
     ] {
         assert_eq!(taken(program, &bytes), (format!("{words}\n"), false));
         assert!(Visit::from_saved(&bytes).is_err());

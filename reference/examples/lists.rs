@@ -63,6 +63,12 @@ fn sheet(subjects: usize, broader: &[&str], types: &[&[&str]]) -> String {
     text
 }
 
+/// The lines of requests that stand in a row, with a comma between two.
+fn asked(requests: &str) -> String {
+    let line = |request: &str| format!("do={request}\n");
+    requests.split(", ").map(line).collect()
+}
+
 fn by_hand() -> Vec<(String, String, String)> {
     let p = sheet(
         3,
@@ -76,7 +82,7 @@ fn by_hand() -> Vec<(String, String, String)> {
             &["0", "no", "denied", "avail(0)-", "denied"],
         ],
     );
-    let three = "do=new 0 1 4\ndo=move 0 0 1 2\ndo=move 1 1 2 3\n";
+    let three = asked("new 0 1 4, move 0 0 1 2, move 1 1 2 3");
     // Answers with references, recursive: 0 class, 1 lesser, 2 optional.
     let recursive = sheet(
         2,
@@ -112,23 +118,118 @@ fn by_hand() -> Vec<(String, String, String)> {
             &["3", "yes", "optional()-"],
         ],
     );
+    let after = |requests: &str| three.clone() + &asked(requests);
     let list = |name: &str, sheet: &str, rest: &str| (name.into(), sheet.into(), rest.into());
     vec![
-        list("case P", &p, &format!("{three}do=move 1 1 2 5\ndo=move 2 2 1 4\ndo=move 2 2 0 4\n")),
-        list("case P, 10 and then the same as if nothing was asked", &p, &format!("{three}do=move 2 2 2 5\ndo=move 2 2 2 3\n")),
-        list("case P, order of new's refusals", &p, "do=new 3 9 9\ndo=new -1 1 4\ndo=new 0 0 2\ndo=new 0 2 2\ndo=new 0 1 0\ndo=new 0 1 6\ndo=new 0 4 4\ndo=new 2 1 5\n"),
-        list("case P, order of move's refusals", &p, &format!("{three}do=move 3 9 9 9\ndo=move 0 9 3 9\ndo=move 0 1 1 9\ndo=move 0 99 1 2\ndo=move 1 1 1 6\ndo=move 1 1 1 0\ndo=move 1 1 1 4\ndo=move 1 1 0 4\n")),
-        list("case P, calls", &p, &format!("{three}do=call 1 1 2\ndo=call 2 2 1 5\ndo=call 2 2 0\ndo=call 1 1 0 3\ndo=call 0 0 1\ndo=call 0 0 1 2147483648\ndo=call 0 0 1 2147483647\ndo=call 0 0 1 -2147483648\ndo=call 0 0 1 -2147483649\ndo=call 0 0 3\ndo=call 0 0 -1\ndo=call 0 1 0\ndo=call 7 0 0\n")),
-        list("case P, answers", &p, &format!("{three}do=call 2 2 0\ndo=call 0 0 1 4\ndo=answer 1 0 7\ndo=answer 0 2 7\ndo=answer 0 0 -\ndo=answer 0 0 2147483648\ndo=answer 0 0 -2147483648\ndo=answer 0 0 -\ndo=answer 0 1 0\ndo=answer 0 1 -\ndo=answer 0 1 -\ndo=answer 3 0 -\n")),
-        list("recursive answers: nested Sub, the adapter's answers restricted", &recursive, "do=new 0 0 1\ndo=move 0 0 1 2\ndo=call 1 1 0\ndo=new 0 0 0\ndo=answer 0 0 2\ndo=call 1 3 0\ndo=answer 0 1 2\ndo=move 1 1 0 3\ndo=move 1 1 1 1\ndo=move 1 1 1 0\n"),
-        list("recursive answers: the owner gets its own back bare", &recursive, "do=new 0 0 3\ndo=move 0 0 1 1\ndo=move 1 1 1 2\ndo=move 1 2 0 3\ndo=move 1 2 1 3\ndo=call 0 3 1\ndo=answer 0 0 0\n"),
-        list("references as arguments and answers through an adapter: nested Sup and Sub", &arguments, "do=new 0 0 1\ndo=move 0 0 1 2\ndo=new 1 0 3\ndo=move 1 2 1 2\ndo=call 1 1 0 2\ndo=call 1 1 0 3\ndo=answer 0 0 4\ndo=answer 0 1 0\n"),
-        list("adapters behind adapters, unwrapping several", &arguments, "do=new 1 0 3\ndo=move 1 0 1 2\ndo=move 1 1 2 3\ndo=move 2 2 0 2\ndo=move 0 3 2 4\ndo=move 0 3 1 4\ndo=call 0 3 0 3\ndo=answer 1 0 5\ndo=call 1 4 0 4\n"),
-        list("categories: 10 by category, adapters lose it, the owner gets it back", &categories, "do=new 0 0 2\ndo=new 0 0 3\ndo=move 0 0 1 3\ndo=move 0 1 1 4\ndo=move 1 2 0 4\ndo=new 0 1 4\ndo=new 1 1 2\ndo=move 1 4 0 4\n"),
-        list("places: 128 and 129 (long)", &p, &"do=new 0 1 4\n".repeat(129)),
-        list("cells: 256 and 257 (long)", &p, &format!("do=new 0 1 4\n{}", "do=move 0 0 1 2\n".repeat(256))),
-        list("calls: 32 and 33 of one, another served (long)", &p, &format!("do=new 0 1 4\ndo=move 0 0 1 2\n{}do=call 0 0 0 1\ndo=call 1 1 0\n", "do=call 0 0 0\n".repeat(33))),
-        list("calls: 512 of sixteen, and one more (long)", &p.replace("subjects=3", "subjects=16"), &sixteen()),
+        list(
+            "case P",
+            &p,
+            &after("move 1 1 2 5, move 2 2 1 4, move 2 2 0 4"),
+        ),
+        list(
+            "case P, 10 and then the same as if nothing was asked",
+            &p,
+            &after("move 2 2 2 5, move 2 2 2 3"),
+        ),
+        list(
+            "case P, order of new's refusals",
+            &p,
+            &asked(
+                "new 3 9 9, new -1 1 4, new 0 0 2, new 0 2 2, new 0 1 0, new 0 1 6, new 0 4 4, \
+                 new 2 1 5",
+            ),
+        ),
+        list(
+            "case P, order of move's refusals",
+            &p,
+            &after(
+                "move 3 9 9 9, move 0 9 3 9, move 0 1 1 9, move 0 99 1 2, move 1 1 1 6, \
+                 move 1 1 1 0, move 1 1 1 4, move 1 1 0 4",
+            ),
+        ),
+        list(
+            "case P, calls",
+            &p,
+            &after(
+                "call 1 1 2, call 2 2 1 5, call 2 2 0, call 1 1 0 3, call 0 0 1, \
+                 call 0 0 1 2147483648, call 0 0 1 2147483647, call 0 0 1 -2147483648, \
+                 call 0 0 1 -2147483649, call 0 0 3, call 0 0 -1, call 0 1 0, call 7 0 0",
+            ),
+        ),
+        list(
+            "case P, answers",
+            &p,
+            &after(
+                "call 2 2 0, call 0 0 1 4, answer 1 0 7, answer 0 2 7, answer 0 0 -, \
+                 answer 0 0 2147483648, answer 0 0 -2147483648, answer 0 0 -, answer 0 1 0, \
+                 answer 0 1 -, answer 0 1 -, answer 3 0 -",
+            ),
+        ),
+        list(
+            "recursive answers: nested Sub, the adapter's answers restricted",
+            &recursive,
+            &asked(
+                "new 0 0 1, move 0 0 1 2, call 1 1 0, new 0 0 0, answer 0 0 2, call 1 3 0, \
+                 answer 0 1 2, move 1 1 0 3, move 1 1 1 1, move 1 1 1 0",
+            ),
+        ),
+        list(
+            "recursive answers: the owner gets its own back bare",
+            &recursive,
+            &asked(
+                "new 0 0 3, move 0 0 1 1, move 1 1 1 2, move 1 2 0 3, move 1 2 1 3, \
+                 call 0 3 1, answer 0 0 0",
+            ),
+        ),
+        list(
+            "references as arguments and answers through an adapter: nested Sup and Sub",
+            &arguments,
+            &asked(
+                "new 0 0 1, move 0 0 1 2, new 1 0 3, move 1 2 1 2, call 1 1 0 2, call 1 1 0 3, \
+                 answer 0 0 4, answer 0 1 0",
+            ),
+        ),
+        list(
+            "adapters behind adapters, unwrapping several",
+            &arguments,
+            &asked(
+                "new 1 0 3, move 1 0 1 2, move 1 1 2 3, move 2 2 0 2, move 0 3 2 4, \
+                 move 0 3 1 4, call 0 3 0 3, answer 1 0 5, call 1 4 0 4",
+            ),
+        ),
+        list(
+            "categories: 10 by category, adapters lose it, the owner gets it back",
+            &categories,
+            &asked(
+                "new 0 0 2, new 0 0 3, move 0 0 1 3, move 0 1 1 4, move 1 2 0 4, new 0 1 4, \
+                 new 1 1 2, move 1 4 0 4",
+            ),
+        ),
+        list(
+            "places: 128 and 129 (long)",
+            &p,
+            &asked("new 0 1 4").repeat(129),
+        ),
+        list(
+            "cells: 256 and 257 (long)",
+            &p,
+            &(asked("new 0 1 4") + &asked("move 0 0 1 2").repeat(256)),
+        ),
+        list(
+            "calls: 32 and 33 of one, another served (long)",
+            &p,
+            &[
+                asked("new 0 1 4, move 0 0 1 2"),
+                asked("call 0 0 0").repeat(33),
+                asked("call 0 0 0 1, call 1 1 0"),
+            ]
+            .concat(),
+        ),
+        list(
+            "calls: 512 of sixteen, and one more (long)",
+            &p.replace("subjects=3", "subjects=16"),
+            &sixteen(),
+        ),
     ]
 }
 

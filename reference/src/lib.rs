@@ -44,7 +44,10 @@ pub mod chains;
 
 pub mod book;
 
-pub mod log;
+pub mod transcript;
+
+// the names up to now, which conformance still has
+pub use transcript as log;
 
 // P
 pub mod script;

@@ -5,7 +5,6 @@ use reference::check::{self, Reason};
 use reference::entry;
 use reference::generators::{self, tiny_first, two_lists, Profile};
 use reference::hostile::{self, Limit, LIMITS};
-use reference::log::{first_wrong, passes, Log};
 use reference::model::Model;
 use reference::random::Random;
 use reference::raw::RawState;
@@ -14,6 +13,7 @@ use reference::requests::{index, Got, Request};
 use reference::script;
 use reference::serving;
 use reference::state::{State, MAX_CALLS, MAX_CALLS_EACH};
+use reference::transcript::{first_wrong, passes, Transcript};
 use std::collections::BTreeMap;
 
 /// Inputs of every profile that is right.
@@ -32,17 +32,17 @@ fn inputs() -> impl Iterator<Item = (String, Vec<u8>)> {
 
 /// L28, at every state of a run; L29, at every request.
 #[test]
-fn records_and_18_go_by_the_log() {
+fn records_and_18_go_by_the_transcript() {
     let (mut full, mut most) = (0, 0);
     for (name, input) in inputs() {
         let script = script::read(&input).unwrap();
         let mut model = Model::new(State::of_sheet(script.table));
-        let mut log = Log::default();
+        let mut transcript = Transcript::default();
         for request in &script.requests {
             let result = model.request(request);
-            assert!(log.allows(request, result.err()), "{name}");
-            log.add(request, result.is_ok());
-            assert!(log.agrees(&model.state), "{name}");
+            assert!(transcript.allows(request, result.err()), "{name}");
+            transcript.add(request, result.is_ok());
+            assert!(transcript.agrees(&model.state), "{name}");
             full += usize::from(result == Err(CALLS_FULL));
         }
         most = most.max(model.state.calls.len());
@@ -51,9 +51,9 @@ fn records_and_18_go_by_the_log() {
     assert_eq!(most, MAX_CALLS);
 }
 
-/// The same of the log by itself: it is not content with anything else.
+/// The same of the transcript by itself: it is not content with anything else.
 #[test]
-fn the_log_tells_18_too_early_and_too_late() {
+fn the_transcript_tells_18_too_early_and_too_late() {
     let call = |subject| Request::Call {
         subject,
         cell: 0,
@@ -88,7 +88,7 @@ fn the_log_tells_18_too_early_and_too_late() {
         call: 0,
         value: None,
     };
-    assert!(!Log::default().allows(&answer, Some(18)));
+    assert!(!Transcript::default().allows(&answer, Some(18)));
 }
 
 /// L30: two histories from one sheet, one subject with equally many accepted calls in both.
@@ -101,8 +101,8 @@ fn two_histories_agree_on_18() {
             let state = State::of_sheet(two.table.clone());
             let (results, state) = serving::run(state, list);
             let (last, before) = results.split_last().unwrap();
-            let log = Log::of_run(list, before);
-            assert_eq!(log.accepted(two.subject), two.accepted, "{seed}");
+            let transcript = Transcript::of_run(list, before);
+            assert_eq!(transcript.accepted(two.subject), two.accepted, "{seed}");
             assert!(passes(last.err()), "{seed}");
             (last.err() == Some(CALLS_FULL), state.calls.len())
         });
@@ -133,16 +133,16 @@ fn one_answer_for_a_subject_and_its_count() {
         for _ in 0..4 {
             let listed = generators::requests(&mut random, &plan, table.clone());
             let mut model = Model::new(State::of_sheet(table.clone()));
-            let mut log = Log::default();
+            let mut transcript = Transcript::default();
             for request in &listed.requests {
                 let result = model.request(request);
                 if let (Request::Call { subject, .. }, true) = (request, passes(result.err())) {
                     let full = result == Err(CALLS_FULL);
-                    let key = (*subject, log.accepted(*subject));
+                    let key = (*subject, transcript.accepted(*subject));
                     assert_eq!(*answers.entry(key).or_insert(full), full, "{seed}");
                     met += usize::from(full);
                 }
-                log.add(request, result.is_ok());
+                transcript.add(request, result.is_ok());
             }
         }
     }
@@ -182,7 +182,7 @@ fn passes_first_tests(state: &State, request: &Request) -> bool {
         && both.all(|(operand, named)| !table.types[*named].is_ref() || holds(*operand))
 }
 
-/// L31, of a call on a state and its outcome; 18 by the records, which L28 ties to the log.
+/// L31, of a call on a state and its outcome; 18 by the records, which L28 ties to the transcript.
 fn assert_told_by_number(state: &State, request: &Request, refusal: Option<Refusal>) {
     let Request::Call { subject, .. } = request else {
         assert_ne!(refusal, Some(CALLS_FULL));

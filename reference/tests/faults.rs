@@ -5,11 +5,11 @@ use faults::{named, CheckFault, Fault, ALL, CHECKS};
 use reference::book::Book;
 use reference::external::difference;
 use reference::generators::{tiny_first, two_lists, Profile};
-use reference::log::{first_wrong, passes, Log};
 use reference::script::{self, printed};
 use reference::serving;
 use reference::shrink::shrink;
 use reference::state::State;
+use reference::transcript::{first_wrong, passes, Transcript};
 use reference::{check, dump, hostile};
 
 /// Seeds of each profile tried for each fault.
@@ -134,7 +134,7 @@ fn is_broken(fault: Fault, input: &[u8]) -> bool {
 /// What L28 and L29 say of requests and outcomes finds what they are for, with no right model
 /// beside it.
 #[test]
-fn the_log_finds_what_it_is_for() {
+fn the_transcript_finds_what_it_is_for() {
     for name in [
         "call_33_accepted",
         "call_32_refused",
@@ -151,8 +151,8 @@ fn the_log_finds_what_it_is_for() {
             let script = script::read(&input).unwrap();
             let state = State::of_sheet(script.table);
             let (results, state) = (named(name).run)(state, &script.requests);
-            let log = Log::of_run(&script.requests, &results);
-            first_wrong(&script.requests, &results).is_some() || !log.agrees(&state)
+            let transcript = Transcript::of_run(&script.requests, &results);
+            first_wrong(&script.requests, &results).is_some() || !transcript.agrees(&state)
         };
         assert!(inputs(&[Profile::Full]).any(broken), "{name}");
     }
@@ -172,7 +172,7 @@ fn two_histories_find_what_they_are_for() {
                 let state = State::of_sheet(two.table.clone());
                 let (results, _) = (named(name).run)(state, list);
                 let (last, before) = results.split_last().unwrap();
-                let accepted = Log::of_run(list, before).accepted(two.subject);
+                let accepted = Transcript::of_run(list, before).accepted(two.subject);
                 (accepted, passes(last.err()), last.err() == Some(18))
             });
             (one.0, one.1) == (other.0, true) && other.1 && one.2 != other.2

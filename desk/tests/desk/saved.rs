@@ -1,5 +1,5 @@
-//! Saved states at the desk: `desk run --save` writes one and `desk audit` takes it. Of what both can know, its audit says what the script's says; of the rest it
-//! says that it does not know.
+//! Saved states at the desk: `desk run --save` writes one and `desk audit` takes it. Of what both can know, its audit says what the script's says; of the rest
+//! it says that it does not know.
 
 use crate::audits::{ASKED, OPTIONAL};
 use crate::files::{accepted, failed, read, refused, root, run, with_file, NAMES, SCRIPT, SHEET};

@@ -1,6 +1,6 @@
-//! All that is unsafe: the declarations, and a function around each that has references and slices for parameters. For every call below the same holds: an array has the
-//! length that the C function takes, by its type; a slice passes as its pointer and its length; what is stored to is lent alone, so nothing overlaps; and the functions keep
-//! no pointer. tests/header holds the declarations against the Rattle source.
+//! All that is unsafe: the declarations, and a function around each that has references and slices for parameters. For every call below the same holds: an
+//! array has the length that the C function takes, by its type; a slice passes as its pointer and its length; what is stored to is lent alone, so nothing
+//! overlaps; and the functions keep no pointer. tests/header holds the declarations against the Rattle source.
 #![allow(unsafe_code)]
 
 #[cfg(feature = "doors")]

@@ -1,4 +1,5 @@
-//! The headers in include/ and the declarations of the crate say what the Rattle source says: names, parameters in order, widths, constness, lengths of arrays, numbers.
+//! The headers in include/ and the declarations of the crate say what the Rattle source says: names, parameters in order, widths, constness, lengths of arrays,
+//! numbers.
 
 mod declarations;
 
@@ -162,8 +163,8 @@ fn every_function_is_declared_as_it_is() {
     same(&declared(), &exported, "the crate");
 }
 
-/// What pilgonca.h offers to a caller who keeps a state changes it by a load, a request or a run, of which the claim speaks (L19 to L23). Beside these only the reader stores
-/// types, and its comment says what for.
+/// What pilgonca.h offers to a caller who keeps a state changes it by a load, a request or a run, of which the claim speaks (L19 to L23). Beside these only the
+/// reader stores types, and its comment says what for.
 #[test]
 fn a_state_is_changed_by_requests_alone() {
     let functions = header().functions();

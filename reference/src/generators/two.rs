@@ -3,12 +3,12 @@
 use super::lists::{request, sure_call};
 use super::plans::{Plan, FULL, MEDIUM};
 use super::tables::table;
-use crate::log::{passes, Log};
 use crate::model::Model;
 use crate::random::Random;
 use crate::requests::Request;
 use crate::state::{State, MAX_CALLS_EACH};
 use crate::table::{Table, MAX_SUBJECTS};
+use crate::transcript::{passes, Transcript};
 
 /// Two lists on one sheet in which a subject has equally many accepted calls, and which differ at
 /// will in all else. The last request of each is a call of that subject that passes C1 to C5, and
@@ -64,7 +64,7 @@ fn one(
 ) -> Option<Vec<Request>> {
     let mut list = List {
         model: Model::new(State::of_sheet(table.clone())),
-        log: Log::default(),
+        transcript: Transcript::default(),
         requests: Vec::new(),
         subject: subject as i64,
         accepted,
@@ -89,7 +89,7 @@ fn one(
 
 struct List {
     model: Model,
-    log: Log,
+    transcript: Transcript,
     requests: Vec<Request>,
     subject: i64,
     accepted: usize,
@@ -97,19 +97,19 @@ struct List {
 
 impl List {
     fn is_done(&self) -> bool {
-        self.log.accepted(self.subject) == self.accepted
+        self.transcript.accepted(self.subject) == self.accepted
     }
 
     /// Serves a request, unless it is one accepted call of the subject too many.
     fn add(&mut self, request: Request) {
         let mut model = self.model.clone();
         let result = model.request(&request);
-        let mut log = self.log.clone();
-        log.add(&request, result.is_ok());
-        if log.accepted(self.subject) <= self.accepted {
+        let mut transcript = self.transcript.clone();
+        transcript.add(&request, result.is_ok());
+        if transcript.accepted(self.subject) <= self.accepted {
             self.requests.push(request);
             self.model = model;
-            self.log = log;
+            self.transcript = transcript;
         }
     }
 

@@ -1,7 +1,8 @@
-//! The functions of include/pilgonca_tools.h: for tests, and for tools that look at types. They are safe for the reasons that stand at the head of the module above.
+//! The functions of include/pilgonca_tools.h: for tests, and for tools that look at types. They are safe for the reasons that stand at the head of the module
+//! above.
 //!
-//! Lend them a table of its own and no array of a state. A type that no request derived takes one of the numbers that the types of later requests would have had, and what is
-//! proved of references (L19 to L23) no longer speaks of that state, though it passes the check.
+//! Lend them a table of its own and no array of a state. A type that no request derived takes one of the numbers that the types of later requests would have
+//! had, and what is proved of references (L19 to L23) no longer speaks of that state, though it passes the check.
 
 use crate::raw::{Links, TableCounts, TableMut, Types};
 

@@ -1,5 +1,6 @@
-//! The log of a history (L28): whose calls were accepted, told from requests and outcomes alone.
-//! It is held against records (L28) and against 18 (L29), without a look at how calls are served.
+//! The transcript of a history (L28), as far as it is needed: whose calls were accepted, told from
+//! requests and outcomes alone. It is held against records (L28) and against 18 (L29), without a
+//! look at how calls are served.
 
 use crate::refusal::{Refusal, CALLS_FULL, NOT_CALLABLE, NOT_HELD, UNKNOWN_SUBJECT, WRONG_VALUES};
 use crate::requests::{Got, Request};
@@ -8,18 +9,21 @@ use std::collections::BTreeMap;
 
 /// How many calls of each subject were accepted.
 #[derive(Clone, PartialEq, Eq, Debug, Default)]
-pub struct Log {
+pub struct Transcript {
     accepted: BTreeMap<i64, usize>,
 }
 
-impl Log {
-    /// The log of requests and their outcomes, in order.
-    pub fn of_run(requests: &[Request], results: &[Result<Got, Refusal>]) -> Log {
-        let mut log = Log::default();
+/// Its name up to now.
+pub use self::Transcript as Log;
+
+impl Transcript {
+    /// The transcript of requests and their outcomes, in order.
+    pub fn of_run(requests: &[Request], results: &[Result<Got, Refusal>]) -> Transcript {
+        let mut transcript = Transcript::default();
         for (request, result) in requests.iter().zip(results) {
-            log.add(request, result.is_ok());
+            transcript.add(request, result.is_ok());
         }
-        log
+        transcript
     }
 
     /// Takes in a request and whether it was accepted.
@@ -44,7 +48,7 @@ impl Log {
         records == self.accepted
     }
 
-    /// L29: of a request behind this log and its refusal, if any; 18 is a call's alone.
+    /// L29: of a request behind this transcript and its refusal, if any; 18 is a call's alone.
     pub fn allows(&self, request: &Request, refusal: Option<Refusal>) -> bool {
         let is_full = refusal == Some(CALLS_FULL);
         match request {
@@ -64,12 +68,12 @@ pub fn passes(refusal: Option<Refusal>) -> bool {
 
 /// The first request of a run from a loaded sheet that L29 does not hold of.
 pub fn first_wrong(requests: &[Request], results: &[Result<Got, Refusal>]) -> Option<usize> {
-    let mut log = Log::default();
+    let mut transcript = Transcript::default();
     for (number, (request, result)) in requests.iter().zip(results).enumerate() {
-        if !log.allows(request, result.err()) {
+        if !transcript.allows(request, result.err()) {
             return Some(number);
         }
-        log.add(request, result.is_ok());
+        transcript.add(request, result.is_ok());
     }
     None
 }
