@@ -11,6 +11,7 @@ use reference::raw::RawTable;
 use reference::requests::Request;
 use reference::script::{line, MAX_INPUT};
 use reference::sheet;
+use reference::state::MAX_CALLS_EACH;
 use reference::table::{MAX_ARGUMENTS, MAX_METHODS};
 
 /// A sheet and requests, as many of them as fit into an input.
@@ -76,25 +77,79 @@ pub fn nested() -> Vec<u8> {
     script(&table, &requests)
 }
 
-/// Calls with four references and answers with one, through 40 adapters, where nearly every pair of types is reached.
-pub fn layered(calls: usize) -> Vec<u8> {
-    const LAYERS: usize = 40;
-    let mut requests = climb(LAYERS);
-    let last = 2 + LAYERS as i64;
-    requests.extend((0..calls).map(|_| call(last, 1, vec![0, 1, 0, 1])));
-    requests.push(answer(0));
-    requests.push(moved(last, side(LAYERS + 1)));
-    script(&wrapping(), &requests)
+/// The calls that a subject makes, and then those of another, which has been given the same references.
+fn in_turn(calls: usize, of: [Request; 2]) -> impl Iterator<Item = Request> {
+    let [first, second] = of;
+    let firsts = std::iter::repeat_n(first, calls.min(MAX_CALLS_EACH));
+    firsts.chain(std::iter::repeat_n(
+        second,
+        calls.saturating_sub(MAX_CALLS_EACH),
+    ))
 }
 
-/// Calls with four references that turn at every adapter. One object more, so that cells become full at the last reference of a call:
+/// The table with a second subject, and moves that give it references like subject 0's.
+fn with_second(mut table: RawTable, cells: &[(i64, i64)]) -> (RawTable, Vec<Request>) {
+    table.subjects = 2;
+    let moves = cells.iter().map(|(cell, type_)| Request::Move {
+        subject: 0,
+        cell: *cell,
+        receiver: 1,
+        type_: *type_,
+    });
+    (table, moves.collect())
+}
+
+/// The call as subject 1 makes it, through another cell and with other ones.
+fn by_second(request: &Request, cell: i64, given: Vec<i64>) -> Request {
+    let mut request = request.clone();
+    if let Request::Call {
+        subject,
+        cell: through,
+        arguments,
+        ..
+    } = &mut request
+    {
+        (*subject, *through, *arguments) = (1, cell, given);
+    }
+    request
+}
+
+/// Cells before the calls of `layered`: three new objects, moves to the outermost adapter, and what subject 1 was given.
+const LAYERS: usize = 40;
+pub const LAYERED_CELLS: usize = 3 + LAYERS + 3;
+
+/// Calls with four references and answers with one, through 40 adapters, where nearly every pair of types is reached.
+pub fn layered(calls: usize) -> Vec<u8> {
+    let last = 2 + LAYERS as i64;
+    let (table, given) = with_second(wrapping(), &[(0, 1), (1, 3), (last, side(LAYERS))]);
+    let mut requests = [climb(LAYERS), given].concat();
+    let request = call(last, 1, vec![0, 1, 0, 1]);
+    let (first, second) = (last + 1, last + 2);
+    let second = by_second(&request, last + 3, vec![first, second, first, second]);
+    requests.extend(in_turn(calls, [request, second]));
+    requests.push(answer(0));
+    requests.push(moved(last, side(LAYERS + 1)));
+    script(&table, &requests)
+}
+
+/// Cells before the calls of `turned`.
+pub const TURNED_CELLS: usize = 3 + MOST_TURNS + 3 + 2;
+
+/// Calls with four references that turn at every adapter. Two objects more, so that cells become full at the last reference of a call:
 /// then it is refused with 13, and has taken as long as one that is accepted.
 pub fn turned(calls: usize) -> Vec<u8> {
-    let mut requests = turning_climb(MOST_TURNS);
-    requests.push(new(0, 2));
+    let last = 2 + MOST_TURNS as i64;
+    let (table, given) = with_second(
+        turning_arguments(),
+        &[(0, 2), (1, 4), (last, side(MOST_TURNS))],
+    );
+    let mut requests = [turning_climb(MOST_TURNS), given].concat();
+    requests.extend([new(0, 2), new(0, 2)]);
     let request = turning_call(MOST_TURNS, MAX_ARGUMENTS);
-    requests.extend((0..calls).map(|_| request.clone()));
-    script(&turning_arguments(), &requests)
+    let (first, second) = (last + 1, last + 2);
+    let second = by_second(&request, last + 3, vec![first, second, first, second]);
+    requests.extend(in_turn(calls, [request, second]));
+    script(&table, &requests)
 }
 
 /// The largest sheet, with a request on it.

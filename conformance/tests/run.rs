@@ -146,7 +146,7 @@ const STAND_INS: [Run; 7] = [
     |state, words, answers| Ok(runs::run(state, words, answers)? + 1),
     |state, words, answers| {
         let result = runs::run(state, words, answers);
-        state.call_mut(255)[3] ^= u8::from(result.is_err());
+        state.call_mut(511)[3] ^= u8::from(result.is_err());
         result
     },
     |state, words, answers| runs::run_by(named("never_wraps").run, state, words, answers),
