@@ -6,7 +6,9 @@ use conformance::inputs::largest;
 use conformance::process::{least_stack, limited_still, limited_to, run};
 use conformance::runs::{self, ANSWER};
 use conformance::said;
-use conformance::states::{deep_requests, deep_state, of_table, worst_requests, worst_state};
+use conformance::states::{
+    deep_requests, deep_state, of_table, with_511_calls, worst_requests, worst_state,
+};
 use conformance::stream::{numbers, to_bytes};
 use reference::coverage::request_name;
 use reference::entry;
@@ -98,13 +100,12 @@ fn run_of(name: &str, state: &RawState, requests: &[Request]) -> Work {
     }
 }
 
-fn offers() -> Work {
-    let mut state = worst_state(48, 40);
+fn offers(name: &str, state: &RawState) -> Work {
     let chain = [3; 1000];
-    assert_eq!(entry::offers(&state, 0, &chain), Ok(true));
-    let bytes = to_bytes(&mut state);
+    assert_eq!(entry::offers(state, 0, &chain), Ok(true));
+    let bytes = to_bytes(&mut state.clone());
     Work {
-        name: "offers, a chain of 1000".to_string(),
+        name: format!("offers, a chain of 1000{name}"),
         word: "offers",
         input: [bytes.clone(), numbers(&[0]), numbers(&chain)].concat(),
         output: [numbers(&[0, 1]), bytes].concat(),
@@ -190,20 +191,25 @@ fn small() -> Vec<Work> {
     lines.into_iter().map(one).collect()
 }
 
+/// The deepest requests, in turn and in a run, on states with so many calls.
+fn deepest(calls: &str, change: fn(RawState) -> RawState) -> Vec<Work> {
+    let (deep, worst) = (change(deep_state()), change(worst_state(48, 40)));
+    let nested = format!("118 new types nested{calls}");
+    let layers = format!("40 adapters, 48 types{calls}");
+    let mut all = Vec::new();
+    all.extend(deep_requests().map(|one| request(&nested, &deep, &one)));
+    all.extend(worst_requests().map(|one| request(&layers, &worst, &one)));
+    all.push(run_of(&nested, &deep, &deep_requests()));
+    all.push(run_of(&layers, &worst, &worst_requests()));
+    all.push(offers(calls, &worst));
+    all
+}
+
 fn all() -> Vec<Work> {
-    let deep = deep_state();
-    let worst = worst_state(48, 40);
-    let nested = deep_requests().map(|one| request("118 new types nested", &deep, &one));
-    let layers = worst_requests().map(|one| request("40 adapters, 48 types", &worst, &one));
-    let others = [
-        run_of("118 new types nested", &deep, &deep_requests()),
-        run_of("40 adapters, 48 types", &worst, &worst_requests()),
-        offers(),
-        load(),
-        tiny_sheets(),
-        marks_and_arrivals(),
-    ];
-    let deepest = nested.into_iter().chain(layers).chain(others);
+    let few = deepest("", |state| state);
+    let many = deepest(", 511 calls", with_511_calls);
+    let others = [load(), tiny_sheets(), marks_and_arrivals()];
+    let deepest = few.into_iter().chain(many).chain(others);
     deepest.chain(small()).collect()
 }
 
