@@ -139,8 +139,8 @@ pub fn by_the_log(core: &impl Core, list: &Hostile, full: &mut usize) -> Option<
     None
 }
 
-/// The outcomes of requests in one run: a refusal's number, or none where one is accepted.
-pub fn outcomes(run: Run, state: &mut RawState, requests: &[Request]) -> Vec<Option<Refusal>> {
+/// The outcomes of requests in one run.
+pub fn outcomes(run: Run, state: &mut RawState, requests: &[Request]) -> Outcomes {
     let words: Vec<i64> = requests.iter().flat_map(words).collect();
     let mut answers = vec![0; requests.len() * ANSWER];
     let served = run(state, &words, &mut answers);
@@ -164,8 +164,11 @@ pub fn run_by_the_log(run: Run, list: &Hostile) -> Option<String> {
     apart(&log, &state)
 }
 
-/// What serves a list of requests from a loaded sheet: their outcomes.
-pub type Serves<'a> = &'a dyn Fn(&Table, &[Request]) -> Vec<Option<Refusal>>;
+/// What serves a list of requests from a loaded sheet, and their outcomes.
+pub type Serves = fn(&Table, &[Request]) -> Outcomes;
+
+/// A refusal's number for each request, or none where it is accepted.
+pub type Outcomes = Vec<Option<Refusal>>;
 
 /// The state of a loaded sheet.
 pub fn of_sheet(table: &Table) -> RawState {
@@ -180,7 +183,7 @@ pub struct End {
 }
 
 /// How two histories from one sheet end.
-pub fn ends(serves: Serves, two: &TwoLists) -> [End; 2] {
+pub fn ends(serves: impl Fn(&Table, &[Request]) -> Outcomes, two: &TwoLists) -> [End; 2] {
     [&two.first, &two.second].map(|list| {
         let outcomes = serves(&two.table, list);
         assert_eq!(outcomes.len(), list.len());

@@ -3,7 +3,7 @@
 
 use conformance::calls::{
     self, all_calls, by_the_log, call_by, ends, handed_out, of_sheet, one_of_each, outcomes,
-    run_by_the_log, with_every_kind, End, ORDERS,
+    run_by_the_log, with_every_kind, End, Outcomes, Serves, ORDERS,
 };
 use conformance::requests::{difference, loaded, loaded_anew, on_handed_in, on_offers, Core};
 use conformance::run_lists::{self, List};
@@ -132,7 +132,7 @@ fn one_at_32_and_another_at_0() {
         let full = [vec![None; 32], vec![Some(CALLS_FULL)]].concat();
         let due = [full.clone(), full, vec![Some(CALLS_FULL); 33]].concat();
         let (mut state, mut in_run) = (with_cells(7), with_cells(7));
-        let one_by_one: Vec<Option<Refusal>> = requests
+        let one_by_one: Outcomes = requests
             .iter()
             .map(|request| Proved.request(&mut state, request).err())
             .collect();
@@ -151,7 +151,7 @@ fn one_at_32_and_another_at_0() {
 }
 
 /// The outcomes that a script prints.
-fn told(output: &[u8]) -> Vec<Option<Refusal>> {
+fn told(output: &[u8]) -> Outcomes {
     let text = std::str::from_utf8(output).expect("ASCII");
     let number = |line: &str| {
         line.strip_prefix("no=")
@@ -395,7 +395,7 @@ fn records_and_18_go_by_the_log() {
     assert_eq!(most, 512);
 }
 
-fn by_requests(table: &Table, requests: &[Request]) -> Vec<Option<Refusal>> {
+fn by_requests(table: &Table, requests: &[Request]) -> Outcomes {
     let mut state = of_sheet(table);
     let asked = requests.iter();
     asked
@@ -403,11 +403,11 @@ fn by_requests(table: &Table, requests: &[Request]) -> Vec<Option<Refusal>> {
         .collect()
 }
 
-fn in_a_run(table: &Table, requests: &[Request]) -> Vec<Option<Refusal>> {
+fn in_a_run(table: &Table, requests: &[Request]) -> Outcomes {
     outcomes(Proved::run, &mut of_sheet(table), requests)
 }
 
-fn by_a_script(table: &Table, requests: &[Request]) -> Vec<Option<Refusal>> {
+fn by_a_script(table: &Table, requests: &[Request]) -> Outcomes {
     let text = sheet::text(table);
     let lines: String = requests.iter().map(script::line).collect();
     told(&printed(&[text, lines.into_bytes()].concat()))
@@ -415,14 +415,13 @@ fn by_a_script(table: &Table, requests: &[Request]) -> Vec<Option<Refusal>> {
 
 /// L30 on what runs: two lists from one sheet in which a subject has equally many accepted calls, by requests and outcomes alone, and
 /// which differ at will in the others' requests. Its call at the end of the one and of the other meets 18 in both or in neither. By the C
-/// functions, in a run, and in a script; once by the one and once by the other too.
+/// functions, in a run, and in a script.
 fn two_histories(seeds: u64) -> [usize; 3] {
-    let ways: [fn(&Table, &[Request]) -> Vec<Option<Refusal>>; 3] =
-        [by_requests, in_a_run, by_a_script];
+    let ways: [Serves; 3] = [by_requests, in_a_run, by_a_script];
     let (mut full, mut free, mut apart) = (0, 0, 0);
     for seed in 0..seeds {
         let two = two_lists(seed);
-        let all = ways.map(|way| ends(&way, &two));
+        let all = ways.map(|way| ends(way, &two));
         for End { accepted, refusal } in all.into_iter().flatten() {
             assert_eq!(accepted, two.accepted, "{seed}");
             assert!(passes(refusal), "{seed}: {refusal:?}");

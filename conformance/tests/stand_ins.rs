@@ -174,7 +174,7 @@ fn two_histories_are_watched() {
             results.iter().map(|result| result.err()).collect()
         };
         let differ = |seed| {
-            let [one, other] = ends(&serves, &two_lists(seed));
+            let [one, other] = ends(serves, &two_lists(seed));
             let told =
                 one.accepted == other.accepted && passes(one.refusal) && passes(other.refusal);
             told && (one.refusal == Some(CALLS_FULL)) != (other.refusal == Some(CALLS_FULL))
