@@ -23,7 +23,7 @@ use reference::hostile::{self, Hostile, Limit, LIMITS};
 use reference::log::passes;
 use reference::random::Random;
 use reference::raw::{RawState, RawTable, CALLS_LENGTH, CALL_BYTES};
-use reference::refusal::{Refusal, CALLS_FULL, OUT_OF_RANGE};
+use reference::refusal::{CALLS_FULL, OUT_OF_RANGE};
 use reference::requests::{Got, Request};
 use reference::script;
 use reference::sheet;

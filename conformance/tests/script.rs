@@ -347,12 +347,16 @@ fn a_sheet_alone() {
 /// The deepest scripts, each in twice what it needs.
 #[test]
 fn twice_the_stack_that_is_needed() {
+    let mut above = Vec::new();
     for (name, input) in deepest() {
         let need = need(&input);
         println!("{name}: {need} KB");
-        assert!(need <= said::SCRIPT + said::ALLOWED, "{name}: {need} KB");
+        if need > said::SCRIPT + said::ALLOWED {
+            above.push(format!("{name}: {need} KB"));
+        }
         let output = printed(in_stack(2 * need, &input));
         assert!(output == script::run(&input), "{name}");
     }
     println!("all others in {} KB", stack());
+    assert!(above.is_empty(), "more than is said: {above:#?}");
 }
