@@ -12,7 +12,7 @@ use reference::requests::Request;
 use reference::script::{line, MAX_INPUT};
 use reference::sheet;
 use reference::state::MAX_CALLS_EACH;
-use reference::table::{MAX_ARGUMENTS, MAX_METHODS};
+use reference::table::{MAX_ARGUMENTS, MAX_METHODS, MAX_SUBJECTS};
 
 /// A sheet and requests, as many of them as fit into an input.
 pub fn script<'a>(table: &RawTable, requests: impl IntoIterator<Item = &'a Request>) -> Vec<u8> {
@@ -62,19 +62,50 @@ fn nests(table: &RawTable) -> bool {
 
 /// New, move, call and answer that each nest 118 new types, and then have no number left for the adapter's (11).
 pub fn nested() -> Vec<u8> {
+    nested_behind(&[])
+}
+
+/// The same where 511 calls were made: 32 of each of sixteen subjects, but for the one of subject 0 that nests.
+pub fn nested_behind_calls() -> Vec<u8> {
+    let class = CLASS as i64;
+    let given = (1..MAX_SUBJECTS as i64).map(|receiver| Request::Move {
+        subject: 0,
+        cell: 1,
+        receiver,
+        type_: class,
+    });
+    // cell 1 is subject 0's, and from 2 on each subject has the one behind its number
+    let calls = (0..MAX_SUBJECTS as i64).flat_map(|subject| {
+        let made = MAX_CALLS_EACH - 2 * usize::from(subject == 0);
+        let request = Request::Call {
+            subject,
+            cell: 1 + subject,
+            method: ANSWERS as i64,
+            arguments: vec![],
+        };
+        std::iter::repeat_n(request, made)
+    });
+    nested_behind(&given.chain(calls).collect::<Vec<_>>())
+}
+
+/// Those four behind other requests, which find an object in cell 1 and one call made.
+fn nested_behind(others: &[Request]) -> Vec<u8> {
     let table = (0..).map(loaded_chain).find(nests);
-    let table = table.expect("one seed of some hundred nests so deep");
+    let mut table = table.expect("one seed of some hundred nests so deep");
+    table.subjects = MAX_SUBJECTS as u32;
     let (class, top) = (CLASS as i64, TOP as i64);
-    let requests = [
+    let first = [
         new(class, 0),
         new(class, class),
         call(1, ANSWERS as i64, vec![]),
+    ];
+    let last = [
         new(class, top),
         moved(0, top),
         call(1, TAKES as i64, vec![0; MAX_ARGUMENTS]),
         answer(0),
     ];
-    script(&table, &requests)
+    script(&table, first.iter().chain(others).chain(&last))
 }
 
 /// The calls that a subject makes, and then those of another, which has been given the same references.

@@ -8,7 +8,9 @@ use conformance::process::{built, feed, limited_to, plain, printed};
 use conformance::said;
 use conformance::scripts::{damaged, deepest, in_stack, need, proved, stack, Met};
 use conformance::tiny_first;
-use conformance::worst_scripts::{layered, turned, LAYERED_CELLS, TURNED_CELLS};
+use conformance::worst_scripts::{
+    layered, nested_behind_calls, turned, LAYERED_CELLS, TURNED_CELLS,
+};
 use reference::coverage::OF_REQUESTS;
 use reference::generators::{generate, Profile};
 use reference::requests::Request;
@@ -332,6 +334,17 @@ fn references_that_turn_at_every_adapter() {
     assert_eq!((first.len(), *last), (accepted, "no=13"));
     let through = format!(" {MOST_TURNS}");
     assert!(first.iter().all(|line| line.ends_with(&through)));
+}
+
+/// What nests 118 types behind 511 calls is asked there: one call more would be accepted, all else gets 11.
+#[test]
+fn nested_behind_511_calls() {
+    let output = Met::default().same(&proved, &nested_behind_calls(), "511 calls");
+    let output = String::from_utf8(output.output).expect("ASCII");
+    // two new objects, fifteen moves, the calls, and the four that nest
+    let got = output.lines().filter(|line| line.starts_with("got="));
+    assert_eq!(got.count(), 2 + 15 + 511);
+    assert!(output.ends_with("got=510 0\nno=11\nno=11\nno=11\nno=11\n"));
 }
 
 /// A sheet of 48 types without requests prints nothing (P15).
