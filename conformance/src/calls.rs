@@ -175,10 +175,12 @@ pub fn of_sheet(table: &Table) -> RawState {
     RawState::of(&State::of_sheet(table.clone()))
 }
 
-/// The end of a history, told from requests and outcomes alone: the subject's accepted calls in front of its last one, and what that met.
+/// The end of a history, told from requests and outcomes alone: the subject's accepted calls in front of its last one, those of all others, and what
+/// the last one met.
 #[derive(Clone, Copy, PartialEq, Eq, Debug)]
 pub struct End {
     pub accepted: usize,
+    pub of_others: usize,
     pub refusal: Option<Refusal>,
 }
 
@@ -192,8 +194,11 @@ pub fn ends(serves: impl Fn(&Table, &[Request]) -> Outcomes, two: &TwoLists) -> 
         for (request, refusal) in list.iter().zip(before) {
             log.add(request, refusal.is_none());
         }
+        let accepted = log.accepted(two.subject);
+        let of_all = (0..MAX_SUBJECTS).map(|subject| log.accepted(subject as i64));
         End {
-            accepted: log.accepted(two.subject),
+            accepted,
+            of_others: of_all.sum::<usize>() - accepted,
             refusal: *last,
         }
     })

@@ -422,7 +422,10 @@ fn two_histories(seeds: u64) -> [usize; 3] {
     for seed in 0..seeds {
         let two = two_lists(seed);
         let all = ways.map(|way| ends(way, &two));
-        for End { accepted, refusal } in all.into_iter().flatten() {
+        for end in all.into_iter().flatten() {
+            let End {
+                accepted, refusal, ..
+            } = end;
             assert_eq!(accepted, two.accepted, "{seed}");
             assert!(passes(refusal), "{seed}: {refusal:?}");
             let is_full = refusal == Some(CALLS_FULL);
@@ -431,7 +434,7 @@ fn two_histories(seeds: u64) -> [usize; 3] {
         let [[one, other], ..] = all;
         full += usize::from(one.refusal == Some(CALLS_FULL));
         free += usize::from(one.refusal != Some(CALLS_FULL));
-        apart += usize::from(one.refusal != other.refusal || two.first.len() != two.second.len());
+        apart += usize::from(one.of_others.abs_diff(other.of_others) > 64);
         assert!(all.iter().all(|ends| *ends == all[0]), "{seed}: {all:?}");
     }
     [full, free, apart]
@@ -440,7 +443,7 @@ fn two_histories(seeds: u64) -> [usize; 3] {
 #[test]
 fn two_histories_agree_on_18() {
     let met = two_histories(200);
-    println!("18 in both, in neither, lists that differ in length: {met:?}");
+    println!("18 in both, in neither; others' calls more than 64 apart: {met:?}");
     assert!(met.iter().all(|count| *count > 50), "{met:?}");
 }
 
