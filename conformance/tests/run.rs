@@ -51,7 +51,7 @@ fn runs_as_the_reference() {
     compare(lists(6000, &sheets(800, 300, 20, 40)));
 }
 
-/// Seed 193896 shows R12: a derived type handed in with own is used again and comes to stand in a signature.
+/// R12 was found here: a derived type handed in with own is used again and comes to stand in a signature. `a_call_meets_9` has it by hand.
 #[test]
 #[ignore = "long"]
 fn hundreds_of_thousands_of_runs() {
