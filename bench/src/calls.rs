@@ -1,5 +1,5 @@
-//! What the calls that were made cost: a call, a move and what is offered on a state with none and on one with 511 or 512 of them, through the C functions and in
-//! runs.
+//! What the calls that were made cost: a call, a move and what is offered on a state with none of them and on one with 511 or 512, through
+//! the C functions, and calls in runs.
 
 use crate::measure::{head, ratio, row};
 use crate::requests;

@@ -303,63 +303,66 @@ fn no_byte_is_changed_by_2_or_18() {
     assert!(kept.iter().all(|count| *count > 500), "{kept:?}");
 }
 
-/// A state with 511 calls, then 512: each kind of request on it, by the core and by the reference. Behind call 512 nothing is written.
+/// A request of every kind where so many calls were made: by a subject that has made all of its own, of the last call and of the one
+/// behind it, and by subject 0.
+fn of_every_kind(calls: i64) -> [Request; 7] {
+    let answer = |call| Request::Answer {
+        subject: 0,
+        call,
+        value: Some(9),
+    };
+    let new = Request::New {
+        subject: 15,
+        class: 1,
+        type_: 1,
+    };
+    let moved = Request::Move {
+        subject: 0,
+        cell: 0,
+        receiver: 3,
+        type_: 5,
+    };
+    [
+        call_by(1),
+        new,
+        moved,
+        answer(calls - 1),
+        answer(calls),
+        call_by(0),
+        call_by(0),
+    ]
+}
+
+/// A state with 511 calls, then 512, which has no room for another record: requests of every kind, a run of them, and what is offered
+/// are the reference's.
 #[test]
 fn call_512_and_513() {
     let state = with_511_calls(with_cells(3));
     let mut after = state.clone();
-    let got = Proved.request(&mut after, &call_by(0));
     let call = Got::Call {
         call: 511,
         adapters: 0,
     };
-    assert_eq!(got, Ok(call));
+    assert_eq!(Proved.request(&mut after, &call_by(0)), Ok(call));
     assert!(after == with_record(state.clone(), 0));
-    assert_eq!(after.calls, 512);
     assert_eq!(Proved.request(&mut after, &call_by(0)), Err(CALLS_FULL));
     for (state, calls) in [(&state, 511), (&after, 512)] {
-        let requests = [
-            call_by(1),
-            Request::New {
-                subject: 15,
-                class: 1,
-                type_: 1,
-            },
-            Request::Move {
-                subject: 0,
-                cell: 0,
-                receiver: 3,
-                type_: 5,
-            },
-            Request::Answer {
-                subject: 0,
-                call: calls - 1,
-                value: Some(9),
-            },
-            Request::Answer {
-                subject: 0,
-                call: calls,
-                value: Some(9),
-            },
-            call_by(0),
-            call_by(0),
-        ];
-        let list = Hostile {
-            state: state.clone(),
-            requests: requests.to_vec(),
-        };
-        assert_eq!(difference(&Proved, &list, &mut Seen::default()), None);
+        assert_eq!(state.calls, calls);
+        let requests = of_every_kind(i64::from(calls)).to_vec();
         let lists = List {
             state: state.clone(),
             words: requests.iter().flat_map(runs::words).collect(),
             answers: vec![7; 40],
         };
+        let state = state.clone();
+        let list = Hostile { state, requests };
+        assert_eq!(difference(&Proved, &list, &mut Seen::default()), None);
         let met = &mut run_lists::Met::default();
         let found = run_lists::difference(Proved::run, runs::run, &lists, met);
         assert_eq!(found, None);
         for (cell, chain) in [(0, vec![]), (1, vec![0]), (1, vec![1]), (16, vec![])] {
-            let offered = entry::offers(state, cell, &chain);
-            assert_eq!(Proved.offers(state, cell, &chain), offered);
+            let offered = entry::offers(&list.state, cell, &chain);
+            assert_eq!(Proved.offers(&list.state, cell, &chain), offered);
         }
     }
 }
