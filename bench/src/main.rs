@@ -3,8 +3,9 @@
 //! sides in turn. There are two, to safe Rust that works on a copy and to safe Rust in place (`measure::in_place`); one of the first above 1
 //! is marked. Sheets are read and written in one way only, and marks are held against arrivals in one: there the two columns are the same
 //! measured twice.
-//! With the argument `requests`, `scripts`, `sheets`, `tables` or `doors` it measures these alone.
+//! With the argument `requests`, `calls`, `scripts`, `sheets`, `tables` or `doors` it measures these alone.
 
+mod calls;
 mod doors;
 mod fits;
 mod heavy;
@@ -268,6 +269,9 @@ fn main() {
     let random = with_48_types();
     if wanted("requests") {
         served::all();
+    }
+    if wanted("calls") {
+        calls::all();
     }
     if wanted("scripts") {
         scripts::all();

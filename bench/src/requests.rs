@@ -5,6 +5,7 @@
 
 use crate::measure::in_place;
 use crate::{fits, restriction, search};
+use conformance::runs::{answer as answer_words, first, ANSWER, NO_REQUEST};
 use reference::raw::{self, RawState, METHOD_BYTES};
 use reference::refusal::{
     Refusal, ANSWERED_ALREADY, CALLS_FULL, CELLS_FULL, LATER_LAYER, NOT_CALLABLE, NOT_HELD,
@@ -13,7 +14,7 @@ use reference::refusal::{
 };
 use reference::relations::Relation;
 use reference::requests::{Got, Request};
-use reference::state::{MAX_CALLS, MAX_CELLS, MAX_PLACES};
+use reference::state::{MAX_CALLS_EACH, MAX_CELLS, MAX_PLACES};
 
 /// A reference on its way: its static type, and the place that it leads to.
 #[derive(Clone, Copy)]
@@ -43,6 +44,25 @@ pub fn request(raw: &mut RawState, request: &Request) -> Result<Got, Refusal> {
         *raw = old;
     }
     got
+}
+
+/// A run of the requests in words: the state is checked once, and each request that has room for its answer is served on what those
+/// before it left. How many were served, or 2.
+pub fn run(raw: &mut RawState, mut words: &[i64], answers: &mut [i64]) -> Result<usize, Refusal> {
+    if !fits::state(raw) {
+        return Err(OUT_OF_RANGE);
+    }
+    let mut served = 0;
+    for room in answers.chunks_exact_mut(ANSWER) {
+        if words.is_empty() {
+            break;
+        }
+        let (asked, behind) = first(words);
+        let result = asked.map_or(Err(NO_REQUEST), |asked| serve(raw, &asked));
+        room.copy_from_slice(&answer_words(result));
+        (words, served) = (behind, served + 1);
+    }
+    Ok(served)
 }
 
 /// A request on a state that is right: a refusal leaves what is counted as it was.
@@ -340,6 +360,13 @@ fn argument_types(
     layers.iter().map(of_layer).collect()
 }
 
+/// How many of the calls are this subject's.
+fn made_by(state: &RawState, subject: usize) -> usize {
+    let calls = 0..state.calls as usize;
+    let of_subject = |call: &usize| usize::from(state.call(*call)[0]) == subject;
+    calls.filter(of_subject).count()
+}
+
 fn call(
     state: &mut RawState,
     by: i64,
@@ -361,10 +388,10 @@ fn call(
     let values: Vec<Value> = operands
         .map(|(operand, named)| value(state, by, *operand, named))
         .collect::<Result<_, _>>()?;
-    let number = state.calls as usize;
-    if number == MAX_CALLS {
+    if made_by(state, by) >= MAX_CALLS_EACH {
         return Err(CALLS_FULL);
     }
+    let number = state.calls as usize;
     let layers = layers(state, cell);
     let receiver = owner(state, usize::from(state.cell(cell)[2]));
     for (index, value) in values.into_iter().enumerate() {
@@ -420,7 +447,7 @@ fn answer(state: &mut RawState, by: i64, call: i64, given: Option<i64>) -> Resul
 mod tests {
     use super::*;
     use conformance::requests::{on_handed_in, on_loaded, on_offers, watch, Core};
-    use conformance::tiny_first;
+    use conformance::{run_lists, runs, tiny_first};
     use reference::coverage::Seen;
     use reference::generators::Profile;
 
@@ -456,8 +483,29 @@ mod tests {
             let found = on_offers(&Rust, &one, &mut [0; 3]);
             assert_eq!(found, None, "{}", one.from);
         }
+        for one in tiny_first::call_limits(0..320) {
+            let found = on_handed_in(&Rust, &one.of, &mut seen);
+            assert_eq!(found, None, "{}", one.from);
+        }
         for number in [2].into_iter().chain(5..=19) {
             assert!(seen.number(number) > 5, "{number}");
         }
+    }
+
+    /// So does a run of it.
+    #[test]
+    fn runs_as_the_reference() {
+        let profiles = [Profile::Small, Profile::Medium, Profile::Full];
+        let scripts = profiles.map(|profile| (profile, 60));
+        let scripts = tiny_first::scripts(&scripts).filter_map(run_lists::on_loaded);
+        let limits = tiny_first::call_limits(0..320).map(run_lists::on_handed_in);
+        let states = tiny_first::crowded_states(0..1000).map(run_lists::on_handed_in);
+        let mut met = run_lists::Met::default();
+        for (at, list) in scripts.chain(limits).chain(states).enumerate() {
+            let found = run_lists::difference(run, runs::run, &list, &mut met);
+            assert_eq!(found, None, "list {at}");
+        }
+        assert!(met.numbers[1] > 5 && met.numbers[18] > 5, "{met:?}");
+        assert!(met.rooms.iter().all(|count| *count > 5), "{met:?}");
     }
 }

@@ -55,7 +55,7 @@ pub fn populated(mut state: RawState, cells: u32) -> RawState {
 }
 
 /// The first accepted move that makes an adapter, or none.
-fn moving(state: &RawState, adapter: bool) -> Option<Request> {
+pub fn moving(state: &RawState, adapter: bool) -> Option<Request> {
     moves(state).find(|request| {
         after(state, request).is_some_and(|(after, _)| (after.places > state.places) == adapter)
     })

@@ -44,7 +44,7 @@ impl Again {
 }
 
 /// Measures a scene, both sides of which have to do the same.
-fn measure(scene: &Scene) {
+pub fn measure(scene: &Scene) {
     let (mut theirs, mut ours) = (Again::of(scene), Again::of(scene));
     let request = &scene.request;
     let answer = Proved.request(&mut theirs.state, request);
@@ -68,7 +68,7 @@ fn measure(scene: &Scene) {
 }
 
 /// Offers of chains of one method again and again: the same as safe Rust's, and the ratio.
-fn offers(name: &str, state: &RawState) {
+pub fn offers(name: &str, state: &RawState) {
     for length in [1, 8] {
         let methods = 0..i64::from(state.table.methods);
         let chains = methods.map(|method| vec![method; length]);

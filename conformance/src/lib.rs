@@ -1,5 +1,6 @@
 //! The exported functions of the proved core (crate `pilgonca`) on the tables and states of `reference`. Counts are lent apart from them, so that tests can hand in any.
 
+pub mod calls;
 pub mod chains;
 pub mod doors;
 pub mod heavy;

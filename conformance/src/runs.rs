@@ -81,7 +81,7 @@ fn request(code: i64, operands: &[i64]) -> Option<Request> {
 
 /// The first request of the words, none where they have not the form of one, and the words behind it: the rest is one where its
 /// number of operands is missing, negative or too high (U7).
-fn first(words: &[i64]) -> (Option<Request>, &[i64]) {
+pub fn first(words: &[i64]) -> (Option<Request>, &[i64]) {
     let [code, number, rest @ ..] = words else {
         return (None, &[]);
     };

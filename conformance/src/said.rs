@@ -1,19 +1,19 @@
 //! The stack that each function takes at most, in KB, as README, header, guide and the others say it. Tests hold what is measured to these.
 
-pub const NEW: usize = 140;
-pub const MOVE: usize = 144;
-pub const CALL: usize = 164;
-pub const ANSWER: usize = 160;
-pub const RUN: usize = 172;
+pub const NEW: usize = 144;
+pub const MOVE: usize = 152;
+pub const CALL: usize = 176;
+pub const ANSWER: usize = 168;
+pub const RUN: usize = 184;
 pub const OFFERS: usize = 8;
-pub const LOAD: usize = 24;
+pub const LOAD: usize = 28;
 pub const TINY: usize = 20;
 pub const DOORS: usize = 4;
 /// On Case P.
-pub const SMALL_CALL: usize = 32;
-pub const SMALL_ANSWER: usize = 40;
+pub const SMALL_CALL: usize = 36;
+pub const SMALL_ANSWER: usize = 48;
 /// The program `script`, as a whole.
-pub const SCRIPT: usize = 240;
+pub const SCRIPT: usize = 252;
 
 /// The program `doors`, as a whole.
 pub const DOORS_PROGRAM: usize = 84;

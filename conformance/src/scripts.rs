@@ -1,7 +1,7 @@
 //! Scripts: damage to them, what they meet, and the proved program beside the reference.
 
 use crate::process::{built, least_stack, limited_still, limited_to, printed_or_said, run};
-use crate::worst_scripts::{largest_sheet, layered, nested};
+use crate::worst_scripts::{largest_sheet, layered, nested, nested_behind_calls};
 use reference::coverage::Seen;
 use reference::damage;
 use reference::external::difference;
@@ -19,9 +19,13 @@ const MOST: usize = 1024;
 pub const LONGER: usize = 5;
 
 /// The scripts that need the most stack known.
-pub fn deepest() -> [(&'static str, Vec<u8>); 3] {
+pub fn deepest() -> [(&'static str, Vec<u8>); 4] {
     [
         ("118 new types nested", nested()),
+        (
+            "118 new types nested, 511 calls made",
+            nested_behind_calls(),
+        ),
         ("four references through 40 adapters", layered(3)),
         ("the largest sheet", largest_sheet()),
     ]
@@ -46,7 +50,7 @@ pub fn stack() -> usize {
     static STACK: OnceLock<usize> = OnceLock::new();
     *STACK.get_or_init(|| {
         let needs = deepest().map(|(_, input)| need(&input));
-        MOST.min(2 * needs.into_iter().max().expect("three scripts"))
+        MOST.min(2 * needs.into_iter().max().expect("four scripts"))
     })
 }
 

@@ -8,7 +8,8 @@ use reference::raw::{
     PLACE_BYTES,
 };
 use reference::requests::Request;
-use reference::table::{MAX_ARGUMENTS, MAX_CATEGORIES, MAX_METHODS, MAX_SHEET_TYPES};
+use reference::state::{MAX_CALLS, MAX_CALLS_EACH};
+use reference::table::{MAX_ARGUMENTS, MAX_CATEGORIES, MAX_METHODS, MAX_SHEET_TYPES, MAX_SUBJECTS};
 
 /// A state of a table without cells, places and calls.
 pub fn of_table(table: RawTable) -> RawState {
@@ -43,11 +44,38 @@ pub fn add_cell(state: &mut RawState, type_: usize, place: usize) -> usize {
 
 /// One more call, by subject 0 and not answered: its number.
 pub fn add_call(state: &mut RawState, cell: usize, method: usize) -> usize {
+    add_call_of(state, 0, cell, method)
+}
+
+fn add_call_of(state: &mut RawState, caller: usize, cell: usize, method: usize) -> usize {
     let number = state.calls as usize;
-    let bytes: [u8; CALL_BYTES] = [0, cell as u8, method as u8, 0];
+    let bytes: [u8; CALL_BYTES] = [caller as u8, cell as u8, method as u8, 0];
     state.call_mut(number).copy_from_slice(&bytes);
     state.calls += 1;
     number
+}
+
+/// The state with 511 calls, of method 0 through cell 0 but for those that it has: sixteen subjects made 32 each, and subject 0 may
+/// make one more.
+pub fn with_511_calls(mut state: RawState) -> RawState {
+    state.table.subjects = MAX_SUBJECTS as u32;
+    for caller in 0..MAX_SUBJECTS {
+        let most = MAX_CALLS_EACH - usize::from(caller == 0);
+        for _ in made_by(&state)[caller]..most {
+            add_call_of(&mut state, caller, 0, 0);
+        }
+    }
+    assert_eq!(state.calls as usize, MAX_CALLS - 1);
+    state
+}
+
+/// How many of the counted calls are whose, told from their bytes: any byte may stand for a caller.
+pub fn made_by(state: &RawState) -> [usize; 256] {
+    let mut made = [0; 256];
+    for call in 0..state.calls as usize {
+        made[usize::from(state.call(call)[0])] += 1;
+    }
+    made
 }
 
 /// Adapters of these types in front of a cell's place, the last one outermost; the cell then leads to that.

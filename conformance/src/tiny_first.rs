@@ -68,3 +68,9 @@ pub fn crowded_states(seeds: Range<u64>) -> impl Iterator<Item = Input<Hostile>>
     };
     tiny(hostile::on_tiny(0)).chain(seeds.map(hostile))
 }
+
+/// States handed in that are at a limit of calls (Q9, H1, H17); seeds take the limits in turn.
+pub fn call_limits(seeds: Range<u64>) -> impl Iterator<Item = Input<Hostile>> {
+    let at_limit = |seed| Input::new("limits of calls", seed, hostile::at_call_limits(seed));
+    tiny(hostile::on_tiny(0)).chain(seeds.map(at_limit))
+}

@@ -51,7 +51,7 @@ fn runs_as_the_reference() {
     compare(lists(6000, &sheets(800, 300, 20, 40)));
 }
 
-/// Seed 193896 shows R12: a derived type handed in with own is used again and comes to stand in a signature.
+/// R12 was found here: a derived type handed in with own is used again and comes to stand in a signature. `a_call_meets_9` has it by hand.
 #[test]
 #[ignore = "long"]
 fn hundreds_of_thousands_of_runs() {
@@ -146,7 +146,7 @@ const STAND_INS: [Run; 7] = [
     |state, words, answers| Ok(runs::run(state, words, answers)? + 1),
     |state, words, answers| {
         let result = runs::run(state, words, answers);
-        state.call_mut(255)[3] ^= u8::from(result.is_err());
+        state.call_mut(511)[3] ^= u8::from(result.is_err());
         result
     },
     |state, words, answers| runs::run_by(named("never_wraps").run, state, words, answers),

@@ -3,28 +3,40 @@
 
 use conformance::requests::{counted, Core};
 use conformance::served::{counts, given, set_counts, Proved};
-use conformance::states::of_table;
+use conformance::states::{made_by, of_table};
 use conformance::tiny_first;
 use pilgonca::raw::State;
 use pilgonca::saved::checksum;
-use pilgonca::{Refusal, SavedRefused, Visit};
+use pilgonca::{Refusal, SavedRefused, Subject, Visit};
 use reference::generators::{Profile, PROFILES};
 use reference::hostile::Hostile;
 use reference::raw::{RawState, RawTable, BROADER_BYTES};
 use reference::script;
+use reference::sheet;
 
 /// The most of everything that is counted, in the order of the counts.
-const MOST: [usize; 8] = [16, 16, 31, 48, 128, 256, 128, 256];
+const MOST: [usize; 8] = [16, 16, 31, 48, 128, 256, 128, 512];
+
+/// The most calls of a file of version 1, and of a subject in one of version 2.
+const OLD_CALLS: usize = 256;
+const OF_ONE: usize = 32;
 
 /// The file of a state by the guide's table. None where a count is above its limit: there are no records to save.
 fn by_hand(state: &RawState) -> Option<Vec<u8>> {
+    of_version(2, state)
+}
+
+/// The same of a version: in the first all subjects together make 256 calls.
+fn of_version(version: u8, state: &RawState) -> Option<Vec<u8>> {
     let counts = counts(state);
-    let within = counts.iter().zip(MOST).all(|(count, most)| *count <= most);
+    let mut most = MOST;
+    most[7] = if version == 1 { OLD_CALLS } else { most[7] };
+    let within = counts.iter().zip(most).all(|(count, most)| *count <= most);
     let counted = within.then(|| counted(state))?;
     let [links, types, cells, places, calls] = counted;
     let links = &links[BROADER_BYTES..][..counts[2] * BROADER_BYTES];
     let words = counts.map(|count| [count as u8, (count >> 8) as u8]);
-    let head = [&b"PILGONCA\x01\x00"[..], &words.concat()].concat();
+    let head = [&b"PILGONCA"[..], &[version, 0], &words.concat()].concat();
     let front = [&head, types, links, cells, places, calls].concat();
     let sum = checksum(&front);
     let sum = [0, 8, 16, 24].map(|bits| (sum >> bits) as u8);
@@ -60,6 +72,10 @@ fn round(hostile: &Hostile) -> bool {
     assert_eq!(visit.save(), file);
     let read = Visit::from_saved(&file).expect("a saved state");
     assert_eq!(read.save(), file);
+    if let Some(old) = of_version(1, state) {
+        let read = Visit::from_saved(&old).expect("an older one");
+        assert_eq!(read.save(), file);
+    }
     let (mut theirs, mut ours) = (taken(&read), state.clone());
     for request in &hostile.requests {
         let answer = Proved.request(&mut theirs, request);
@@ -99,7 +115,22 @@ fn states_that_scripts_leave_come_back() {
         }
     }
     println!("at most {met:?} cells, places and calls");
-    assert_eq!(met, [256, 128, 256]);
+    assert_eq!(met, [256, 128, 512]);
+}
+
+/// What a file is refused with whose state is unsound, by the guide: whose calls are too many where they are, of the first such
+/// subject, and else 2 alone.
+fn refusal(state: &RawState) -> SavedRefused {
+    let made = made_by(state).into_iter().enumerate();
+    let mut above = made.filter(|(_, count)| *count > OF_ONE);
+    match above.next() {
+        Some((of, count)) => SavedRefused::Calls {
+            of: Subject::from(of as u8),
+            count,
+            most: OF_ONE,
+        },
+        None => SavedRefused::State(Refusal::OutOfRange),
+    }
 }
 
 #[test]
@@ -115,12 +146,69 @@ fn hostile_states_come_back_or_are_refused() {
             continue;
         };
         let refused = Visit::from_saved(&file).expect_err("unsound");
-        let by_core = SavedRefused::State(Refusal::OutOfRange);
-        assert_eq!(refused, by_core, "{}", hostile.from);
+        assert_eq!(refused, refusal(&hostile.of.state), "{}", hostile.from);
         unsound += 1;
     }
     println!("{sound} sound, {unsound} refused by the core, {wide} with a count above its limit");
     assert!(sound > 1000 && unsound > 500 && wide > 10);
+}
+
+/// At the limits of calls: what is sound comes back, also from a file of version 1 where it has so many; more than 32 of one are
+/// refused by whose they are, in both versions, and more than 256 in version 1 or 512 in version 2 by their count.
+#[test]
+fn states_at_the_limits_of_calls_come_back_or_are_refused() {
+    let (mut sound, mut whose, mut counted) = (0, 0, [0; 2]);
+    for hostile in tiny_first::call_limits(0..640) {
+        let (state, from) = (&hostile.of.state, &hostile.from);
+        let is_sound = round(&hostile.of);
+        sound += usize::from(is_sound);
+        for version in [1, 2] {
+            let Some(file) = of_version(version, state) else {
+                counted[usize::from(version) - 1] += 1;
+                continue;
+            };
+            let read = Visit::from_saved(&file);
+            if is_sound {
+                let saved = read.ok().map(|visit| visit.save());
+                assert_eq!(saved, by_hand(state), "{from}");
+                continue;
+            }
+            let refused = read.expect_err("unsound");
+            assert_eq!(refused, refusal(state), "{from}");
+            whose += usize::from(matches!(refused, SavedRefused::Calls { .. }));
+        }
+    }
+    println!("{sound} sound, {whose} refused by whose calls they are, {counted:?} have too many");
+    assert!(sound > 300 && whose > 150 && counted > [150, 50]);
+}
+
+/// A file that counts one call too many, its bytes and its checksum being right.
+#[test]
+fn a_count_of_calls_above_its_limit() {
+    let case = sheet::read(include_bytes!("../../examples/case-p.sheet")).expect("a sheet");
+    for (version, most) in [(1u8, OLD_CALLS), (2, MOST[7])] {
+        for (calls, due) in [(most, None), (most + 1, Some(most))] {
+            let file = by_hand(&of_table(RawTable::of(&case))).expect("no calls");
+            let mut front = file[..file.len() - 4].to_vec();
+            front[8] = version;
+            front[10 + 14..10 + 16].copy_from_slice(&[calls as u8, (calls >> 8) as u8]);
+            front.resize(front.len() + 4 * calls, 0);
+            let sum = checksum(&front).to_le_bytes();
+            let refused = Visit::from_saved(&[&front[..], &sum].concat()).expect_err("unsound");
+            let above = |most| SavedRefused::Count {
+                of: "calls",
+                count: calls,
+                most,
+            };
+            // all of them are subject 0's
+            let of_one = SavedRefused::Calls {
+                of: Subject::from(0),
+                count: calls,
+                most: OF_ONE,
+            };
+            assert_eq!(refused, due.map_or(of_one, above), "version {version}");
+        }
+    }
 }
 
 /// Every bit of whole states, and every length.

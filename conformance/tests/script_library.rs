@@ -37,7 +37,7 @@ fn the_reference_prints_the_same() {
 
 #[test]
 fn the_reference_prints_the_same_for_damaged_scripts() {
-    let met = compare(&[(Profile::Damaged, 1500)], 2000, &[4, 18, 19]);
+    let met = compare(&[(Profile::Damaged, 1500)], 2000, &[4, 19]);
     assert!(met.malformed > 500 && met.too_long > 5);
 }
 

@@ -2,22 +2,28 @@
 //! stores something wrong, or says wrongly what is offered. The scripts can too: programs that read or print something wrongly
 //! are found. So are functions and programs that hold marks against arrivals in a wrong way.
 
+use conformance::calls::{by_the_log, ends, run_by_the_log, with_every_kind};
 use conformance::doors::{limits, ours, Answer, Lists, INPUTS, LAST, MOST, UNSET, WIDEST};
-use conformance::requests::{on_handed_in, on_loaded, on_offers, watch, Core};
+use conformance::requests::{difference, loaded, on_handed_in, on_loaded, on_offers, watch, Core};
+use conformance::run_lists;
+use conformance::runs;
 use conformance::scripts::damaged;
 use conformance::tiny_first::{self, Input};
-use faults::{named, Fault, ALL};
-use reference::chains::{offered, permits};
+use faults::{named, CheckFault, Fault, ALL, CHECKS};
+use reference::chains::{offered, permits, All};
 use reference::check;
 use reference::coverage::Seen;
 use reference::doors;
 use reference::entry;
-use reference::generators::{doors_input, Profile};
+use reference::generators::{doors_input, two_lists, Profile};
 use reference::hostile::Hostile;
+use reference::log::passes;
 use reference::raw::RawState;
-use reference::refusal::{Refusal, OUT_OF_RANGE};
+use reference::refusal::{Refusal, CALLS_FULL, OUT_OF_RANGE};
 use reference::requests::{index, Got, Request};
 use reference::script::{self, MAX_INPUT};
+use reference::state::State;
+use reference::table::Table;
 
 /// The reference with a fault.
 struct StandIn(Fault);
@@ -35,10 +41,13 @@ impl Core for StandIn {
     }
 }
 
+/// Shows over a list alone: it counts what it refused before.
+const OVER_A_LIST: &str = "calls_refused_counted";
+
 /// Each fault is found on some state.
 #[test]
 fn every_fault_is_found() {
-    for fault in ALL {
+    for fault in ALL.iter().filter(|fault| fault.name != OVER_A_LIST) {
         let core = StandIn(*fault);
         let mut seen = Seen::default();
         let mut differs = |one: Input<Hostile>| on_handed_in(&core, &one.of, &mut seen).is_some();
@@ -46,6 +55,131 @@ fn every_fault_is_found() {
             || tiny_first::scripts(&[(Profile::Full, 200), (Profile::Long, 200)])
                 .any(|script| on_loaded(&core, &script, &mut seen).is_some());
         assert!(found, "{}", fault.name);
+    }
+}
+
+/// A run by the reference with that fault.
+fn counts_refused(
+    state: &mut RawState,
+    words: &[i64],
+    answers: &mut [i64],
+) -> Result<usize, Refusal> {
+    runs::run_by(named(OVER_A_LIST).run, state, words, answers)
+}
+
+/// The one that shows over a list is found in runs, on states at the limits of calls and on loaded sheets.
+#[test]
+fn refused_calls_that_are_counted_are_found_in_runs() {
+    let differs = |list| {
+        let met = &mut run_lists::Met::default();
+        run_lists::difference(counts_refused, runs::run, &list, met).is_some()
+    };
+    let scripts = [(Profile::Full, 200)];
+    let mut scripts = tiny_first::scripts(&scripts).filter_map(run_lists::on_loaded);
+    assert!(scripts.any(differs));
+}
+
+/// The faults of whose calls are counted, and up to where.
+fn of_calls() -> impl Iterator<Item = Fault> {
+    let named = |fault: &&Fault| fault.name.starts_with("call") && fault.name != OVER_A_LIST;
+    ALL.iter().filter(named).copied()
+}
+
+/// Each is found on states handed in at the limits of calls.
+#[test]
+fn every_fault_of_the_call_count_is_found_at_its_limits() {
+    assert_eq!(of_calls().count(), 11);
+    for fault in of_calls() {
+        let core = StandIn(fault);
+        let mut states = tiny_first::call_limits(0..640);
+        let found = states.any(|one| {
+            let list = with_every_kind(one.seed, &one.of);
+            difference(&core, &list, &mut Seen::default()).is_some()
+        });
+        assert!(found, "{}", fault.name);
+    }
+}
+
+/// The reference with a faulty check of what is handed in.
+struct Checks(CheckFault);
+
+impl Core for Checks {
+    /// Not asked: a count that is wrongly accepted has no room for another record.
+    fn request(&self, _: &mut RawState, request: &Request) -> Result<Got, Refusal> {
+        panic!("{request:?}");
+    }
+
+    fn offers(&self, state: &RawState, cell: i64, chain: &[i64]) -> Result<bool, Refusal> {
+        let state = (self.0.check)(state).ok_or(OUT_OF_RANGE)?;
+        let Some(cell) = index(cell, state.cells.len()) else {
+            return Ok(false);
+        };
+        let numbers = chain.iter().map(|one| index(*one, state.table.methods));
+        let methods: Option<Vec<usize>> = numbers.collect();
+        let all = All {
+            table: &state.table,
+            types: &offered(&state, cell),
+        };
+        Ok(methods.is_some_and(|methods| all.permit(&methods)))
+    }
+}
+
+/// Each fault of the check of calls (H1, H17) is found at their limits, by what is offered.
+#[test]
+fn every_fault_of_the_check_is_found_at_its_limits() {
+    for fault in CHECKS {
+        let core = Checks(*fault);
+        let mut states = tiny_first::call_limits(0..640);
+        let found = states.any(|one| on_offers(&core, &one, &mut [0; 3]).is_some());
+        assert!(found, "{}", fault.name);
+    }
+}
+
+/// L28 and L29 alone find what they are for, without the reference's answers beside them, by requests and in runs.
+#[test]
+fn the_log_is_watched() {
+    let scripts: Vec<_> = tiny_first::scripts(&[(Profile::Full, 40)]).collect();
+    let lists: Vec<Hostile> = scripts
+        .iter()
+        .filter_map(|one| Some(loaded(one)?.1))
+        .collect();
+    // those through cells of others are met on states handed in alone, and these have no log
+    for fault in of_calls().filter(|fault| !NOT_LOGGED.contains(&fault.name)) {
+        let core = StandIn(fault);
+        let found = lists
+            .iter()
+            .any(|one| by_the_log(&core, one, &mut 0).is_some());
+        assert!(found, "{}", fault.name);
+    }
+    let found = lists
+        .iter()
+        .any(|one| run_by_the_log(counts_refused, one).is_some());
+    assert!(found, "{OVER_A_LIST}");
+}
+
+/// Of a loaded sheet a cell is called through by its holder alone; and that 18 comes too early in the row, before 15, is told by no log.
+const NOT_LOGGED: [&str; 2] = ["calls_of_holder_counted", "calls_full_before_values"];
+
+/// L30 alone finds what it is for: two histories that do not agree on 18.
+#[test]
+fn two_histories_are_watched() {
+    for name in [
+        "calls_of_another_counted",
+        "calls_of_owner_counted",
+        "calls_refused_counted",
+    ] {
+        let serves = |table: &Table, requests: &[Request]| {
+            let state = State::of_sheet(table.clone());
+            let (results, _) = (named(name).run)(state, requests);
+            results.iter().map(|result| result.err()).collect()
+        };
+        let differ = |seed| {
+            let [one, other] = ends(serves, &two_lists(seed));
+            let told =
+                one.accepted == other.accepted && passes(one.refusal) && passes(other.refusal);
+            told && (one.refusal == Some(CALLS_FULL)) != (other.refusal == Some(CALLS_FULL))
+        };
+        assert!((0..400).any(differ), "{name}");
     }
 }
 
