@@ -19,7 +19,7 @@
  *   - a slice passes as pointer and length (text, text_len), the length in elements;
  *   - arrays of one call do not overlap, but for two of which both are only read.
  *
- * Stack. Measured, not proved (docs/MEASURED.md): the deepest request takes 164 KB, a run 172; load 24, tiny 20, offers 8, doors 4. Give the thread 256 KB.
+ * Stack. Measured, not proved (docs/MEASURED.md): the deepest request takes 176 KB, a run 184; load 28, tiny 20, offers 8, doors 4. Give the thread 256 KB.
  */
 #ifndef PILGONCA_H
 #define PILGONCA_H

@@ -8,7 +8,6 @@ use crate::states::made_by;
 use reference::check;
 use reference::generators::{self, any_request, TwoLists, SMALL};
 use reference::hostile::Hostile;
-use reference::log::Log;
 use reference::model::Model;
 use reference::random::Random;
 use reference::raw::RawState;
@@ -16,6 +15,7 @@ use reference::refusal::{Refusal, CALLS_FULL};
 use reference::requests::Request;
 use reference::state::{State, MAX_CALLS_EACH};
 use reference::table::{Table, MAX_SUBJECTS};
+use reference::transcript::Transcript;
 
 /// Case P with sixteen subjects.
 pub fn sheet() -> String {
@@ -111,27 +111,29 @@ fn of_kind(random: &mut Random, model: &Model, kind: usize) -> Request {
     }
 }
 
-/// L28: what does not agree between a log and the records that stand in the bytes of a state.
-fn apart(log: &Log, state: &RawState) -> Option<String> {
-    let differs = |(caller, made): &(usize, usize)| log.accepted(*caller as i64) != *made;
+/// L28: what does not agree between a transcript and the records that stand in the bytes of a state.
+fn apart(transcript: &Transcript, state: &RawState) -> Option<String> {
+    let differs = |(caller, made): &(usize, usize)| transcript.accepted(*caller as i64) != *made;
     let made = made_by(state).into_iter().enumerate().find(differs);
     made.map(|(caller, made)| {
-        let accepted = log.accepted(caller as i64);
+        let accepted = transcript.accepted(caller as i64);
         format!("{made} records of subject {caller}, which has {accepted} accepted calls")
     })
 }
 
 /// L28 and L29 on what runs, from a loaded sheet and told from requests and outcomes alone: the first request behind which the bytes
 /// hold other calls than were accepted, or that 18 is not right of. `full` counts what met 18.
-pub fn by_the_log(core: &impl Core, list: &Hostile, full: &mut usize) -> Option<String> {
-    let (mut state, mut log) = (list.state.clone(), Log::default());
+pub fn by_the_transcript(core: &impl Core, list: &Hostile, full: &mut usize) -> Option<String> {
+    let (mut state, mut transcript) = (list.state.clone(), Transcript::default());
     for (at, request) in list.requests.iter().enumerate() {
         let refusal = core.request(&mut state, request).err();
-        if !log.allows(request, refusal) {
-            return Some(format!("{at}: {request:?} gets {refusal:?} behind {log:?}"));
+        if !transcript.allows(request, refusal) {
+            return Some(format!(
+                "{at}: {request:?} gets {refusal:?} behind {transcript:?}"
+            ));
         }
-        log.add(request, refusal.is_none());
-        if let Some(apart) = apart(&log, &state) {
+        transcript.add(request, refusal.is_none());
+        if let Some(apart) = apart(&transcript, &state) {
             return Some(format!("{at}: {request:?} leaves {apart}"));
         }
         *full += usize::from(refusal == Some(CALLS_FULL));
@@ -152,16 +154,18 @@ pub fn outcomes(run: Run, state: &mut RawState, requests: &[Request]) -> Outcome
 }
 
 /// The same of a run as a whole.
-pub fn run_by_the_log(run: Run, list: &Hostile) -> Option<String> {
-    let (mut state, mut log) = (list.state.clone(), Log::default());
+pub fn run_by_the_transcript(run: Run, list: &Hostile) -> Option<String> {
+    let (mut state, mut transcript) = (list.state.clone(), Transcript::default());
     let outcomes = outcomes(run, &mut state, &list.requests);
     for (at, (request, refusal)) in list.requests.iter().zip(outcomes).enumerate() {
-        if !log.allows(request, refusal) {
-            return Some(format!("{at}: {request:?} gets {refusal:?} behind {log:?}"));
+        if !transcript.allows(request, refusal) {
+            return Some(format!(
+                "{at}: {request:?} gets {refusal:?} behind {transcript:?}"
+            ));
         }
-        log.add(request, refusal.is_none());
+        transcript.add(request, refusal.is_none());
     }
-    apart(&log, &state)
+    apart(&transcript, &state)
 }
 
 /// What serves a list of requests from a loaded sheet, and their outcomes.
@@ -190,12 +194,12 @@ pub fn ends(serves: impl Fn(&Table, &[Request]) -> Outcomes, two: &TwoLists) -> 
         let outcomes = serves(&two.table, list);
         assert_eq!(outcomes.len(), list.len());
         let (last, before) = outcomes.split_last().expect("a call at the end");
-        let mut log = Log::default();
+        let mut transcript = Transcript::default();
         for (request, refusal) in list.iter().zip(before) {
-            log.add(request, refusal.is_none());
+            transcript.add(request, refusal.is_none());
         }
-        let accepted = log.accepted(two.subject);
-        let of_all = (0..MAX_SUBJECTS).map(|subject| log.accepted(subject as i64));
+        let accepted = transcript.accepted(two.subject);
+        let of_all = (0..MAX_SUBJECTS).map(|subject| transcript.accepted(subject as i64));
         End {
             accepted,
             of_others: of_all.sum::<usize>() - accepted,

@@ -2,8 +2,8 @@
 //! states handed in at every limit, and what requests and outcomes alone say of records and of 18 (L28 to L30).
 
 use conformance::calls::{
-    self, all_calls, by_the_log, call_by, ends, handed_out, of_sheet, one_of_each, outcomes,
-    run_by_the_log, with_every_kind, End, Outcomes, Serves, ORDERS,
+    self, all_calls, by_the_transcript, call_by, ends, handed_out, of_sheet, one_of_each, outcomes,
+    run_by_the_transcript, with_every_kind, End, Outcomes, Serves, ORDERS,
 };
 use conformance::requests::{difference, loaded, loaded_anew, on_handed_in, on_offers, Core};
 use conformance::run_lists::{self, List};
@@ -20,7 +20,6 @@ use reference::coverage::{Seen, OF_REQUESTS};
 use reference::entry;
 use reference::generators::{two_lists, Profile, PROFILES};
 use reference::hostile::{self, Hostile, Limit, LIMITS};
-use reference::log::passes;
 use reference::random::Random;
 use reference::raw::{RawState, RawTable, CALLS_LENGTH, CALL_BYTES};
 use reference::refusal::{CALLS_FULL, OUT_OF_RANGE};
@@ -29,6 +28,7 @@ use reference::script;
 use reference::sheet;
 use reference::table::{Table, MAX_SUBJECTS};
 use reference::tiny;
+use reference::transcript::passes;
 
 /// What the arrays of a state have room for (B25): 512 calls of four bytes.
 #[test]
@@ -185,8 +185,8 @@ fn tiny_sheets_to_their_limit() {
             requests,
         };
         assert_eq!(difference(&Proved, &list, &mut Seen::default()), None);
-        assert_eq!(by_the_log(&Proved, &list, &mut full), None);
-        assert_eq!(run_by_the_log(Proved::run, &list), None);
+        assert_eq!(by_the_transcript(&Proved, &list, &mut full), None);
+        assert_eq!(run_by_the_transcript(Proved::run, &list), None);
         let text = worst_scripts::script(&list.state.table, &list.requests);
         Met::default().same(&printed, &text, "tiny");
     }
@@ -407,11 +407,11 @@ fn lists() -> impl Iterator<Item = (String, Hostile)> {
 /// L28 and L29 on what runs: behind each request the records in the bytes that the C functions left are as many, of each caller, as its
 /// accepted calls by requests and outcomes alone, and 18 is met by a call exactly where these are 32.
 #[test]
-fn records_and_18_go_by_the_log() {
+fn records_and_18_go_by_the_transcript() {
     let (mut full, mut most) = (0, 0);
     for (from, list) in lists() {
-        assert_eq!(by_the_log(&Proved, &list, &mut full), None, "{from}");
-        assert_eq!(run_by_the_log(Proved::run, &list), None, "{from}");
+        assert_eq!(by_the_transcript(&Proved, &list, &mut full), None, "{from}");
+        assert_eq!(run_by_the_transcript(Proved::run, &list), None, "{from}");
         let mut state = list.state;
         outcomes(Proved::run, &mut state, &list.requests);
         most = most.max(state.calls);

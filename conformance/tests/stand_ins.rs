@@ -2,7 +2,7 @@
 //! stores something wrong, or says wrongly what is offered. The scripts can too: programs that read or print something wrongly
 //! are found. So are functions and programs that hold marks against arrivals in a wrong way.
 
-use conformance::calls::{by_the_log, ends, run_by_the_log, with_every_kind};
+use conformance::calls::{by_the_transcript, ends, run_by_the_transcript, with_every_kind};
 use conformance::doors::{limits, ours, Answer, Lists, INPUTS, LAST, MOST, UNSET, WIDEST};
 use conformance::requests::{difference, loaded, on_handed_in, on_loaded, on_offers, watch, Core};
 use conformance::run_lists;
@@ -17,13 +17,13 @@ use reference::doors;
 use reference::entry;
 use reference::generators::{doors_input, two_lists, Profile};
 use reference::hostile::Hostile;
-use reference::log::passes;
 use reference::raw::RawState;
 use reference::refusal::{Refusal, CALLS_FULL, OUT_OF_RANGE};
 use reference::requests::{index, Got, Request};
 use reference::script::{self, MAX_INPUT};
 use reference::state::State;
 use reference::table::Table;
+use reference::transcript::passes;
 
 /// The reference with a fault.
 struct StandIn(Fault);
@@ -143,21 +143,21 @@ fn the_log_is_watched() {
         .iter()
         .filter_map(|one| Some(loaded(one)?.1))
         .collect();
-    // those through cells of others are met on states handed in alone, and these have no log
+    // those through cells of others are met on states handed in alone, and these have no transcript
     for fault in of_calls().filter(|fault| !NOT_LOGGED.contains(&fault.name)) {
         let core = StandIn(fault);
         let found = lists
             .iter()
-            .any(|one| by_the_log(&core, one, &mut 0).is_some());
+            .any(|one| by_the_transcript(&core, one, &mut 0).is_some());
         assert!(found, "{}", fault.name);
     }
     let found = lists
         .iter()
-        .any(|one| run_by_the_log(counts_refused, one).is_some());
+        .any(|one| run_by_the_transcript(counts_refused, one).is_some());
     assert!(found, "{OVER_A_LIST}");
 }
 
-/// Of a loaded sheet a cell is called through by its holder alone; and that 18 comes too early in the row, before 15, is told by no log.
+/// Of a loaded sheet a cell is called through by its holder alone; and that 18 comes too early in the row, before 15, is told by no transcript.
 const NOT_LOGGED: [&str; 2] = ["calls_of_holder_counted", "calls_full_before_values"];
 
 /// L30 alone finds what it is for: two histories that do not agree on 18.

@@ -27,7 +27,7 @@
 //!
 //! # Stack
 //!
-//! The deepest request takes 164 KB of stack (docs/MEASURED.md): the 2 MB that std gives a thread do.
+//! The deepest request takes 176 KB of stack (docs/MEASURED.md): the 2 MB that std gives a thread do.
 #![deny(missing_docs)]
 #![deny(unsafe_code)]
 

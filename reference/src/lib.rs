@@ -46,9 +46,6 @@ pub mod book;
 
 pub mod transcript;
 
-// the names up to now, which conformance still has
-pub use transcript as log;
-
 // P
 pub mod script;
 

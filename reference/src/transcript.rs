@@ -13,9 +13,6 @@ pub struct Transcript {
     accepted: BTreeMap<i64, usize>,
 }
 
-/// Its name up to now.
-pub use self::Transcript as Log;
-
 impl Transcript {
     /// The transcript of requests and their outcomes, in order.
     pub fn of_run(requests: &[Request], results: &[Result<Got, Refusal>]) -> Transcript {
