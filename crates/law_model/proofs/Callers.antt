@@ -9,7 +9,7 @@ use native.Mathlib.Decide.{decLt, ℕ-discrete}
 use lib.Dec.{eqb, leb}
 use lib.ListN.{length, getD, set, length-append, length-set, List·getD-append}
 use lib.Seq.{getD-at, getD-set-same, getD-set-other}
-use Rattle.spec_model.specs.Basics.{all, from}
+use Rattle.spec_model.specs.Basics.{from}
 use Rattle.spec_model.specs.Table.{maxSubjects}
 use Rattle.spec_model.specs.Requests.{Call, noCall, flagged, maxCallsEach, maxCalls, madeBy}
 use Rattle.spec_model.specs.Check.{callersFit}

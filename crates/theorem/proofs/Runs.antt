@@ -7,9 +7,8 @@ use Prim.Native.Nat.{ℕ, _≤_, _<_}
 use lib.ListN.{length, getElem?}
 use native.Mathlib.Omega.{arith}
 use native.Mathlib.Decide.{decLt}
-use Rattle.spec_model.specs.Basics.{Res, refuse, ok}
 use Rattle.spec_model.specs.Table.{Table, size, typeAt, tableFits, validSheet}
-use Rattle.spec_model.specs.Requests.{System, Request, Result, outcome, loaded, serve, after, run}
+use Rattle.spec_model.specs.Requests.{System, Request, outcome, loaded, serve, after, run}
 use Rattle.spec_model.specs.Check.{RawSystem, tableOf, systemOf, codesFit, systemFits, systemAccepted}
 use Rattle.spec_model.specs.Handed.{storedFrom}
 use Rattle.spec_model.specs.Book.{Book, opened}
