@@ -39,7 +39,7 @@ fn the_first_screen_says_what_it_needs() {
         "x86-64 Linux",
         &state,
         "no heap",
-        "164 KB of stack",
+        "176 KB of stack",
         "45 KB of code",
         "125 KB",
         "no other processor yet",
